@@ -21,10 +21,10 @@ record Parted (xs ys : List Access) (actions : List Action) : Type 0 where
   do_first : AllDo xs first
   do_last : AllDo ys last
 
-parted : (xs ys : List Access) (actions : List Action) → AllDo (xs ++ ys) actions → Parted xs ys actions
-parted [] ys actions all = record { first = []; last = actions; whole = sym (append-nil actions); do_first = refl; do_last = all }
-parted (x ∷ xs) ys actions all =
-    let rest : Parted xs ys all.1 = parted xs ys all.1 all.4 in
+parted : (xs : List Access) {ys : List Access} {actions : List Action} → AllDo (xs ++ ys) actions → Parted xs ys actions
+parted [] {actions} all = record { first = []; last = actions; whole = sym (append-nil actions); do_first = refl; do_last = all }
+parted (x ∷ xs) {ys} all =
+    let rest : Parted xs ys all.1 = parted xs all.4 in
     record {
       first = all.0 ▷▷ rest.first;
       last = rest.last;
@@ -34,22 +34,22 @@ parted (x ∷ xs) ys actions all =
     }
 
 -- no access, no action
-none_done : (accesses : List Access) (events : List Action) → accesses ≡ [] → AllDo accesses events → events ≡ []
-none_done accesses events is all = subst (λ (l : List Access). AllDo l events) is all
+none_done : {accesses : List Access} {events : List Action} → accesses ≡ [] → AllDo accesses events → events ≡ []
+none_done {events} is all = subst (λ (l : List Access). AllDo l events) is all
 
 -- one access
-one_done : (access : Access) (accesses : List Access) (events : List Action) → accesses ≡ access ∷ [] → AllDo accesses events → Does access events
-one_done access accesses events is all =
+one_done : {access : Access} {accesses : List Access} (events : List Action) → accesses ≡ access ∷ [] → AllDo accesses events → Does access events
+one_done {access} events is all =
     let one : AllDo (access ∷ []) events = subst (λ (l : List Access). AllDo l events) is all in
     subst (Does access) (sym (one.2 ∙ ap (λ (l : List Action). l ++ one.0) one.4)) one.3
 
-closes_at_once : (steps : List Action) (x : Option File) (events : List Action) → events ≡ steps ▷▷ close_of x → MayClose steps x events
-closes_at_once steps None events is = is
-closes_at_once steps (Some f) events is = inr is
+closes_at_once : (steps : List Action) (x : Option File) {events : List Action} → events ≡ steps ▷▷ close_of x → MayClose steps x events
+closes_at_once steps None is = is
+closes_at_once steps (Some f) is = inr is
 
 module _ (accesses : List Access) (events : List Action) (all : AllDo accesses events) where
   refused : (place : Place) (errno : Errno) (c : Completed) → IsRefused place errno accesses c → Refuses place errno events c
-  refused place errno c x = (none_done accesses events x.0 all, x.1)
+  refused place errno c x = (none_done x.0 all, x.1)
 
   opened : (size : ℕ) (place : Place) (entry : ℕ) (target : Target) (c : Completed)
       → IsOpenDone size place entry target accesses c → OpensAt size place entry target events c
@@ -57,27 +57,27 @@ module _ (accesses : List Access) (events : List Action) (all : AllDo accesses e
       same_cases (size == 0) (refused place ENXIO c)
       (same_cases (nat_le size slot) (refused place EINVAL c)
       (λ x.
-      let does = one_done (Puts slot (installed place 0 entry) x.0) accesses events x.1.0 all in
-      (does.0, does.1, does.2, closes_at_once ([] ▷ Put slot does.0 does.1) does.1 events does.4, x.1.1)))
+      let does = one_done events x.1.0 all in
+      (does.0, does.1, does.2, closes_at_once ([] ▷ Put slot does.0 does.1) does.1 does.4, x.1.1)))
   opened size place entry Any c =
       same_cases (size == 0) (refused place ENFILE c)
       (λ x. elim x [
         | inl y ↦
-            let does = one_done (Allocates y.0 (installed place 0 entry)) accesses events y.1.0 all in
+            let does = one_done events y.1.0 all in
             inl (y.0, does.0, does.1, does.2, y.1.1)
-        | inr y ↦ inr (one_done FindsFull accesses events y.0 all, y.1)
+        | inr y ↦ inr (one_done events y.0 all, y.1)
       ])
 
   missed : (catalogue : List FileEntry) (place : Place) (slot off len : ℕ) (c : Completed)
       → Makes (Looks slot None) (refusal place EBADF) accesses c → ReadsAt catalogue place slot off len events c
   missed catalogue place slot off len c x =
-      let does = one_done (Looks slot None) accesses events x.0 all in
+      let does = one_done events x.0 all in
       inl (does.2 ∙ ap (λ (o : Option File). [] ▷ Look slot o ▷▷ release_of o) (no_file does.0 (sym does.1)), x.1)
 
   found : (catalogue : List FileEntry) (place : Place) (slot off len : ℕ) (file : Closed) (c : Completed)
       → Makes (Looks slot (Some file)) (gives catalogue place file off len) accesses c → ReadsAt catalogue place slot off len events c
   found catalogue place slot off len file c x =
-      let does = one_done (Looks slot (Some file)) accesses events x.0 all in
+      let does = one_done events x.0 all in
       let there = file_told does.0 file does.1 in
       inr (
         there.0,
@@ -103,10 +103,10 @@ module _ (accesses : List Access) (events : List Action) (all : AllDo accesses e
       (same_cases (nat_le size slot) (refused place EINVAL c)
       (λ x. elim x [
         | inl y ↦
-            let does = one_done (Takes slot None) accesses events y.0 all in
+            let does = one_done events y.0 all in
             inl (does.2 ∙ ap (λ (o : Option File). [] ▷ Take slot o ▷▷ close_of o) (no_file does.0 (sym does.1)), y.1)
         | inr y ↦
-            let does = one_done (Takes slot (Some y.0)) accesses events y.1.0 all in
+            let does = one_done events y.1.0 all in
             let there = file_told does.0 y.0 does.1 in
             inr (there.0, inr (does.2 ∙ ap (λ (o : Option File). [] ▷ Take slot o ▷▷ close_of o) there.1), y.1.1)
       ]))
@@ -114,18 +114,18 @@ module _ (accesses : List Access) (events : List Action) (all : AllDo accesses e
   entry_applied : (place : Place) (in_list slot : ℕ) (entry : ℤ) → IsEntryDone place in_list slot entry accesses
       → AppliesEntry place in_list slot entry events
   entry_applied place in_list slot (pos entry) x =
-      let does = one_done (Puts slot (installed place in_list entry) x.0) accesses events x.1 all in
-      (does.0, does.1, does.2, closes_at_once ([] ▷ Put slot does.0 does.1) does.1 events does.4)
+      let does = one_done events x.1 all in
+      (does.0, does.1, does.2, closes_at_once ([] ▷ Put slot does.0 does.1) does.1 does.4)
   entry_applied place in_list slot (negsuc zero) x =
-      let does = one_done (Clears slot x.0) accesses events x.1 all in
-      (does.0, closes_at_once ([] ▷ Clear slot does.0) does.0 events does.2)
-  entry_applied place in_list slot (negsuc (suc n)) x = none_done accesses events x all
+      let does = one_done events x.1 all in
+      (does.0, closes_at_once ([] ▷ Clear slot does.0) does.0 does.2)
+  entry_applied place in_list slot (negsuc (suc n)) x = none_done x all
 
 list_applied : (accesses : List Access) (events : List Action) → AllDo accesses events → (place : Place) (in_list slot : ℕ) (list : List ℤ)
     → AreEntriesDone place in_list slot list accesses → AppliesList place in_list slot list events
-list_applied accesses events all place in_list slot [] x = none_done accesses events x all
+list_applied accesses events all place in_list slot [] x = none_done x all
 list_applied accesses events all place in_list slot (entry ∷ list) x =
-    let two : Parted x.0 x.1 events = parted x.0 x.1 events (subst (λ (l : List Access). AllDo l events) x.2 all) in (
+    let two : Parted x.0 x.1 events = parted x.0 (subst (λ (l : List Access). AllDo l events) x.2 all) in (
       two.first,
       two.last,
       two.whole,
@@ -156,9 +156,9 @@ answered accesses events all catalogue size place (Updates off list) c = updated
 pub chain_explained : (accesses : List Access) (events : List Action) → AllDo accesses events
     → (catalogue : List FileEntry) (size : ℕ) (place : Place) (requests : List Asked) (cs : List Completed)
     → IsChainDone catalogue size place requests accesses cs → Explains catalogue size place requests events cs
-chain_explained accesses events all catalogue size place [] cs x = (none_done accesses events x.0 all, x.1)
+chain_explained accesses events all catalogue size place [] cs x = (none_done x.0 all, x.1)
 chain_explained accesses events all catalogue size place (request ∷ requests) cs x =
-    let two : Parted x.0 x.1 events = parted x.0 x.1 events (subst (λ (l : List Access). AllDo l events) x.4 all) in (
+    let two : Parted x.0 x.1 events = parted x.0 (subst (λ (l : List Access). AllDo l events) x.4 all) in (
       two.first,
       two.last,
       x.2,
@@ -166,7 +166,7 @@ chain_explained accesses events all catalogue size place (request ∷ requests) 
       two.whole,
       x.5,
       answered x.0 two.first two.do_first catalogue size place request.operation x.2 x.6,
-      same_cases (severs request x.2) (λ y. (none_done x.1 two.last y.0 two.do_last, y.1))
+      same_cases (severs request x.2) (λ y. (none_done y.0 two.do_last, y.1))
           (chain_explained x.1 two.last two.do_last catalogue size (next_member place) requests x.3) x.7,
     )
 

@@ -19,17 +19,17 @@ once_between (x ∷ xs) ys s o f g once (inl here) later same =
 once_between (x ∷ xs) ys s o f g once (inr first) later same = once_between xs ys s o f g once.0 first later same
 
 -- an access places one file at most
-one_placed : (x : Access) (s o : ℕ) (f g : Closed) → Has (placed_by x) s f → Has (placed_by x) o g → s ≡ o
-one_placed (Looks slot found) s o f g one other = absurd one
-one_placed (Puts slot file removed) s o f g (inl one) (inl other) = (λ i. (sym one i).0) ∙ (λ i. (other i).0)
-one_placed (Puts slot file removed) s o f g (inl one) (inr none) = absurd none
-one_placed (Puts slot file removed) s o f g (inr none) other = absurd none
-one_placed (Clears slot removed) s o f g one other = absurd one
-one_placed (Takes slot removed) s o f g one other = absurd one
-one_placed (Allocates slot file) s o f g (inl one) (inl other) = (λ i. (sym one i).0) ∙ (λ i. (other i).0)
-one_placed (Allocates slot file) s o f g (inl one) (inr none) = absurd none
-one_placed (Allocates slot file) s o f g (inr none) other = absurd none
-one_placed FindsFull s o f g one other = absurd one
+one_placed : (x : Access) {s o : ℕ} (f g : Closed) → Has (placed_by x) s f → Has (placed_by x) o g → s ≡ o
+one_placed (Looks slot found) f g one other = absurd one
+one_placed (Puts slot file removed) f g (inl one) (inl other) = (λ i. (sym one i).0) ∙ (λ i. (other i).0)
+one_placed (Puts slot file removed) f g (inl one) (inr none) = absurd none
+one_placed (Puts slot file removed) f g (inr none) other = absurd none
+one_placed (Clears slot removed) f g one other = absurd one
+one_placed (Takes slot removed) f g one other = absurd one
+one_placed (Allocates slot file) f g (inl one) (inl other) = (λ i. (sym one i).0) ∙ (λ i. (other i).0)
+one_placed (Allocates slot file) f g (inl one) (inr none) = absurd none
+one_placed (Allocates slot file) f g (inr none) other = absurd none
+one_placed FindsFull f g one other = absurd one
 
 -- no two slots have one mark, none of them has one that is to be placed, and that is placed once
 pub record IsApart (t : Table) (l : List (ℕ × Closed)) : Type 0 where
@@ -48,13 +48,12 @@ module _ (t : Table) (x : Access) (xs : List Access) (apart : IsApart t (placed_
   pub apart_then : IsApart (table_with t x) (placed xs)
   apart_then = record {
     distinct = λ s o f g is are same. ⊎_elim
-        (λ was. ⊎_elim (λ were. apart.distinct s o f g was were same) (λ new. absurd (here_unlike s o f g was new same)) (step_from t x o g are))
-        (λ new. ⊎_elim (λ were. absurd (here_unlike o s g f were new (sym same))) (λ newer. one_placed x s o f g new newer) (step_from t x o g are))
-        (step_from t x s f is);
+        (λ was. ⊎_elim (λ were. apart.distinct s o f g was were same) (λ new. absurd (here_unlike s o f g was new same)) (step_from t x are))
+        (λ new. ⊎_elim (λ were. absurd (here_unlike o s g f were new (sym same))) (λ newer. one_placed x f g new newer) (step_from t x are))
+        (step_from t x is);
     unlike = λ s o f g is later. ⊎_elim
         (λ was. later_unlike s o f g was later)
-        (λ new. once_between (placed_by x) (placed xs) s o f g apart.once new later)
-        (step_from t x s f is);
+        (λ new. once_between (placed_by x) (placed xs) s o f g apart.once new later) (step_from t x is);
     once = once_behind (placed_by x) (placed xs) apart.once;
   }
 

@@ -11,12 +11,12 @@ use Rattle.fx_order.proofs.Shown.{NonePast, none_past_accesses, none_past_table,
 use Rattle.fx_order.proofs.Ordered.{ring_after, same_outline}
 
 -- a number behind the slots, below the last one, is fresh
-fresh_number : (st : State) (chains n : ℕ) → st.size ≤ n → n < numbers_for chains → (opening st (numbers_for chains)).fresh n ≡ true
-fresh_number st chains n low high = rw (le-ltb n st.size low, lt-ltb n (numbers_for chains) high) refl
+fresh_number : (st : State) (chains : ℕ) {n : ℕ} → st.size ≤ n → n < numbers_for chains → (opening st (numbers_for chains)).fresh n ≡ true
+fresh_number st chains {n} low high = rw (le-ltb n st.size low, lt-ltb n (numbers_for chains) high) refl
 
-history_of_order : (old new : RingContents) (requests : List Asked) (report : Reported) → (ring_of old).size ≤ 256
+history_of_order : {old new : RingContents} {requests : List Asked} {report : Reported} → (ring_of old).size ≤ 256
     → IsAccepted requests → IsOneOrder (ring_of old) requests report (ring_of new) → IsOneHistory old requests report new
-history_of_order old new requests report few accepted o =
+history_of_order {old} {requests} {report} few accepted o =
     let st : State = state_of old.table in
     let chains : ℕ = length (runs_of requests) in
     let start : State = opening st (numbers_for chains) in
@@ -25,7 +25,7 @@ history_of_order old new requests report few accepted o =
     few_installs old.catalogue st.size report.submission requests o.order report.completions accepted o.is.chains o.is.done in
     let m : Made chains start o.order =
     made chains o.order start 256 (record { unheld = λ n. refl; closed = λ n. refl })
-    (λ n low high. fresh_number st chains n (omega arith) (omega arith))
+    (λ n low high. fresh_number st chains (omega arith) (omega arith))
     o.is.chains (subst (λ (t : Table). PermitsAll t (accesses_of o.order)) (sym begins) o.is.permitted) in
     let acts : List Action = map action_of m.history in
     let table : shown (state_after start acts) ≡ table_after (table_of (ring_of old)) (accesses_of o.order) =
@@ -56,5 +56,5 @@ each_order_is_a_history old requests report left few accepted o =
     let same : ring_of (ring_with_files left) ≡ left = shows_ring left kept in (
       ring_with_files left,
       same,
-      history_of_order old (ring_with_files left) requests report few accepted (subst (IsOneOrder (ring_of old) requests report) (sym same) o),
+      history_of_order few accepted (subst (IsOneOrder (ring_of old) requests report) (sym same) o),
     )

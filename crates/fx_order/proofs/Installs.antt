@@ -19,8 +19,8 @@ installs_in-append (x ∷ xs) ys = let rest = installs_in-append xs ys in omega 
 abbrev InstallAtMost : ℕ → List Access → Type 0
 InstallAtMost most accesses = installs_in accesses ≤ most
 
-are_few : (most : ℕ) (accesses those : List Access) → accesses ≡ those → installs_in those ≤ most → InstallAtMost most accesses
-are_few most accesses those is few = let same = ap installs_in is in omega arith
+are_few : {most : ℕ} {accesses those : List Access} → accesses ≡ those → installs_in those ≤ most → InstallAtMost most accesses
+are_few is few = let same = ap installs_in is in omega arith
 
 open_few : (size : ℕ) (place : Place) (entry : ℕ) (target : Target) (accesses : List Access) (c : Completed)
     → IsOpenDone size place entry target accesses c → InstallAtMost 1 accesses
@@ -31,24 +31,24 @@ open_few size place entry Any accesses c =
 
 entry_few : (place : Place) (in_list slot : ℕ) (entry : ℤ) (accesses : List Access) → IsEntryDone place in_list slot entry accesses
     → InstallAtMost (entry_installs entry) accesses
-entry_few place in_list slot (pos entry) accesses x = are_few 1 accesses _ x.1 (omega arith)
-entry_few place in_list slot (negsuc zero) accesses x = are_few 0 accesses _ x.1 (omega arith)
-entry_few place in_list slot (negsuc (suc n)) accesses x = are_few 0 accesses _ x (omega arith)
+entry_few place in_list slot (pos entry) accesses x = are_few x.1 (omega arith)
+entry_few place in_list slot (negsuc zero) accesses x = are_few x.1 (omega arith)
+entry_few place in_list slot (negsuc (suc n)) accesses x = are_few x (omega arith)
 
 list_few : (place : Place) (in_list slot : ℕ) (list : List ℤ) (accesses : List Access) → AreEntriesDone place in_list slot list accesses
     → InstallAtMost (list_installs list) accesses
-list_few place in_list slot [] accesses x = are_few 0 accesses [] x (omega arith)
+list_few place in_list slot [] accesses x = are_few x (omega arith)
 list_few place in_list slot (entry ∷ list) accesses x =
     let one : installs_in x.0 ≤ entry_installs entry = entry_few place in_list slot entry x.0 x.3 in
     let more : installs_in x.1 ≤ list_installs list = list_few place (in_list + 1) (slot + 1) list x.1 x.4 in
     let both = installs_in-append x.0 x.1 in
     let all = list_installs-cons entry list in
-    are_few (list_installs (entry ∷ list)) accesses (x.0 ++ x.1) x.2 (omega arith)
+    are_few x.2 (omega arith)
 
 request_few : (catalogue : List FileEntry) (size : ℕ) (place : Place) (operation : Operation) (accesses : List Access) (c : Completed)
     → IsRequestDone catalogue size place operation accesses c → InstallAtMost (installs_of operation) accesses
 request_few catalogue size place (Opens name target) accesses c =
-    either_case (has_name name catalogue) (λ x. open_few size place x.0 target accesses c x.2) (λ x. are_few 1 accesses [] x.0 (omega arith))
+    either_case (has_name name catalogue) (λ x. open_few size place x.0 target accesses c x.2) (λ x. are_few x.0 (omega arith))
 request_few catalogue size place (Reads slot off len) accesses c =
     reads size place (λ l _. InstallAtMost 0 l) (λ _. omega arith) accesses c catalogue slot off len (omega arith) (λ _. omega arith)
 request_few catalogue size place (Closes slot) accesses c =
@@ -59,16 +59,15 @@ request_few catalogue size place (Updates off list) accesses c =
 
 chain_few : (catalogue : List FileEntry) (size : ℕ) (place : Place) (requests : List Asked) (accesses : List Access) (cs : List Completed)
     → IsChainDone catalogue size place requests accesses cs → InstallAtMost (all_installs requests) accesses
-chain_few catalogue size place [] accesses cs x = are_few (all_installs []) accesses [] x.0 (omega arith)
+chain_few catalogue size place [] accesses cs x = are_few x.0 (omega arith)
 chain_few catalogue size place (request ∷ requests) accesses cs x =
     let one : installs_in x.0 ≤ installs_of request.operation = request_few catalogue size place request.operation x.0 x.2 x.6 in
     let more : installs_in x.1 ≤ all_installs requests =
-    either_case {R = InstallAtMost (all_installs requests) x.1} (severs request x.2)
-    (λ y. are_few (all_installs requests) x.1 [] y.0 (omega arith))
+    either_case {R = InstallAtMost (all_installs requests) x.1} (severs request x.2) (λ y. are_few y.0 (omega arith))
     (chain_few catalogue size (next_member place) requests x.1 x.3) x.7 in
     let both = installs_in-append x.0 x.1 in
     let all = sum_by-cons (λ (r : Asked). installs_of r.operation) request requests in
-    are_few (all_installs (request ∷ requests)) accesses (x.0 ++ x.1) x.4 (omega arith)
+    are_few x.4 (omega arith)
 
 -- each chain's accesses install no more than its requests may
 chains_few : (catalogue : List FileEntry) (size submission first : ℕ) (runs : List (List Asked)) (order : List ChainAccess) (cs : List Completed)

@@ -45,13 +45,13 @@ part_by author chain (a ∷ own) =
     (λ _ is. part_by author chain own ∙ ap (λ b. cond b own []) is)
     refl
 
-own_author : (chain : ℕ) (own : List Action) (k : ℕ) (e : Event) → k < length (map (by chain) own) → slice_index_or (map (by chain) own) k e ≡ e → e.chain ≡ chain
-own_author chain [] k e lt is = absurd (omega arith)
-own_author chain (a ∷ own) zero e lt is = ap (λ (x : Event). x.chain) (sym is)
-own_author chain (a ∷ own) (suc k) e lt is = own_author chain own k e (omega arith) is
+own_author : {chain : ℕ} (own : List Action) (k : ℕ) {e : Event} → k < length (map (by chain) own) → slice_index_or (map (by chain) own) k e ≡ e → e.chain ≡ chain
+own_author [] k lt is = absurd (omega arith)
+own_author (a ∷ own) zero lt is = ap (λ (x : Event). x.chain) (sym is)
+own_author {chain} (a ∷ own) (suc k) {e} lt is = own_author own k (omega arith) is
 
-nothing_made : (chains : ℕ) (st : State) → IsSettled st → Made chains st []
-nothing_made chains st settled = record {
+nothing_made : (chains : ℕ) {st : State} → IsSettled st → Made chains st []
+nothing_made chains settled = record {
   history = [];
   allowed = tt;
   releases = λ before all. all;
@@ -106,7 +106,7 @@ module _ (chains : ℕ) (st : State) (number : ℕ) (x : ChainAccess) (order : L
     settled = subst IsSettled end rest.settled;
     authors = λ e has. elim (Contains-append_cases rest.history mine e has) [
       | inl theirs ↦ rest.authors e theirs
-      | inr own ↦ subst (IsWithin chains) (sym (own_author x.chain one.own own.0 e own.1 own.2)) within
+      | inr own ↦ subst (IsWithin chains) (sym (own_author one.own own.0 own.1 own.2)) within
     ];
     parts = part_does;
     closes = ap closes_in whole ∙ (closes_in-then one.own (map action_of rest.history)
@@ -117,7 +117,7 @@ module _ (chains : ℕ) (st : State) (number : ℕ) (x : ChainAccess) (order : L
 pub made : (chains : ℕ) (order : List ChainAccess) (st : State) (number : ℕ) → IsSettled st
     → ((n : ℕ) → number ≤ n → n < number + installs_in (accesses_of order) → st.fresh n ≡ true)
     → All (λ x. IsWithin chains x.chain) order → PermitsAll (shown st) (accesses_of order) → Made chains st order
-made chains [] st number settled fresh within may = nothing_made chains st settled
+made chains [] st number settled fresh within may = nothing_made chains settled
 made chains (x ∷ order) st number settled fresh within may =
     let one : Done st number x.access = done st number settled x.access (λ some. fresh number (omega arith) (omega arith)) may.0 in
     one_more chains st number x order (All-head (λ y. IsWithin chains y.chain) x order within) one

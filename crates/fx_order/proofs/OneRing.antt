@@ -66,8 +66,8 @@ module _ (old : RingState) (requests : List Asked) (report : Reported) (is : IsR
     left_too : (s : ℕ) (f : Closed) → (table_after (table_of old) (accesses_of one)).at s ≡ Some f → (table_after (table_of old) (accesses_of other)).at s ≡ Some f
     left_too s f at = ⊎_elim
         (λ left. left)
-        (λ gone. absurd (left_stays one o s f at (Contains-permutation (removed_in (accesses_of other)) report.closes.files f p.closed.same_files (contains_removed (accesses_of other) f gone))))
-        (left_or_removed (table_of old) (accesses_of other) s f p.permitted
+        (λ gone. absurd (left_stays one o s f at (Contains-permutation (removed_in (accesses_of other)) report.closes.files f p.closed.same_files (contains_removed (accesses_of other) gone))))
+        (left_or_removed (table_of old) (accesses_of other) p.permitted
         (⊎_elim (λ was. inl was) (λ new. inr (placed_too s f new)) (left_from (table_of old) (accesses_of one) s f at)))
 
 same_option : (a b : Option Closed) → ((f : Closed) → a ≡ Some f → b ≡ Some f) → ((f : Closed) → b ≡ Some f → a ≡ Some f) → a ≡ b
@@ -91,22 +91,22 @@ each_report_leads_to_one_ring old requests report left other catalogue is o p =
 abbrev one_if_marked : Mark → Closed → ℕ
 one_if_marked mark x = cond (same_mark mark x.mark) 1 0
 
-marked_one : (mark : Mark) (x : Closed) → mark ≡ x.mark → one_if_marked mark x ≡ 1
-marked_one mark x is = ap (λ (b : Bool). cond b 1 0) ((decides_mark mark x.mark).1 is)
+marked_one : {mark : Mark} (x : Closed) → mark ≡ x.mark → one_if_marked mark x ≡ 1
+marked_one {mark} x is = ap (λ (b : Bool). cond b 1 0) ((decides_mark mark x.mark).1 is)
 
-none_marked : (mark : Mark) (x : Closed) (b : Bool) → same_mark mark x.mark ≡ b → mark ≢ x.mark → ◌≡◌ {A = ℕ} (cond b 1 0) 0
-none_marked mark x true is other = absurd (other ((decides_mark mark x.mark).0 is))
-none_marked mark x false is other = refl
+none_marked : {mark : Mark} (x : Closed) (b : Bool) → same_mark mark x.mark ≡ b → mark ≢ x.mark → ◌≡◌ {A = ℕ} (cond b 1 0) 0
+none_marked {mark} x true is other = absurd (other ((decides_mark mark x.mark).0 is))
+none_marked x false is other = refl
 
-times_none : (mark : Mark) (xs : List Access) → ((g : Closed) → Removes xs g → mark ≢ g.mark) → sum_by (one_if_marked mark) (removed_in xs) ≡ 0
-times_none mark [] none = refl
-times_none mark (x ∷ xs) none = first (removed_by x) refl (times_none mark xs (λ g later. none g (inr later)))
+times_none : {mark : Mark} (xs : List Access) → ((g : Closed) → Removes xs g → mark ≢ g.mark) → sum_by (one_if_marked mark) (removed_in xs) ≡ 0
+times_none [] none = refl
+times_none {mark} (x ∷ xs) none = first (removed_by x) refl (times_none xs (λ g later. none g (inr later)))
   where
     first : (found : Option Closed) → removed_by x ≡ found → sum_by (one_if_marked mark) (removed_in xs) ≡ 0
         → sum_by (one_if_marked mark) (option_to_list found ++ removed_in xs) ≡ 0
     first None is rest = rest
     first (Some f) is rest =
-        let head : one_if_marked mark f ≡ 0 = none_marked mark f (same_mark mark f.mark) refl (none f (inl is)) in
+        let head : one_if_marked mark f ≡ 0 = none_marked f (same_mark mark f.mark) refl (none f (inl is)) in
         sum_by-cons (one_if_marked mark) f (removed_in xs) ∙ omega arith
 
 times_once : (mark : Mark) (xs : List Access) → RemovesOnce xs → sum_by (one_if_marked mark) (removed_in xs) ≤ 1
@@ -121,7 +121,7 @@ times_once mark (x ∷ xs) once = first (removed_by x) refl (times_once mark xs 
         either : (b : Bool) → same_mark mark f.mark ≡ b → sum_by (one_if_marked mark) (f ∷ removed_in xs) ≤ 1
         either true same =
             let marks : mark ≡ f.mark = (decides_mark mark f.mark).0 same in
-            let rest : sum_by (one_if_marked mark) (removed_in xs) ≡ 0 = times_none mark xs (λ g later too. once.1 f g is later (sym marks ∙ too)) in
+            let rest : sum_by (one_if_marked mark) (removed_in xs) ≡ 0 = times_none xs (λ g later too. once.1 f g is later (sym marks ∙ too)) in
             let head : one_if_marked mark f ≡ 1 = ap (λ (b : Bool). cond b 1 0) same in
             let all = sum_by-cons (one_if_marked mark) f (removed_in xs) in
             omega arith
@@ -131,15 +131,15 @@ times_once mark (x ∷ xs) once = first (removed_by x) refl (times_once mark xs 
             omega arith
 
 -- a file is counted where it stands
-stands : (files : List Closed) (i : ℕ) (f : Closed) → slice_get files i ≡ Some f → 1 ≤ sum_by (one_if_marked f.mark) files
-stands [] i f at = absurd (cc)
-stands (x ∷ files) zero f at =
+stands : (files : List Closed) (i : ℕ) {f : Closed} → slice_get files i ≡ Some f → 1 ≤ sum_by (one_if_marked f.mark) files
+stands [] i at = absurd (cc)
+stands (x ∷ files) zero {f} at =
     let same : f.mark ≡ x.mark = (let e : x ≡ f = cc in ap (λ (y : Closed). y.mark) (sym e)) in
-    let head = marked_one f.mark x same in
+    let head = marked_one x same in
     let all = sum_by-cons (one_if_marked f.mark) x files in
     omega arith
-stands (x ∷ files) (suc i) f at =
-    let rest = stands files i f at in
+stands (x ∷ files) (suc i) {f} at =
+    let rest = stands files i at in
     let all = sum_by-cons (one_if_marked f.mark) x files in
     omega arith
 
@@ -150,15 +150,15 @@ places_apart [] few i j one other at too same = absurd (cc)
 places_apart (x ∷ files) few zero zero one other at too same = refl
 places_apart (x ∷ files) few zero (suc j) one other at too same =
     let is : other.mark ≡ x.mark = (let e : x ≡ one = cc in sym same ∙ ap (λ (y : Closed). y.mark) (sym e)) in
-    let head = marked_one other.mark x is in
-    let rest = stands files j other too in
+    let head = marked_one x is in
+    let rest = stands files j too in
     let all = sum_by-cons (one_if_marked other.mark) x files in
     let most = few other.mark in
     absurd (omega arith)
 places_apart (x ∷ files) few (suc i) zero one other at too same =
     let is : one.mark ≡ x.mark = (let e : x ≡ other = cc in same ∙ ap (λ (y : Closed). y.mark) (sym e)) in
-    let head = marked_one one.mark x is in
-    let rest = stands files i one at in
+    let head = marked_one x is in
+    let rest = stands files i at in
     let all = sum_by-cons (one_if_marked one.mark) x files in
     let most = few one.mark in
     absurd (omega arith)
@@ -175,9 +175,9 @@ in_limits requests accepted =
     (chains_of (runs_of requests)) (accepted-chains requests accepted)))
 
 -- what an order places is of the next submission
-of_next : (old : RingState) (requests : List Asked) (report : Reported) (is : IsRing old) (order : List ChainAccess) (o : IsOrderOf order old requests report)
-    → IsAccepted requests → (s : ℕ) (f : Closed) → Has (placed (accesses_of order)) s f → IsOfNext old requests f
-of_next old requests report is order o accepted s f has =
+of_next : (old : RingState) {requests : List Asked} (report : Reported) (is : IsRing old) {order : List ChainAccess} (o : IsOrderOf order old requests report)
+    → IsAccepted requests → (s : ℕ) {f : Closed} → Has (placed (accesses_of order)) s f → IsOfNext old requests f
+of_next old {requests} report is {order} o accepted s {f} has =
     let (c, few, (m, j, low, b, n)) = of_chain old requests report is order o InLimits (in_limits requests accepted) s f has in
     record {
       place = record { submission = report.submission; chain = c; member = m };
@@ -200,7 +200,7 @@ each_closed_file_is_known old requests report left is accepted o =
       from = λ file closed.
           let w = removed_from (table_of old) xs file o.is.permitted (removes_contained xs file
           (Contains-permutation report.closes.files (removed_in xs) file (IsPermutation-sym (removed_in xs) report.closes.files o.is.closed.same_files) closed)) in
-          ⊎_elim (λ was. inl (w.slot, w.inside, was)) (λ has. inr (of_next old requests report is o.order o.is accepted w.slot file has)) w.was;
+          ⊎_elim (λ was. inl (w.slot, w.inside, was)) (λ has. inr (of_next old report is o.is accepted w.slot has)) w.was;
       distinct = places_apart report.closes.files
           (λ mark.
           let once = times_once mark xs (removes_once (table_of old) xs far o.is.permitted) in

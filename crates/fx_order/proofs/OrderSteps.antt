@@ -39,7 +39,7 @@ permitted_at start [] i d within all = absurd (omega arith)
 permitted_at start (x ∷ order) zero d within all = all.0
 permitted_at start (x ∷ order) (suc i) d within all = permitted_at (table_with start x.access) order i d (omega arith) all.1
 
-pub permitted_here : (order : List ChainAccess) (i : ℕ) (d : ChainAccess) → i < length order → (start at : Table)
+pub permitted_here : (order : List ChainAccess) {i : ℕ} (d : ChainAccess) → i < length order → (start at : Table)
     → at ≡ table_after start (accesses_of (take i order)) → PermitsAll start (accesses_of order) → Permits at (slice_index_or order i d).access
-permitted_here order i d within start at is all =
+permitted_here order {i} d within start at is all =
     subst (λ (t : Table). Permits t (slice_index_or order i d).access) (sym is) (permitted_at start order i d within all)

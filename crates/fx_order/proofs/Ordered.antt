@@ -12,17 +12,16 @@ use Rattle.fx_order.proofs.Removed.{removed_is_closed}
 abbrev pub IsWithin : ℕ → ℕ → Type 0
 IsWithin chains chain = (1 ≤ chain) × (chain ≤ chains)
 
-by_within : (chains chain : ℕ) (accesses : List Access) → IsWithin chains chain → All (λ x. IsWithin chains x.chain) (map (by_chain chain) accesses)
-by_within chains chain [] within = All-nil (λ x. IsWithin chains x.chain)
-by_within chains chain (access ∷ accesses) within =
-    All-cons (λ x. IsWithin chains x.chain) (by_chain chain access) (map (by_chain chain) accesses) within (by_within chains chain accesses within)
+by_within : {chains chain : ℕ} (accesses : List Access) → IsWithin chains chain → All (λ x. IsWithin chains x.chain) (map (by_chain chain) accesses)
+by_within {chains} [] within = All-nil (λ x. IsWithin chains x.chain)
+by_within {chains} {chain} (access ∷ accesses) within =
+    All-cons (λ x. IsWithin chains x.chain) (by_chain chain access) (map (by_chain chain) accesses) within (by_within accesses within)
 
-order_within : (chains : ℕ) (h : List Event) → ((e : Event) → Contains h e → IsWithin chains e.chain) → All (λ x. IsWithin chains x.chain) (order_in h)
-order_within chains [] each = All-nil (λ x. IsWithin chains x.chain)
-order_within chains (e ∷ h) each =
+order_within : {chains : ℕ} (h : List Event) → ((e : Event) → Contains h e → IsWithin chains e.chain) → All (λ x. IsWithin chains x.chain) (order_in h)
+order_within {chains} [] each = All-nil (λ x. IsWithin chains x.chain)
+order_within {chains} (e ∷ h) each =
     All-append (λ x. IsWithin chains x.chain) (order_in h) (map (by_chain e.chain) (accesses_by e.action))
-    (order_within chains h (λ f has. each f (contains_tail e h f has)))
-    (by_within chains e.chain (accesses_by e.action) (each e (contains_head e h)))
+    (order_within h (λ f has. each f (contains_tail e h f has))) (by_within (accesses_by e.action) (each e (contains_head e h)))
 
 abbrev table_with_files : Table → (ℕ → Option Closed) → Table
 table_with_files table at = record table { at = at }
@@ -53,12 +52,12 @@ each_history_is_an_order old new requests report h =
     table ∙ same_outline (table_of (ring_of old)) (accesses_of order) in
     let same_files : IsPermutation (removed_in (accesses_of order)) (closes_in acts) =
     subst (λ (l : List Access). IsPermutation (removed_in l) (closes_in acts)) (sym are)
-    (removed_is_closed start h.end h.history (opening_is_start st (numbers_for (length (runs_of requests)))) h.legal.leads.0 h.legal.leads.1 h.settled) in
+    (removed_is_closed h.history (opening_is_start st (numbers_for (length (runs_of requests)))) h.legal.leads.0 h.legal.leads.1 h.settled) in
     record {
       order = order;
       is = record {
         permitted = subst (λ (t : Table). PermitsAll t (accesses_of order)) begins (subst (PermitsAll (shown start)) (sym are) along.0);
-        chains = order_within (length (runs_of requests)) h.history h.chains;
+        chains = order_within h.history h.chains;
         done = all_explained old.catalogue st.size report.submission 1 (runs_of requests) h.history report.completions h.explained;
         closed = record {
           same_files = IsPermutation-trans (removed_in (accesses_of order)) (closes_in acts) report.closes.files same_files h.closed.same_files;

@@ -50,28 +50,27 @@ Removes [] file = ⊥
 Removes (access ∷ accesses) file = (removed_by access ≡ Some file) ⊎ Removes accesses file
 
 -- what is at a slot after a write was there, and the write was elsewhere, or it is what was written
-written : (t : Table) (slot : ℕ) (new : Option Closed) (s : ℕ) (f : Closed) → (with_file t slot new).at s ≡ Some f
+written : (t : Table) {slot : ℕ} {new : Option Closed} {s : ℕ} {f : Closed} → (with_file t slot new).at s ≡ Some f
     → ((s ≢ slot) × (t.at s ≡ Some f)) ⊎ ((s ≡ slot) × (new ≡ Some f))
-written t slot new s f =
+written t {slot} {new} {s} {f} =
     by_equality s slot (λ b. ◌≡◌ {A = Option Closed} (if b then new else t.at s) (Some f) → ((s ≢ slot) × (t.at s ≡ Some f)) ⊎ ((s ≡ slot) × (new ≡ Some f)))
     (λ same is. inr (same, is)) (λ other is. inl (other, is))
 
-is_placed : (slot : ℕ) (file : Closed) (s : ℕ) (f : Closed) → (s ≡ slot) × (Some file ≡ Some f) → Has ((slot, file) ∷ []) s f
-is_placed slot file s f here = let e : file ≡ f = cc (here.1) in inl (λ i. (sym here.0 i, e i))
+is_placed : {slot : ℕ} {file : Closed} {s : ℕ} {f : Closed} → (s ≡ slot) × (Some file ≡ Some f) → Has ((slot, file) ∷ []) s f
+is_placed {file} {f} here = let e : file ≡ f = cc (here.1) in inl (λ i. (sym here.0 i, e i))
 
 -- what an access leaves at a slot was there, or was placed by it
-pub step_from : (t : Table) (x : Access) (s : ℕ) (f : Closed) → (table_with t x).at s ≡ Some f → (t.at s ≡ Some f) ⊎ Has (placed_by x) s f
-step_from t (Puts slot file removed) s f is = ⊎_elim (λ o. inl o.1) (λ h. inr (is_placed slot file s f h)) (written t slot (Some file) s f is)
-step_from t (Clears slot removed) s f is = ⊎_elim (λ o. inl o.1) (λ h. absurd (cc (h.1))) (written t slot None s f is)
-step_from t (Takes slot removed) s f is = ⊎_elim (λ o. inl o.1) (λ h. absurd (cc (h.1))) (written t slot None s f is)
-step_from t (Allocates slot file) s f is = ⊎_elim (λ o. inl o.1) (λ h. inr (is_placed slot file s f h)) (written t slot (Some file) s f is)
-step_from t x s f is = inl is
+pub step_from : (t : Table) (x : Access) {s : ℕ} {f : Closed} → (table_with t x).at s ≡ Some f → (t.at s ≡ Some f) ⊎ Has (placed_by x) s f
+step_from t (Puts slot file removed) {s} {f} is = ⊎_elim (λ o. inl o.1) (λ h. inr (is_placed h)) (written t is)
+step_from t (Clears slot removed) {s} {f} is = ⊎_elim (λ o. inl o.1) (λ h. absurd (cc (h.1))) (written t is)
+step_from t (Takes slot removed) {s} {f} is = ⊎_elim (λ o. inl o.1) (λ h. absurd (cc (h.1))) (written t is)
+step_from t (Allocates slot file) {s} {f} is = ⊎_elim (λ o. inl o.1) (λ h. inr (is_placed h)) (written t is)
+step_from t x is = inl is
 
 -- a file that is at a slot after all of them was there, or was placed there
 pub left_from : (t : Table) (xs : List Access) (s : ℕ) (f : Closed) → (table_after t xs).at s ≡ Some f → (t.at s ≡ Some f) ⊎ Has (placed xs) s f
 left_from t [] s f is = inl is
-left_from t (x ∷ xs) s f is = ⊎_elim
-    (λ now. ⊎_elim (λ was. inl was) (λ new. inr (has_left (placed_by x) (placed xs) s f new)) (step_from t x s f now))
+left_from t (x ∷ xs) s f is = ⊎_elim (λ now. ⊎_elim (λ was. inl was) (λ new. inr (has_left (placed_by x) (placed xs) s f new)) (step_from t x now))
     (λ later. inr (has_right (placed_by x) (placed xs) s f later))
     (left_from (table_with t x) xs s f is)
 
@@ -83,39 +82,36 @@ kept t slot removed new s f found was =
     (λ same. inr (found ∙ (ap t.at (sym same) ∙ was))) (λ _. inl was)
 
 -- what an access finds at a slot is there afterwards, or was removed by it
-step_kept : (t : Table) (x : Access) (s : ℕ) (f : Closed) → Permits t x → t.at s ≡ Some f
+step_kept : (t : Table) (x : Access) {s : ℕ} {f : Closed} → Permits t x → t.at s ≡ Some f
     → ((table_with t x).at s ≡ Some f) ⊎ (removed_by x ≡ Some f)
-step_kept t (Puts slot file removed) s f may was = kept t slot removed (Some file) s f may.1 was
-step_kept t (Clears slot removed) s f may was = kept t slot removed None s f may.1 was
-step_kept t (Takes slot removed) s f may was = kept t slot removed None s f may.1 was
-step_kept t (Allocates slot file) s f may was = kept t slot None (Some file) s f may.0.1 was
-step_kept t x s f may was = inl was
+step_kept t (Puts slot file removed) {s} {f} may was = kept t slot removed (Some file) s f may.1 was
+step_kept t (Clears slot removed) {s} {f} may was = kept t slot removed None s f may.1 was
+step_kept t (Takes slot removed) {s} {f} may was = kept t slot removed None s f may.1 was
+step_kept t (Allocates slot file) {s} {f} may was = kept t slot None (Some file) s f may.0.1 was
+step_kept t x may was = inl was
 
 -- what an access places is there afterwards
-step_placed : (t : Table) (x : Access) (s : ℕ) (f : Closed) → Has (placed_by x) s f → (table_with t x).at s ≡ Some f
-step_placed t (Puts slot file removed) s f (inl here) =
+step_placed : (t : Table) (x : Access) (s : ℕ) {f : Closed} → Has (placed_by x) s f → (table_with t x).at s ≡ Some f
+step_placed t (Puts slot file removed) s {f} (inl here) =
     by_equality s slot (λ b. ◌≡◌ {A = Option Closed} (if b then Some file else t.at s) (Some f))
     (λ _. λ i. Some ((here i).1)) (λ other. absurd (other (λ i. (sym here i).0)))
-step_placed t (Puts slot file removed) s f (inr none) = absurd none
-step_placed t (Allocates slot file) s f (inl here) =
+step_placed t (Puts slot file removed) s (inr none) = absurd none
+step_placed t (Allocates slot file) s {f} (inl here) =
     by_equality s slot (λ b. ◌≡◌ {A = Option Closed} (if b then Some file else t.at s) (Some f))
     (λ _. λ i. Some ((here i).1)) (λ other. absurd (other (λ i. (sym here i).0)))
-step_placed t (Allocates slot file) s f (inr none) = absurd none
-step_placed t x s f has = absurd has
+step_placed t (Allocates slot file) s (inr none) = absurd none
+step_placed t x s has = absurd has
 
 -- a file that was at a slot, or was placed there, is there after all of them, or they removed it
-pub left_or_removed : (t : Table) (xs : List Access) (s : ℕ) (f : Closed) → PermitsAll t xs → (t.at s ≡ Some f) ⊎ Has (placed xs) s f
+pub left_or_removed : (t : Table) (xs : List Access) {s : ℕ} {f : Closed} → PermitsAll t xs → (t.at s ≡ Some f) ⊎ Has (placed xs) s f
     → ((table_after t xs).at s ≡ Some f) ⊎ Removes xs f
-left_or_removed t [] s f may (inl was) = inl was
-left_or_removed t [] s f may (inr none) = absurd none
-left_or_removed t (x ∷ xs) s f may (inl was) = ⊎_elim
-    (λ now. ⊎_elim (λ end. inl end) (λ gone. inr (inr gone)) (left_or_removed (table_with t x) xs s f may.1 (inl now)))
-    (λ gone. inr (inl gone))
-    (step_kept t x s f may.0 was)
-left_or_removed t (x ∷ xs) s f may (inr new) = ⊎_elim
-    (λ end. inl end) (λ gone. inr (inr gone))
-    (left_or_removed (table_with t x) xs s f may.1
-    (⊎_elim (λ here. inl (step_placed t x s f here)) (λ later. inr later) (has_either (placed_by x) (placed xs) s f new)))
+left_or_removed t [] may (inl was) = inl was
+left_or_removed t [] may (inr none) = absurd none
+left_or_removed t (x ∷ xs) {s} {f} may (inl was) = ⊎_elim
+    (λ now. ⊎_elim (λ end. inl end) (λ gone. inr (inr gone)) (left_or_removed (table_with t x) xs may.1 (inl now))) (λ gone. inr (inl gone))
+    (step_kept t x may.0 was)
+left_or_removed t (x ∷ xs) {s} {f} may (inr new) = ⊎_elim (λ end. inl end) (λ gone. inr (inr gone)) (left_or_removed (table_with t x) xs may.1
+    (⊎_elim (λ here. inl (step_placed t x s here)) (λ later. inr later) (has_either (placed_by x) (placed xs) s f new)))
 
 -- the slot of a removed file: it was there, and what is there then is another file that the access placed, or none
 pub record IsEmptied (t : Table) (x : Access) (g : Closed) : Type 0 where
@@ -124,21 +120,20 @@ pub record IsEmptied (t : Table) (x : Access) (g : Closed) : Type 0 where
   pub was : t.at slot ≡ Some g
   pub behind : (s : ℕ) (f : Closed) → (table_with t x).at s ≡ Some f → ((s ≢ slot) × (t.at s ≡ Some f)) ⊎ Has (placed_by x) s f
 
-emptied_at : (t : Table) (x : Access) (slot : ℕ) (removed new : Option Closed) (g : Closed) → IsAt t slot removed → removed ≡ Some g
+emptied_at : {t : Table} {x : Access} {slot : ℕ} {removed new : Option Closed} {g : Closed} → IsAt t slot removed → removed ≡ Some g
     → ((s : ℕ) (f : Closed) → (table_with t x).at s ≡ Some f → (with_file t slot new).at s ≡ Some f)
     → ((s : ℕ) (f : Closed) → (s ≡ slot) × (new ≡ Some f) → Has (placed_by x) s f) → IsEmptied t x g
-emptied_at t x slot removed new g may is left puts = record {
+emptied_at {t} {slot} {new} may is left puts = record {
   slot = slot;
   inside = may.0;
   was = sym may.1 ∙ is;
-  behind = λ s f now. ⊎_elim (λ o. inl o) (λ h. inr (puts s f h)) (written t slot new s f (left s f now));
+  behind = λ s f now. ⊎_elim (λ o. inl o) (λ h. inr (puts s f h)) (written t (left s f now));
 }
 
 pub emptied : (t : Table) (x : Access) (g : Closed) → Permits t x → removed_by x ≡ Some g → IsEmptied t x g
-emptied t (Puts slot file removed) g may is =
-    emptied_at t (Puts slot file removed) slot removed (Some file) g may is (λ s f now. now) (λ s f h. is_placed slot file s f h)
-emptied t (Clears slot removed) g may is = emptied_at t (Clears slot removed) slot removed None g may is (λ s f now. now) (λ s f h. absurd (cc (h.1)))
-emptied t (Takes slot removed) g may is = emptied_at t (Takes slot removed) slot removed None g may is (λ s f now. now) (λ s f h. absurd (cc (h.1)))
+emptied t (Puts slot file removed) g may is = emptied_at may is (λ s f now. now) (λ s f h. is_placed h)
+emptied t (Clears slot removed) g may is = emptied_at may is (λ s f now. now) (λ s f h. absurd (cc (h.1)))
+emptied t (Takes slot removed) g may is = emptied_at may is (λ s f now. now) (λ s f h. absurd (cc (h.1)))
 emptied t x g may is = cc
 
 pub same_size : (t : Table) (x : Access) → (table_with t x).size ≡ t.size
@@ -160,22 +155,20 @@ removed_from t (x ∷ xs) g may (inr later) =
     record {
       slot = w.slot;
       inside = let lt = w.inside in let same = same_size t x in omega arith;
-      was = ⊎_elim
-          (λ now. ⊎_elim (λ was. inl was) (λ new. inr (has_left (placed_by x) (placed xs) w.slot g new)) (step_from t x w.slot g now))
+      was = ⊎_elim (λ now. ⊎_elim (λ was. inl was) (λ new. inr (has_left (placed_by x) (placed xs) w.slot g new)) (step_from t x now))
           (λ new. inr (has_right (placed_by x) (placed xs) w.slot g new))
           w.was;
     }
 
 -- the list of what was removed has exactly the removed files
-pub contains_removed : (xs : List Access) (g : Closed) → Removes xs g → Contains (removed_in xs) g
-contains_removed [] g gone = absurd gone
-contains_removed (x ∷ xs) g (inl now) = first (removed_by x) now
+pub contains_removed : (xs : List Access) {g : Closed} → Removes xs g → Contains (removed_in xs) g
+contains_removed [] gone = absurd gone
+contains_removed (x ∷ xs) {g} (inl now) = first (removed_by x) now
   where
     first : (found : Option Closed) → found ≡ Some g → Contains (option_to_list found ++ removed_in xs) g
     first None is = cc
     first (Some h) is = let e : g ≡ h = cc in subst (λ (y : Closed). Contains (h ∷ removed_in xs) y) (sym e) (contains_head h (removed_in xs))
-contains_removed (x ∷ xs) g (inr later) =
-    Contains-append_right (option_to_list (removed_by x)) (removed_in xs) g (contains_removed xs g later)
+contains_removed (x ∷ xs) {g} (inr later) = Contains-append_right (option_to_list (removed_by x)) (removed_in xs) g (contains_removed xs later)
 
 pub removes_contained : (xs : List Access) (g : Closed) → Contains (removed_in xs) g → Removes xs g
 removes_contained [] g has = absurd (contains_none g has)

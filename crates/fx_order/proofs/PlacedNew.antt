@@ -40,13 +40,13 @@ OwnOf P accesses = Own P (placed accesses)
 own_none : (P : Closed → Type 0) (accesses : List Access) → placed accesses ≡ [] → OwnOf P accesses
 own_none P accesses is = subst (Own P) (sym is) (λ s f has. absurd has, tt)
 
-own_one : (P : Closed → Type 0) (accesses : List Access) (slot : ℕ) (file : Closed) → placed accesses ≡ (slot, file) ∷ [] → P file → OwnOf P accesses
-own_one P accesses slot file is p =
+own_one : (P : Closed → Type 0) (accesses : List Access) {slot : ℕ} {file : Closed} → placed accesses ≡ (slot, file) ∷ [] → P file → OwnOf P accesses
+own_one P accesses is p =
     subst (Own P) (sym is) (λ s f has. ⊎_elim (λ here. subst P (λ i. (here i).1) p) (λ none. absurd none) has, (tt, λ s g none. absurd none))
 
-own_both : (P Q R : Closed → Type 0) (xs ys accesses : List Access) → accesses ≡ xs ++ ys → ((f : Closed) → P f → R f) → ((f : Closed) → Q f → R f)
+own_both : (P Q R : Closed → Type 0) (xs ys : List Access) {accesses : List Access} → accesses ≡ xs ++ ys → ((f : Closed) → P f → R f) → ((f : Closed) → Q f → R f)
     → ((f g : Closed) → P f → Q g → f.mark ≢ g.mark) → OwnOf P xs → OwnOf Q ys → OwnOf R accesses
-own_both P Q R xs ys accesses is left right apart first behind =
+own_both P Q R xs ys is left right apart first behind =
     subst (Own R) (sym (ap placed is ∙ placed-append xs ys)) (own_then P Q R (placed xs) (placed ys) left right apart first behind)
 
 -- a file of the catalogue without a tag, of a place of a member's list
@@ -94,16 +94,16 @@ reaches_all_any member (r ∷ rs) = (reaches_any member r.operation, reaches_all
 abbrev pub InLimits : ℕ → ℕ → Type 0
 InLimits m j = (m ≤ MOST_MEMBERS) × (j < LONGEST_UPDATE)
 
-reaches_limits : (member : ℕ) (operation : Operation) → member ≤ MOST_MEMBERS → is_long_update operation ≡ false → Reaches (InLimits member) operation
-reaches_limits member (Opens name target) few short = (few, omega arith)
-reaches_limits member (Updates off list) few short = λ j lt. (few, let all = ltb-false LONGEST_UPDATE (length list) short in omega arith)
-reaches_limits member operation few short = tt
+reaches_limits : {member : ℕ} (operation : Operation) → member ≤ MOST_MEMBERS → is_long_update operation ≡ false → Reaches (InLimits member) operation
+reaches_limits (Opens name target) few short = (few, omega arith)
+reaches_limits (Updates off list) few short = λ j lt. (few, let all = ltb-false LONGEST_UPDATE (length list) short in omega arith)
+reaches_limits operation few short = tt
 
 pub reaches_all_limits : (member : ℕ) (requests : List Asked) → All IsWithinLimits requests → member + length requests ≤ MOST_MEMBERS + 1
     → ReachesAll InLimits member requests
 reaches_all_limits member [] limits few = tt
 reaches_all_limits member (r ∷ rs) limits few = (
-  reaches_limits member r.operation (omega arith) (All-head IsWithinLimits r rs limits).update,
+  reaches_limits r.operation (omega arith) (All-head IsWithinLimits r rs limits).update,
   reaches_all_limits (member + 1) rs (All-tail IsWithinLimits r rs limits) (omega arith),
 )
 
@@ -120,8 +120,7 @@ module _ (entries : ℕ) (B : ℕ → Type 0) (place : Place) where
   one_listed : (entry slot : ℕ) (access : Access) → placed_by access ≡ (slot, installed place 0 entry) ∷ [] → B 0 → entry < entries
       → OwnOf (IsListed entries B place 0) (access ∷ [])
   one_listed entry slot access is b inside =
-      own_one (IsListed entries B place 0) (access ∷ []) slot (installed place 0 entry) (ap (λ (l : List (ℕ × Closed)). l ++ []) is)
-      (0, omega arith, b, marked 0 entry inside)
+      own_one (IsListed entries B place 0) (access ∷ []) (ap (λ (l : List (ℕ × Closed)). l ++ []) is) (0, omega arith, b, marked 0 entry inside)
 
   opens : (size entry : ℕ) (target : Target) (accesses : List Access) (c : Completed) → B 0 → entry < entries
       → IsOpenDone size place entry target accesses c → OwnOf (IsListed entries B place 0) accesses
@@ -136,7 +135,7 @@ module _ (entries : ℕ) (B : ℕ → Type 0) (place : Place) where
   entry : (in_list slot : ℕ) (z : ℤ) (accesses : List Access) → is_bad_entry entries z ≡ false → IsEntryDone place in_list slot z accesses
       → OwnOf (IsMarked entries place in_list) accesses
   entry in_list slot (pos n) accesses good x =
-      own_one (IsMarked entries place in_list) accesses slot (installed place in_list n) (ap placed x.1) (marked in_list n (leb-false entries n good))
+      own_one (IsMarked entries place in_list) accesses (ap placed x.1) (marked in_list n (leb-false entries n good))
   entry in_list slot (negsuc zero) accesses good x = own_none (IsMarked entries place in_list) accesses (ap placed x.1)
   entry in_list slot (negsuc (suc n)) accesses good x = own_none (IsMarked entries place in_list) accesses (ap placed x)
 
@@ -144,7 +143,7 @@ module _ (entries : ℕ) (B : ℕ → Type 0) (place : Place) where
       → list_any (is_bad_entry entries) zs ≡ false → AreEntriesDone place in_list slot zs accesses → OwnOf (IsListed entries B place in_list) accesses
   list in_list slot [] accesses reach good x = own_none (IsListed entries B place in_list) accesses (ap placed x)
   list in_list slot (z ∷ zs) accesses reach good x =
-      own_both (IsMarked entries place in_list) (IsListed entries B place (in_list + 1)) (IsListed entries B place in_list) x.0 x.1 accesses x.2
+      own_both (IsMarked entries place in_list) (IsListed entries B place (in_list + 1)) (IsListed entries B place in_list) x.0 x.1 x.2
       (λ f is. (in_list, omega arith, reach in_list (omega arith) (omega arith), is))
       (λ f is. (is.0, let le = is.1 in omega arith, is.2, is.3))
       (λ f g is later same.
@@ -178,8 +177,7 @@ module _ (catalogue : List FileEntry) (size : ℕ) (B : ℕ → ℕ → Type 0) 
       → IsChainDone catalogue size place requests accesses cs → OwnOf (IsOfMembers entries B place) accesses
   chain place [] accesses cs reach x = own_none (IsOfMembers entries B place) accesses (ap placed x.0)
   chain place (r ∷ rs) accesses cs reach x =
-      own_both (IsListed entries (B place.member) place 0) (IsOfMembers entries B (next_member place)) (IsOfMembers entries B place)
-      x.0 x.1 accesses x.4
+      own_both (IsListed entries (B place.member) place 0) (IsOfMembers entries B (next_member place)) (IsOfMembers entries B place) x.0 x.1 x.4
       (λ f is. (place.member, is.0, omega arith, is.2, record { mark = is.3.mark; inside = is.3.inside; untagged = is.3.untagged }))
       (λ f is. (is.0, is.1, let le = is.2 in omega arith, is.3, record { mark = is.4.mark; inside = is.4.inside; untagged = is.4.untagged }))
       (λ f g is later same.

@@ -50,16 +50,15 @@ entry_same place in_list slot (negsuc zero) one other x y = ap placed x.1 ∙ sy
 entry_same place in_list slot (negsuc (suc n)) one other x y = ap placed x ∙ sym (ap placed y)
 
 -- accesses in two parts that place the same
-same_parts : (one other x y z w : List Access) → one ≡ x ++ y → other ≡ z ++ w → PlaceSame x z → PlaceSame y w → PlaceSame one other
-same_parts one other x y z w is are first second =
+same_parts : {one other : List Access} (x y z w : List Access) → one ≡ x ++ y → other ≡ z ++ w → PlaceSame x z → PlaceSame y w → PlaceSame one other
+same_parts x y z w is are first second =
     ap placed is ∙ (placed-append x y ∙ ((λ i. first i ++ second i) ∙ (sym (placed-append z w) ∙ sym (ap placed are))))
 
 list_same : (place : Place) (in_list slot : ℕ) (zs : List ℤ) (one other : List Access) → AreEntriesDone place in_list slot zs one
     → AreEntriesDone place in_list slot zs other → PlaceSame one other
 list_same place in_list slot [] one other x y = ap placed x ∙ sym (ap placed y)
 list_same place in_list slot (z ∷ zs) one other x y =
-    same_parts one other x.0 x.1 y.0 y.1 x.2 y.2 (entry_same place in_list slot z x.0 y.0 x.3 y.3)
-    (list_same place (in_list + 1) (slot + 1) zs x.1 y.1 x.4 y.4)
+    same_parts x.0 x.1 y.0 y.1 x.2 y.2 (entry_same place in_list slot z x.0 y.0 x.3 y.3) (list_same place (in_list + 1) (slot + 1) zs x.1 y.1 x.4 y.4)
 
 update_same : (entries size : ℕ) (place : Place) (off : ℕ) (zs : List ℤ) (one other : List Access) (c : Completed)
     → IsUpdateDone entries size place off zs one c → IsUpdateDone entries size place off zs other c → PlaceSame one other
@@ -91,7 +90,7 @@ module _ (catalogue : List FileEntry) (is : IsCatalogue catalogue) (size : ℕ) 
   chain_same place [] one other cs x y = ap placed x.0 ∙ sym (ap placed y.0)
   chain_same place (r ∷ rs) one other cs x y =
       let same = heads x.2 y.2 x.3 y.3 (sym x.5 ∙ y.5) in
-      same_parts one other x.0 x.1 y.0 y.1 x.4 y.4
+      same_parts x.0 x.1 y.0 y.1 x.4 y.4
       (request_same place r.operation x.0 y.0 x.2 x.6 (subst (IsRequestDone catalogue size place r.operation y.0) same.0 y.6))
       (both_ways (severs r x.2)
       (λ p q. ap placed p.0 ∙ sym (ap placed q.0))

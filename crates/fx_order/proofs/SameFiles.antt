@@ -40,22 +40,22 @@ decides_file a b =
 abbrev one_if_same : Closed → Closed → ℕ
 one_if_same file x = cond (same_file file x) 1 0
 
-one_of_same : (file x : Closed) (b : Bool) → same_file file x ≡ b → file ≢ x → ◌≡◌ {A = ℕ} (cond b 1 0) 0
-one_of_same file x true is other = absurd (other ((decides_file file x).0 is))
-one_of_same file x false is other = refl
+one_of_same : {file x : Closed} (b : Bool) → same_file file x ≡ b → file ≢ x → ◌≡◌ {A = ℕ} (cond b 1 0) 0
+one_of_same {file} {x} true is other = absurd (other ((decides_file file x).0 is))
+one_of_same false is other = refl
 
-times-none : (file : Closed) (files : List Closed) → ((i : ℕ) (d : Closed) → i < length files → slice_index_or files i d ≢ file)
+times-none : {file : Closed} (files : List Closed) → ((i : ℕ) (d : Closed) → i < length files → slice_index_or files i d ≢ file)
     → sum_by (one_if_same file) files ≡ 0
-times-none file [] none = refl
-times-none file (x ∷ files) none =
-    let head : one_if_same file x ≡ 0 = one_of_same file x (same_file file x) refl (λ is. none 0 x (omega arith) (sym is)) in
-    let rest : sum_by (one_if_same file) files ≡ 0 = times-none file files (λ i d lt. none (suc i) d (omega arith)) in
+times-none [] none = refl
+times-none {file} (x ∷ files) none =
+    let head : one_if_same file x ≡ 0 = one_of_same (same_file file x) refl (λ is. none 0 x (omega arith) (sym is)) in
+    let rest : sum_by (one_if_same file) files ≡ 0 = times-none files (λ i d lt. none (suc i) d (omega arith)) in
     sum_by-cons (one_if_same file) x files ∙ omega arith
 
 -- where the file is next, it is one of those that are left
-is_left : (files done rest left : List Closed) (file : Closed) → IsPermutation files (done ++ left)
+is_left : {files : List Closed} (done rest left : List Closed) {file : Closed} → IsPermutation files (done ++ left)
     → IsPermutation files (done ++ file ∷ rest) → ((i : ℕ) (d : Closed) → i < length left → slice_index_or left i d ≢ file) → ⊥
-is_left files done rest left file one other none =
+is_left {files} done rest left {file} one other none =
     let f : Closed → ℕ = one_if_same file in
     let here : one_if_same file file ≡ 1 = ap (λ (b : Bool). cond b 1 0) ((decides_file file file).1 refl) in
     let first : sum_by (one_if_same file) (done ++ left) ≡ sum_by (one_if_same file) files = sum_by-IsPermutation (one_if_same file) files (done ++ left) one in
@@ -64,7 +64,7 @@ is_left files done rest left file one other none =
     let parts = sum_by-append (one_if_same file) done left in
     let others = sum_by-append (one_if_same file) done (file ∷ rest) in
     let head = sum_by-cons (one_if_same file) file rest in
-    let nothing = times-none file left none in
+    let nothing = times-none left none in
     omega arith
 
 -- the loop over the other list: a file that isn't left, one that is, and the end
@@ -72,8 +72,7 @@ module _ (files others left : List Closed) (i : ℕ) (so_far : IsPermutation fil
   pub none_left : (d : Closed) → i < length others
       → ((k : ℕ) (e : Closed) → k < length left → slice_index_or left k e ≢ slice_index_or others i d) → IsPermutation files others → ⊥
   none_left d within none same =
-      is_left files (take i others) (drop (suc i) others) left (slice_index_or others i d) so_far
-      (subst (IsPermutation files) (split_at others i d within) same) none
+      is_left (take i others) (drop (suc i) others) left so_far (subst (IsPermutation files) (split_at others i d within) same) none
 
   pub one_more : (d : Closed) (j : ℕ) → i < length others → j < length left
       → slice_index_or left j (slice_index_or others i d) ≡ slice_index_or others i d

@@ -10,6 +10,6 @@ loop-x-preserved c =
 pub returns-then-not-permits-clause-permitted : goal.returns-then-not-permits-clause-permitted
 returns-then-not-permits-clause-permitted c = (
   λ yes. absurd (cc),
-  λ all. c.if-not-permits.ensures.1 (permitted_here c.args.order.now c.loop-x.x-index _ c.loop-x-test.true (table_of_slots c.args.slots.now)
+  λ all. c.if-not-permits.ensures.1 (permitted_here c.args.order.now _ c.loop-x-test.true (table_of_slots c.args.slots.now)
       (table_of_slots c.loop-x.slots) c.loop-x.invariant.1 all),
 )
