@@ -26,8 +26,8 @@ module _ {X : Type 0} (f : X → ℕ) (xs : List X) (d : X) where
       omega arith
 
   -- what stands at a further place, counted from 1, and what stands behind that
-  pub sum_behind : (i c : ℕ) → i < c → c ≤ length xs → f (slice_index_or xs (c - 1) d) + sum_by f (drop c xs) ≤ sum_by f (drop i xs)
-  sum_behind i c further inside =
+  pub sum_behind : (i : ℕ) {c : ℕ} → i < c → c ≤ length xs → f (slice_index_or xs (c - 1) d) + sum_by f (drop c xs) ≤ sum_by f (drop i xs)
+  sum_behind i {c} further inside =
       let next : (c - 1) + 1 ≡ c = omega arith in
       subst (λ (n : ℕ). f (slice_index_or xs (c - 1) d) + sum_by f (drop n xs) ≤ sum_by f (drop i xs)) next
       (sum_at (c - 1 - i) i (c - 1) (omega arith) (omega arith))
@@ -67,10 +67,10 @@ pub record HasPlayed (catalogue : List FileEntry) (size submission chain : ℕ) 
   pub few_looks : used.looks ≤ length asked
   pub few_files : length (closes_in actions) ≤ all_weights asked
 
-pub played_by : (o : Opening) (catalogue : List FileEntry) (submission chain : ℕ) (asked : List Asked) (v x : PassView) (closes files : CloseListView)
-    (before now : List Completed) → PlaysChain o catalogue submission chain asked (player v closes) before (player x files) now
+pub played_by : {o : Opening} {catalogue : List FileEntry} {submission chain : ℕ} {asked : List Asked} {v x : PassView} {closes files : CloseListView}
+    {before now : List Completed} → PlaysChain o catalogue submission chain asked (player v closes) before (player x files) now
     → HasPlayed catalogue (size_of o) submission chain asked v closes before x files now
-played_by o catalogue submission chain asked v x closes files before now p = record {
+played_by {chain} p = record {
   completions = p.0;
   parts = p.1;
   actions = p.2.actions;
@@ -114,7 +114,7 @@ module _ (o : Opening) (catalogue : List FileEntry) (submission : ℕ) (runs : L
   new_events = each_all (λ e. chain_of e ≡ chain) events of_chain
 
   new_completions : All (λ c. chain_of_completed c ≡ chain) played.completions
-  new_completions k d l = ((explained_of_members catalogue (size_of o) (first_member submission chain) (run_of_chain runs chain) actions played.completions
+  new_completions k d l = ((explained_of_members catalogue (size_of o) (first_member submission chain) (run_of_chain runs chain) actions
       played.says).within k d l).0
 
   -- those before are of chains before it
@@ -134,9 +134,9 @@ module _ (o : Opening) (catalogue : List FileEntry) (submission : ℕ) (runs : L
       subst (λ (z : List Action × List Completed). IsDone catalogue (size_of o) submission runs chain z.0 z.1)
       (λ i. (sym part i, sym mine i)) (played.says, played.few_files)
 
-  done_before : (c : ℕ) → Contains v.drawn c
+  done_before : {c : ℕ} → Contains v.drawn c
       → IsDone catalogue (size_of o) submission runs c (map action_of (part_of_chain c x.own)) (completions_of_chain c now)
-  done_before c h =
+  done_before {c} h =
       let low = (worked.inside c h).1 in
       let other : chain ≢ c = λ same. absurd (omega arith) in
       let part : map action_of (part_of_chain c x.own) ≡ map action_of (part_of_chain c v.own) =
@@ -147,23 +147,21 @@ module _ (o : Opening) (catalogue : List FileEntry) (submission : ℕ) (runs : L
       subst (λ (z : List Action × List Completed). IsDone catalogue (size_of o) submission runs c z.0 z.1)
       (λ i. (sym part i, sym mine i)) (worked.explained c h, worked.weighed c h)
 
-  drawn_cases : (c : ℕ) → Contains x.drawn c → (c ≡ chain) ⊎ Contains v.drawn c
-  drawn_cases c h = contains_cases chain v.drawn c (subst (λ (l : List ℕ). Contains l c) drawn_is h)
+  drawn_cases : {c : ℕ} → Contains x.drawn c → (c ≡ chain) ⊎ Contains v.drawn c
+  drawn_cases {c} h = contains_cases chain v.drawn c (subst (λ (l : List ℕ). Contains l c) drawn_is h)
 
   done : (c : ℕ) → Contains x.drawn c
       → IsDone catalogue (size_of o) submission runs c (map action_of (part_of_chain c x.own)) (completions_of_chain c now)
   done c h = ⊎_elim
       (λ is. subst (λ (n : ℕ). IsDone catalogue (size_of o) submission runs n (map action_of (part_of_chain n x.own)) (completions_of_chain n now))
-      (sym is) done_now)
-      (λ t. done_before c t) (drawn_cases c h)
+      (sym is) done_now) (λ t. done_before t) (drawn_cases h)
 
   pub worked_on : HasWorked catalogue (size_of o) submission runs (worker_state x now files)
   worked_on = record {
     explained = λ c h. (done c h).0;
     weighed = λ c h. (done c h).1;
     inside = λ c h. ⊎_elim
-        (λ is. (omega arith, omega arith))
-        (λ t. let low = worked.inside c t in let top = low.1 in (low.0, omega arith)) (drawn_cases c h);
+        (λ is. (omega arith, omega arith)) (λ t. let low = worked.inside c t in let top = low.1 in (low.0, omega arith)) (drawn_cases h);
     reached = omega arith;
     own = λ e h. subst (λ (l : List ℕ). Contains l e.chain) (sym drawn_is) (⊎_elim
         (λ new. subst (Contains (chain ∷ v.drawn)) (sym (of_chain e new)) (contains_head chain v.drawn))
@@ -181,11 +179,11 @@ module _ (o : Opening) (catalogue : List FileEntry) (submission : ℕ) (runs : L
         ∙ ap (λ (l : List Event). closes_in (map action_of l)) (sym own_is);
   }
 
-  pub room_left : (capacity more : ℕ) → HasRoom runs (worker_state v before closes) capacity → capacity ≤ more
+  pub room_left : {capacity more : ℕ} → HasRoom runs (worker_state v before closes) capacity → capacity ≤ more
       → HasRoom runs (worker_state x now files) more
-  room_left capacity more room grows =
-      let requests = sum_behind (λ (run : List Asked). length run) runs [] v.chain chain further inside in
-      let weights = sum_behind all_weights runs [] v.chain chain further inside in
+  room_left {more} room grows =
+      let requests = sum_behind (λ (run : List Asked). length run) runs [] v.chain further inside in
+      let weights = sum_behind all_weights runs [] v.chain further inside in
       let count = explained_count catalogue (size_of o) (first_member submission chain) (run_of_chain runs chain) actions played.completions played.says in
       let longer = ap length played.parts ∙ length-append before played.completions in
       let few = played.few_looks in
@@ -203,8 +201,8 @@ module _ (o : Opening) (runs : List (List Asked)) (v w : PassView) (before : Lis
   enough =
       let further = drew.1 in
       let last = drew.2 in
-      let requests = sum_behind (λ (run : List Asked). length run) runs [] v.chain chain further (omega arith) in
-      let weights = sum_behind all_weights runs [] v.chain chain further (omega arith) in
+      let requests = sum_behind (λ (run : List Asked). length run) runs [] v.chain further (omega arith) in
+      let weights = sum_behind all_weights runs [] v.chain further (omega arith) in
       let same = ap length are in
       let weigh = ap all_weights are in
       let left = ap (λ (z : PassView). z.looks_left) drew.3 in
@@ -219,22 +217,21 @@ module _ (o : Opening) (runs : List (List Asked)) (v w : PassView) (before : Lis
         (λ i. (drew.3 i, are i)) played
 
     went : HasPlayed catalogue (size_of o) submission chain (run_of_chain runs chain) (drawing o v chain) closes before x files now
-    went = played_by o catalogue submission chain (run_of_chain runs chain) (drawing o v chain) x closes files before now played_so
+    went = played_by played_so
 
     pub worked_next : HasWorked catalogue (size_of o) submission runs (worker_state x now files)
     worked_next =
         worked_on o catalogue submission runs v x before now closes files chain worked drew.1 (omega arith) went
 
     pub room_next : HasRoom runs (worker_state x now files) more
-    room_next =
-        room_left o catalogue submission runs v x before now closes files chain worked drew.1 (omega arith) went capacity more room grows
+    room_next = room_left o catalogue submission runs v x before now closes files chain worked drew.1 (omega arith) went room grows
 
     pub number_next : x.number ≡ v.number
     number_next = played.2.acts.adds.number ∙ ap (λ (z : PassView). z.number) drew.3
 
 -- a worker whose pass was told that there are no more chains
-pub worked_all : (o : Opening) (catalogue : List FileEntry) (size submission : ℕ) (runs : List (List Asked)) (v w : PassView) (cs : List Completed)
-    (closes : CloseListView) → HasWorked catalogue size submission runs (worker_state v cs closes) → Draws o v None w
+pub worked_all : (o : Opening) {catalogue : List FileEntry} {size submission : ℕ} {runs : List (List Asked)} {v w : PassView} {cs : List Completed}
+    {closes : CloseListView} → HasWorked catalogue size submission runs (worker_state v cs closes) → Draws o v None w
     → HasWorked catalogue size submission runs (worker_state w cs closes)
-worked_all o catalogue size submission runs v w cs closes worked drew =
+worked_all o {catalogue} {size} {submission} {runs} {cs} {closes} worked drew =
     subst (λ (z : PassView). HasWorked catalogue size submission runs (worker_state z cs closes)) (sym drew) (assumption worked)

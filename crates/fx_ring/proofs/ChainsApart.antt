@@ -44,8 +44,8 @@ module _ (submission : ℕ) where
   earlier true chain e xs puts = (puts.0.0, λ f is. puts.1 f (inl is))
   earlier false chain e xs puts = puts
 
-  parts_before : (e : Event) (h : List Event) → PartsPut (e ∷ h) → PartsPut h
-  parts_before e h parts d at = earlier (e.chain == d.chain) d.chain e (part_of_chain d.chain h)
+  parts_before : {e : Event} (h : List Event) → PartsPut (e ∷ h) → PartsPut h
+  parts_before {e} h parts d at = earlier (e.chain == d.chain) d.chain e (part_of_chain d.chain h)
       (parts d (suc at.0, let lt = at.1 in omega arith, at.2))
 
   pub whole_new : (h : List Event) → PartsPut h → HasNewMarks (map action_of h)
@@ -55,11 +55,11 @@ module _ (submission : ℕ) where
       ap (λ b. cond b (e ∷ part_of_chain e.chain h) (part_of_chain e.chain h)) (eq-eqb e.chain e.chain refl) in
       let here = parts e (0, omega arith, refl) in
       let fresh : HasNewMarks (e.action ∷ part_actions e.chain h) = subst (λ l. HasNewMarks (map action_of l)) own here.0 in (
-        whole_new h (parts_before e h parts),
+        whole_new h (parts_before h parts),
         λ f g now before same.
             let (d, at, there) = put_in_part h g before in
             let mine = here.1 f (subst (λ l. IsPut (map action_of l) f) (sym own) (inr now)) in
-            let theirs = (parts_before e h parts d at).1 g there in
+            let theirs = (parts_before h parts d at).1 g there in
             let marks : Submitted submission e.chain mine.0 mine.1 ≡ Submitted submission d.chain theirs.0 theirs.1 =
             sym mine.2 ∙ (same ∙ theirs.2) in
             let chain : d.chain ≡ e.chain = cc in

@@ -45,8 +45,8 @@ module _ (key : Event → ℕ) where
   closes_by_key first (suc n) h all =
       let others : List Event = filter (lacks key first) h in
       let behind : IsPermutation (closes_of others) (flat_map (closes_with h) (range_with_len (first + 1) n)) =
-      subst (IsPermutation (closes_of others)) (same_parts (closes_with others) (closes_with h) (range_with_len (first + 1) n)
-      (λ k i. let low = (number_within (first + 1) n k i).0 in ap closes_of (kept_lacking key first k h (λ same. omega arith))))
+      subst (IsPermutation (closes_of others)) (same_parts (range_with_len (first + 1) n)
+      (λ k i. let low = (number_within n i).0 in ap closes_of (kept_lacking key first k h (λ same. omega arith))))
       (closes_by_key (first + 1) n others (within_lacking key first n h all)) in
       IsPermutation-trans (closes_of h) (closes_with h first ++ closes_of others) (flat_map (closes_with h) (range_with_len first (suc n)))
       (closes_split first h)

@@ -25,9 +25,9 @@ pub record AreOfMembers (place : Place) (requests : List Asked) (completions : L
 none_of_members : (place : Place) → AreOfMembers place [] []
 none_of_members place = record { within = All-nil (IsWithin place 0); rises = tt; count = refl }
 
-more_of_members : (place : Place) (request : Asked) (requests : List Asked) (c : Completed) (cs : List Completed) → c.place ≡ place
+more_of_members : {place : Place} (request : Asked) {requests : List Asked} {c : Completed} {cs : List Completed} → c.place ≡ place
     → AreOfMembers (next_member place) requests cs → AreOfMembers place (request ∷ requests) (c ∷ cs)
-more_of_members place request requests c cs at rest =
+more_of_members {place} request {requests} {c} {cs} at rest =
     let key : place_key c ≡ key_of place = ap key_of at in
     let Behind : Completed → Type 0 = IsWithin (next_member place) (length requests) in
     let Here : Completed → Type 0 = IsWithin place (length (request ∷ requests)) in
@@ -40,17 +40,14 @@ more_of_members place request requests c cs at rest =
 
 canceled_of_members : (place : Place) (requests : List Asked) → AreOfMembers place requests (canceled place requests)
 canceled_of_members place [] = none_of_members place
-canceled_of_members place (request ∷ requests) =
-    more_of_members place request requests _ _ refl (canceled_of_members (next_member place) requests)
+canceled_of_members place (request ∷ requests) = more_of_members request refl (canceled_of_members (next_member place) requests)
 
 pub explained_of_members : (catalogue : List FileEntry) (size : ℕ) (place : Place) (requests : List Asked)
-    (events : List Action) (completions : List Completed) → Explains catalogue size place requests events completions
+    (events : List Action) {completions : List Completed} → Explains catalogue size place requests events completions
     → AreOfMembers place requests completions
-explained_of_members catalogue size place [] events completions it = subst (AreOfMembers place []) (sym it.1) (none_of_members place)
-explained_of_members catalogue size place (request ∷ requests) events completions (own, others, c, cs, parts, are, answers, behind) =
-    subst (AreOfMembers place (request ∷ requests)) (sym are) (more_of_members place request requests c cs
-    (answered catalogue size place request.operation own c answers).0
+explained_of_members catalogue size place [] events it = subst (AreOfMembers place []) (sym it.1) (none_of_members place)
+explained_of_members catalogue size place (request ∷ requests) events (own, others, c, cs, parts, are, answers, behind) =
+    subst (AreOfMembers place (request ∷ requests)) (sym are) (more_of_members request (answered catalogue size request.operation own c answers).0
     (either_way (severs request c)
     (λ _ cut. subst (AreOfMembers (next_member place) requests) (sym cut.1) (canceled_of_members (next_member place) requests))
-    (λ _ more. explained_of_members catalogue size (next_member place) requests others cs more)
-    behind))
+    (λ _ more. explained_of_members catalogue size (next_member place) requests others more) behind))

@@ -37,39 +37,32 @@ module _ (entries : ℕ) (place : Place) where
   Here j f = IsMarked entries (Submitted place.submission place.chain place.member j) f
 
   -- the step that installs it
-  installs_here : (j entry : ℕ) (f : File) (a : Action) → installed_by a ≡ Some f → f.identity ≡ installed place j entry → entry < entries
+  installs_here : {j entry : ℕ} {f : File} (a : Action) → installed_by a ≡ Some f → f.identity ≡ installed place j entry → entry < entries
       → Puts (Here j) ([] ▷ a)
-  installs_here j entry f a new is inside = puts_one (Here j) a
+  installs_here {j} {entry} {f} a new is inside = puts_one (Here j) a
       (λ g now. let both : Some f ≡ Some g = sym new ∙ now in let e : f ≡ g = cc both in subst (Here j) e
       (ap (λ (x : Closed). x.mark) is, let same : f.identity.entry ≡ entry = ap (λ (x : Closed). x.entry) is in omega arith))
 
-  refuses : (P : File → Type 0) (errno : Errno) (events : List Action) (c : Completed) → Refuses place errno events c → Gives place P events c
-  refuses P errno events c it = (ap place_of it.1, subst (Puts P) (sym it.0) (puts_none P [] (λ f is. is)))
+  refuses : (P : File → Type 0) (errno : Errno) {events : List Action} {c : Completed} → Refuses place errno events c → Gives place P events c
+  refuses P errno it = (ap place_of it.1, subst (Puts P) (sym it.0) (puts_none P [] (λ f is. is)))
 
-  opens : (size entry : ℕ) (target : Target) (events : List Action) (c : Completed) → entry < entries → OpensAt size place entry target events c
+  opens : (size : ℕ) {entry : ℕ} (target : Target) (events : List Action) (c : Completed) → entry < entries → OpensAt size place entry target events c
       → Gives place (Here 0) events c
-  opens size entry (Slot slot) events c inside it =
-      either_way (size == 0) (λ _. refuses (Here 0) ENXIO events c)
-      (λ _. either_way (nat_le size slot) (λ _. refuses (Here 0) EINVAL events c)
-      (λ _ put. (
+  opens size {entry} (Slot slot) events c inside it =
+      either_way (size == 0) (λ _. refuses (Here 0) ENXIO) (λ _. either_way (nat_le size slot) (λ _. refuses (Here 0) EINVAL) (λ _ put. (
         ap place_of put.4,
-        puts_may_close (Here 0) ([] ▷ Put slot put.0 put.1) put.1 events put.3
-            (installs_here 0 entry put.0 (Put slot put.0 put.1) refl put.2 inside),
+        puts_may_close (Here 0) ([] ▷ Put slot put.0 put.1) put.1 events put.3 (installs_here (Put slot put.0 put.1) refl put.2 inside),
       ))) it
-  opens size entry Any events c inside it =
-      either_way (size == 0) (λ _. refuses (Here 0) ENFILE events c)
-      (λ _. ⊎_elim
-      (λ found. (ap place_of found.4, subst (Puts (Here 0)) (sym found.3) (installs_here 0 entry found.1 (Allocate found.0 found.1) refl found.2 inside)))
+  opens size {entry} Any events c inside it =
+      either_way (size == 0) (λ _. refuses (Here 0) ENFILE) (λ _. ⊎_elim
+      (λ found. (ap place_of found.4, subst (Puts (Here 0)) (sym found.3) (installs_here (Allocate found.0 found.1) refl found.2 inside)))
       (λ full. (ap place_of full.1, subst (Puts (Here 0)) (sym full.0) (puts_one (Here 0) Full (no_file (Here 0)))))) it
 
   module _ (P : File → Type 0) where
     reads : (catalogue : List FileEntry) (size slot off len : ℕ) (events : List Action) (c : Completed)
         → ReadsFrom catalogue size place slot off len events c → Gives place P events c
     reads catalogue size slot off len events c it =
-        either_way (nat_le size slot) (λ _. refuses P EBADF events c)
-        (λ _. ⊎_elim
-        (λ large. refuses P ENOMEM events c large.1)
-        (⊎_elim
+        either_way (nat_le size slot) (λ _. refuses P EBADF) (λ _. ⊎_elim (λ large. refuses P ENOMEM large.1) (⊎_elim
         (λ none. (ap place_of none.1, subst (Puts P) (sym none.0) (puts_one P (Look slot None) (no_file P))))
         (λ found. (
           ap place_of found.2,
@@ -80,9 +73,7 @@ module _ (entries : ℕ) (place : Place) where
 
     empties : (size slot : ℕ) (events : List Action) (c : Completed) → Empties size place slot events c → Gives place P events c
     empties size slot events c it =
-        either_way (size == 0) (λ _. refuses P ENXIO events c)
-        (λ _. either_way (nat_le size slot) (λ _. refuses P EINVAL events c)
-        (λ _. ⊎_elim
+        either_way (size == 0) (λ _. refuses P ENXIO) (λ _. either_way (nat_le size slot) (λ _. refuses P EINVAL) (λ _. ⊎_elim
         (λ none. (ap place_of none.1, subst (Puts P) (sym none.0) (puts_one P (Take slot None) (no_file P))))
         (λ taken. (
           ap place_of taken.2,
@@ -90,16 +81,16 @@ module _ (entries : ℕ) (place : Place) where
               (puts_one P (Take slot (Some taken.0)) (no_file P)),
         )))) it
 
-  applies_entry : (j slot : ℕ) (z : ℤ) (events : List Action) → is_bad_entry entries z ≡ false → AppliesEntry place j slot z events
+  applies_entry : {j : ℕ} (slot : ℕ) (z : ℤ) (events : List Action) → is_bad_entry entries z ≡ false → AppliesEntry place j slot z events
       → Puts (Here j) events
-  applies_entry j slot (pos entry) events good (f, replaced, is, may) =
-      puts_may_close (Here j) ([] ▷ Put slot f replaced) replaced events may (installs_here j entry f (Put slot f replaced) refl is (leb-false entries entry good))
-  applies_entry j slot (negsuc zero) events good (removed, may) =
+  applies_entry {j} slot (pos entry) events good (f, replaced, is, may) =
+      puts_may_close (Here j) ([] ▷ Put slot f replaced) replaced events may (installs_here (Put slot f replaced) refl is (leb-false entries entry good))
+  applies_entry {j} slot (negsuc zero) events good (removed, may) =
       puts_may_close (Here j) ([] ▷ Clear slot removed) removed events may (puts_one (Here j) (Clear slot removed) (no_file (Here j)))
-  applies_entry j slot (negsuc (suc n)) events good is = subst (Puts (Here j)) (sym is) (puts_none (Here j) [] (λ f it. it))
+  applies_entry {j} slot (negsuc (suc n)) events good is = subst (Puts (Here j)) (sym is) (puts_none (Here j) [] (λ f it. it))
 
-  later_place : (j : ℕ) (f g : File) → IsListed entries place (j + 1) f → Here j g → f.identity.mark ≢ g.identity.mark
-  later_place j f g (k, le, of) at same =
+  later_place : {j : ℕ} (f g : File) → IsListed entries place (j + 1) f → Here j g → f.identity.mark ≢ g.identity.mark
+  later_place {j} f g (k, le, of) at same =
       let e : Submitted place.submission place.chain place.member k ≡ Submitted place.submission place.chain place.member j =
       sym of.0 ∙ (same ∙ at.0) in
       let is : k ≡ j = cc in
@@ -112,35 +103,33 @@ module _ (entries : ℕ) (place : Place) where
       subst (Puts (IsListed entries place j)) (sym is)
       (puts_then (Here j) (IsListed entries place (j + 1)) (IsListed entries place j) own others
       (λ f at. (j, omega arith, at))
-      (λ f at. (at.0, let le = at.1 in omega arith, at.2))
-      (later_place j)
-      (applies_entry j slot z own (or_parts _ _ good).0 one)
+      (λ f at. (at.0, let le = at.1 in omega arith, at.2)) (later_place) (applies_entry slot z own (or_parts _ _ good).0 one)
       (applies_list (j + 1) (slot + 1) list others (or_parts _ _ good).1 more))
 
   updates : (size off : ℕ) (list : List ℤ) (events : List Action) (c : Completed) → UpdatesFrom entries size place off list events c
       → Gives place (IsListed entries place 0) events c
   updates size off list events c it =
-      either_way (size == 0) (λ _. refuses (IsListed entries place 0) ENXIO events c)
-      (λ _. either_way (length list == 0 || nat_lt size (off + length list)) (λ _. refuses (IsListed entries place 0) EINVAL events c)
-      (λ _. either_way (list_any (is_bad_entry entries) list) (λ _. refuses (IsListed entries place 0) EBADF events c)
+      either_way (size == 0) (λ _. refuses (IsListed entries place 0) ENXIO)
+      (λ _. either_way (length list == 0 || nat_lt size (off + length list)) (λ _. refuses (IsListed entries place 0) EINVAL)
+      (λ _. either_way (list_any (is_bad_entry entries) list) (λ _. refuses (IsListed entries place 0) EBADF)
       (λ good applied. (ap place_of applied.1, applies_list 0 off list events good applied.0)))) it
 
 module _ (catalogue : List FileEntry) (size : ℕ) where
-  pub answered : (place : Place) (operation : Operation) (events : List Action) (c : Completed) → Answers catalogue size place operation events c
+  pub answered : {place : Place} (operation : Operation) (events : List Action) (c : Completed) → Answers catalogue size place operation events c
       → Gives place (IsListed (length catalogue) place 0) events c
-  answered place (Opens name target) events c it =
+  answered {place} (Opens name target) events c it =
       either_way (has_name name catalogue)
-      (λ _ found. let o = opens (length catalogue) place size found.0 target events c (entry_named catalogue found.0 name found.1) found.2 in
+      (λ _ found. let o = opens (length catalogue) place size target events c (entry_named catalogue found.0 name found.1) found.2 in
       (o.0, puts_so (Here (length catalogue) place 0) (IsListed (length catalogue) place 0) events (λ f at. (0, omega arith, at)) o.1))
-      (λ _. refuses (length catalogue) place (IsListed (length catalogue) place 0) ENOENT events c) it
-  answered place (Reads slot off len) events c it =
+      (λ _. refuses (length catalogue) place (IsListed (length catalogue) place 0) ENOENT) it
+  answered {place} (Reads slot off len) events c it =
       reads (length catalogue) place (IsListed (length catalogue) place 0) catalogue size slot off len events c it
-  answered place (Closes slot) events c it = empties (length catalogue) place (IsListed (length catalogue) place 0) size slot events c it
-  answered place (Updates off list) events c it = updates (length catalogue) place size off list events c it
+  answered {place} (Closes slot) events c it = empties (length catalogue) place (IsListed (length catalogue) place 0) size slot events c it
+  answered {place} (Updates off list) events c it = updates (length catalogue) place size off list events c it
 
-  later_member : (place : Place) (f g : File) → IsOfMembers (length catalogue) (next_member place) f → IsListed (length catalogue) place 0 g
+  later_member : {place : Place} (f g : File) → IsOfMembers (length catalogue) (next_member place) f → IsListed (length catalogue) place 0 g
       → f.identity.mark ≢ g.identity.mark
-  later_member place f g (m, j, le, of) (k, low, at) same =
+  later_member {place} f g (m, j, le, of) (k, low, at) same =
       let e : Submitted place.submission place.chain m j ≡ Submitted place.submission place.chain place.member k = sym of.0 ∙ (same ∙ at.0) in
       let is : m ≡ place.member = cc in
       omega arith
@@ -155,9 +144,7 @@ module _ (catalogue : List FileEntry) (size : ℕ) where
       subst (Puts (IsOfMembers (length catalogue) place)) (sym is)
       (puts_then (IsListed (length catalogue) place 0) P (IsOfMembers (length catalogue) place) own others
       (λ f at. (place.member, at.0, omega arith, at.2))
-      (λ f at. (at.0, at.1, let le = at.2 in omega arith, at.3))
-      (later_member place)
-      (answered place request.operation own c answers).1
+      (λ f at. (at.0, at.1, let le = at.2 in omega arith, at.3)) (later_member) (answered request.operation own c answers).1
       (either_way (severs request c)
       (λ _ cut. subst (Puts P) (sym cut.0) (puts_none P [] (λ f it. it)))
       (λ _ more. explained_puts (next_member place) requests others cs more)

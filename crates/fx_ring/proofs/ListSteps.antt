@@ -86,9 +86,9 @@ module _ (k off : ℕ) (list : List ℤ) (tags : List ℕ) (old : State) (before
     room = ap (λ (n : ℕ). before.room + length (removed_from (files_at old) n list)) (let e : off ≡ off + 0 = omega arith in e);
   }
 
-  pub all_applied : (cur : State) (mid : CloseListView) → IsApplied k off list tags old cur before mid (length list)
+  pub all_applied : {cur : State} {mid : CloseListView} → IsApplied k off list tags old cur before mid (length list)
       → SetsList k off list tags old cur before mid
-  all_applied cur mid done =
+  all_applied {mid} done =
       let none = ap (removed_from (files_at old) (off + length list)) (drop-length list) in
       let rest = ap length none in
       record {

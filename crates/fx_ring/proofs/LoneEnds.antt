@@ -15,8 +15,8 @@ all_of_part n [] = All-nil (λ e. e.pass ≡ n)
 all_of_part n (e ∷ h) = by_equality e.pass n (λ b. All (λ z. z.pass ≡ n) (cond b (e ∷ part_of_pass n h) (part_of_pass n h)))
     (λ same. All-cons (λ z. z.pass ≡ n) e (part_of_pass n h) same (all_of_part n h)) (λ _. all_of_part n h)
 
-pub authors_of : (o : Opening) (v : PassView) → IsSettledSoFar o v → IsFront o v → All (λ e. e.pass ≡ v.number) v.own
-authors_of o v settled front = subst (All (λ e. e.pass ≡ v.number)) front.mine (all_of_part v.number v.front)
+pub authors_of : {o : Opening} {v : PassView} → IsSettledSoFar o v → IsFront o v → All (λ e. e.pass ≡ v.number) v.own
+authors_of {v} settled front = subst (All (λ e. e.pass ≡ v.number)) front.mine (all_of_part v.number v.front)
 
 -- each chain was drawn
 pub all_drawn : (n c : ℕ) → 1 ≤ c → c ≤ n → Contains (chains_to n) c
@@ -25,13 +25,12 @@ all_drawn (suc n) c low high = by_equality c (suc n) (λ _. Contains (chains_to 
     (λ same. subst (Contains (chains_to (suc n))) (sym same) (contains_head (suc n) (chains_to n)))
     (λ other. contains_tail (suc n) (chains_to n) c (all_drawn n c low (omega arith)))
 
-pub runs_within : (requests : List Asked) (chains : List Chain) → map (members_of requests) chains ≡ runs_of requests
+pub runs_within : {requests : List Asked} (chains : List Chain) → map (members_of requests) chains ≡ runs_of requests
     → All (IsChain requests) chains → All IsShortRun (runs_of requests)
-runs_within requests chains members within = subst (All IsShortRun) members
-    (each_all IsShortRun (map (members_of requests) chains) (λ run h.
+runs_within {requests} chains members within = subst (All IsShortRun) members (each_all IsShortRun (map (members_of requests) chains) (λ run h.
     let m = contains_map (members_of requests) chains run h in
     subst IsShortRun (sym m.2) (All-contains (IsChain requests) chains m.0 within m.1).run))
 
-pub closed_files : (o : Opening) (v : PassView) (left : Contents) → ClosesTable o (v ∷ []) left → HasSameFiles (state_at o v.own) (state_of left)
-closed_files o v left closing = subst (λ (h : List Event). HasSameFiles (state_at o h) (state_of left))
+pub closed_files : {o : Opening} {v : PassView} {left : Contents} → ClosesTable o (v ∷ []) left → HasSameFiles (state_at o v.own) (state_of left)
+closed_files {o} {v} {left} closing = subst (λ (h : List Event). HasSameFiles (state_at o h) (state_of left))
     (own_history v closing.history closing.authors (closing.own v (contains_head v []))) closing.files

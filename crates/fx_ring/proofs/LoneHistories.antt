@@ -22,21 +22,20 @@ use Rattle.fx_ring.proofs.Parts.{has, lacks, kept_lacking, within_lacking, none_
 use Rattle.fx_ring.proofs.PartsExplained.{IsShort, in_order_explained}
 
 -- a table is at rest wherever all is settled
-pub at_rest_of : (o : Opening) (v : PassView) → IsSettledSoFar o v → IsAtRest (state_at o v.own)
-at_rest_of o v settled = stays_at_rest (start_of o) (state_at o v.own) v.own
+pub at_rest_of : {o : Opening} {v : PassView} → IsSettledSoFar o v → IsAtRest (state_at o v.own)
+at_rest_of {o} {v} settled = stays_at_rest (start_of o) (state_at o v.own) v.own
     (opening_is_at_rest o.contents (numbers_for o.chains)) settled.legal settled.settled
 
 -- what others than the pass hold
 
-nobody : (number : ℕ) (h : List Event) → All (λ e. e.pass ≡ number) h → (p : ℕ) → p ≢ number → held_by h p ≡ None
-nobody number [] all p other = refl
-nobody number (e ∷ h) all p other = let mine = All-head (λ (z : Event). z.pass ≡ number) e h all in
+nobody : {number : ℕ} (h : List Event) → All (λ e. e.pass ≡ number) h → {p : ℕ} → p ≢ number → held_by h p ≡ None
+nobody [] all other = refl
+nobody {number} (e ∷ h) all {p} other = let mine = All-head (λ (z : Event). z.pass ≡ number) e h all in
     by_equality e.pass p (λ b. cond {A = Option File} b (Rattle.fx_plain.specs.History.held_after (held_by h p) e.action) (held_by h p) ≡ None)
-    (λ same. absurd (other (sym same ∙ mine)))
-    (λ _. nobody number h (All-tail (λ (z : Event). z.pass ≡ number) e h all) p other)
+    (λ same. absurd (other (sym same ∙ mine))) (λ _. nobody h (All-tail (λ (z : Event). z.pass ≡ number) e h all) other)
 
-none_held : (number : ℕ) (h : List Event) → All (λ e. e.pass ≡ number) h → held_by h number ≡ None → (p : ℕ) → held_by h p ≡ None
-none_held number h all none p = by_equality p number (λ _. held_by h p ≡ None) (λ same. ap (held_by h) same ∙ none) (λ other. nobody number h all p other)
+none_held : {number : ℕ} (h : List Event) → All (λ e. e.pass ≡ number) h → held_by h number ≡ None → (p : ℕ) → held_by h p ≡ None
+none_held {number} h all none p = by_equality p number (λ _. held_by h p ≡ None) (λ same. ap (held_by h) same ∙ none) (λ other. nobody h all other)
 
 -- how many numbers the chains of a history give
 
@@ -59,13 +58,13 @@ given_split first (e ∷ h) =
       | false ↦ omega (arith, rest, one, others)
     ]
 
-given_by_chains : (most first n : ℕ) (h : List Event) → All (λ e. (first ≤ e.chain) × (e.chain < first + n)) h
+given_by_chains : {most : ℕ} (first n : ℕ) (h : List Event) → All (λ e. (first ≤ e.chain) × (e.chain < first + n)) h
     → ((c : ℕ) → first ≤ c → c < first + n → given (part_of_chain c h) ≤ most) → given h ≤ most * n
-given_by_chains most first zero h all few = let none = ap given (none_within chain_of first h all) in omega (arith, none)
-given_by_chains most first (suc n) h all few =
+given_by_chains first zero h all few = let none = ap given (none_within chain_of first h all) in omega (arith, none)
+given_by_chains {most} first (suc n) h all few =
     let split = given_split first h in
     let here = few first (omega arith) (omega arith) in
-    let rest = given_by_chains most (first + 1) n (filter (lacks chain_of first) h) (within_lacking chain_of first n h all)
+    let rest = given_by_chains (first + 1) n (filter (lacks chain_of first) h) (within_lacking chain_of first n h all)
     (λ c low high. subst (λ (l : List Event). given l ≤ most) (sym (kept_lacking chain_of first c h (λ same. absurd (omega arith))))
     (few c (omega arith) (omega arith))) in
     let times : most * suc n ≡ most + most * n = omega arith in
@@ -122,21 +121,21 @@ module _ (catalogue : List FileEntry) (o : Opening) (before after : PassView) (d
   less = map (chain_less base) since
 
   at_rest : IsAtRest st
-  at_rest = at_rest_of o before first
+  at_rest = at_rest_of first
 
   end_at_rest : IsAtRest end
-  end_at_rest = at_rest_of o after last
+  end_at_rest = at_rest_of last
 
   behind : IsLegal st since end
-  behind = legal_behind (start_of o) end before.own since (none_held before.number before.own authors first.held)
+  behind = legal_behind (start_of o) end before.own since (none_held before.own authors first.held)
       (subst (λ (h : List Event). IsLegal (start_of o) h end) own last.legal)
 
-  chain_inside : (e : Event) → Contains less e → (1 ≤ e.chain) × (e.chain ≤ length runs)
-  chain_inside e there = let is = worked.inside e.chain (worked.own e there) in let low = is.0 in let high = is.1 in let top = worked.reached in
+  chain_inside : {e : Event} → Contains less e → (1 ≤ e.chain) × (e.chain ≤ length runs)
+  chain_inside {e} there = let is = worked.inside e.chain (worked.own e there) in let low = is.0 in let high = is.1 in let top = worked.reached in
       (low, omega (arith, high, top))
 
-  few_of_chain : (c : ℕ) → 1 ≤ c → c ≤ length runs → given (part_of_chain c less) ≤ 64
-  few_of_chain c low high =
+  few_of_chain : {c : ℕ} → 1 ≤ c → c ≤ length runs → given (part_of_chain c less) ≤ 64
+  few_of_chain {c} low high =
       let told = few_given catalogue (size_of o) (run_of_chain runs c) (first_member (submissions + 1) c) (map action_of (part_of_chain c less))
       (completions_of_chain c completions) (worked.explained c (all_drawn c low high)) in
       let run = short (c - 1) [] (omega (arith, low, high)) in
@@ -144,10 +143,9 @@ module _ (catalogue : List FileEntry) (o : Opening) (before after : PassView) (d
 
   few_numbers : given since ≤ 64 * length runs
   few_numbers = subst (λ (l : List Action). length (numbers_given l) ≤ 64 * length runs) (actions_less base since)
-      (given_by_chains 64 1 (length runs) less
-      (each_all (λ e. (1 ≤ e.chain) × (e.chain < 1 + length runs)) less (λ e there. let is = chain_inside e there in let low = is.0 in let high = is.1 in
-      (low, omega (arith, high))))
-      (λ c low high. few_of_chain c low (omega (arith, high))))
+      (given_by_chains 1 (length runs) less
+      (each_all (λ e. (1 ≤ e.chain) × (e.chain < 1 + length runs)) less (λ e there. let is = chain_inside there in let low = is.0 in let high = is.1 in
+      (low, omega (arith, high)))) (λ c low high. few_of_chain low (omega (arith, high))))
 
   opened : (r : Renaming) × (left : State) × (r.chain ≡ (λ c. c - base))
       × IsLegal (opening st (numbers_for (length runs))) (map (renamed_event r) since) left × HasOtherNumbers end left
@@ -185,15 +183,15 @@ module _ (catalogue : List FileEntry) (o : Opening) (before after : PassView) (d
 
   chains : (e : Event) → Contains history e → (1 ≤ e.chain) × (e.chain ≤ length runs)
   chains e there = let from = contains_map (renamed_event r) since e there in
-      let is = chain_inside (chain_less base from.0) (contains_mapped (chain_less base) since from.0 from.1) in
+      let is = chain_inside (contains_mapped (chain_less base) since from.0 from.1) in
       subst (λ (c : ℕ). (1 ≤ c) × (c ≤ length runs)) (sym (ap (λ (z : Event). z.chain) from.2)) is
 
-  pub part_is_one_history : (registrations : ℕ) (sorted : List Completed) (files : CloseListView) → IsPermutation completions sorted
+  pub part_is_one_history : (registrations : ℕ) {sorted : List Completed} {files : CloseListView} → IsPermutation completions sorted
       → IsNonDecreasingBy (λ c. c.place.chain * 32 + c.place.member) sorted → HasClosed closes.files files
       → IsOneHistory (ring_with catalogue (table_with_files st) submissions registrations) requests
       (record { submission = submissions + 1; completions = sorted; closes = files })
       (ring_with catalogue (table_with_files end) (submissions + 1) registrations)
-  part_is_one_history registrations sorted files same rises closed = record {
+  part_is_one_history registrations {sorted} {files} same rises closed = record {
     history = history;
     end = left;
     legal = legal;
@@ -202,7 +200,7 @@ module _ (catalogue : List FileEntry) (o : Opening) (before after : PassView) (d
     explained = subst (λ (size : ℕ). Rattle.fx_ring.specs.Submission.ExplainsParts catalogue size (submissions + 1) 1 runs history sorted)
         (sym (size_there st ∙ same_size (start_of o) st (map action_of before.own) first.legal.leads))
         (in_order_explained catalogue (size_of o) (submissions + 1) history completions runs
-        (All-weaker IsShortRun IsShort (λ run is. is.members) runs short) inside explained sorted same rises);
+        (All-weaker IsShortRun IsShort (λ run is. is.members) runs short) inside explained same rises);
     closed = subst (λ (l : List Closed). HasClosed l files)
         (worked.closed ∙ sym (closes_same opened.0 base since)) closed;
     submission = refl;

@@ -76,7 +76,7 @@ module _ (o : Opening) (catalogue : List FileEntry) (submission : ℕ) (runs : L
   pub room_next : (capacity more : ℕ) → HasRoom runs (worker_state was before closes) capacity → capacity ≤ more
       → HasRoom runs (worker_state is now files) more
   room_next capacity more room grows =
-      room_left o catalogue submission runs was is before now closes files (i + 1) worked further inside went capacity more room grows
+      room_left o catalogue submission runs was is before now closes files (i + 1) worked further inside went room grows
 
   pub own_next : (earlier : List Event) → v.own ≡ earlier ▷▷ since → x.own ≡ earlier ▷▷ since_then
   own_next earlier own = played.2.acts.adds.own ∙ ap (λ (l : List Event). map (event_of w) actions ++ l) (ap (λ (z : PassView). z.own) w_is ∙ own)
@@ -88,7 +88,7 @@ module _ (o : Opening) (catalogue : List FileEntry) (submission : ℕ) (runs : L
   pub looks_next : (start : ℕ) → start + requests_behind runs i ≤ v.looks_left + requests_behind runs 0
       → start + requests_behind runs (i + 1) ≤ x.looks_left + requests_behind runs 0
   looks_next start so_far =
-      let asked = sum_behind (λ (run : List Asked). length run) runs [] i (i + 1) (omega arith) inside in
+      let asked = sum_behind (λ (run : List Asked). length run) runs [] i (omega arith) inside in
       let left = goes.looks_left in let few = played.2.few_looks in omega (arith, asked, left, few, so_far)
 
   pub more_next : x.no_chains_left ≡ v.no_chains_left

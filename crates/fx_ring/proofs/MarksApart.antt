@@ -22,8 +22,8 @@ module _ (P : File → Type 0) where
   abbrev pub IsUnlike : List Action → Type 0
   IsUnlike h = (f g : File) → IsPut h f → P g → f.identity.mark ≢ g.identity.mark
 
-  kept_apart : (h : List Action) (a : Action) (at : ℕ → Option File) → IsApart h at → IsApart (a ∷ h) at
-  kept_apart h a at apart = record {
+  kept_apart : {h : List Action} (a : Action) (at : ℕ → Option File) → IsApart h at → IsApart (a ∷ h) at
+  kept_apart a at apart = record {
     from = λ slot f is. ⊎_elim (λ was. inl was) (λ put. inr (inl put)) (apart.from slot f is);
     distinct = apart.distinct;
   }
@@ -31,24 +31,23 @@ module _ (P : File → Type 0) where
   module _ (h : List Action) (a : Action) (at : ℕ → Option File) (place : ℕ) (fresh : HasNewMarks (a ∷ h)) (unlike : IsUnlike (a ∷ h))
       (apart : IsApart h at) where
     -- the file that the step installs has a mark that no slot's file has
-    no_other : (slot : ℕ) (f g : File) → installed_by a ≡ Some f → at slot ≡ Some g → f.identity.mark ≢ g.identity.mark
-    no_other slot f g now is = ⊎_elim (λ was. unlike f g (inr now) was) (λ put. fresh.1 f g now put) (apart.from slot g is)
+    no_other : {slot : ℕ} {f g : File} → installed_by a ≡ Some f → at slot ≡ Some g → f.identity.mark ≢ g.identity.mark
+    no_other {slot} {f} {g} now is = ⊎_elim (λ was. unlike f g (inr now) was) (λ put. fresh.1 f g now put) (apart.from slot g is)
 
     -- a file is where the step put it, or was there
-    cases : (slot : ℕ) (f : File) → changed_at at place (installed_by a) slot ≡ Some f
+    cases : {slot : ℕ} {f : File} → changed_at at place (installed_by a) slot ≡ Some f
         → ((slot ≡ place) × (installed_by a ≡ Some f)) ⊎ (at slot ≡ Some f)
-    cases slot f = by_equality slot place
+    cases {slot} {f} = by_equality slot place
         (λ b. ◌≡◌ {A = Option File} (if b then installed_by a else at slot) (Some f) → ((slot ≡ place) × (installed_by a ≡ Some f)) ⊎ (at slot ≡ Some f))
         (λ here now. inl (here, now)) (λ _ is. inr is)
 
     changed_apart : IsApart (a ∷ h) (changed_at at place (installed_by a))
     changed_apart = record {
-      from = λ slot f is. ⊎_elim (λ new. inr (inr new.1)) (λ was. (kept_apart h a at apart).from slot f was) (cases slot f is);
+      from = λ slot f is. ⊎_elim (λ new. inr (inr new.1)) (λ was. (kept_apart a at apart).from slot f was) (cases is);
       distinct = λ slot other f g is are marks. ⊎_elim
-          (λ new. ⊎_elim (λ newer. new.0 ∙ sym newer.0) (λ were. absurd (no_other other f g new.1 were marks)) (cases other g are))
-          (λ was. ⊎_elim (λ newer. absurd (no_other slot g f newer.1 was (sym marks))) (λ were. apart.distinct slot other f g was were marks)
-          (cases other g are))
-          (cases slot f is);
+          (λ new. ⊎_elim (λ newer. new.0 ∙ sym newer.0) (λ were. absurd (no_other new.1 were marks)) (cases are))
+          (λ was. ⊎_elim (λ newer. absurd (no_other newer.1 was (sym marks))) (λ were. apart.distinct slot other f g was were marks) (cases are))
+          (cases is);
     }
 
   pub apart_after : (start : State) (h : List Action) → IsApart [] start.at → HasNewMarks h → IsUnlike h → IsApart h (state_after start h).at
@@ -56,7 +55,6 @@ module _ (P : File → Type 0) where
   apart_after start (a ∷ h) begins fresh unlike =
       let before = apart_after start h begins fresh.0 (λ f g put was. unlike f g (inl put) was) in
       let st = state_after start h in
-      ⊎_elim
-      (λ same. subst (IsApart (a ∷ h)) (sym same) (kept_apart h a st.at before))
+      ⊎_elim (λ same. subst (IsApart (a ∷ h)) (sym same) (kept_apart a st.at before))
       (λ changed. subst (IsApart (a ∷ h)) (sym changed.1) (changed_apart h a st.at changed.0 fresh unlike before))
       (slots_after st a)

@@ -67,9 +67,9 @@ pub runs_weigh_all : (requests : List Asked) → sum_by all_weights (runs_of req
 runs_weigh_all requests = sym (weights_joined (runs_of requests)) ∙ ap all_weights (are_runs requests).whole
 
 -- the runs of chains within the limits are short
-pub runs_are_short : (requests : List Asked) (chains : List Chain) → map (members_of requests) chains ≡ runs_of requests
+pub runs_are_short : {requests : List Asked} (chains : List Chain) → map (members_of requests) chains ≡ runs_of requests
     → All (IsChain requests) chains → All (λ run. length run ≤ MOST_MEMBERS) (runs_of requests)
-runs_are_short requests chains members within = subst (All (λ run. length run ≤ MOST_MEMBERS)) members
+runs_are_short {requests} chains members within = subst (All (λ run. length run ≤ MOST_MEMBERS)) members
     (each_all (λ run. length run ≤ MOST_MEMBERS) (map (members_of requests) chains) (λ run h.
     let m = contains_map (members_of requests) chains run h in
     let short = (All-contains (IsChain requests) chains m.0 within m.1).run.members in
@@ -88,16 +88,16 @@ module _ (catalogue : List FileEntry) (size submission : ℕ) (runs : List (List
     closed = none;
   }
 
-  pub new_has_worked : (v : PassView) (outcome : Outcome) (requests : List Asked) → IsNew v → HasRoomFor requests outcome
+  pub new_has_worked : {v : PassView} {outcome : Outcome} {requests : List Asked} → IsNew v → HasRoomFor requests outcome
       → HasWorked catalogue size submission runs (worker_state v (all_completed outcome.completions.items) outcome.closes)
-  new_has_worked v outcome requests is room =
+  new_has_worked {outcome} is room =
       subst (λ (z : PassView × List Completed). HasWorked catalogue size submission runs (worker_state z.0 z.1 outcome.closes))
       (λ i. (sym is.1 i, sym (ap all_completed room.no_completions) i))
       (begun is.0 outcome.closes (ap (λ (l : CloseListView). l.files) room.closes))
 
-pub new_has_room : (v : PassView) (outcome : Outcome) (requests : List Asked) → IsAccepted requests → IsNew v → HasRoomFor requests outcome
+pub new_has_room : {v : PassView} {outcome : Outcome} {requests : List Asked} → IsAccepted requests → IsNew v → HasRoomFor requests outcome
     → HasRoom (runs_of requests) (worker_state v (all_completed outcome.completions.items) outcome.closes) (vec_capacity outcome.completions)
-new_has_room v outcome requests accepted is room =
+new_has_room {outcome} {requests} accepted is room =
     let few = accepted-length requests accepted in
     let all = runs_have_all requests in
     let weights = runs_weigh_all requests in

@@ -9,8 +9,8 @@ use Rattle.std.proofs.lemmas.List.FromFn.{length-range_with_len, get_or-range_wi
 use Rattle.std.specs.List.Sorted.{IsPermutation}
 use Rattle.fx_table.proofs.Members.{contains_none, contains_head, contains_tail, contains_cases}
 
-pub number_within : (first n k : ℕ) → Contains (range_with_len first n) k → (first ≤ k) × (k < first + n)
-number_within first n k (i, lt, is) =
+pub number_within : {first : ℕ} (n : ℕ) {k : ℕ} → Contains (range_with_len first n) k → (first ≤ k) × (k < first + n)
+number_within {first} n {k} (i, lt, is) =
     let long = length-range_with_len first n in let there = get_or-range_with_len first n i k (omega arith) in (omega arith, omega arith)
 
 -- what the numbers' parts have together, where each has no more than what stands at its place of a list
@@ -35,10 +35,10 @@ module _ {W X : Type 0} (g : W → List X) where
       ap (λ (l : List X). l ++ flat_map g ws) (none w (contains_head w ws)) ∙ no_parts ws (λ v h. none v (contains_tail w ws v h))
 
   -- where one element is counted, and a part is empty where nothing is counted, that element's part is the whole
-  pub one_part : (count : W → ℕ) (ws : List W) (w : W) → sum_by count ws ≤ 1 → Contains ws w → 1 ≤ count w
+  pub one_part : {count : W → ℕ} (ws : List W) {w : W} → sum_by count ws ≤ 1 → Contains ws w → 1 ≤ count w
       → ((v : W) → Contains ws v → count v ≡ 0 → g v ≡ []) → flat_map g ws ≡ g w
-  one_part count [] w few h counted none = absurd (contains_none w h)
-  one_part count (v ∷ ws) w few h counted none =
+  one_part [] {w} few h counted none = absurd (contains_none w h)
+  one_part {count} (v ∷ ws) {w} few h counted none =
       let sum = sum_by-cons count v ws in
       ⊎_elim
       (λ (is : w ≡ v).
@@ -48,8 +48,7 @@ module _ {W X : Type 0} (g : W → List X) where
       (λ t.
       let part = sum_of count ws w t in
       ap (λ (l : List X). l ++ flat_map g ws) (none v (contains_head v ws) (omega arith))
-      ∙ one_part count ws w (omega arith) t counted (λ u i. none u (contains_tail v ws u i)))
-      (contains_cases v ws w h)
+      ∙ one_part ws (omega arith) t counted (λ u i. none u (contains_tail v ws u i))) (contains_cases v ws w h)
 
   pub all_parts : (P : X → Type 0) (ws : List W) → ((w : W) → Contains ws w → All P (g w)) → All P (flat_map g ws)
   all_parts P [] each = All-nil P
@@ -72,6 +71,6 @@ module _ {W X : Type 0} (g : W → List X) where
       (IsPermutation-append_left (g w) (flat_map g ws) (flat_map g (reverse ws)) (parts_reversed ws)))
 
 -- parts that are the same for each element
-pub same_parts : {W X : Type 0} (g h : W → List X) (ws : List W) → ((w : W) → Contains ws w → g w ≡ h w) → flat_map g ws ≡ flat_map h ws
-same_parts g h [] each = refl
-same_parts g h (w ∷ ws) each = λ i. each w (contains_head w ws) i ++ same_parts g h ws (λ v t. each v (contains_tail w ws v t)) i
+pub same_parts : {W X : Type 0} {g h : W → List X} (ws : List W) → ((w : W) → Contains ws w → g w ≡ h w) → flat_map g ws ≡ flat_map h ws
+same_parts [] each = refl
+same_parts {g} {h} (w ∷ ws) each = λ i. each w (contains_head w ws) i ++ same_parts ws (λ v t. each v (contains_tail w ws v t)) i

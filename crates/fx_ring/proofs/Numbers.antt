@@ -13,8 +13,8 @@ good_files entries [] good = refl
 good_files entries (z ∷ list) good = or_from _ _ (good_file entries z (or_parts _ _ good).0) (good_files entries list (or_parts _ _ good).1)
 
 -- a number of a good list is good
-pub good_get : (entries : ℕ) (list : List ℤ) (j : ℕ) (z : ℤ) → list_any (is_bad_entry entries) list ≡ false
+pub good_get : (entries : ℕ) (list : List ℤ) (j : ℕ) {z : ℤ} → list_any (is_bad_entry entries) list ≡ false
     → slice_get list j ≡ Some z → is_bad_entry entries z ≡ false
-good_get entries [] j z good is = cc
-good_get entries (y ∷ list) zero z good is = let same : y ≡ z = cc in ap (is_bad_entry entries) (sym same) ∙ (or_parts _ _ good).0
-good_get entries (y ∷ list) (suc j) z good is = good_get entries list j z (or_parts _ _ good).1 is
+good_get entries [] j good is = cc
+good_get entries (y ∷ list) zero {z} good is = let same : y ≡ z = cc in ap (is_bad_entry entries) (sym same) ∙ (or_parts _ _ good).0
+good_get entries (y ∷ list) (suc j) {z} good is = good_get entries list j (or_parts _ _ good).1 is

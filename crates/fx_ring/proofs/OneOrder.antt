@@ -41,8 +41,8 @@ module _ {X : Type 0} (key : X → ℕ) where
     right : (y : X) → Contains ys y → Contains xs y
     often : (k : ℕ) → keyed k xs ≡ keyed k ys
 
-  same_behind : (x : X) (xs ys : List X) → Rises (x ∷ xs) → HasSame (x ∷ xs) (x ∷ ys) → HasSame xs ys
-  same_behind x xs ys rises same = record {
+  same_behind : {x : X} {xs ys : List X} → Rises (x ∷ xs) → HasSame (x ∷ xs) (x ∷ ys) → HasSame xs ys
+  same_behind {x} {xs} {ys} rises same = record {
     right = λ z there. ⊎_elim
         (λ is. absurd (let once = keyed_once x ys (subst (Contains ys) is there) in let none = keyed_above (key x) xs rises.0 in
         let counts = keyed_behind (key x) x xs ys (same.often (key x)) in omega arith))
@@ -70,12 +70,12 @@ module _ {X : Type 0} (key : X → ℕ) where
   one_order (x ∷ xs) (y ∷ ys) rises up same =
       let is = least x y xs ys rises up same in
       let same_x : HasSame (x ∷ xs) (x ∷ ys) = subst (λ z. HasSame (x ∷ xs) (z ∷ ys)) (sym is) same in
-      let behind = one_order xs ys rises.1 (λ i j d le lt. up (suc i) (suc j) d (omega arith) (omega arith)) (same_behind x xs ys rises same_x) in
+      let behind = one_order xs ys rises.1 (λ i j d le lt. up (suc i) (suc j) d (omega arith) (omega arith)) (same_behind rises same_x) in
       λ i. is i ∷ behind i
 
   -- two lists of the same elements, one in strict order of key and one in order: they are equal
-  pub one_list_in_order : (xs ys : List X) → IsPermutation xs ys → Rises xs → IsNonDecreasingBy key ys → xs ≡ ys
-  one_list_in_order xs ys same rises up = one_order xs ys rises up record {
+  pub one_list_in_order : {xs ys : List X} → IsPermutation xs ys → Rises xs → IsNonDecreasingBy key ys → xs ≡ ys
+  one_list_in_order {xs} {ys} same rises up = one_order xs ys rises up record {
     right = λ y. Contains-permutation ys xs y (IsPermutation-sym xs ys same);
     often = λ k. sym (sum_by-IsPermutation (λ x. cond (key x == k) 1 0) xs ys same);
   }

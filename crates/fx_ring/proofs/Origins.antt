@@ -11,16 +11,16 @@ use Rattle.fx_ring.proofs.Rings.{IsEntry, counted_still, entry_listed, none_ring
 abbrev IsListed : ℕ → ℕ → ℕ → Closed → Type 0
 IsListed entries k i file = (file.mark ≡ Registered k i) × (file.entry < entries)
 
-from_listed : (entries k i tag : ℕ) (x : Option ℤ) (before : Option Closed) (file : Closed)
+from_listed : {entries k i : ℕ} (tag : ℕ) (x : Option ℤ) {before : Option Closed} {file : Closed}
     → ((z : ℤ) → x ≡ Some z → is_bad_entry entries z ≡ false) → file_listed k i tag x before ≡ Some file
     → (before ≡ Some file) ⊎ IsListed entries k i file
-from_listed entries k i tag None before file good is = inl is
-from_listed entries k i tag (Some (pos e)) before file good is =
+from_listed tag None good is = inl is
+from_listed {entries} {k} {i} tag (Some (pos e)) {file} good is =
     let made : Closed = record { mark = Registered k i; entry = e; tag = tag } in
     let same : made ≡ file = cc in
     inr (ap (λ (f : Closed). f.mark) (sym same), subst (λ (f : Closed). f.entry < entries) same (leb-false entries e (good (pos e) refl)))
-from_listed entries k i tag (Some (negsuc zero)) before file good is = cc
-from_listed entries k i tag (Some (negsuc (suc n))) before file good is = inl is
+from_listed tag (Some (negsuc zero)) good is = cc
+from_listed tag (Some (negsuc (suc n))) good is = inl is
 
 -- a file was there before, or the list installed it
 from : (entries k : ℕ) (at : ℕ → Option Closed) (off : ℕ) (list : List ℤ) (tags : List ℕ) (slot : ℕ) (file : Closed)
@@ -29,8 +29,8 @@ from : (entries k : ℕ) (at : ℕ → Option Closed) (off : ℕ) (list : List �
 from entries k at off list tags slot file good is = elim (cases_lt slot off) [
   | inl below ↦ inl (sym (files_below k at off list tags slot below) ∙ is)
   | inr above ↦ ⊎_elim (λ was. inl was) (λ new. inr (above, new))
-      (from_listed entries k (slot - off) (tag_at tags (slot - off)) (slice_get list (slot - off)) (at slot) file
-      (λ z at_z. good_get entries list (slot - off) z good at_z) (sym (files_from k at off list tags slot above) ∙ is))
+      (from_listed (tag_at tags (slot - off)) (slice_get list (slot - off))
+      (λ z at_z. good_get entries list (slot - off) good at_z) (sym (files_from k at off list tags slot above) ∙ is))
 ]
 
 -- no counted mark is one of the next list
@@ -40,25 +40,24 @@ not_counted ring (Submitted s c m e) i counted = λ same. cc
 
 module _ (ring : RingState) (off : ℕ) (list : List ℤ) (tags : List ℕ) (is : IsRing ring)
     (good : list_any (is_bad_entry (length ring.catalogue)) list ≡ false) where
-  origin : (slot : ℕ) (file : Closed) → (updated ring off list tags).at slot ≡ Some file
+  origin : {slot : ℕ} {file : Closed} → (updated ring off list tags).at slot ≡ Some file
       → (ring.at slot ≡ Some file) ⊎ ((off ≤ slot) × IsListed (length ring.catalogue) (ring.registrations + 1) (slot - off) file)
-  origin slot file at = from (length ring.catalogue) (ring.registrations + 1) ring.at off list tags slot file good at
+  origin {slot} {file} at = from (length ring.catalogue) (ring.registrations + 1) ring.at off list tags slot file good at
 
   pub updated_rings : IsRing (updated ring off list tags)
   updated_rings = record {
-    entries = λ slot file at. ⊎_elim (λ was. is.entries slot file was) (λ new. new.1.1) (origin slot file at);
+    entries = λ slot file at. ⊎_elim (λ was. is.entries slot file was) (λ new. new.1.1) (origin at);
     counted = λ slot file at. ⊎_elim
         (λ was. counted_still ring (updated ring off list tags) file.mark (omega arith) (omega arith) (is.counted slot file was))
-        (λ new. subst (HasCounted (updated ring off list tags)) (sym new.1.0) (omega arith)) (origin slot file at);
+        (λ new. subst (HasCounted (updated ring off list tags)) (sym new.1.0) (omega arith)) (origin at);
     distinct = λ slot other file same at too marks. ⊎_elim
         (λ was. ⊎_elim (λ were. is.distinct slot other file same was were marks)
-        (λ new. absurd (not_counted ring file.mark (other - off) (is.counted slot file was) (marks ∙ new.1.0))) (origin other same too))
+        (λ new. absurd (not_counted ring file.mark (other - off) (is.counted slot file was) (marks ∙ new.1.0))) (origin too))
         (λ new. ⊎_elim (λ were. absurd (not_counted ring same.mark (slot - off) (is.counted other same were) (sym marks ∙ new.1.0)))
         (λ newer.
         let place : Registered (ring.registrations + 1) (slot - off) ≡ Registered (ring.registrations + 1) (other - off) =
         sym new.1.0 ∙ (marks ∙ newer.1.0) in
-        let apart : slot - off ≡ other - off = cc in let low = new.0 in let too = newer.0 in omega arith) (origin other same too))
-        (origin slot file at);
+        let apart : slot - off ≡ other - off = cc in let low = new.0 in let too = newer.0 in omega arith) (origin too)) (origin at);
   }
 
 pub registered_rings : (ring : RingState) (list : List ℤ) (tags : List ℕ)
@@ -67,17 +66,17 @@ registered_rings ring list tags good = updated_rings (record ring { size = lengt
     (none_rings _ refl) (good_files (length ring.catalogue) list good)
 
 -- what a list removes is of the catalogue, where all was
-removed_entries_by : (entries : ℕ) (z : ℤ) (x : Option Closed)
+removed_entries_by : {entries : ℕ} (z : ℤ) {x : Option Closed}
     → ((file : Closed) → x ≡ Some file → IsEntry entries file) → All (IsEntry entries) (removed_by z x)
-removed_entries_by entries (negsuc (suc n)) x has = λ k d inside. absurd (omega arith)
-removed_entries_by entries _ x has = entry_listed entries x has
+removed_entries_by (negsuc (suc n)) has = λ k d inside. absurd (omega arith)
+removed_entries_by {entries} _ {x} has = entry_listed x has
 
 pub removed_entries : (entries : ℕ) (at : ℕ → Option Closed) (slot : ℕ) (list : List ℤ)
     → ((s : ℕ) (file : Closed) → at s ≡ Some file → IsEntry entries file) → All (IsEntry entries) (removed_from at slot list)
 removed_entries entries at slot [] has = λ k d inside. absurd (omega arith)
 removed_entries entries at slot (z ∷ list) has =
     All-append (IsEntry entries) (removed_by z (at slot)) (removed_from at (slot + 1) list)
-    (removed_entries_by entries z (at slot) (has slot)) (removed_entries entries at (slot + 1) list has)
+    (removed_entries_by z (has slot)) (removed_entries entries at (slot + 1) list has)
 
 none_removed_by : (z : ℤ) → removed_by z None ≡ []
 none_removed_by (negsuc zero) = refl

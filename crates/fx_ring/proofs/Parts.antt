@@ -49,12 +49,12 @@ module _ {X : Type 0} (key : X → ℕ) where
   none_within first (x ∷ xs) all = let one = All-head (Within first 0) x xs all in let low = one.0 in let high = one.1 in absurd (omega arith)
 
   -- where each key is one of so many from the first on, the parts are all
-  pub parts_are_all : (first n : ℕ) (xs : List X) → All (λ x. (first ≤ key x) × (key x < first + n)) xs → IsPermutation xs (parts_from key first n xs)
-  parts_are_all first zero xs all = subst (λ l. IsPermutation l []) (sym (none_within first xs all)) (IsPermutation-refl [])
-  parts_are_all first (suc n) xs all =
+  pub parts_are_all : (first n : ℕ) {xs : List X} → All (λ x. (first ≤ key x) × (key x < first + n)) xs → IsPermutation xs (parts_from key first n xs)
+  parts_are_all first zero {xs} all = subst (λ l. IsPermutation l []) (sym (none_within first xs all)) (IsPermutation-refl [])
+  parts_are_all first (suc n) {xs} all =
       let behind : IsPermutation (filter (lacks first) xs) (parts_from key (first + 1) n xs) =
       subst (IsPermutation (filter (lacks first) xs)) (parts_lacking first (first + 1) n xs (omega arith))
-      (parts_are_all (first + 1) n (filter (lacks first) xs) (within_lacking first n xs all)) in
+      (parts_are_all (first + 1) n (within_lacking first n xs all)) in
       IsPermutation-trans xs (filter (has first) xs ++ filter (lacks first) xs) (parts_from key first (suc n) xs)
       (IsPermutation-filter_both (has first) (lacks first) (λ _. refl) xs)
       (IsPermutation-append_right (filter (has first) xs) (filter (lacks first) xs) (parts_from key (first + 1) n xs) behind)

@@ -7,14 +7,14 @@ use Rattle.fx_ring.proofs.CompletionPlaces.{place_key, explained_of_members}
 use Rattle.fx_ring.proofs.Parts.{parts_from, parts_are_all}
 use Rattle.fx_ring.proofs.OneOrder.{Rises, one_list_in_order}
 
-rises_append : (m : ℕ) (xs ys : List Completed) → Rises place_key xs → Rises place_key ys → All (λ c. place_key c < m) xs
+rises_append : {m : ℕ} (xs ys : List Completed) → Rises place_key xs → Rises place_key ys → All (λ c. place_key c < m) xs
     → All (λ c. m ≤ place_key c) ys → Rises place_key (xs ++ ys)
-rises_append m [] ys left right below above = right
-rises_append m (x ∷ xs) ys left right below above =
+rises_append [] ys left right below above = right
+rises_append {m} (x ∷ xs) ys left right below above =
     let one : place_key x < m = All-head (λ c. place_key c < m) x xs below in (
       All-append (λ y. place_key x < place_key y) xs ys left.0
           (All-weaker (λ c. m ≤ place_key c) (λ y. place_key x < place_key y) (λ y le. omega arith) ys above),
-      rises_append m xs ys left.1 right (All-tail (λ c. place_key c < m) x xs below) above,
+      rises_append xs ys left.1 right (All-tail (λ c. place_key c < m) x xs below) above,
     )
 
 abbrev pub IsShort : List Asked → Type 0
@@ -43,7 +43,7 @@ module _ (catalogue : List FileEntry) (size submission : ℕ) (history : List Ev
       let mine = completions_of_chain chain all in
       let same : chain + 0 ≡ chain = omega arith in
       let own = subst (λ c. IsExplainedPart c run) same (explained 0 (omega arith)) in
-      let are = explained_of_members catalogue size (first_member submission chain) run (map action_of (part_of_chain chain history)) mine own in
+      let are = explained_of_members catalogue size (first_member submission chain) run (map action_of (part_of_chain chain history)) own in
       let rest = in_order (chain + 1) runs (All-tail IsShort run runs few)
       (λ i lt. let on : chain + suc i ≡ chain + 1 + i = omega arith in
       subst (λ c. IsExplainedPart c (slice_index_or runs i [])) on (explained (suc i) (omega arith))) in
@@ -56,7 +56,7 @@ module _ (catalogue : List FileEntry) (size submission : ℕ) (history : List Ev
         above = All-append (λ c. chain * 32 + 1 ≤ place_key c) mine (parts (chain + 1) runs) (λ k d lt. (are.within k d lt).1)
             (All-weaker (λ c. (chain + 1) * 32 + 1 ≤ place_key c) (λ c. chain * 32 + 1 ≤ place_key c) (λ c le. omega arith) (parts (chain + 1) runs)
             rest.above);
-        rises = rises_append ((chain + 1) * 32 + 1) mine (parts (chain + 1) runs) are.rises rest.rises
+        rises = rises_append mine (parts (chain + 1) runs) are.rises rest.rises
             (λ k d lt. let high = (are.within k d lt).2 in omega arith) rest.above;
       }
 
@@ -67,7 +67,7 @@ module _ (catalogue : List FileEntry) (size submission : ℕ) (history : List Ev
         subst (λ j. IsExplainedPart (1 + i) (slice_index_or runs j [])) same (explained (1 + i) (omega arith) (omega arith)))
 
     all_parts : IsPermutation all (parts 1 runs)
-    all_parts = parts_are_all (λ c. c.place.chain) 1 (length runs) all
+    all_parts = parts_are_all (λ c. c.place.chain) 1 (length runs)
         (λ k d lt. let it = inside k d lt in let low = it.0 in let high = it.1 in (omega arith, omega arith))
 
     -- there is one completion of each request
@@ -75,10 +75,9 @@ module _ (catalogue : List FileEntry) (size submission : ℕ) (history : List Ev
     one_of_each_request = sym (length_permutation all (parts 1 runs) all_parts) ∙ whole.count
 
     -- in order of place, the completions are explained chain by chain
-    pub in_order_explained : (sorted : List Completed) → IsPermutation all sorted → IsNonDecreasingBy place_key sorted
+    pub in_order_explained : {sorted : List Completed} → IsPermutation all sorted → IsNonDecreasingBy place_key sorted
         → ExplainsParts catalogue size submission 1 runs history sorted
-    in_order_explained sorted same up =
-        subst (ExplainsParts catalogue size submission 1 runs history)
-        (one_list_in_order place_key (parts 1 runs) sorted
+    in_order_explained {sorted} same up =
+        subst (ExplainsParts catalogue size submission 1 runs history) (one_list_in_order place_key
         (IsPermutation-trans (parts 1 runs) all sorted (IsPermutation-sym all (parts 1 runs) all_parts) same) whole.rises up)
         whole.explains

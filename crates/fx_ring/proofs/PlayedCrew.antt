@@ -22,9 +22,9 @@ module _ {P : Type 0} (V : P → PassView) where
   abbrev pub states : List (Worker P) → List WorkerState
   states ws = map (state_of_worker V) ws
 
-  pub scattered_views : (ws : List (Worker P)) (ps : List P) → ps ≡ reverse (map (λ w. w.pass) ws)
+  pub scattered_views : (ws : List (Worker P)) {ps : List P} → ps ≡ reverse (map (λ w. w.pass) ws)
       → map (λ p. V p) ps ≡ reverse (map pass_of (states ws))
-  scattered_views ws ps is =
+  scattered_views ws is =
       ap (map V) is ∙ (map_reversed V (map (λ w. w.pass) ws) ∙ ap reverse (map-map V (λ w. w.pass) ws ∙ sym (map-map pass_of (state_of_worker V) ws)))
 
   module _ (ws : List (Worker P)) (outcomes : List Outcome) (is : outcomes ≡ reverse (map (λ w. w.outcome) ws)) where
@@ -69,8 +69,8 @@ module _ {P : Type 0} (V : P → PassView) where
       worked = All-map (HasWorked catalogue (size_of o) submission (runs_of (all_asked requests))) (state_of_worker V) ws worked;
       told = All-map (λ w. w.pass.no_chains_left ≡ true) (state_of_worker V) ws told;
       chains = count ∙ sym (as_many requests chains members);
-      short = runs_are_short (all_asked requests) chains members within;
-      are = scattered_views ws back scattered;
+      short = runs_are_short chains members within;
+      are = scattered_views ws scattered;
       numbers = map-map number_of (state_of_worker V) ws ∙ (numbers ∙ numbers_are V ps o.passes new begun gathered);
       closing = closing;
     }

@@ -12,11 +12,11 @@ files_changed at slot x = λ i s. by_equality s slot
     (λ b. identity_of (if b then x else at s) ≡ (if b then identity_of x else identity_of (at s))) (λ _. refl) (λ _. refl) i
 
 -- a file that left a settled table may be retired
-pub can_retire : (first before : State) (leaves going : ℕ → Bool) (removed : Option File) (number : Option ℕ)
+pub can_retire : {first : State} (before : State) {leaves : ℕ → Bool} (going : ℕ → Bool) (removed : Option File) {number : Option ℕ}
     → IsSettled first → before.holds ≡ first.holds → leaves ≡ more_leaving going removed → number ≡ number_of removed
     → CanRetire leaves before number
-can_retire first before leaves going None number s holds left is = subst (CanRetire leaves before) (sym is) tt
-can_retire first before leaves going (Some f) number s holds left is =
+can_retire before {leaves} going None s holds left is = subst (CanRetire leaves before) (sym is) tt
+can_retire before {leaves} going (Some f) s holds left is =
     subst (CanRetire leaves before) (sym is)
     (ap (λ (l : ℕ → Bool). l f.number) left ∙ changed_here going f.number true f.number refl, ap (λ (h : ℕ → ℕ). h f.number) holds ∙ s.unheld f.number)
 
@@ -42,9 +42,9 @@ record IsClosedUp (first before last : State) : Type 0 where
   fresh : last.fresh ≡ before.fresh
 
 -- nothing is removed any more
-all_closed_up : (first before last : State) (removed : ℕ → Option File) → IsSettled first → before.holds ≡ first.holds
+all_closed_up : {first before last : State} {removed : ℕ → Option File} → IsSettled first → before.holds ≡ first.holds
     → last ≡ record before { removed = removed } → ((n : ℕ) → removed n ≡ None) → IsClosedUp first before last
-all_closed_up first before last removed s holds is none = record {
+all_closed_up s holds is none = record {
   settled = record {
     unheld = λ n. ap (λ (st : State). st.holds n) is ∙ ap (λ (h : ℕ → ℕ). h n) holds ∙ s.unheld n;
     closed = λ n. ap (λ (st : State). st.removed n) is ∙ none n;
@@ -55,28 +55,26 @@ all_closed_up first before last removed s holds is none = record {
   fresh = ap (λ (st : State). st.fresh) is;
 }
 
-closed_up : (first before last : State) (removed : Option File) → IsSettled first
+closed_up : {first before last : State} (removed : Option File) → IsSettled first
     → before.removed ≡ with_removed first.removed removed → before.holds ≡ first.holds → Leads before (close_of removed) last
     → IsClosedUp first before last
-closed_up first before last None s out holds lead =
-    all_closed_up first before last before.removed s holds lead.1 (λ n. ap (λ (r : ℕ → Option File). r n) out ∙ s.closed n)
-closed_up first before last (Some f) s out holds lead =
-    all_closed_up first before last (changed_at before.removed f.number None) s holds lead.1 (λ n.
-    by_equality n f.number (λ b. (if b then None else before.removed n) ≡ None) (λ _. refl)
+closed_up {first} {before} {last} None s out holds lead = all_closed_up s holds lead.1 (λ n. ap (λ (r : ℕ → Option File). r n) out ∙ s.closed n)
+closed_up {first} {before} {last} (Some f) s out holds lead =
+    all_closed_up s holds lead.1 (λ n. by_equality n f.number (λ b. (if b then None else before.removed n) ≡ None) (λ _. refl)
     (λ apart. ap (λ (r : ℕ → Option File). r n) out ∙ changed_else first.removed f.number (Some f) n apart ∙ s.closed n))
 
 -- what a removal at a slot and the close behind it come to, as the calls make them
-pub removed_and_closed : (first before last : State) (slot : ℕ) (x there : Option File) (fresh : ℕ → Bool) (removed : Option ℕ)
-    (earlier closed : CloseListView) → IsSettled first → first.at slot ≡ there → removed ≡ number_of there
+pub removed_and_closed : {first before last : State} {slot : ℕ} (x there : Option File) {fresh : ℕ → Bool} {removed : Option ℕ}
+    {earlier : CloseListView} (closed : CloseListView) → IsSettled first → first.at slot ≡ there → removed ≡ number_of there
     → before ≡ record first { at = changed_at first.at slot x; fresh = fresh; removed = with_removed first.removed there }
     → Leads before (closes_of_removed before removed) last
     → closed.files ≡ earlier.files ++ option_to_list (file_removed before removed)
     → closed.room + length (option_to_list (file_removed before removed)) ≡ earlier.room
     → SetsSlot first last slot (identity_of x) earlier closed × (last.fresh ≡ fresh)
-removed_and_closed first before last slot x there fresh removed earlier closed settled was is step lead files room =
+removed_and_closed {first} {before} {last} {slot} x there {earlier} closed settled was is step lead files room =
     let out = ap (λ (st : State). st.removed) step in
     let found = ap (file_removed before) is ∙ removed_found first before there out ∙ ap identity_of (sym was) in
-    let up = closed_up first before last there settled out (ap (λ (st : State). st.holds) step)
+    let up = closed_up there settled out (ap (λ (st : State). st.holds) step)
     (subst (λ (h : List Action). Leads before h last) (ap (closes_of_removed before) is ∙ closes_found first before there out) lead) in (
       record {
         size = up.size ∙ ap (λ (st : State). st.size) step;

@@ -48,54 +48,51 @@ pub files_of-state : (at : ℕ → Option File) (n : ℕ) → files_in_order (λ
 files_of-state at zero = refl
 files_of-state at (suc n) = ap (λ (x : List Closed × List Closed). x.0 ++ x.1) (λ i. (files_of-state at n i, listed (at n) i))
 
-pub entry_listed : (entries : ℕ) (x : Option Closed) → ((file : Closed) → x ≡ Some file → IsEntry entries file)
+pub entry_listed : {entries : ℕ} (x : Option Closed) → ((file : Closed) → x ≡ Some file → IsEntry entries file)
     → All (IsEntry entries) (option_to_list x)
-entry_listed entries None has = λ k d inside. absurd (omega arith)
-entry_listed entries (Some file) has = All-cons (IsEntry entries) file [] (has file refl) (All-nil (IsEntry entries))
+entry_listed None has = λ k d inside. absurd (omega arith)
+entry_listed {entries} (Some file) has = All-cons (IsEntry entries) file [] (has file refl) (All-nil (IsEntry entries))
 
-entries_in_order : (entries : ℕ) (at : ℕ → Option Closed) (n : ℕ)
+entries_in_order : {entries : ℕ} (at : ℕ → Option Closed) (n : ℕ)
     → ((slot : ℕ) (file : Closed) → at slot ≡ Some file → IsEntry entries file) → All (IsEntry entries) (files_in_order at n)
-entries_in_order entries at zero has = λ k d inside. absurd (omega arith)
-entries_in_order entries at (suc n) has = All-append (IsEntry entries) (files_in_order at n) (option_to_list (at n))
-    (entries_in_order entries at n has) (entry_listed entries (at n) (has n))
+entries_in_order at zero has = λ k d inside. absurd (omega arith)
+entries_in_order {entries} at (suc n) has = All-append (IsEntry entries) (files_in_order at n) (option_to_list (at n))
+    (entries_in_order at n has) (entry_listed (at n) (has n))
 
 pub entries_of : (ring : RingState) → IsRing ring → AreEntries ring (files_of ring)
-entries_of ring is = entries_in_order (length ring.catalogue) ring.at ring.size is.entries
+entries_of ring is = entries_in_order ring.at ring.size is.entries
 
 -- a list of these files, once it is in order
-pub list_closed : (files given : List Closed) (closes : CloseListView)
+pub list_closed : {files given : List Closed} {closes : CloseListView}
     → given ≡ files → IsPermutation given closes.files → IsInOrderOfMark closes.files → HasClosed files closes
-list_closed files given closes is same order = record {
+list_closed {closes} is same order = record {
   same_files = subst (λ (l : List Closed). IsPermutation l closes.files) is same;
   in_order = order;
 }
 
 -- what was closed is of the catalogue, where all of it was
-pub entries_closed : (ring : RingState) (files : List Closed) (closes : CloseListView)
+pub entries_closed : (ring : RingState) {files : List Closed} {closes : CloseListView}
     → AreEntries ring files → HasClosed files closes → AreEntries ring closes.files
-entries_closed ring files closes all closed =
-    All-permutation (IsEntry (length ring.catalogue)) files closes.files closed.same_files all
+entries_closed ring {files} {closes} all closed = All-permutation (IsEntry (length ring.catalogue)) files closes.files closed.same_files all
 
 -- a list of all files of a ring, once it is in order
-pub all_closed : (ring seen : RingContents) (given : List Closed) (closes : CloseListView) → ring ≡ seen → IsRing (ring_of ring)
+pub all_closed : {ring seen : RingContents} {given : List Closed} {closes : CloseListView} → ring ≡ seen → IsRing (ring_of ring)
     → given ≡ files_of_state (state_of ring.table) → IsPermutation given closes.files → IsInOrderOfMark closes.files
     → HasClosed (files_of (ring_of seen)) closes × AreEntries (ring_of seen) closes.files
-all_closed ring seen given closes same is all permutation order =
-    let closed = list_closed (files_of (ring_of ring)) given closes
-    (all ∙ sym (files_of-state (state_of ring.table).at (state_of ring.table).size)) permutation order in
+all_closed {ring} {given} {closes} same is all permutation order =
+    let closed = list_closed (all ∙ sym (files_of-state (state_of ring.table).at (state_of ring.table).size)) permutation order in
     subst (λ (c : RingContents). HasClosed (files_of (ring_of c)) closes × AreEntries (ring_of c) closes.files) same
-    (closed, entries_closed (ring_of ring) (files_of (ring_of ring)) closes (entries_of (ring_of ring) is) closed)
+    (closed, entries_closed (ring_of ring) (entries_of (ring_of ring) is) closed)
 
 -- a table that was emptied is settled
-pub emptied_settled : (st : State) (n : ℕ) (fresh : ℕ → Bool) → st ≡ record (vacant n) { fresh = fresh } → IsSettled st
-emptied_settled st n fresh is = subst IsSettled (sym is) (record { unheld = λ _. refl; closed = λ _. refl })
+pub emptied_settled : {st : State} {n : ℕ} {fresh : ℕ → Bool} → st ≡ record (vacant n) { fresh = fresh } → IsSettled st
+emptied_settled is = subst IsSettled (sym is) (record { unheld = λ _. refl; closed = λ _. refl })
 
-pub opening_files : (st new : State) (numbers : ℕ) → new ≡ opening st numbers → files_at new ≡ files_at st
-opening_files st new numbers is = ap files_at is
-    ∙ (λ i slot. same_identity (st.at slot) slot i)
+pub opening_files : (st : State) {new : State} (numbers : ℕ) → new ≡ opening st numbers → files_at new ≡ files_at st
+opening_files st numbers is = ap files_at is ∙ (λ i slot. same_identity (st.at slot) slot i)
 
-pub opening_fresh : (st new : State) (numbers : ℕ) → new ≡ opening st numbers → AreFresh new st.size numbers
-opening_fresh st new numbers is = λ number low high. ap (λ (s : State). s.fresh number) is
+pub opening_fresh : (st : State) {new : State} {numbers : ℕ} → new ≡ opening st numbers → AreFresh new st.size numbers
+opening_fresh st {numbers} is = λ number low high. ap (λ (s : State). s.fresh number) is
     ∙ ap (λ (b : Bool). not b && nat_lt number numbers) (le-ltb number st.size low) ∙ lt-ltb number numbers high
 
 -- what a table of empty slots is
@@ -103,11 +100,11 @@ none_in_order : (n : ℕ) → files_in_order_of_state (λ _. None) n ≡ []
 none_in_order zero = refl
 none_in_order (suc n) = ap (λ (l : List Closed). l ++ []) (none_in_order n)
 
-pub vacant_empty : (st : State) (n : ℕ) → st ≡ vacant n → files_of_state st ≡ []
-vacant_empty st n is = ap files_of_state is ∙ none_in_order n
+pub vacant_empty : {st : State} {n : ℕ} → st ≡ vacant n → files_of_state st ≡ []
+vacant_empty {n} is = ap files_of_state is ∙ none_in_order n
 
-pub vacant_files : (st : State) (n : ℕ) → st ≡ vacant n → files_at st ≡ (λ _. None)
-vacant_files st n is = ap files_at is
+pub vacant_files : {st : State} {n : ℕ} → st ≡ vacant n → files_at st ≡ (λ _. None)
+vacant_files is = ap files_at is
 
 -- a ring by the parts of its table
 pub ring_is : (ring : RingState) (st : State) (size : ℕ) (range : ℕ × ℕ) (files : ℕ → Option Closed)
@@ -117,17 +114,17 @@ ring_is ring st size range files same_size same_range same_files =
     λ i. record ring { size = same_size i; range = same_range i; at = same_files i }
 
 -- a ring whose table has the files of a state, their numbers aside
-pub ring_as : (c : RingContents) (st : State) (t : Contents) → HasSameFiles st (state_of t) → ring_of (record c { table = t }) ≡ with_table (ring_of c) st
-ring_as c st t same = λ i. record (ring_of c) { size = same.size i; range = same.range i; at = λ slot. same.files slot i }
+pub ring_as : (c : RingContents) {st : State} (t : Contents) → HasSameFiles st (state_of t) → ring_of (record c { table = t }) ≡ with_table (ring_of c) st
+ring_as c t same = λ i. record (ring_of c) { size = same.size i; range = same.range i; at = λ slot. same.files slot i }
 
 -- a ring whose table came back where it could not be opened
-pub given_back_rings : (c : RingContents) (back : Contents) → IsGivenBack c.table back → ring_of (record c { table = back }) ≡ ring_of c
-given_back_rings c back given = ring_as c (state_of c.table) back given.files
+pub given_back_rings : {c : RingContents} {back : Contents} → IsGivenBack c.table back → ring_of (record c { table = back }) ≡ ring_of c
+given_back_rings {c} {back} given = ring_as c back given.files
 
-pub given_back_at_rest : (c : RingContents) (back : Contents) → IsAtRest c → IsGivenBack c.table back → IsAtRest (record c { table = back })
-given_back_at_rest c back rest given = record {
+pub given_back_at_rest : {c : RingContents} {back : Contents} → IsAtRest c → IsGivenBack c.table back → IsAtRest (record c { table = back })
+given_back_at_rest {c} {back} rest given = record {
   settled = given.settled;
-  ring = subst IsRing (sym (given_back_rings c back given)) rest.ring;
+  ring = subst IsRing (sym (given_back_rings given)) rest.ring;
   few_submissions = rest.few_submissions;
   few_registrations = rest.few_registrations;
 }

@@ -17,27 +17,27 @@ use Rattle.fx_ring.proofs.TableOfState.{told_at, size_there, table_settled}
 use Rattle.fx_ring.proofs.LoneEnds.{closed_files}
 
 -- the ring with a table of the same files
-same_ring : (catalogue : List FileEntry) (o : Opening) (v : PassView) (left : Contents) (submissions registrations : ℕ) → IsSettledSoFar o v
+same_ring : (catalogue : List FileEntry) {o : Opening} {v : PassView} (left : Contents) (submissions registrations : ℕ) → IsSettledSoFar o v
     → HasSameFiles (state_at o v.own) (state_of left)
     → ring_of (ring_with catalogue left submissions registrations) ≡ ring_of (ring_led_by catalogue o v submissions registrations)
-same_ring catalogue o v left submissions registrations settled files = λ i. record {
+same_ring catalogue {o} {v} left submissions registrations settled files = λ i. record {
   catalogue = catalogue;
   size = (files.size ∙ sym (size_there (state_at o v.own))) i;
   range = files.range i;
-  at = λ slot. (files.files slot ∙ sym (told_at (state_at o v.own) (at_rest_of o v settled).inside slot)) i;
+  at = λ slot. (files.files slot ∙ sym (told_at (state_at o v.own) (at_rest_of settled).inside slot)) i;
   submissions = submissions;
   registrations = registrations;
 }
 
 module _ {P : Type 0} (V : P → PassView) (Fits : P → Type 0) (catalogue : List FileEntry) (o : Opening) (size chains drawn most submissions registrations : ℕ) where
-  pub closed_ring : (items : List P) (left : Contents) → IsKeptOpen V Fits catalogue o size chains drawn most submissions registrations items
+  pub closed_ring : (items : List P) {left : Contents} → IsKeptOpen V Fits catalogue o size chains drawn most submissions registrations items
       → ClosesTable o (map V items) left
       → (ring_of (ring_with catalogue left submissions registrations) ≡ ring_of (ring_shown V catalogue o submissions registrations items))
       × IsAtRest (ring_with catalogue left submissions registrations)
-  closed_ring [] left kept closing = absurd kept
-  closed_ring (pass ∷ others) left (alone, at, room, rest) closing =
-      let files = closed_files o (V pass) left (subst (λ (l : List P). ClosesTable o (V pass ∷ map V l) left) alone closing) in
-      let same = same_ring catalogue o (V pass) left submissions registrations at.settled files in (
+  closed_ring [] kept closing = absurd kept
+  closed_ring (pass ∷ others) {left} (alone, at, room, rest) closing =
+      let files = closed_files (subst (λ (l : List P). ClosesTable o (V pass ∷ map V l) left) alone closing) in
+      let same = same_ring catalogue left submissions registrations at.settled files in (
         same,
         record {
           settled = closing.left_settled;
@@ -83,7 +83,7 @@ module _ {P : Type 0} (V : P → PassView) (Fits : P → Type 0) (catalogue : Li
         let its = All-head (λ z. Fits z × IsIdle (V z)) p [] ready in
         let same : ring_of (ring_led_by catalogue o (V p) submissions registrations) ≡ ring_of (ring_with catalogue plain submissions registrations) =
         ap (λ (v : PassView). ring_of (ring_led_by catalogue o v submissions registrations)) is
-        ∙ sym (same_ring catalogue o (new_pass 1) plain submissions registrations new_settled opened_files) in (
+        ∙ sym (same_ring catalogue plain submissions registrations new_settled opened_files) in (
           same,
           (
             refl,
@@ -136,9 +136,7 @@ module _ {P : Type 0} (V : P → PassView) (Fits : P → Type 0) (catalogue : Li
               few_chains = room.few_chains;
               installs = room.installs;
             },
-            submitted_at_rest (ring_led_by catalogue o (V old) submissions registrations)
-                (ring_led_by catalogue o (V pass) (submissions + 1) registrations) requests report was one (table_settled (state_at o (V pass).own))
-                few_submissions,
+            submitted_at_rest was one (table_settled (state_at o (V pass).own)) few_submissions,
           ),
           submitted_entries (ring_led_by catalogue o (V old) submissions registrations)
               (ring_led_by catalogue o (V pass) (submissions + 1) registrations) requests report was.ring one,

@@ -39,8 +39,8 @@ pub as_many : (requests : List Request) (chains : List Chain) → map (members_o
 as_many requests chains members = ap length (sym members) ∙ length-map chains (members_of (all_asked requests))
 
 -- what no run installs more than, no chain does
-pub chains_install : (asked : List Asked) (chains : List Chain) (most : ℕ) → map (members_of asked) chains ≡ runs_of asked
+pub chains_install : (asked : List Asked) (chains : List Chain) {most : ℕ} → map (members_of asked) chains ≡ runs_of asked
     → All (λ run. all_installs run ≤ most) (runs_of asked) → InstallAtMost asked most chains
-chains_install asked chains most members all = each_all (λ chain. all_installs (members_of asked chain) ≤ most) chains
+chains_install asked chains {most} members all = each_all (λ chain. all_installs (members_of asked chain) ≤ most) chains
     (λ chain h. All-contains (λ run. all_installs run ≤ most) (runs_of asked) (members_of asked chain) all
     (subst (λ (l : List (List Asked)). Contains l (members_of asked chain)) members (contains_mapped (members_of asked) chains chain h)))

@@ -12,15 +12,15 @@ use Rattle.fx_ring.proofs.ChainsApart.{IsOfChain, part_actions, put_in_part, ins
 use Rattle.fx_ring.proofs.MarksApart.{IsApart, IsUnlike, apart_after}
 
 -- each chain's part of the history installs files of the catalogue with marks of its own, and no mark twice
-part_puts : (catalogue : List FileEntry) (size submission first : ℕ) (runs : List (List Asked)) (history : List Event) (completions : List Completed)
-    → ExplainsParts catalogue size submission first runs history completions → (chain : ℕ) → first ≤ chain → chain < first + length runs
+part_puts : (catalogue : List FileEntry) (size : ℕ) {submission : ℕ} (first : ℕ) (runs : List (List Asked)) (history : List Event) (completions : List Completed)
+    → ExplainsParts catalogue size submission first runs history completions → {chain : ℕ} → first ≤ chain → chain < first + length runs
     → Puts (IsOfMembers (length catalogue) (first_member submission chain)) (part_actions chain history)
-part_puts catalogue size submission first [] history completions explained chain low high = absurd (omega arith)
-part_puts catalogue size submission first (run ∷ runs) history completions (own, others, parts, one, more) chain low high =
+part_puts catalogue size first [] history completions explained low high = absurd (omega arith)
+part_puts catalogue size {submission} first (run ∷ runs) history completions (own, others, parts, one, more) {chain} low high =
     by_equality chain first (λ _. Puts (IsOfMembers (length catalogue) (first_member submission chain)) (part_actions chain history))
     (λ same. subst (λ c. Puts (IsOfMembers (length catalogue) (first_member submission c)) (part_actions c history)) (sym same)
     (explained_puts catalogue size (first_member submission first) run (part_actions first history) own one))
-    (λ apart. part_puts catalogue size submission (first + 1) runs history others more chain (omega arith) (omega arith))
+    (λ apart. part_puts catalogue size (first + 1) runs history others more (omega arith) (omega arith))
 
 module _ (old new : RingContents) (requests : List Asked) (report : Reported) (is : IsRing (ring_of old))
     (one : IsOneHistory old requests report new) where
@@ -44,15 +44,15 @@ module _ (old new : RingContents) (requests : List Asked) (report : Reported) (i
   abbrev IsNew : File → Type 0
   IsNew f = (c : ℕ) × IsOfChain report.submission c f × (f.identity.entry < length old.catalogue)
 
-  at_start : (slot : ℕ) (f : File) → start.at slot ≡ Some f → before.at slot ≡ Some f.identity
-  at_start slot f at =
-      let files = opening_files (state_of old.table) start (numbers_for (length (runs_of requests))) refl in
+  at_start : (slot : ℕ) {f : File} → start.at slot ≡ Some f → before.at slot ≡ Some f.identity
+  at_start slot at =
+      let files = opening_files (state_of old.table) (numbers_for (length (runs_of requests))) refl in
       sym (ap (λ (told : ℕ → Option Closed). told slot) files) ∙ ap identity_of at
 
   began : IsApart WasThere [] start.at
   began = record {
-    from = λ slot f at. inl (is.counted slot f.identity (at_start slot f at), is.entries slot f.identity (at_start slot f at));
-    distinct = λ slot other f g at too marks. is.distinct slot other f.identity g.identity (at_start slot f at) (at_start other g too) marks;
+    from = λ slot f at. inl (is.counted slot f.identity (at_start slot at), is.entries slot f.identity (at_start slot at));
+    distinct = λ slot other f g at too marks. is.distinct slot other f.identity g.identity (at_start slot at) (at_start other too) marks;
   }
 
   parts : (e : Event) → Contains one.history e
@@ -60,8 +60,7 @@ module _ (old new : RingContents) (requests : List Asked) (report : Reported) (i
   parts e there =
       let inside = one.chains e there in
       let high = inside.1 in
-      part_puts old.catalogue (state_of old.table).size report.submission 1
-      (runs_of requests) one.history report.completions one.explained e.chain inside.0 (omega arith)
+      part_puts old.catalogue (state_of old.table).size 1 (runs_of requests) one.history report.completions one.explained inside.0 (omega arith)
 
   put_is_new : (f : File) → IsPut actions f → IsNew f
   put_is_new f put =
@@ -109,7 +108,7 @@ module _ (old new : RingContents) (requests : List Asked) (report : Reported) (i
   closed_entries =
       let P : File → Type 0 = λ f. f.identity.entry < length old.catalogue in
       let all : HoldsOfAll P start = record {
-        at_slots = λ slot lt f at. is.entries slot f.identity (at_start slot f at);
+        at_slots = λ slot lt f at. is.entries slot f.identity (at_start slot at);
         removed = λ number f at. let e : None ≡ Some f = at in cc;
       } in
       all_closes_in (λ (file : Closed). file.entry < length old.catalogue) one.history
@@ -118,12 +117,12 @@ module _ (old new : RingContents) (requests : List Asked) (report : Reported) (i
   -- the files that it closed are of the catalogue
   pub submitted_entries : AreEntries (ring_of new) report.closes.files
   submitted_entries = subst (λ (ring : RingState). AreEntries ring report.closes.files) (sym one.after)
-      (entries_closed behind (closes_in actions) report.closes closed_entries one.closed)
+      (entries_closed behind closed_entries one.closed)
 
 -- a ring at rest is at rest again behind a submission
-pub submitted_at_rest : (old new : RingContents) (requests : List Asked) (report : Reported) → IsAtRest old → IsOneHistory old requests report new
+pub submitted_at_rest : {old new : RingContents} {requests : List Asked} {report : Reported} → IsAtRest old → IsOneHistory old requests report new
     → IsSettled (state_of new.table) → old.submissions < MOST_SUBMISSIONS → IsAtRest new
-submitted_at_rest old new requests report rest one settled few =
+submitted_at_rest {old} {new} {requests} {report} rest one settled few =
     let submissions : new.submissions ≡ old.submissions + 1 = ap (λ (ring : RingState). ring.submissions) one.after in
     let registrations : new.registrations ≡ old.registrations = ap (λ (ring : RingState). ring.registrations) one.after in
     record {

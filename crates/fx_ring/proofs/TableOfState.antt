@@ -31,15 +31,15 @@ module _ (st : State) (inside : (slot : ℕ) → st.size ≤ slot → st.at slot
   abbrev table : Contents
   table = table_with_files st
 
-  placed_so : (slot : ℕ) (x : Option File) → st.at slot ≡ x → slot < st.size → identity_of (file_at table.nodes (number_if slot x)) ≡ identity_of x
-  placed_so slot None is lt = refl
-  placed_so slot (Some f) is lt =
+  placed_so : {slot : ℕ} (x : Option File) → st.at slot ≡ x → slot < st.size → identity_of (file_at table.nodes (number_if slot x)) ≡ identity_of x
+  placed_so None is lt = refl
+  placed_so {slot} (Some f) is lt =
       ap (λ (node : Node). identity_of (placed_at slot node)) (read_listed (λ k. node_if k (st.at k)) st.size slot Gone lt ∙ ap (node_if slot) is)
 
   pub told_at : (slot : ℕ) → identity_of (file_at table.nodes (slot_at table.slots slot)) ≡ identity_of (st.at slot)
   told_at slot = elim (cases_lt slot st.size) [
     | inl lt ↦ ap (λ (x : Option ℕ). identity_of (file_at table.nodes x)) (read_listed (λ k. number_if k (st.at k)) st.size slot None lt)
-        ∙ placed_so slot (st.at slot) refl lt
+        ∙ placed_so (st.at slot) refl lt
     | inr le ↦ ap (λ (x : Option ℕ). identity_of (file_at table.nodes x)) (get_or_past table.slots slot None (let len = size_there st in omega arith))
         ∙ sym (ap identity_of (inside slot le))
   ]

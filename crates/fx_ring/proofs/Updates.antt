@@ -13,23 +13,21 @@ pub record IsUpdated (c : RingContents) (off : ℕ) (list : List ℤ) (tags : Li
   pub closed : HasClosed (removed_from (ring_of c).at off list) sorted
   pub entries : AreEntries (ring_of c) sorted.files
 
-pub is_updated : (c : RingContents) (off : ℕ) (list : List ℤ) (tags : List ℕ) (first new : State) (numbers : ℕ) (given closes sorted : CloseListView)
+pub is_updated : {c : RingContents} {off : ℕ} {list : List ℤ} {tags : List ℕ} {first new : State} (numbers : ℕ) {given closes sorted : CloseListView}
     → first ≡ opening (state_of c.table) numbers → SetsList (c.registrations + 1) off list tags first new given closes → given.files ≡ []
     → IsPermutation closes.files sorted.files → IsInOrderOfMark sorted.files → IsRing (ring_of c)
     → list_any (is_bad_entry (length c.catalogue)) list ≡ false → IsUpdated c off list tags new sorted
-is_updated c off list tags first new numbers given closes sorted opened sets none same order ring good =
-    let files = opening_files (state_of c.table) first numbers opened in
+is_updated {c} {off} {list} {tags} {first} {new} numbers {closes} {sorted} opened sets none same order ring good =
+    let files = opening_files (state_of c.table) numbers opened in
     let is = ring_is (record (ring_of c) { registrations = c.registrations + 1 }) new
     (state_of c.table).size (state_of c.table).range (files_after (c.registrations + 1) (files_at (state_of c.table)) off list tags)
     (sets.size ∙ ap (λ (st : State). st.size) opened) (sets.range ∙ ap (λ (st : State). st.range) opened)
     (sets.at_slots ∙ ap (λ (a : ℕ → Option Closed). files_after (c.registrations + 1) a off list tags) files) in
-    let closed = list_closed (removed_from (files_at (state_of c.table)) off list) closes.files sorted
-    (sets.closed ∙ ap (λ (l : List Closed). l ++ removed_from (files_at first) off list) none
+    let closed = list_closed (sets.closed ∙ ap (λ (l : List Closed). l ++ removed_from (files_at first) off list) none
     ∙ ap (λ (a : ℕ → Option Closed). removed_from a off list) files) same order in
     record {
       is = is;
       ring = subst IsRing (sym is) (updated_rings (ring_of c) off list tags ring good);
       closed = closed;
-      entries = entries_closed (ring_of c) (removed_from (ring_of c).at off list) sorted
-          (removed_entries (length c.catalogue) (ring_of c).at off list ring.entries) closed;
+      entries = entries_closed (ring_of c) (removed_entries (length c.catalogue) (ring_of c).at off list ring.entries) closed;
     }

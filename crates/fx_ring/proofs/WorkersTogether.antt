@@ -55,40 +55,40 @@ module _ (catalogue : List FileEntry) (submission : ℕ) (runs : List (List Aske
   abbrev pub joined : List Completed
   joined = flat_map completed_by crew
 
-  worker_of : (v : PassView) → Contains passes v → (w : WorkerState) × Contains crew w × (v ≡ w.pass)
-  worker_of v h = contains_map pass_of crew v (contains_reverse (map pass_of crew) v (subst (λ (l : List PassView). Contains l v) played.are h))
+  worker_of : {v : PassView} → Contains passes v → (w : WorkerState) × Contains crew w × (v ≡ w.pass)
+  worker_of {v} h = contains_map pass_of crew v (contains_reverse (map pass_of crew) v (subst (λ (l : List PassView). Contains l v) played.are h))
 
-  view_of : (w : WorkerState) → Contains crew w → Contains passes w.pass
-  view_of w h = subst (λ (l : List PassView). Contains l w.pass) (sym played.are)
+  view_of : {w : WorkerState} → Contains crew w → Contains passes w.pass
+  view_of {w} h = subst (λ (l : List PassView). Contains l w.pass) (sym played.are)
       (contains_reversed (map pass_of crew) w.pass (contains_mapped pass_of crew w h))
 
   works : (w : WorkerState) → Contains crew w → HasWorked catalogue (size_of o) submission runs w
   works w h = All-contains (HasWorked catalogue (size_of o) submission runs) crew w played.worked h
 
   -- the author of an event is a worker, among whose own events it is
-  author_of : (e : Event) → Contains closing.history e → (w : WorkerState) × Contains crew w × (e.pass ≡ w.pass.number) × Contains w.pass.own e
-  author_of e h =
+  author_of : {e : Event} → Contains closing.history e → (w : WorkerState) × Contains crew w × (e.pass ≡ w.pass.number) × Contains w.pass.own e
+  author_of {e} h =
       let a = closing.authors e h in
-      let w = worker_of a.0 a.1 in
+      let w = worker_of a.1 in
       let number : e.pass ≡ w.0.pass.number = a.2 ∙ ap (λ (v : PassView). v.number) w.2 in
       let mine = in_part w.0.pass.number closing.history e h number in
-      (w.0, w.1, number, subst (λ (l : List Event). Contains l e) (closing.own w.0.pass (view_of w.0 w.1)) mine)
+      (w.0, w.1, number, subst (λ (l : List Event). Contains l e) (closing.own w.0.pass (view_of w.1)) mine)
 
-  drawn_inside : (w : WorkerState) → Contains crew w → (c : ℕ) → Contains w.pass.drawn c → (1 ≤ c) × (c ≤ length runs)
-  drawn_inside w h c drew =
+  drawn_inside : {w : WorkerState} → Contains crew w → {c : ℕ} → Contains w.pass.drawn c → (1 ≤ c) × (c ≤ length runs)
+  drawn_inside {w} h {c} drew =
       let b = (works w h).inside c drew in let low = b.0 in let high = b.1 in let last = (works w h).reached in (low, omega arith)
 
   pub events_inside : (e : Event) → Contains closing.history e → (1 ≤ e.chain) × (e.chain ≤ length runs)
-  events_inside e h = let a = author_of e h in drawn_inside a.0 a.1 e.chain ((works a.0 a.1).own e a.3)
+  events_inside e h = let a = author_of h in drawn_inside a.1 ((works a.0 a.1).own e a.3)
 
   -- each chain was drawn by a worker, and by no other one
   drawer : (c : ℕ) → 1 ≤ c → c ≤ length runs → (w : WorkerState) × Contains crew w × Contains w.pass.drawn c
   drawer c low high =
       let told : (v : PassView) → Contains passes v → v.no_chains_left ≡ true = λ v h.
-      let w = worker_of v h in
+      let w = worker_of h in
       ap (λ (u : PassView). u.no_chains_left) w.2 ∙ All-contains (λ w. w.pass.no_chains_left ≡ true) crew w.0 played.told w.1 in
       let given = closing.all_drawn told c (omega arith) (omega arith) in
-      let w = worker_of given.0 given.1 in
+      let w = worker_of given.1 in
       (w.0, w.1, subst (λ (v : PassView). Contains v.drawn c) w.2 given.2)
 
   once : (c : ℕ) → sum_by (λ w. times_drawn c w.pass) crew ≤ 1
@@ -99,16 +99,16 @@ module _ (catalogue : List FileEntry) (submission : ℕ) (runs : List (List Aske
       let e = closing.drawn_once c in
       omega arith
 
-  part_is : (c : ℕ) (w : WorkerState) → Contains crew w → Contains w.pass.drawn c
+  part_is : {c : ℕ} {w : WorkerState} → Contains crew w → Contains w.pass.drawn c
       → completions_of_chain c joined ≡ completions_of_chain c w.completions
-  part_is c w h drew =
+  part_is {c} {w} h drew =
       filter_parts completed_by (λ x. x.place.chain == c) crew
-      ∙ one_part (λ w. completions_of_chain c w.completions) (λ w. times_drawn c w.pass) crew w (once c) h (some_times c w.pass.drawn drew)
+      ∙ one_part (λ w. completions_of_chain c w.completions) crew (once c) h (some_times c w.pass.drawn drew)
       (λ v i zero. none_of_chain c v.pass.drawn v.completions (works v i).completed zero)
 
   history_is : (c : ℕ) (w : WorkerState) → Contains crew w → Contains w.pass.drawn c → part_of_chain c closing.history ≡ part_of_chain c w.pass.own
   history_is c w h drew = part_of_drawn o passes left c w.pass closing
-      (λ v i. let u = worker_of v i in subst IsOfDrawnChains (sym u.2) (works u.0 u.1).own) (view_of w h) drew
+      (λ v i. let u = worker_of i in subst IsOfDrawnChains (sym u.2) (works u.0 u.1).own) (view_of h) drew
 
   abbrev pub ExplainsChain : ℕ → List Event → List Completed → Type 0
   ExplainsChain c h completions = Explains catalogue (size_of o) (first_member submission c) (run_of_chain runs c) (map action_of h) completions
@@ -118,11 +118,11 @@ module _ (catalogue : List FileEntry) (submission : ℕ) (runs : List (List Aske
   explained c low high =
       let d = drawer c low high in
       subst (λ (h : List Event). ExplainsChain c h (completions_of_chain c joined)) (sym (history_is c d.0 d.1 d.2))
-      (subst (ExplainsChain c (part_of_chain c d.0.pass.own)) (sym (part_is c d.0 d.1 d.2)) ((works d.0 d.1).explained c d.2))
+      (subst (ExplainsChain c (part_of_chain c d.0.pass.own)) (sym (part_is d.1 d.2)) ((works d.0 d.1).explained c d.2))
 
   pub inside : All (λ c. (1 ≤ c.place.chain) × (c.place.chain ≤ length runs)) joined
   inside = all_parts completed_by (λ c. (1 ≤ c.place.chain) × (c.place.chain ≤ length runs)) crew
-      (λ w h k d l. drawn_inside w h _ ((works w h).completed k d l))
+      (λ w h k d l. drawn_inside h ((works w h).completed k d l))
 
   -- there is a completion for each request
   pub one_of_each : length joined ≡ sum_by (λ run. length run) runs
@@ -130,10 +130,10 @@ module _ (catalogue : List FileEntry) (submission : ℕ) (runs : List (List Aske
 
   passes_inside : All (λ e. (1 ≤ e.pass) × (e.pass < 1 + o.passes)) closing.history
   passes_inside = each_all (λ e. (1 ≤ e.pass) × (e.pass < 1 + o.passes)) closing.history (λ e h.
-      let a = author_of e h in
+      let a = author_of h in
       let mine : Contains (reverse (range_with_len 1 o.passes)) a.0.pass.number =
       subst (λ (l : List ℕ). Contains l a.0.pass.number) played.numbers (contains_mapped number_of crew a.0 a.1) in
-      let r = number_within 1 o.passes a.0.pass.number (contains_reverse (range_with_len 1 o.passes) a.0.pass.number mine) in
+      let r = number_within o.passes (contains_reverse (range_with_len 1 o.passes) a.0.pass.number mine) in
       let is = a.2 in
       let low = r.0 in
       let high = r.1 in
@@ -146,9 +146,8 @@ module _ (catalogue : List FileEntry) (submission : ℕ) (runs : List (List Aske
       let by_pass = closes_by_key (λ e. e.pass) 1 o.passes closing.history passes_inside in
       let back = parts_reversed part (range_with_len 1 o.passes) in
       let of_crew : flat_map part (reverse (range_with_len 1 o.passes)) ≡ flat_map closed_by_worker crew =
-      ap (flat_map part) (sym played.numbers) ∙ flat_map-map part number_of crew
-      ∙ same_parts (λ w. part w.pass.number) closed_by_worker crew
-      (λ w h. ap closes_of (closing.own w.pass (view_of w h)) ∙ sym (works w h).closed) in
+      ap (flat_map part) (sym played.numbers) ∙ flat_map-map part number_of crew ∙ same_parts crew
+      (λ w h. ap closes_of (closing.own w.pass (view_of h)) ∙ sym (works w h).closed) in
       subst (IsPermutation (closes_of closing.history)) of_crew (IsPermutation-trans _ _ _ by_pass back)
 
   weighed : (i : ℕ) → i < length runs → length (closes_of (part_of_chain (1 + i) closing.history)) ≤ all_weights (slice_index_or runs i [])
@@ -196,11 +195,11 @@ module _ (catalogue : List FileEntry) (submissions : ℕ) (requests : List Asked
     chains = events_inside catalogue (submissions + 1) runs o crew passes left played;
     explained = in_order_explained catalogue (size_of o) (submissions + 1) history (flat_map completed_by crew) runs played.short
         (inside catalogue (submissions + 1) runs o crew passes left played)
-        (explained catalogue (submissions + 1) runs o crew passes left played) sorted same rises;
+        (explained catalogue (submissions + 1) runs o crew passes left played) same rises;
     closed = record {
       same_files = IsPermutation-trans _ _ _ (closes_joined catalogue (submissions + 1) runs o crew passes left played) closed;
       in_order = in_order;
     };
     submission = refl;
-    after = ring_as (ring_with catalogue o.contents (submissions + 1) registrations) (state_at o history) left played.closing.files;
+    after = ring_as (ring_with catalogue o.contents (submissions + 1) registrations) left played.closing.files;
   }

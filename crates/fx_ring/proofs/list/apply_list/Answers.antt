@@ -46,6 +46,6 @@ returns c =
     let past = c.loop-i-test.false in
     let below = c.loop-i.auto.i-end in
     let all : c.loop-i.i ≡ length n.list.now = omega (arith, past, below) in
-    all_applied n.k n.off n.list.now tags (state_of c.args.table.now) c.args.closes.now (state_of c.loop-i.table) c.loop-i.closes
+    all_applied n.k n.off n.list.now tags (state_of c.args.table.now) c.args.closes.now
     (subst (λ (i : ℕ). IsApplied n.k n.off n.list.now tags (state_of c.args.table.now) (state_of c.loop-i.table) c.args.closes.now c.loop-i.closes i) all
     c.loop-i.invariant.applied)

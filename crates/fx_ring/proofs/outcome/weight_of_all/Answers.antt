@@ -7,9 +7,9 @@ abbrev weight_of_one : Request → ℕ
 weight_of_one r = weight_of (operation_of r.op)
 
 -- one more weight fits
-one_more : (requests : List Request) (i : ℕ) (x : Request) → i < length requests → x ≡ get_or requests i x → IsAccepted (all_asked requests)
+one_more : (requests : List Request) {i : ℕ} {x : Request} → i < length requests → x ≡ get_or requests i x → IsAccepted (all_asked requests)
     → sum_by weight_of_one (take i requests) + weight_of_one x ≤ 261888
-one_more requests i x inside is accepted =
+one_more requests {i} {x} inside is accepted =
     let more = sum_by_more_le weight_of_one requests i x inside in
     let same = ap weight_of_one is in
     let all = sum_map (λ a. weight_of a.operation) asked_of requests in
@@ -19,10 +19,10 @@ one_more requests i x inside is accepted =
 
 pub overflow_cast-weight : goal.overflow_cast-weight
 overflow_cast-weight c =
-    let fits = one_more c.args.requests.now c.loop-request.request-index c.request-item.result c.loop-request-test.true c.request-item.is c.requires in
+    let fits = one_more c.args.requests.now c.loop-request-test.true c.request-item.is c.requires in
     omega (arith, fits, c.weight.ensures)
 
 pub overflow_add-weight : goal.overflow_add-weight
 overflow_add-weight c =
-    let fits = one_more c.args.requests.now c.loop-request.request-index c.request-item.result c.loop-request-test.true c.request-item.is c.requires in
+    let fits = one_more c.args.requests.now c.loop-request-test.true c.request-item.is c.requires in
     omega (arith, fits, c.weight.ensures, c.loop-request.invariant)

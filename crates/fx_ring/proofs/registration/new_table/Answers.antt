@@ -7,17 +7,15 @@ use Rattle.fx_ring.proofs.registration.new_table.Goals.{In-Ok}
 use Rattle.fx_ring.proofs.registration.new_table.Goals as goal
 
 pub prepare-requires-clause-settled : goal.prepare-requires-clause-settled
-prepare-requires-clause-settled c = emptied_settled (state_of c.in_ok-table.table) (length c.args.list.now) _ c.in_ok-table.ensures.state
+prepare-requires-clause-settled c = emptied_settled c.in_ok-table.ensures.state
 
 pub dismiss-requires-clause-settled : goal.dismiss-requires-clause-settled
 dismiss-requires-clause-settled c =
-    emptied_settled (state_of c.prepare.new.self) (length c.args.list.now) _
-    (ap state_of c.in_default.ensures.err ∙ c.in_ok-table.ensures.state)
+    emptied_settled (ap state_of c.in_default.ensures.err ∙ c.in_ok-table.ensures.state)
 
 pub dismiss-requires-clause-empty : goal.dismiss-requires-clause-empty
 dismiss-requires-clause-empty c =
-    vacant_empty (state_of c.prepare.new.self) (length c.args.list.now)
-    (ap state_of c.in_default.ensures.err ∙ c.in_ok-table.ensures.state)
+    vacant_empty (ap state_of c.in_default.ensures.err ∙ c.in_ok-table.ensures.state)
 
 pub apply_list-requires-clause-settled : goal.apply_list-requires-clause-settled
 apply_list-requires-clause-settled c =
@@ -29,13 +27,10 @@ invariant_of-numbers-clause-good c = good_files (length c.args.catalogue.now) c.
 pub apply_list-requires-clause-fresh : goal.apply_list-requires-clause-fresh
 apply_list-requires-clause-fresh c =
     let size : (state_of c.in_ok-table.table).size ≡ length c.args.list.now = ap (λ (st : State). st.size) c.in_ok-table.ensures.state in
-    λ number low high.
-    opening_fresh (state_of c.in_ok-table.table) (state_of c.prepare.new.self) (2 * length c.args.list.now) c.in-Ok.ensures.ok
-    number (omega arith) (omega arith)
+    λ number low high. opening_fresh (state_of c.in_ok-table.table) c.in-Ok.ensures.ok number (omega arith) (omega arith)
 
 no_files : (c : In-Ok) → files_at (state_of c.prepare.new.self) ≡ (λ _. None)
-no_files c = opening_files (state_of c.in_ok-table.table) (state_of c.prepare.new.self) (2 * length c.args.list.now) c.in-Ok.ensures.ok
-    ∙ vacant_files (state_of c.in_ok-table.table) (length c.args.list.now) c.in_ok-table.ensures.state
+no_files c = opening_files (state_of c.in_ok-table.table) (2 * length c.args.list.now) c.in-Ok.ensures.ok ∙ vacant_files c.in_ok-table.ensures.state
 
 pub apply_list-requires-clause-room : goal.apply_list-requires-clause-room
 apply_list-requires-clause-room c =

@@ -4,14 +4,11 @@ use Rattle.fx_ring.proofs.slots.clear_slot.Goals as goal
 
 pub close_removed-requires-clause-removed : goal.close_removed-requires-clause-removed
 close_removed-requires-clause-removed c =
-    can_retire (state_of c.args.table.now) (state_of c.clear-removed.new.self)
-    (leaving c.clear-removed.new.self) (leaving c.args.table.now) ((state_of c.args.table.now).at c.args.slot)
-    c.clear-removed.result c.requires.settled
+    can_retire (state_of c.clear-removed.new.self) (leaving c.args.table.now) ((state_of c.args.table.now).at c.args.slot) c.requires.settled
     (ap (λ (st : State). st.holds) c.clear-removed.ensures.step.1) c.clear-removed.ensures.leaving c.clear-removed.ensures.answer
 
 pub returns : goal.returns
 returns c =
-    let left = removed_and_closed (state_of c.args.table.now) (state_of c.clear-removed.new.self) (state_of c.close_removed.new.table)
-    c.args.slot None _ _ c.clear-removed.result c.args.closes.now c.close_removed.new.closes c.requires.settled refl c.clear-removed.ensures.answer
+    let left = removed_and_closed None _ c.close_removed.new.closes c.requires.settled refl c.clear-removed.ensures.answer
     c.clear-removed.ensures.step.1 c.close_removed.ensures.steps c.close_removed.ensures.files c.close_removed.ensures.room in
     record { set = left.0; fresh = left.1 }

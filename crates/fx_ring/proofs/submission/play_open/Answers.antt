@@ -29,9 +29,9 @@ work_crew-requires-clause-ready g c κs within =
         fits = (ready k d l).0;
         idle = (ready k d l).1;
         worked = new_has_worked c.args.submission.now.catalogue.now (size_of (g.T.FileTable.opening c.args.table)) (c.args.submission.now.earlier + 1)
-            (runs_of (all_asked c.args.submission.now.requests.now)) _ _ _ (new k d l) (room k d l);
+            (runs_of (all_asked c.args.submission.now.requests.now)) (new k d l) (room k d l);
       };
-      room = new_has_room _ _ (all_asked c.args.submission.now.requests.now) c.args.submission.now.accepted (new k d l) (room k d l);
+      room = new_has_room c.args.submission.now.accepted (new k d l) (room k d l);
     }
 
 pub close-left-requires-clause-ready : goal.close-left-requires-clause-ready

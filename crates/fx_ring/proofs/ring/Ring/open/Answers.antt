@@ -14,4 +14,4 @@ returns-in-Ok-clause-opened g c = (opened_ring g.T.FileTable.view (λ p. g.T.Fil
     c.in-Ok.ensures.count c.in-Ok.ensures.new c.in-Ok.ensures.ready).0 ∙ ap ring_of c.self.view_is
 
 pub invariant_of-result-in-Err : goal.invariant_of-result-in-Err
-invariant_of-result-in-Err g c = given_back_at_rest _ c.in-Err.table c.self.invariant c.in-Err.ensures.refused
+invariant_of-result-in-Err g c = given_back_at_rest c.self.invariant c.in-Err.ensures.refused

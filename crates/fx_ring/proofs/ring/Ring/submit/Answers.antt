@@ -11,13 +11,11 @@ use Rattle.fx_ring.proofs.ring.Ring.submit.Goals as goal
 
 pub dismiss-requires-clause-settled : goal.dismiss-requires-clause-settled
 dismiss-requires-clause-settled g c =
-    emptied_settled (state_of c.replace.result) 0 _
-    (ap state_of (c.replace.ensures.value ∙ c.replace-plain.ensures.after) ∙ c.none.ensures.state)
+    emptied_settled (ap state_of (c.replace.ensures.value ∙ c.replace-plain.ensures.after) ∙ c.none.ensures.state)
 
 pub dismiss-requires-in-Err-clause-settled : goal.dismiss-requires-in-Err-clause-settled
 dismiss-requires-in-Err-clause-settled g c =
-    emptied_settled (state_of c.replace-in-Err.result) 0 _
-    (ap state_of (c.replace-in-Err.ensures.value ∙ c.replace-plain.ensures.after) ∙ c.none.ensures.state)
+    emptied_settled (ap state_of (c.replace-in-Err.ensures.value ∙ c.replace-plain.ensures.after) ∙ c.none.ensures.state)
 
 pub invariant_of-self : goal.invariant_of-self
 invariant_of-self g c =
@@ -26,8 +24,7 @@ invariant_of-self g c =
     let asked : List Asked = all_asked c.args.requests.now in
     let few : c.self.inside.submissions < MOST_SUBMISSIONS = search rules in
     let left : c.in-Ok.left ≡ c.replace.new.dest = sym c.replace.ensures.after in
-    submitted_at_rest (old c.self.inside.table) (new c.replace.new.dest) asked (reported c.in-Ok.report) c.self.invariant
-    (subst (λ (z : Contents × Contents). IsOneHistory (old z.0) asked (reported c.in-Ok.report) (new z.1))
+    submitted_at_rest c.self.invariant (subst (λ (z : Contents × Contents). IsOneHistory (old z.0) asked (reported c.in-Ok.report) (new z.1))
     (λ i. (c.replace-plain.ensures.value i, left i)) (c.in-Ok.ensures.played c.self.inside.registrations))
     (subst (λ (t : Contents). IsSettled (state_of t)) left c.in-Ok.ensures.settled)
     few
@@ -36,7 +33,7 @@ pub invariant_of-self-in-Err : goal.invariant_of-self-in-Err
 invariant_of-self-in-Err g c =
     let before = contents_of c.self.inside in
     let back : c.in-Err.back ≡ c.replace-in-Err.new.dest = sym c.replace-in-Err.ensures.after in
-    given_back_at_rest before c.replace-in-Err.new.dest c.self.invariant
+    given_back_at_rest c.self.invariant
     (subst (λ (z : Contents × Contents). IsGivenBack z.0 z.1) (λ i. (c.replace-plain.ensures.value i, back i)) c.in-Err.ensures.refused)
 
 pub returns-in-Ok-clause-entries : goal.returns-in-Ok-clause-entries
@@ -52,7 +49,7 @@ pub returns-in-Err-clause-err : goal.returns-in-Err-clause-err
 returns-in-Err-clause-err g c =
     let before = contents_of c.self.inside in
     let back : c.in-Err.back ≡ c.replace-in-Err.new.dest = sym c.replace-in-Err.ensures.after in
-    given_back_rings before c.replace-in-Err.new.dest
+    given_back_rings
     (subst (λ (z : Contents × Contents). IsGivenBack z.0 z.1) (λ i. (c.replace-plain.ensures.value i, back i)) c.in-Err.ensures.refused)
     ∙ ap ring_of c.self.view_is
 

@@ -5,11 +5,10 @@ use Rattle.fx_ring.proofs.ring.Ring.tear_down.Goals.{After-sort}
 use Rattle.fx_ring.proofs.ring.Ring.tear_down.Goals as goal
 
 pub dismiss-requires-clause-settled : goal.dismiss-requires-clause-settled
-dismiss-requires-clause-settled c = emptied_settled _ 0 _ c.empty_into.ensures.empty
+dismiss-requires-clause-settled c = emptied_settled c.empty_into.ensures.empty
 
 closed : (c : After-sort) → HasClosed (files_of (ring_of c.args.self)) c.sort.new.self × AreEntries (ring_of c.args.self) c.sort.new.self.files
-closed c = all_closed (contents_of c.self.inside) _ c.empty_into.new.closes.files c.sort.new.self c.self.view_is c.self.invariant.ring (search rules)
-    c.sort.ensures.same_files c.sort.ensures.in_order
+closed c = all_closed c.self.view_is c.self.invariant.ring (search rules) c.sort.ensures.same_files c.sort.ensures.in_order
 
 pub returns-clause-closes : goal.returns-clause-closes
 returns-clause-closes c = (closed (goal.at.returns-clause-closes c).After-sort).0

@@ -5,8 +5,7 @@ use Rattle.fx_ring.proofs.ring.Ring.unregister.Goals.{After-sort}
 use Rattle.fx_ring.proofs.ring.Ring.unregister.Goals as goal
 
 closed : (c : After-sort) → HasClosed (files_of (ring_of c.args.self.now)) c.sort.new.self × AreEntries (ring_of c.args.self.now) c.sort.new.self.files
-closed c = all_closed (contents_of c.self.inside) _ c.empty_into.new.closes.files c.sort.new.self c.self.view_is c.self.invariant.ring (search rules)
-    c.sort.ensures.same_files c.sort.ensures.in_order
+closed c = all_closed c.self.view_is c.self.invariant.ring (search rules) c.sort.ensures.same_files c.sort.ensures.in_order
 
 pub returns-clause-closes : goal.returns-clause-closes
 returns-clause-closes c = (closed (goal.at.returns-clause-closes c).After-sort).0
@@ -18,7 +17,7 @@ pub invariant_of-self : goal.invariant_of-self
 invariant_of-self c =
     let was = c.self.invariant in
     record {
-      settled = emptied_settled _ 0 _ c.empty_into.ensures.empty;
+      settled = emptied_settled c.empty_into.ensures.empty;
       ring = none_rings _ (ap (λ (st : State). (λ slot. identity_of (st.at slot))) c.empty_into.ensures.empty);
       few_submissions = was.few_submissions;
       few_registrations = was.few_registrations;

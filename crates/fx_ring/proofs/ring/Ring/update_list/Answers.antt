@@ -14,9 +14,7 @@ apply_list-requires-clause-settled c =
 pub apply_list-requires-clause-fresh : goal.apply_list-requires-clause-fresh
 apply_list-requires-clause-fresh c =
     let size = c.size-size.ensures.value in
-    λ number low high.
-    opening_fresh (state_of c.self.inside.table) (state_of c.prepare.new.self) (c.size-size.result + length c.args.list.now)
-    c.in-Ok-prepare.ensures.ok number (omega (arith, size)) high
+    λ number low high. opening_fresh (state_of c.self.inside.table) c.in-Ok-prepare.ensures.ok number (omega (arith, size)) high
 
 pub apply_list-requires-clause-room : goal.apply_list-requires-clause-room
 apply_list-requires-clause-room c =
@@ -29,8 +27,7 @@ updates : (c : After-sort) → IsUpdated (contents_of c.self.inside) c.args.off 
 updates c =
     let good : list_any (is_bad_entry (length c.self.inside.catalogue)) c.args.list.now ≡ false = search rules in
     let none : c.in-Ok.closes.files ≡ [] = search rules in
-    is_updated (contents_of c.self.inside) c.args.off c.args.list.now (tags_for c.args.list.now c.args.tags) (state_of c.prepare.new.self)
-    (state_of c.apply_list.new.table) (c.size-size.result + length c.args.list.now) c.in-Ok.closes c.apply_list.new.closes c.sort.new.self
+    is_updated (c.size-size.result + length c.args.list.now)
     c.in-Ok-prepare.ensures.ok c.apply_list.ensures none c.sort.ensures.same_files c.sort.ensures.in_order c.self.invariant.ring good
 
 pub invariant_of-self-2 : goal.invariant_of-self-2
