@@ -38,21 +38,20 @@ pub record IsApart (t : Table) (l : List (ℕ × Closed)) : Type 0 where
   pub once : PlacesOnce l
 
 module _ (t : Table) (x : Access) (xs : List Access) (apart : IsApart t (placed_by x ++ placed xs)) where
-  here_unlike : (s o : ℕ) (f g : Closed) → t.at s ≡ Some f → Has (placed_by x) o g → f.mark ≢ g.mark
-  here_unlike s o f g was new = apart.unlike s o f g was (has_left (placed_by x) (placed xs) o g new)
+  here_unlike : {s : ℕ} (o : ℕ) {f : Closed} (g : Closed) → t.at s ≡ Some f → Has (placed_by x) o g → f.mark ≢ g.mark
+  here_unlike {s} o {f} g was new = apart.unlike s o f g was (has_left (placed_by x) (placed xs) o g new)
 
-  later_unlike : (s o : ℕ) (f g : Closed) → t.at s ≡ Some f → Has (placed xs) o g → f.mark ≢ g.mark
-  later_unlike s o f g was new = apart.unlike s o f g was (has_right (placed_by x) (placed xs) o g new)
+  later_unlike : {s : ℕ} (o : ℕ) {f : Closed} (g : Closed) → t.at s ≡ Some f → Has (placed xs) o g → f.mark ≢ g.mark
+  later_unlike {s} o {f} g was new = apart.unlike s o f g was (has_right (placed_by x) (placed xs) o g new)
 
   -- it stays so behind an access
   pub apart_then : IsApart (table_with t x) (placed xs)
   apart_then = record {
     distinct = λ s o f g is are same. ⊎_elim
-        (λ was. ⊎_elim (λ were. apart.distinct s o f g was were same) (λ new. absurd (here_unlike s o f g was new same)) (step_from t x are))
-        (λ new. ⊎_elim (λ were. absurd (here_unlike o s g f were new (sym same))) (λ newer. one_placed x f g new newer) (step_from t x are))
+        (λ was. ⊎_elim (λ were. apart.distinct s o f g was were same) (λ new. absurd (here_unlike o g was new same)) (step_from t x are))
+        (λ new. ⊎_elim (λ were. absurd (here_unlike s f were new (sym same))) (λ newer. one_placed x f g new newer) (step_from t x are))
         (step_from t x is);
-    unlike = λ s o f g is later. ⊎_elim
-        (λ was. later_unlike s o f g was later)
+    unlike = λ s o f g is later. ⊎_elim (λ was. later_unlike o g was later)
         (λ new. once_between (placed_by x) (placed xs) s o f g apart.once new later) (step_from t x is);
     once = once_behind (placed_by x) (placed xs) apart.once;
   }
@@ -63,10 +62,8 @@ module _ (t : Table) (x : Access) (xs : List Access) (apart : IsApart t (placed_
   gone g may is s f (inl now) =
       let e = emptied t x g may is in
       ⊎_elim
-      (λ other same. other.0 (apart.distinct s e.slot f g other.1 e.was (sym same)))
-      (λ new. here_unlike e.slot s g f e.was new)
-      (e.behind s f now)
-  gone g may is s f (inr later) = let e = emptied t x g may is in later_unlike e.slot s g f e.was later
+      (λ other same. other.0 (apart.distinct s e.slot f g other.1 e.was (sym same))) (λ new. here_unlike s f e.was new) (e.behind s f now)
+  gone g may is s f (inr later) = let e = emptied t x g may is in later_unlike s f e.was later
 
 -- what was removed is at no slot afterwards
 pub removed_is_gone : (t : Table) (xs : List Access) (g : Closed) → IsApart t (placed xs) → PermitsAll t xs → Removes xs g

@@ -52,8 +52,8 @@ some_file None is = absurd (cc is)
 some_file (Some f) is = refl
 
 module _ (st : State) (number : ℕ) (settled : IsSettled st) where
-  looked_up : (slot : ℕ) (x : Option File) → slot < st.size → x ≡ st.at slot → Done st number (Looks slot (identity_of x))
-  looked_up slot None lt is = record {
+  looked_up : {slot : ℕ} (x : Option File) → slot < st.size → x ≡ st.at slot → Done st number (Looks slot (identity_of x))
+  looked_up {slot} None lt is = record {
     own = [] ▷ Look slot None;
     does = (None, refl, refl);
     allowed = (tt, (lt, is));
@@ -63,7 +63,7 @@ module _ (st : State) (number : ℕ) (settled : IsSettled st) where
     releases = λ chain h all. (all, tt);
     closes = refl;
   }
-  looked_up slot (Some f) lt is =
+  looked_up {slot} (Some f) lt is =
       let k = f.number in
       let none = settled.unheld f.number in
       let one : (if k == k then st.holds k + 1 else st.holds k) ≡ 1 = at_itself k (st.holds k + 1) (st.holds k) ∙ omega arith in
@@ -111,8 +111,8 @@ module _ (st : State) (number : ℕ) (settled : IsSettled st) where
     closes = refl;
   }
 
-  cleared : (slot : ℕ) (x : Option File) → slot < st.size → x ≡ st.at slot → Done st number (Clears slot (identity_of x))
-  cleared slot None lt is = record {
+  cleared : {slot : ℕ} (x : Option File) → slot < st.size → x ≡ st.at slot → Done st number (Clears slot (identity_of x))
+  cleared {slot} None lt is = record {
     own = [] ▷ Clear slot None;
     does = (None, refl, refl);
     allowed = (tt, (lt, is));
@@ -122,7 +122,7 @@ module _ (st : State) (number : ℕ) (settled : IsSettled st) where
     releases = λ chain h all. (all, tt);
     closes = refl;
   }
-  cleared slot (Some g) lt is = record {
+  cleared {slot} (Some g) lt is = record {
     own = [] ▷ Clear slot (Some g) ▷ Close g;
     does = (Some g, refl, refl);
     allowed = ((tt, (lt, is)), (at_itself g.number (Some g) (st.removed g.number), settled.unheld g.number));
@@ -133,8 +133,8 @@ module _ (st : State) (number : ℕ) (settled : IsSettled st) where
     closes = refl;
   }
 
-  taken : (slot : ℕ) (x : Option File) → slot < st.size → x ≡ st.at slot → Done st number (Takes slot (identity_of x))
-  taken slot None lt is = record {
+  taken : {slot : ℕ} (x : Option File) → slot < st.size → x ≡ st.at slot → Done st number (Takes slot (identity_of x))
+  taken {slot} None lt is = record {
     own = [] ▷ Take slot None;
     does = (None, refl, refl);
     allowed = (tt, (lt, is));
@@ -144,7 +144,7 @@ module _ (st : State) (number : ℕ) (settled : IsSettled st) where
     releases = λ chain h all. (all, tt);
     closes = refl;
   }
-  taken slot (Some g) lt is = record {
+  taken {slot} (Some g) lt is = record {
     own = [] ▷ Take slot (Some g) ▷ Close g;
     does = (Some g, refl, refl);
     allowed = ((tt, (lt, is)), (at_itself g.number (Some g) (st.removed g.number), settled.unheld g.number));
@@ -155,9 +155,9 @@ module _ (st : State) (number : ℕ) (settled : IsSettled st) where
     closes = refl;
   }
 
-  allocated : (slot : ℕ) (file : Closed) → st.fresh number ≡ true → Permits (shown st) (Allocates slot file)
+  allocated : {slot : ℕ} {file : Closed} → st.fresh number ≡ true → Permits (shown st) (Allocates slot file)
       → Done st number (Allocates slot file)
-  allocated slot file is_fresh may = record {
+  allocated {slot} {file} is_fresh may = record {
     own = [] ▷ Allocate slot (record { number = number; identity = file });
     does = (record { number = number; identity = file }, refl, refl);
     allowed = (tt, (may.0.0, may.1, no_file (st.at slot) may.0.1, is_fresh));
@@ -182,13 +182,10 @@ module _ (st : State) (number : ℕ) (settled : IsSettled st) where
 
   -- each access that the table permits can be done at once
   pub done : (access : Access) → (0 < installs access → st.fresh number ≡ true) → Permits (shown st) access → Done st number access
-  done (Looks slot found) fresh may =
-      subst (λ (o : Option Closed). Done st number (Looks slot o)) (sym may.1) (looked_up slot (st.at slot) may.0 refl)
+  done (Looks slot found) fresh may = subst (λ (o : Option Closed). Done st number (Looks slot o)) (sym may.1) (looked_up (st.at slot) may.0 refl)
   done (Puts slot file removed) fresh may =
       subst (λ (o : Option Closed). Done st number (Puts slot file o)) (sym may.1) (put slot file (st.at slot) (fresh (omega arith)) may.0 refl)
-  done (Clears slot removed) fresh may =
-      subst (λ (o : Option Closed). Done st number (Clears slot o)) (sym may.1) (cleared slot (st.at slot) may.0 refl)
-  done (Takes slot removed) fresh may =
-      subst (λ (o : Option Closed). Done st number (Takes slot o)) (sym may.1) (taken slot (st.at slot) may.0 refl)
-  done (Allocates slot file) fresh may = allocated slot file (fresh (omega arith)) may
+  done (Clears slot removed) fresh may = subst (λ (o : Option Closed). Done st number (Clears slot o)) (sym may.1) (cleared (st.at slot) may.0 refl)
+  done (Takes slot removed) fresh may = subst (λ (o : Option Closed). Done st number (Takes slot o)) (sym may.1) (taken (st.at slot) may.0 refl)
+  done (Allocates slot file) fresh may = allocated (fresh (omega arith)) may
   done FindsFull fresh may = full may

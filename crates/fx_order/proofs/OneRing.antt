@@ -60,12 +60,11 @@ module _ (old : RingState) (requests : List Asked) (report : Reported) (is : IsR
     placed_too s f has =
         let r = has_in_chain (length old.catalogue) AnyPlace report.submission chains one o.chains s f has in
         let same : PlaceSame (accesses_of_chain r.0 one) (accesses_of_chain r.0 other) =
-        (let high = r.2 in chains_same old.catalogue catalogue old.size report.submission 1 (runs_of requests) one other report.completions o.done p.done r.0 r.1 (omega arith)) in
+        (let high = r.2 in chains_same old.catalogue catalogue old.size report.submission 1 (runs_of requests) one other report.completions o.done p.done r.1 (omega arith)) in
         has_of_chain r.0 other s f (subst (λ l. Has l s f) same r.3)
 
-    left_too : (s : ℕ) (f : Closed) → (table_after (table_of old) (accesses_of one)).at s ≡ Some f → (table_after (table_of old) (accesses_of other)).at s ≡ Some f
-    left_too s f at = ⊎_elim
-        (λ left. left)
+    left_too : (s : ℕ) {f : Closed} → (table_after (table_of old) (accesses_of one)).at s ≡ Some f → (table_after (table_of old) (accesses_of other)).at s ≡ Some f
+    left_too s {f} at = ⊎_elim (λ left. left)
         (λ gone. absurd (left_stays one o s f at (Contains-permutation (removed_in (accesses_of other)) report.closes.files f p.closed.same_files (contains_removed (accesses_of other) gone))))
         (left_or_removed (table_of old) (accesses_of other) p.permitted
         (⊎_elim (λ was. inl was) (λ new. inr (placed_too s f new)) (left_from (table_of old) (accesses_of one) s f at)))
@@ -83,8 +82,8 @@ pub each_report_leads_to_one_ring : (old : RingState) (requests : List Asked) (r
 each_report_leads_to_one_ring old requests report left other catalogue is o p =
     let same : (table_after (table_of old) (accesses_of o.order)).at ≡ (table_after (table_of old) (accesses_of p.order)).at =
     (λ i s. same_option ((table_after (table_of old) (accesses_of o.order)).at s) ((table_after (table_of old) (accesses_of p.order)).at s)
-    (λ f. left_too old requests report is catalogue o.order p.order o.is p.is s f)
-    (λ f. left_too old requests report is catalogue p.order o.order p.is o.is s f) i) in
+    (λ f. left_too old requests report is catalogue o.order p.order o.is p.is s)
+    (λ f. left_too old requests report is catalogue p.order o.order p.is o.is s) i) in
     o.after ∙ (ap (ring_with_files old) same ∙ sym p.after)
 
 -- how often a mark is among files

@@ -27,10 +27,10 @@ module _ (order : List ChainAccess) (i : ℕ) (d : ChainAccess) (within : i < le
       ∙ (removed_in-append (accesses_of (take i order)) ((slice_index_or order i d).access ∷ [])
       ∙ ap (λ (l : List Closed). removed_in (accesses_of (take i order)) ++ l) (append-nil (option_to_list (removed_by (slice_index_or order i d).access))))
 
-  pub more_removed : (before now : List Closed) (found : Option Closed) → before ≡ removed_in (accesses_of (take i order))
+  pub more_removed : {before now : List Closed} {found : Option Closed} → before ≡ removed_in (accesses_of (take i order))
       → found ≡ removed_by (slice_index_or order i d).access → now ≡ before ++ option_to_list found
       → now ≡ removed_in (accesses_of (take (i + 1) order))
-  more_removed before now found so_far is grown = grown ∙ ((λ j. so_far j ++ option_to_list (is j)) ∙ sym removed_one)
+  more_removed so_far is grown = grown ∙ ((λ j. so_far j ++ option_to_list (is j)) ∙ sym removed_one)
 
 -- each access of an order may be made where it stands
 permitted_at : (start : Table) (order : List ChainAccess) (i : ℕ) (d : ChainAccess) → i < length order → PermitsAll start (accesses_of order)

@@ -108,8 +108,8 @@ reaches_all_limits member (r ∷ rs) limits few = (
 )
 
 module _ (entries : ℕ) (B : ℕ → Type 0) (place : Place) where
-  marked : (j entry : ℕ) → entry < entries → IsMarked entries place j (installed place j entry)
-  marked j entry inside = record { mark = refl; inside = inside; untagged = refl }
+  marked : (j : ℕ) {entry : ℕ} → entry < entries → IsMarked entries place j (installed place j entry)
+  marked j inside = record { mark = refl; inside = inside; untagged = refl }
 
   abbrev Listed : List Access → Completed → Type 0
   Listed accesses c = OwnOf (IsListed entries B place 0) accesses
@@ -117,25 +117,23 @@ module _ (entries : ℕ) (B : ℕ → Type 0) (place : Place) where
   none_listed : (errno : Errno) → Listed [] (refusal place errno)
   none_listed errno = own_none (IsListed entries B place 0) [] refl
 
-  one_listed : (entry slot : ℕ) (access : Access) → placed_by access ≡ (slot, installed place 0 entry) ∷ [] → B 0 → entry < entries
+  one_listed : {entry slot : ℕ} (access : Access) → placed_by access ≡ (slot, installed place 0 entry) ∷ [] → B 0 → entry < entries
       → OwnOf (IsListed entries B place 0) (access ∷ [])
-  one_listed entry slot access is b inside =
-      own_one (IsListed entries B place 0) (access ∷ []) (ap (λ (l : List (ℕ × Closed)). l ++ []) is) (0, omega arith, b, marked 0 entry inside)
+  one_listed {entry} access is b inside =
+      own_one (IsListed entries B place 0) (access ∷ []) (ap (λ (l : List (ℕ × Closed)). l ++ []) is) (0, omega arith, b, marked 0 inside)
 
   opens : (size entry : ℕ) (target : Target) (accesses : List Access) (c : Completed) → B 0 → entry < entries
       → IsOpenDone size place entry target accesses c → OwnOf (IsListed entries B place 0) accesses
   opens size entry (Slot slot) accesses c b inside =
-      puts size place Listed none_listed accesses c entry slot
-      (λ removed. one_listed entry slot (Puts slot (installed place 0 entry) removed) refl b inside)
+      puts size place Listed none_listed accesses c entry slot (λ removed. one_listed (Puts slot (installed place 0 entry) removed) refl b inside)
   opens size entry Any accesses c b inside =
-      allocates size place Listed none_listed accesses c entry
-      (λ slot. one_listed entry slot (Allocates slot (installed place 0 entry)) refl b inside)
+      allocates size place Listed none_listed accesses c entry (λ slot. one_listed (Allocates slot (installed place 0 entry)) refl b inside)
       (own_none (IsListed entries B place 0) (FindsFull ∷ []) refl)
 
   entry : (in_list slot : ℕ) (z : ℤ) (accesses : List Access) → is_bad_entry entries z ≡ false → IsEntryDone place in_list slot z accesses
       → OwnOf (IsMarked entries place in_list) accesses
   entry in_list slot (pos n) accesses good x =
-      own_one (IsMarked entries place in_list) accesses (ap placed x.1) (marked in_list n (leb-false entries n good))
+      own_one (IsMarked entries place in_list) accesses (ap placed x.1) (marked in_list (leb-false entries n good))
   entry in_list slot (negsuc zero) accesses good x = own_none (IsMarked entries place in_list) accesses (ap placed x.1)
   entry in_list slot (negsuc (suc n)) accesses good x = own_none (IsMarked entries place in_list) accesses (ap placed x)
 

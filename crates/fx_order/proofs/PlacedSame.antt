@@ -82,14 +82,14 @@ module _ (catalogue : List FileEntry) (is : IsCatalogue catalogue) (size : ℕ) 
       both_none one other (close_none size place slot one c x) (close_none size place slot other c y)
   request_same place (Updates off zs) one other c = update_same (length catalogue) size place off zs one other c
 
-  heads : (c d : Completed) (cs ds : List Completed) → ◌≡◌ {A = List Completed} (c ∷ cs) (d ∷ ds) → (d ≡ c) × (ds ≡ cs)
-  heads c d cs ds same = (cc, cc)
+  heads : {c d : Completed} {cs ds : List Completed} → ◌≡◌ {A = List Completed} (c ∷ cs) (d ∷ ds) → (d ≡ c) × (ds ≡ cs)
+  heads same = (cc, cc)
 
   chain_same : (place : Place) (requests : List Asked) (one other : List Access) (cs : List Completed)
       → IsChainDone catalogue size place requests one cs → IsChainDone catalogue size place requests other cs → PlaceSame one other
   chain_same place [] one other cs x y = ap placed x.0 ∙ sym (ap placed y.0)
   chain_same place (r ∷ rs) one other cs x y =
-      let same = heads x.2 y.2 x.3 y.3 (sym x.5 ∙ y.5) in
+      let same = heads (sym x.5 ∙ y.5) in
       same_parts x.0 x.1 y.0 y.1 x.4 y.4
       (request_same place r.operation x.0 y.0 x.2 x.6 (subst (IsRequestDone catalogue size place r.operation y.0) same.0 y.6))
       (both_ways (severs r x.2)
@@ -98,28 +98,28 @@ module _ (catalogue : List FileEntry) (is : IsCatalogue catalogue) (size : ℕ) 
       x.7 (subst (λ d. MatchBool (severs r d) ((y.1 ≡ []) × (y.3 ≡ canceled (next_member place) rs)) (IsChainDone catalogue size (next_member place) rs y.1 y.3)) same.0 y.7))
 
   -- lists whose first parts are as long have the same parts
-  same_halves : {X : Type 0} (xs ys us vs : List X) → length xs ≡ length us → xs ++ ys ≡ us ++ vs → (us ≡ xs) × (vs ≡ ys)
-  same_halves [] ys [] vs long same = (refl, sym same)
-  same_halves [] ys (u ∷ us) vs long same = absurd (omega arith)
-  same_halves (x ∷ xs) ys [] vs long same = absurd (omega arith)
-  same_halves (x ∷ xs) ys (u ∷ us) vs long same =
+  same_halves : {X : Type 0} (xs : List X) {ys : List X} (us : List X) {vs : List X} → length xs ≡ length us → xs ++ ys ≡ us ++ vs → (us ≡ xs) × (vs ≡ ys)
+  same_halves [] [] long same = (refl, sym same)
+  same_halves [] (u ∷ us) long same = absurd (omega arith)
+  same_halves (x ∷ xs) [] long same = absurd (omega arith)
+  same_halves (x ∷ xs) {ys} (u ∷ us) {vs} long same =
       let head : u ≡ x = cc in
       let tail : xs ++ ys ≡ us ++ vs = cc in
-      let rest = same_halves xs ys us vs (omega arith) tail in
+      let rest = same_halves xs us (omega arith) tail in
       (λ i. head i ∷ rest.0 i, rest.1)
 
   -- each chain of two orders with the same completions
   pub chains_same : (submission first : ℕ) (runs : List (List Asked)) (one other : List ChainAccess) (cs : List Completed)
       → AreChainsDone catalogue size submission first runs one cs → AreChainsDone catalogue size submission first runs other cs
-      → (c : ℕ) → first ≤ c → c < first + length runs → PlaceSame (accesses_of_chain c one) (accesses_of_chain c other)
-  chains_same submission first [] one other cs x y c low high = absurd (omega arith)
-  chains_same submission first (run ∷ runs) one other cs x y c low high =
+      → {c : ℕ} → first ≤ c → c < first + length runs → PlaceSame (accesses_of_chain c one) (accesses_of_chain c other)
+  chains_same submission first [] one other cs x y low high = absurd (omega arith)
+  chains_same submission first (run ∷ runs) one other cs x y {c} low high =
       let long = length-done catalogue size (first_member submission first) run (accesses_of_chain first one) x.0 x.3 in
       let long_too = length-done catalogue size (first_member submission first) run (accesses_of_chain first other) y.0 y.3 in
-      let same = same_halves x.0 x.1 y.0 y.1 (omega arith) (sym x.2 ∙ y.2) in
+      let same = same_halves x.0 y.0 (omega arith) (sym x.2 ∙ y.2) in
       by_equality c first (λ _. PlaceSame (accesses_of_chain c one) (accesses_of_chain c other))
       (λ at. subst (λ k. PlaceSame (accesses_of_chain k one) (accesses_of_chain k other)) (sym at)
       (chain_same (first_member submission first) run (accesses_of_chain first one) (accesses_of_chain first other) x.0 x.3
       (subst (IsChainDone catalogue size (first_member submission first) run (accesses_of_chain first other)) same.0 y.3)))
       (λ apart. chains_same submission (first + 1) runs one other x.1 x.4
-      (subst (AreChainsDone catalogue size submission (first + 1) runs other) same.1 y.4) c (omega arith) (omega arith))
+      (subst (AreChainsDone catalogue size submission (first + 1) runs other) same.1 y.4) (omega arith) (omega arith))

@@ -81,8 +81,8 @@ module _ (files others left : List Closed) (i : ℕ) (so_far : IsPermutation fil
       subst (λ (l : List Closed). IsPermutation files (l ++ remove left j)) (sym (take_more others i d within))
       (IsPermutation-more files (take i others) left j (slice_index_or others i d) inside (sym is) so_far)
 
-  pub none_over : (n : ℕ) → length others ≤ i → n ≡ length left → IsTrue (n == 0) ↔ IsPermutation files others
-  none_over n all count =
+  pub none_over : {n : ℕ} → length others ≤ i → n ≡ length left → IsTrue (n == 0) ↔ IsPermutation files others
+  none_over {n} all count =
       let whole : take i others ≡ others = take_all i others all in
       let now : IsPermutation files (others ++ left) = subst (λ (l : List Closed). IsPermutation files (l ++ left)) whole so_far in
       let long : length (others ++ left) ≡ length files = length_permutation files (others ++ left) now in

@@ -23,5 +23,4 @@ loop-file-preserved c =
 pub returns : goal.returns
 returns c =
     subst (λ b. IsTrue b ↔ IsPermutation c.args.files.now c.args.others.now) (sym c.is_empty.ensures)
-    (none_over c.args.files.now c.args.others.now c.loop-file.left.items c.loop-file.file-index c.loop-file.invariant
-    _ c.loop-file-test.false (omega (arith, c.loop-file.left.ok.0)))
+    (none_over c.args.files.now c.args.others.now c.loop-file.left.items c.loop-file.file-index c.loop-file.invariant c.loop-file-test.false (omega (arith, c.loop-file.left.ok.0)))

@@ -15,8 +15,8 @@ module _ (catalogue : List FileEntry) (size : ℕ) (place : Place) (slot off len
   within : nat_le size slot ≡ false
   within = grind (arith, nat_tests)
 
-  looked : (other : Closed) → own ≡ Looks slot (Some other) ∷ [] → other ≡ file
-  looked other so = cc
+  looked : {other : Closed} → own ≡ Looks slot (Some other) ∷ [] → other ≡ file
+  looked so = cc
 
   read : (b : Bool) → (IsTrue b ↔ (c ≡ gives catalogue place file off len)) → IsTrue b ↔ IsReadDone catalogue size place slot off len own c
   read b told = (
@@ -25,7 +25,7 @@ module _ (catalogue : List FileEntry) (size : ℕ) (place : Place) (slot off len
       | inl y ↦ let no = y.1.0 in absurd (cc)
       | inr y ↦ elim y [
         | inl z ↦ let no = z.0 in absurd (cc)
-        | inr z ↦ told.1 (z.1.1 ∙ ap (λ (f : Closed). gives catalogue place f off len) (looked z.0 z.1.0))
+        | inr z ↦ told.1 (z.1.1 ∙ ap (λ (f : Closed). gives catalogue place f off len) (looked z.1.0))
       ]
     ],
   )
