@@ -36,28 +36,28 @@ module _ {id : TableId} {k : Start} {u : PassView} {p : BatonPass} where
   }
 
 -- whether an answer is None
-pub flag_is : {X : Type 0} (x : Option X) (b : Bool) → is_some x ≡ not b → b ≡ is_none x
-flag_is x b e = grind arith
+pub flag_is : {X : Type 0} (x : Option X) {b : Bool} → is_some x ≡ not b → b ≡ is_none x
+flag_is x e = grind arith
 
 -- what answers tell of the file at a slot
 abbrev pub shown : File → ℕ × ℕ
 shown f = (f.number, f.identity.entry)
 
 -- what a pass does that found a file, and one that removed it
-idle_told : {X : Type 0} (tell : File → X) (o : Option File) (found : Option X) (flag : Bool) → is_some found ≡ not flag → found ≡ option_map tell o
+idle_told : {X : Type 0} (tell : File → X) (o : Option File) {found : Option X} {flag : Bool} → is_some found ≡ not flag → found ≡ option_map tell o
     → (flag ≡ is_idle (holds_now o)) × (flag ≡ is_idle (retiring o 0))
-idle_told tell None found flag says e = (flag_is found flag says ∙ ap is_none e, flag_is found flag says ∙ ap is_none e)
-idle_told tell (Some f) found flag says e = (flag_is found flag says ∙ ap is_none e, flag_is found flag says ∙ ap is_none e)
+idle_told tell None {found} {flag} says e = (flag_is found says ∙ ap is_none e, flag_is found says ∙ ap is_none e)
+idle_told tell (Some f) {found} {flag} says e = (flag_is found says ∙ ap is_none e, flag_is found says ∙ ap is_none e)
 
 -- what an answer tells: nothing, or a file
 none_found : {X : Type 0} (tell : File → X) (P : Option File → Type 0) (o : Option File) → None ≡ option_map tell o → P o → P None
 none_found tell P None e a = a
 none_found tell P (Some f) e a = let no : None ≡ Some (tell f) = e in absurd (cc no)
 
-some_found : {X : Type 0} (tell : File → X) (x : X) (P : Option File → Type 0) (o : Option File) → Some x ≡ option_map tell o → P o
+some_found : {X : Type 0} {tell : File → X} {x : X} (P : Option File → Type 0) (o : Option File) → Some x ≡ option_map tell o → P o
     → (f : File) × (x ≡ tell f) × P (Some f)
-some_found tell x P None e a = let no : None ≡ Some x = sym e in absurd (cc no)
-some_found tell x P (Some f) e a = (f, (let z : Some x ≡ Some (tell f) = e in cc z), a)
+some_found {x} P None e a = let no : None ≡ Some x = sym e in absurd (cc no)
+some_found {tell} {x} P (Some f) e a = (f, (let z : Some x ≡ Some (tell f) = e in cc z), a)
 
 -- a pass took the table, and was lent what it took
 module _ {id : TableId} {k : Start} {u : PassView} {c : Contents} {p : BatonPass}
@@ -82,8 +82,8 @@ module _ {id : TableId} {k : Start} {u : PassView} {c : Contents} {p : BatonPass
   size_is = same_size (begin_of view.start) (state_of c) (map action_of log.front) h.knows.legal.leads
       ∙ ap (λ (z : Start). size_of (opening_of z)) h.seated.start
 
-  pub slot_inside : (slot : ℕ) → slot < size_of (opening_of k) → slot < (state_of c).size
-  slot_inside slot l = let e = size_is in omega arith
+  pub slot_inside : {slot : ℕ} → slot < size_of (opening_of k) → slot < (state_of c).size
+  slot_inside l = let e = size_is in omega arith
 
   pub room_for : (slot : ℕ) → HasRoomForHold (state_of c) slot
   room_for slot = any ((state_of c).at slot)
@@ -130,11 +130,11 @@ module _ {id : TableId} {k : Start} {u : PassView} {c : Contents} {p : BatonPass
         h.knows.fresh number its_own.1 behind_own (omega arith) owned
 
   -- a turn, by the pass's number
-  called : (d : Contents) (call : Call) (flag : Bool) → IsTable d
+  called : {d : Contents} {call : Call} {flag : Bool} → IsTable d
       → IsTurn view log c d (events_of c log.number p.chain view.doing call) (doing_of c call) → UsesNext (view_of p) call
       → (use_of call).numbers ≤ p.numbers_left → (use_of call).looks ≤ p.looks_left → flag ≡ is_idle (doing_of c call)
       → HasCalled id k call flag (lent d)
-  called d call flag sound turn uses numbers looks flag_says = record {
+  called {d} {call} {flag} sound turn uses numbers looks flag_says = record {
     before = u;
     taken = c;
     given = d;
@@ -148,79 +148,76 @@ module _ {id : TableId} {k : Start} {u : PassView} {c : Contents} {p : BatonPass
   }
 
   -- what the call adds
-  pub added : {call : Call} (d : Contents) {q : BatonPass} → HasGivenBack id k call (lent d) q
+  pub added : {call : Call} {d : Contents} {q : BatonPass} → HasGivenBack id k call (lent d) q
       → Adds o u (actions_of c view.doing call) (doing_of c call) (use_of call) (view_of q)
-  added d gives = gives.adds u c d (still_has h d)
+  added {d} gives = gives.adds u c d (still_has h d)
 
   module _ (idle : u.doing ≡ Idle) where
     is_idle_here : view.doing ≡ Idle
     is_idle_here = same_doing ∙ idle
 
-    pub look_called : (slot : ℕ) (d : Contents) (found : Option (ℕ × ℕ)) (flag : Bool) → 0 < u.looks_left
+    pub look_called : {slot : ℕ} {d : Contents} {found : Option (ℕ × ℕ)} {flag : Bool} → 0 < u.looks_left
         → Steps (state_of c) (Look slot ((state_of c).at slot)) (state_of d) → leaving d ≡ leaving c
         → found ≡ option_map shown ((state_of c).at slot) → is_some found ≡ not flag → IsTable d → HasCalled id k (LookCall slot) flag (lent d)
-    look_called slot d found flag some step leaves answer says sound = called d (LookCall slot) flag sound
-        (look_turn view log c d p.chain h.knows is_idle_here slot ((state_of c).at slot) step leaves) tt (omega arith)
-        (let e = ap (λ (z : PassView). z.looks_left) h.more.same in omega arith) (idle_told shown ((state_of c).at slot) found flag says answer).0
+    look_called {slot} {d} {found} {flag} some step leaves answer says sound = called sound
+        (look_turn view log c d p.chain h.knows is_idle_here ((state_of c).at slot) step leaves) tt (omega arith)
+        (let e = ap (λ (z : PassView). z.looks_left) h.more.same in omega arith) (idle_told shown ((state_of c).at slot) says answer).0
 
-    pub put_called : (some : 0 < u.numbers_left) (slot number : ℕ) (file : Closed) (d : Contents) (found : Option ℕ) (flag : Bool)
+    pub put_called : (some : 0 < u.numbers_left) {slot number : ℕ} {file : Closed} {d : Contents} {found : Option ℕ} {flag : Bool}
         → number ≡ next_of u → LetsLeave c d (Put slot (numbered number file) ((state_of c).at slot)) ((state_of c).at slot) found
         → is_some found ≡ not flag → HasCalled id k (PutCall slot number file) flag (lent d)
-    put_called some slot number file d found flag next l says = called d (PutCall slot number file) flag l.sound
+    put_called some {slot} {number} {file} {d} {found} {flag} next l says = called l.sound
         (slot_turn view log c d p.chain h.knows is_idle_here (Put slot (numbered number file) ((state_of c).at slot)) slot
         (Some (numbered number file)) ((state_of c).at slot) l.step l.step.1 refl l.leaving tt (λ _. refl)
         (owned some number next, behind_own some number next, refl))
-        (number_is some number next) (let e = same_numbers in omega arith) (omega arith) (idle_told (λ x. x.number) ((state_of c).at slot) found flag says l.answer).1
+        (number_is some number next) (let e = same_numbers in omega arith) (omega arith) (idle_told (λ x. x.number) ((state_of c).at slot) says l.answer).1
 
-    pub allocate_called : (some : 0 < u.numbers_left) (slot number : ℕ) (file : Closed) (d : Contents) → number ≡ next_of u
+    pub allocate_called : (some : 0 < u.numbers_left) {slot number : ℕ} {file : Closed} {d : Contents} → number ≡ next_of u
         → Steps (state_of c) (Allocate slot (numbered number file)) (state_of d) → leaving d ≡ leaving c
         → IsTable d → HasCalled id k (AllocateCall slot number file) true (lent d)
-    allocate_called some slot number file d next step leaves sound = called d (AllocateCall slot number file) true sound
+    allocate_called some {slot} {number} {file} {d} next step leaves sound = called sound
         (slot_turn view log c d p.chain h.knows is_idle_here (Allocate slot (numbered number file)) slot (Some (numbered number file)) None step step.1
         (sym step.0.2) leaves tt (λ _. refl) (owned some number next, behind_own some number next, refl))
         (number_is some number next) (let e = same_numbers in omega arith) (omega arith) refl
 
-    pub full_called : (d : Contents) → Allows (state_of c) Full → d ≡ c → IsTable d → HasCalled id k FullCall true (lent d)
-    full_called d full same sound = called d FullCall true sound
+    pub full_called : {d : Contents} → Allows (state_of c) Full → d ≡ c → IsTable d → HasCalled id k FullCall true (lent d)
+    full_called {d} full same sound = called sound
         (full_turn view log c d p.chain h.knows is_idle_here (full, ap state_of same) (ap leaving same)) tt (omega arith) (omega arith) refl
 
-    pub clear_called : (slot : ℕ) (d : Contents) (found : Option ℕ) (flag : Bool)
+    pub clear_called : {slot : ℕ} {d : Contents} {found : Option ℕ} {flag : Bool}
         → LetsLeave c d (Clear slot ((state_of c).at slot)) ((state_of c).at slot) found → is_some found ≡ not flag
         → HasCalled id k (ClearCall slot) flag (lent d)
-    clear_called slot d found flag l says = called d (ClearCall slot) flag l.sound
+    clear_called {slot} {d} {found} {flag} l says = called l.sound
         (slot_turn view log c d p.chain h.knows is_idle_here (Clear slot ((state_of c).at slot)) slot None ((state_of c).at slot) l.step l.step.1 refl
-        l.leaving tt (λ _. refl) refl) tt (omega arith) (omega arith)
-        (idle_told (λ x. x.number) ((state_of c).at slot) found flag says l.answer).1
+        l.leaving tt (λ _. refl) refl) tt (omega arith) (omega arith) (idle_told (λ x. x.number) ((state_of c).at slot) says l.answer).1
 
-    pub take_called : (slot : ℕ) (d : Contents) (found : Option ℕ) (flag : Bool)
+    pub take_called : {slot : ℕ} {d : Contents} {found : Option ℕ} {flag : Bool}
         → LetsLeave c d (Take slot ((state_of c).at slot)) ((state_of c).at slot) found → is_some found ≡ not flag
         → HasCalled id k (TakeCall slot) flag (lent d)
-    take_called slot d found flag l says = called d (TakeCall slot) flag l.sound
+    take_called {slot} {d} {found} {flag} l says = called l.sound
         (slot_turn view log c d p.chain h.knows is_idle_here (Take slot ((state_of c).at slot)) slot None ((state_of c).at slot) l.step l.step.1 refl
-        l.leaving tt (λ _. refl) refl) tt (omega arith) (omega arith)
-        (idle_told (λ x. x.number) ((state_of c).at slot) found flag says l.answer).1
+        l.leaving tt (λ _. refl) refl) tt (omega arith) (omega arith) (idle_told (λ x. x.number) ((state_of c).at slot) says l.answer).1
 
   -- what a look-up answers: nothing, or a file
-  pub empty_looked : (slot : ℕ) (d : Contents) {q : BatonPass} → HasGivenBack id k (LookCall slot) (lent d) q
+  pub empty_looked : {slot : ℕ} {d : Contents} {q : BatonPass} → HasGivenBack id k (LookCall slot) (lent d) q
       → None ≡ option_map shown ((state_of c).at slot) → Adds o u ([] ▷ Look slot None) Idle one_look (view_of q)
-  empty_looked slot d {q} gives e =
-      none_found shown (λ z. Adds o u ([] ▷ Look slot z) (holds_now z) one_look (view_of q)) ((state_of c).at slot) e (added d gives)
+  empty_looked {slot} {d} {q} gives e =
+      none_found shown (λ z. Adds o u ([] ▷ Look slot z) (holds_now z) one_look (view_of q)) ((state_of c).at slot) e (added gives)
 
-  pub file_looked : (slot node entry : ℕ) (d : Contents) {q : BatonPass} → HasGivenBack id k (LookCall slot) (lent d) q
+  pub file_looked : {slot node entry : ℕ} {d : Contents} {q : BatonPass} → HasGivenBack id k (LookCall slot) (lent d) q
       → Some (node, entry) ≡ option_map shown ((state_of c).at slot)
       → (f : File) × (record { node = node; entry = entry } ≡ hold_of f) × Adds o u ([] ▷ Look slot (Some f)) (Holding f) one_look (view_of q)
-  file_looked slot node entry d {q} gives e =
-      let there = some_found shown (node, entry) (λ z. Adds o u ([] ▷ Look slot z) (holds_now z) one_look (view_of q)) ((state_of c).at slot)
-      e (added d gives) in
+  file_looked {slot} {node} {entry} {d} {q} gives e =
+      let there = some_found (λ z. Adds o u ([] ▷ Look slot z) (holds_now z) one_look (view_of q)) ((state_of c).at slot) e (added gives) in
       (there.0, (λ i. record { node = (there.1 i).0; entry = (there.1 i).1 }), there.2)
 
   -- what an installation at a free slot answers
-  pub allocated_so : (slot number : ℕ) (its file : Closed) (d : Contents) {q : BatonPass} → number ≡ next_of u → its ≡ file
+  pub allocated_so : {slot number : ℕ} {its file : Closed} {d : Contents} {q : BatonPass} → number ≡ next_of u → its ≡ file
       → HasGivenBack id k (AllocateCall slot number its) (lent d) q → slot < (state_of c).size
       → (slot < size_of o) × Adds o u ([] ▷ Allocate slot (new_file o u file)) Idle one_number (view_of q)
-  allocated_so slot number its file d {q} next is gives inside = (
+  allocated_so {slot} {d} {q} next is gives inside = (
     let e = size_is in omega arith,
-    subst (λ (z : ℕ × Closed). Adds o u ([] ▷ Allocate slot (numbered z.0 z.1)) Idle one_number (view_of q)) (λ i. (next i, is i)) (added d gives),
+    subst (λ (z : ℕ × Closed). Adds o u ([] ▷ Allocate slot (numbered z.0 z.1)) Idle one_number (view_of q)) (λ i. (next i, is i)) (added gives),
   )
 
   module _ (hold : Hold) (held : IsHoldOf u hold) where
@@ -237,11 +234,10 @@ module _ {id : TableId} {k : Start} {u : PassView} {c : Contents} {p : BatonPass
     holds_some = let a = h.knows.holds f.number in let b = ap (holds_by f.number) holds_here in let r = bit_here f.number f.number refl in
         let e = ap (state_of c).holds node_is in omega arith
 
-    pub release_called : (d : Contents) (out : Option Closed) → EndsHold c d hold.node out → HasCalled id k ReleaseCall true (lent d)
-    release_called d out ends =
+    pub release_called : {d : Contents} {out : Option Closed} → EndsHold c d hold.node out → HasCalled id k ReleaseCall true (lent d)
+    release_called {d} {out} ends =
         let e : EndsHold c d f.number out = subst (λ (n : ℕ). EndsHold c d n out) node_is ends in
-        called d ReleaseCall true e.sound
-        (subst (λ (z : Doing). IsTurn view log c d (events_of c log.number p.chain z ReleaseCall) Idle) (sym holds_here)
+        called e.sound (subst (λ (z : Doing). IsTurn view log c d (events_of c log.number p.chain z ReleaseCall) Idle) (sym holds_here)
         (letting_go_turn view log c d p.chain h.knows f holds_here (closed_by_release c f.number) refl (e.steps f refl) e.leaving)) tt (omega arith) (omega arith) refl
 
     -- what a release answers
@@ -252,14 +248,14 @@ module _ {id : TableId} {k : Start} {u : PassView} {c : Contents} {p : BatonPass
       held.1,
       held.2,
       by_out (closed_by_release c f.number) refl result (is ∙ ap (λ (n : ℕ). identity_of (closed_by_release c n)) node_is)
-          (subst (λ (z : Doing). Adds o u (release_in c z) Idle no_use (view_of q)) holds_here (added d gives)),
+          (subst (λ (z : Doing). Adds o u (release_in c z) Idle no_use (view_of q)) holds_here (added gives)),
     )
       where
         by_out : (out : Option File) → closed_by_release c f.number ≡ out → (result : Option Closed) → result ≡ identity_of out
             → Adds o u ([] ▷ Release f ▷▷ close_of out) Idle no_use (view_of q) → ReleasesFile o u f result (view_of q)
         by_out None e r is a = subst (λ (z : Option Closed). ReleasesFile o u f z (view_of q)) (sym is) a
         by_out (Some g) e r is a =
-            let same = (file_released view log c c p.chain h.knows f holds_here g e).0 in
+            let same = (file_released view log c c p.chain h.knows f holds_here e).0 in
             subst (λ (z : Option Closed). ReleasesFile o u f z (view_of q)) (sym is) (
               ap (λ (z : File). z.identity) (sym same),
               subst (λ (z : File). Adds o u ([] ▷ Release f ▷ Close z) Idle no_use (view_of q)) (sym same) a,
@@ -282,9 +278,9 @@ module _ {id : TableId} {k : Start} {u : PassView} {c : Contents} {p : BatonPass
         → Leads (state_of c) (close_of (closed_by_retirement c gone.number)) (state_of d)
     leads_there d = subst (λ (n : ℕ). Leads (state_of c) (close_of (closed_by_retirement c n)) (state_of d)) place_is
 
-    pub retire_called : (d : Contents) → Leads (state_of c) (close_of (closed_by_retirement c retired.node)) (state_of d)
+    pub retire_called : {d : Contents} → Leads (state_of c) (close_of (closed_by_retirement c retired.node)) (state_of d)
         → leaving d ≡ changed_at (leaving c) retired.node false → IsTable d → HasCalled id k RetireCall true (lent d)
-    retire_called d leads leaves sound = called d RetireCall true sound
+    retire_called {d} leads leaves sound = called sound
         (subst (λ (z : Doing). IsTurn view log c d (events_of c log.number p.chain z RetireCall) Idle) (sym removes_here)
         (retire_turn view log c d p.chain h.knows gone removed.1 removes_here (closed_by_retirement c gone.number) refl (leads_there d leads)
         (leaves ∙ ap (λ (n : ℕ). changed_at (leaving c) n false) place_is))) tt (omega arith) (omega arith) refl
@@ -299,7 +295,7 @@ module _ {id : TableId} {k : Start} {u : PassView} {c : Contents} {p : BatonPass
       removed.2,
       removed.3,
       by_out (closed_by_retirement c gone.number) refl result (is ∙ ap (λ (n : ℕ). identity_of (closed_by_retirement c n)) place_is)
-          (leads_there d leads) (subst (λ (z : Doing). Adds o u (retirement_in c z) Idle no_use (view_of q)) removes_here (added d gives)),
+          (leads_there d leads) (subst (λ (z : Doing). Adds o u (retirement_in c z) Idle no_use (view_of q)) removes_here (added gives)),
     )
       where
         by_out : (out : Option File) → closed_by_retirement c gone.number ≡ out → (result : Option Closed) → result ≡ identity_of out
@@ -310,7 +306,7 @@ module _ {id : TableId} {k : Start} {u : PassView} {c : Contents} {p : BatonPass
             let same = ap (λ (s : State). s.holds gone.number) (gives.end ∙ l.1) in
             subst (λ (z : Option Closed). RetiresFile o u gone z (view_of q)) (sym is) (omega arith, a)
         by_out (Some g) e r is l a =
-            let same = file_retired view log c c p.chain h.knows gone removed.1 removes_here g e in
+            let same = file_retired view log c c p.chain h.knows gone removed.1 removes_here e in
             subst (λ (z : Option Closed). RetiresFile o u gone z (view_of q)) (sym is) (
               ap (λ (z : File). z.identity) (sym same),
               subst (λ (z : File). Adds o u ([] ▷ Close z) Idle no_use (view_of q)) (sym same) a,

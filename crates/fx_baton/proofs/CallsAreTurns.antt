@@ -18,18 +18,18 @@ retires None = (λ n. refl, refl, refl)
 retires (Some f) = (λ n. refl, refl, refl)
 
 -- a file that comes out at a test and another that fails
-out_by : (a b : Bool) (o : Option File) (g : File) → (if a && not b then o else None) ≡ Some g → (o ≡ Some g) × (b ≡ false)
-out_by true false o g e = (e, refl)
-out_by _ _ o g e = absurd (none_file g e)
+out_by : (a b : Bool) {o : Option File} {g : File} → (if a && not b then o else None) ≡ Some g → (o ≡ Some g) × (b ≡ false)
+out_by true false e = (e, refl)
+out_by _ _ {g} e = absurd (none_file g e)
 
 module _ (v : View) (x : Log) (c d : Contents) (chain : ℕ) (known : Knows v x c x.front) where
   -- the events of these actions
   abbrev pub done : List Action → List Event
   done xs = map (by x.number chain) xs
 
-  legal_one : (a : Action) → Steps (state_of c) a (state_of d) → ReleasesItsOwn (held_by x.front x.number) a
+  legal_one : {a : Action} → Steps (state_of c) a (state_of d) → ReleasesItsOwn (held_by x.front x.number) a
       → IsLegal (begin_of v.start) (x.front ▷▷ done (a ∷ [])) (state_of d)
-  legal_one a step own = legal_then (begin_of v.start) (state_of c) (state_of d) (done (a ∷ [])) x.front known.legal
+  legal_one {a} step own = legal_then (begin_of v.start) (state_of c) (state_of d) (done (a ∷ [])) x.front known.legal
       ((tt, step.0), step.1) (known.legal.releases, own)
 
   -- leaving files, where none was added
@@ -37,11 +37,10 @@ module _ (v : View) (x : Log) (c d : Contents) (chain : ℕ) (known : Knows v x 
   leaves_same n leaves = ap (λ (z : ℕ → Bool). cond {A = ℕ} (z n) 1 0) leaves
 
   -- where a file is closed that nobody holds, the others stay
-  files_but : (f : File) (y : State) → state_of d ≡ y → y.holds f.number ≡ 0 → leaving d f.number ≡ false
+  files_but : (f : File) {y : State} → state_of d ≡ y → y.holds f.number ≡ 0 → leaving d f.number ≡ false
       → ((g : File) → g.number ≢ f.number → HasFile (state_of c) g → HasFile y g)
       → (g : File) → HasFile (state_of c) g → (0 < (state_of d).holds g.number) ⊎ (leaving d g.number ≡ true) → HasFile y g
-  files_but f y is unheld retired kept g i stays = dite (ℕ_discrete g.number f.number)
-      (λ e. absurd (⊎_elim
+  files_but f {y} is unheld retired kept g i stays = dite (ℕ_discrete g.number f.number) (λ e. absurd (⊎_elim
       (λ (some_holds : 0 < (state_of d).holds g.number).
       let q = ap y.holds e in let a = ap (λ (z : State). z.holds g.number) is in omega (arith, q, a, some_holds))
       (λ still. let no : true ≡ false = sym still ∙ (ap (leaving d) e ∙ retired) in cc no) stays))
@@ -56,10 +55,10 @@ module _ (v : View) (x : Log) (c d : Contents) (chain : ℕ) (known : Knows v x 
   Installs None own = number_behind own ≡ number_behind x.own
   Installs (Some g) own = (pass_of_number v.start.passes g.number ≡ x.number) × (number_behind x.own ≤ g.number) × (number_behind own ≡ g.number + 1)
 
-  still_fresh : (new : Option File) (own : List Event) → Installs new own → (n : ℕ) → 256 ≤ n → number_behind own ≤ n
+  still_fresh : (new : Option File) (own : List Event) → Installs new own → {n : ℕ} → 256 ≤ n → number_behind own ≤ n
       → n < numbers_for v.start.chains → pass_of_number v.start.passes n ≡ x.number → fresh_after new n ≡ true
-  still_fresh None own same n low from high its = known.fresh n low (omega (arith, same, from)) high its
-  still_fresh (Some g) own i n low from high its = let later : g.number + 1 ≤ n = omega (arith, i.2, from) in
+  still_fresh None own same {n} low from high its = known.fresh n low (omega (arith, same, from)) high its
+  still_fresh (Some g) own i {n} low from high its = let later : g.number + 1 ≤ n = omega (arith, i.2, from) in
       changed_else (state_of c).fresh g.number false n (λ e. omega (arith, e, later)) ∙ known.fresh n low (omega (arith, later, i.1)) high its
 
   others_fresh : (new : Option File) (own : List Event) → Installs new own → (n : ℕ) → pass_of_number v.start.passes n ≢ x.number
@@ -86,7 +85,7 @@ module _ (v : View) (x : Log) (c d : Contents) (chain : ℕ) (known : Knows v x 
         files = λ g i stays. subst (λ (z : State). HasFile z g) (sym is) (files g i stays);
         now = now;
         file = λ g e. subst (λ (z : State). HasFile z g) (sym is) (file g e);
-        fresh = λ n low from high its. fresh n ∙ still_fresh new (x.own ▷▷ done xs) installs n low from high its;
+        fresh = λ n low from high its. fresh n ∙ still_fresh new (x.own ▷▷ done xs) installs low from high its;
         others = λ n other e. fresh n ∙ others_fresh new (x.own ▷▷ done xs) installs n other e;
       }
 
@@ -98,21 +97,21 @@ module _ (v : View) (x : Log) (c d : Contents) (chain : ℕ) (known : Knows v x 
     none_leaves_now leaves n = let e = leaves_same n leaves in let b = ap (removals_by n) idle in omega arith
 
     -- an action that changes nothing
-    still_turn : (a : Action) → Steps (state_of c) a (state_of d) → state_of d ≡ state_of c → leaving d ≡ leaving c
+    still_turn : {a : Action} → Steps (state_of c) a (state_of d) → state_of d ≡ state_of c → leaving d ≡ leaving c
         → ReleasesItsOwn (held_by x.front x.number) a → held_by (x.front ▷▷ done (a ∷ [])) x.number ≡ None
         → number_behind (x.own ▷▷ done (a ∷ [])) ≡ number_behind x.own → IsTurn v x c d (done (a ∷ [])) Idle
-    still_turn a step same leaves own now unused = turn (a ∷ []) Idle None (state_of c) same refl unused (legal_one a step own)
+    still_turn {a} step same leaves own now unused = turn (a ∷ []) Idle None (state_of c) same refl unused (legal_one step own)
         (λ n. let b = ap (holds_by n) idle in omega arith) (none_leaves_now leaves) (λ f i _. i) now (λ g e. absurd (none_file g e))
 
     -- no slot of the range was free
     pub full_turn : Steps (state_of c) Full (state_of d) → leaving d ≡ leaving c → IsTurn v x c d (done ([] ▷ Full)) Idle
-    full_turn step leaves = still_turn Full step step.1 leaves tt (held_mine x.number chain Full x.front ∙ held_none) refl
+    full_turn step leaves = still_turn step step.1 leaves tt (held_mine x.number chain Full x.front ∙ held_none) refl
 
     -- a look-up
-    pub look_turn : (slot : ℕ) (found : Option File) → Steps (state_of c) (Look slot found) (state_of d) → leaving d ≡ leaving c
+    pub look_turn : {slot : ℕ} (found : Option File) → Steps (state_of c) (Look slot found) (state_of d) → leaving d ≡ leaving c
         → IsTurn v x c d (done ([] ▷ Look slot found)) (holds_now found)
-    look_turn slot None step leaves = still_turn (Look slot None) step step.1 leaves tt (held_mine x.number chain (Look slot None) x.front) refl
-    look_turn slot (Some g) step leaves = turn ([] ▷ Look slot (Some g)) (Holding g) None _ step.1 refl refl (legal_one (Look slot (Some g)) step tt)
+    look_turn {slot} None step leaves = still_turn step step.1 leaves tt (held_mine x.number chain (Look slot None) x.front) refl
+    look_turn {slot} (Some g) step leaves = turn ([] ▷ Look slot (Some g)) (Holding g) None _ step.1 refl refl (legal_one step tt)
         (λ n. let b = ap (holds_by n) idle in let e = one_more_at (state_of c).holds g.number n in omega arith) (none_leaves_now leaves)
         (λ f i _. i) (held_mine x.number chain (Look slot (Some g)) x.front) (λ f e. inl (slot, sym step.0.1 ∙ e))
 
@@ -124,7 +123,7 @@ module _ (v : View) (x : Log) (c d : Contents) (chain : ℕ) (known : Knows v x 
         let a : leaving_count d n ≡ cond {A = ℕ} (changed_at (leaving c) f.number true n) 1 0 =
         ap (λ (z : ℕ → Bool). cond {A = ℕ} (z n) 1 0) leaves in
         let b = ap (removals_by n) idle in
-        let e = flag_set (leaving c) f.number n (stays_put c known.sound slot f (sym is)) in omega arith
+        let e = flag_set (leaving c) n (stays_put c known.sound slot f (sym is)) in omega arith
 
     -- a slot gets another file, or none, and what stood there is removed
     pub slot_turn : (a : Action) (slot : ℕ) (new found : Option File) → Steps (state_of c) a (state_of d) → state_of d ≡ record (state_of c) {
@@ -135,7 +134,7 @@ module _ (v : View) (x : Log) (c d : Contents) (chain : ℕ) (known : Knows v x 
         → ((h : Option File) → held_after h a ≡ h) → Installs new (x.own ▷▷ done (a ∷ [])) → IsTurn v x c d (done (a ∷ [])) (retiring found 0)
     slot_turn a slot new found step now is leaves own still installs =
         let apart = apart_from c known.sound slot found is in
-        turn (a ∷ []) (retiring found 0) new _ now refl installs (legal_one a step own)
+        turn (a ∷ []) (retiring found 0) new _ now refl installs (legal_one step own)
         (λ n. let b = ap (holds_by n) idle in let r = (retires found).0 n in omega arith) (leaves_more slot found is leaves)
         (λ f i _. still_there (state_of c) slot new found is apart f i)
         (held_mine x.number chain a x.front ∙ (still (held_by x.front x.number) ∙ (held_none ∙ sym (retires found).1)))
@@ -163,20 +162,20 @@ module _ (v : View) (x : Log) (c d : Contents) (chain : ℕ) (known : Knows v x 
         (legal_then (begin_of v.start) (state_of c) (state_of d) (done ([] ▷ Release f ▷ Close f)) x.front known.legal leads
         ((known.legal.releases, held_one), tt))
         (λ n. one_less n leads.0.0.1) (none_leaves leaves)
-        (files_but f _ leads.1 leads.0.1.1 (ap (λ (z : ℕ → Bool). z f.number) leaves ∙ retired) (λ g other i. not_closed (state_of c) f g other i))
+        (files_but f leads.1 leads.0.1.1 (ap (λ (z : ℕ → Bool). z f.number) leaves ∙ retired) (λ g other i. not_closed (state_of c) f g other i))
         (held_mine x.number chain (Close f) (x.front ▷▷ done ([] ▷ Release f)) ∙ held_mine x.number chain (Release f) x.front)
         (λ g e. absurd (none_file g e))
 
     -- a file that comes out at a release is the one that was held, and was retired
-    pub file_released : (g : File) → closed_by_release c f.number ≡ Some g → (f ≡ g) × (leaving c f.number ≡ false)
-    file_released g e = let out = out_by (eqb ((state_of c).holds f.number) 1) (leaving c f.number) ((state_of c).removed f.number) g e in
+    pub file_released : {g : File} → closed_by_release c f.number ≡ Some g → (f ≡ g) × (leaving c f.number ≡ false)
+    file_released {g} e = let out = out_by (eqb ((state_of c).holds f.number) 1) (leaving c f.number) e in
         (removed_file c known.sound f g there out.0, out.1)
 
     pub letting_go_turn : (o : Option File) → closed_by_release c f.number ≡ o → Leads (state_of c) ([] ▷ Release f ▷▷ close_of o) (state_of d)
         → leaving d ≡ leaving c → IsTurn v x c d (done ([] ▷ Release f ▷▷ close_of o)) Idle
-    letting_go_turn None e l leaves = turn ([] ▷ Release f) Idle None _ l.1 refl refl (legal_one (Release f) (l.0.1, l.1) held_one)
+    letting_go_turn None e l leaves = turn ([] ▷ Release f) Idle None _ l.1 refl refl (legal_one (l.0.1, l.1) held_one)
         (λ n. one_less n l.0.1) (none_leaves leaves) (λ g i _. i) (held_mine x.number chain (Release f) x.front) (λ g e. absurd (none_file g e))
-    letting_go_turn (Some g) e l leaves = let is = file_released g e in
+    letting_go_turn (Some g) e l leaves = let is = file_released e in
         subst (λ (z : File). Leads (state_of c) ([] ▷ Release f ▷ Close z) (state_of d) → IsTurn v x c d (done ([] ▷ Release f ▷ Close z)) Idle)
         is.0 (λ m. close_turn m leaves is.1) l
 
@@ -186,7 +185,7 @@ module _ (v : View) (x : Log) (c d : Contents) (chain : ℕ) (known : Knows v x 
     there_still = known.file f (ap file_in_hand removes)
 
     pub is_leaving : leaving c f.number ≡ true
-    is_leaving = one_true (leaving c f.number)
+    is_leaving = one_true
         (let a = known.leaves f.number in let b = ap (removals_by f.number) removes in let r = bit_here f.number f.number refl in omega arith)
 
     held_nothing : held_by x.front x.number ≡ None
@@ -197,21 +196,21 @@ module _ (v : View) (x : Log) (c d : Contents) (chain : ℕ) (known : Knows v x 
         let a : leaving_count d n ≡ cond {A = ℕ} (changed_at (leaving c) f.number false n) 1 0 =
         ap (λ (z : ℕ → Bool). cond {A = ℕ} (z n) 1 0) leaves in
         let b : removals_by n v.doing ≡ cond {A = ℕ} (eqb f.number n) 1 0 = ap (removals_by n) removes in
-        let e = flag_back (leaving c) f.number n is_leaving in omega arith
+        let e = flag_back (leaving c) n is_leaving in omega arith
 
     same_holds : (n : ℕ) → (state_of c).holds n + holds_by n v.doing ≡ (state_of c).holds n + 0
     same_holds n = let b = ap (holds_by n) removes in omega arith
 
     out_turn : Leads (state_of c) ([] ▷ Close f) (state_of d) → leaving d ≡ changed_at (leaving c) f.number false
         → IsTurn v x c d (done ([] ▷ Close f)) Idle
-    out_turn leads leaves = turn ([] ▷ Close f) Idle None _ leads.1 refl refl (legal_one (Close f) (leads.0.1, leads.1) tt) same_holds (leaves_less leaves)
-        (files_but f _ leads.1 leads.0.1.1 (ap (λ (z : ℕ → Bool). z f.number) leaves ∙ changed_here (leaving c) f.number false f.number refl)
+    out_turn leads leaves = turn ([] ▷ Close f) Idle None _ leads.1 refl refl (legal_one (leads.0.1, leads.1) tt) same_holds (leaves_less leaves)
+        (files_but f leads.1 leads.0.1.1 (ap (λ (z : ℕ → Bool). z f.number) leaves ∙ changed_here (leaving c) f.number false f.number refl)
         (λ g other i. not_closed (state_of c) f g other i))
         (held_mine x.number chain (Close f) x.front ∙ held_nothing) (λ g e. absurd (none_file g e))
 
     -- a file that comes out at a retirement is the one that was removed; one that doesn't is held
-    pub file_retired : (g : File) → closed_by_retirement c f.number ≡ Some g → f ≡ g
-    file_retired g e = elim (eqb ((state_of c).holds f.number) 0) as (λ b. (if b then (state_of c).removed f.number else None) ≡ Some g → f ≡ g) [
+    pub file_retired : {g : File} → closed_by_retirement c f.number ≡ Some g → f ≡ g
+    file_retired {g} e = elim (eqb ((state_of c).holds f.number) 0) as (λ b. (if b then (state_of c).removed f.number else None) ≡ Some g → f ≡ g) [
       | true ↦ λ z. removed_file c known.sound f g there_still z
       | false ↦ λ z. absurd (none_file g z)
     ] e
@@ -228,5 +227,5 @@ module _ (v : View) (x : Log) (c d : Contents) (chain : ℕ) (known : Knows v x 
     retire_turn None e l leaves = turn [] Idle None _ l.1 refl refl (subst (IsLegal (begin_of v.start) x.front) (sym l.1) known.legal)
         same_holds (leaves_less leaves) (λ g i _. i) held_nothing (λ g e. absurd (none_file g e))
     retire_turn (Some g) e l leaves =
-        subst (λ (z : File). Leads (state_of c) ([] ▷ Close z) (state_of d) → IsTurn v x c d (done ([] ▷ Close z)) Idle) (file_retired g e)
+        subst (λ (z : File). Leads (state_of c) ([] ▷ Close z) (state_of d) → IsTurn v x c d (done ([] ▷ Close z)) Idle) (file_retired e)
         (λ m. out_turn m leaves) l

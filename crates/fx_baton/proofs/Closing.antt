@@ -22,15 +22,15 @@ module _ (id : TableId) (k : Start) where
   abbrev pub log_of : BatonPass → Log
   log_of p = record { number = p.number; front = first_front p.seat.me.0.logs; own = first_own p.seat.me.0.logs }
 
-  pub its_log : (p : BatonPass) → Is p → p.seat.me.0.logs ≡ log_of p ∷ []
-  its_log p fits = let s = fits.seated in
+  pub its_log : {p : BatonPass} → Is p → p.seat.me.0.logs ≡ log_of p ∷ []
+  its_log fits = let s = fits.seated in
       s.one ∙ (λ i. record { number = s.number i; front = ap first_front (sym s.one) i; own = ap first_own (sym s.one) i } ∷ [])
 
   module _ (ps : List BatonPass) (each : (p : BatonPass) → Contains ps p → Is p) (count : length ps ≡ k.passes) (s : Shared) (r : IsKept k s)
       (seat : ℕ) (v : View) (at : get_elem? s.views seat ≡ some v) (logs_are : v.logs ≡ logs_in (reverse ps))
       (idle : v.doing ≡ Idle) (free : v.loan ≡ None) where
     these_logs : v.logs ≡ map log_of (reverse ps)
-    these_logs = logs_are ∙ each_log (λ p. p.seat.me.0.logs) log_of (reverse ps) (λ p h. its_log p (each p (contains_reverse ps p h)))
+    these_logs = logs_are ∙ each_log (λ p. p.seat.me.0.logs) log_of (reverse ps) (λ p h. its_log (each p (contains_reverse ps p h)))
 
     all_logs : length v.logs ≡ sum_by (λ (u : View). length u.logs) s.views
     all_logs = ap (length {A = Log}) these_logs ∙ (length-map (reverse ps) log_of ∙ (length-reverse ps ∙ (count ∙ sym r.count)))
@@ -78,8 +78,8 @@ module _ (id : TableId) (k : Start) where
         let b = sum_gathered (λ (p : BatonPass). p.seat.me.0.logs) log_of (λ x. one_if (eqb x.number n)) ps v.logs these_logs in
         sym b ∙ (sym a ∙ r.numbers n)
 
-    pass_of : (n : ℕ) → 1 ≤ n → n ≤ k.passes → (p : BatonPass) × Contains ps p × (p.number ≡ n)
-    pass_of n low high = found_by (λ (p : BatonPass). p.number) n ps (omega (arith, numbers n, once_is k.passes n))
+    pass_of : {n : ℕ} → 1 ≤ n → n ≤ k.passes → (p : BatonPass) × Contains ps p × (p.number ≡ n)
+    pass_of {n} low high = found_by (λ (p : BatonPass). p.number) n ps (omega (arith, numbers n, once_is k.passes n))
 
     counts : (w : PassView) → Contains (map view_of ps) w → (count : ℕ) × HasDrawnInTurn (opening_of k) count w
     counts w h = let p = contains_map view_of ps w h in (p.0.count, subst (HasDrawnInTurn (opening_of k) p.0.count) (sym p.2) (each p.0 p.1).seated.turns)
@@ -92,15 +92,15 @@ module _ (id : TableId) (k : Start) where
 
     pub whole : 0 < k.passes → IsWhole (opening_of k) r.history (map view_of ps)
     whole some_passes = let end : state_of r.contents ≡ state_at (opening_of k) r.history = r.legal.leads.1 in record {
-      legal = ends_there k r.history (state_of r.contents) r.legal;
+      legal = ends_there k r.legal;
       settled = subst IsSettled end settled;
       seen = λ w h. let p = contains_map view_of ps w h in subst (λ (z : PassView). IsSeenBy z.front r.history) (sym p.2) (known p.0 p.1).seen;
       own = λ w h. let p = contains_map view_of ps w h in
           subst (λ (z : PassView). part_of_pass z.number r.history ≡ z.own) (sym p.2) (known p.0 p.1).own;
-      authors = λ e h. let a = r.authors e h in let p = pass_of e.pass a.0 a.1 in (view_of p.0, contains_mapped view_of ps p.0 p.1, sym p.2);
+      authors = λ e h. let a = r.authors e h in let p = pass_of a.0 a.1 in (view_of p.0, contains_mapped view_of ps p.0 p.1, sym p.2);
       chains_inside = drawn_inside (opening_of k) (map view_of ps) counts;
       drawn_once = drawn_once;
-      all_drawn = all_are_drawn (opening_of k) (map view_of ps) counts some_passes (λ n low high. let p = pass_of n low high in (view_of p.0, contains_mapped view_of ps p.0 p.1, p.2));
+      all_drawn = all_are_drawn (opening_of k) (map view_of ps) counts some_passes (λ n low high. let p = pass_of low high in (view_of p.0, contains_mapped view_of ps p.0 p.1, p.2));
     }
 
     pub closes : 0 < k.passes → ClosesTable (opening_of k) (map view_of ps) r.contents

@@ -4,32 +4,32 @@ use Rattle.fx_baton.proofs.Words.{Event, Doing, Idle, Holding, Retiring, bit_her
 use Rattle.fx_baton.proofs.Words.{removals_by, log_behind, changed_at}
 
 -- a flag that is set at a number, or taken back
-pub flag_set : (f : ℕ → Bool) (q n : ℕ) → f q ≡ false → cond {A = ℕ} (changed_at f q true n) 1 0 ≡ cond {A = ℕ} (f n) 1 0 + cond {A = ℕ} (eqb q n) 1 0
-flag_set f q n is = grind arith
+pub flag_set : (f : ℕ → Bool) {q : ℕ} (n : ℕ) → f q ≡ false → cond {A = ℕ} (changed_at f q true n) 1 0 ≡ cond {A = ℕ} (f n) 1 0 + cond {A = ℕ} (eqb q n) 1 0
+flag_set f n is = grind arith
 
-pub flag_back : (f : ℕ → Bool) (q n : ℕ) → f q ≡ true
+pub flag_back : (f : ℕ → Bool) {q : ℕ} (n : ℕ) → f q ≡ true
     → cond {A = ℕ} (changed_at f q false n) 1 0 + cond {A = ℕ} (eqb q n) 1 0 ≡ cond {A = ℕ} (f n) 1 0
-flag_back f q n is = grind arith
+flag_back f n is = grind arith
 
-pub one_true : (b : Bool) → 1 ≤ cond {A = ℕ} b 1 0 → b ≡ true
-one_true b l = grind arith
+pub one_true : {b : Bool} → 1 ≤ cond {A = ℕ} b 1 0 → b ≡ true
+one_true l = grind arith
 
 pub one_at_most : (b : Bool) → cond {A = ℕ} b 1 0 ≤ 1
 one_at_most b = grind arith
 
 -- a pass with the number is counted
-pub some_log : (p : ℕ) (xs : List Log) (x : Log) → Contains xs x → x.number ≡ p → 1 ≤ logs_of p xs
-some_log p xs x h e = let a = sum_of (λ (y : Log). cond {A = ℕ} (eqb y.number p) 1 0) xs x h in let b = bit_here p x.number e in omega arith
+pub some_log : {p : ℕ} (xs : List Log) {x : Log} → Contains xs x → x.number ≡ p → 1 ≤ logs_of p xs
+some_log {p} xs {x} h e = let a = sum_of (λ (y : Log). cond {A = ℕ} (eqb y.number p) 1 0) xs x h in let b = bit_here p x.number e in omega arith
 
 pub logs_behind : (p : ℕ) (es : List Event) (xs : List Log) → logs_of p (map (log_behind es) xs) ≡ logs_of p xs
 logs_behind p es xs = sum_map (λ (x : Log). one_if (eqb x.number p)) (log_behind es) xs
 
 -- a file with which a pass has to do is counted among the held or among the leaving ones
-pub hand_is_counted : (d : Doing) (f : File) → file_in_hand d ≡ Some f → (1 ≤ holds_by f.number d) ⊎ (1 ≤ removals_by f.number d)
-hand_is_counted Idle f e = let no : None ≡ Some f = e in absurd (cc no)
-hand_is_counted (Holding g) f e = let is : Some g ≡ Some f = e in let same : g ≡ f = cc is in
+pub hand_is_counted : (d : Doing) {f : File} → file_in_hand d ≡ Some f → (1 ≤ holds_by f.number d) ⊎ (1 ≤ removals_by f.number d)
+hand_is_counted Idle {f} e = let no : None ≡ Some f = e in absurd (cc no)
+hand_is_counted (Holding g) {f} e = let is : Some g ≡ Some f = e in let same : g ≡ f = cc is in
     inl (let b = bit_here f.number g.number (ap (λ (z : File). z.number) same) in omega arith)
-hand_is_counted (Retiring g takes) f e = let is : Some g ≡ Some f = e in let same : g ≡ f = cc is in
+hand_is_counted (Retiring g takes) {f} e = let is : Some g ≡ Some f = e in let same : g ≡ f = cc is in
     inr (let b = bit_here f.number g.number (ap (λ (z : File). z.number) same) in omega arith)
 
 pub holds_small : (n : ℕ) (d : Doing) → holds_by n d ≤ 1

@@ -30,10 +30,10 @@ module _ (k : Start) (id : ℕ) (v : View) (x : Log) (one : v.logs ≡ x ∷ [])
     same = let both : Some c ≡ Some r.contents = sym has ∙ holder.0 in cc both
 
     whole : x.front ≡ r.history
-    whole = holder.1 x (has_one v.logs x one)
+    whole = holder.1 x (has_one one)
 
     begun : v.start ≡ k
-    begun = started k r.history r.contents v x one (r.views id v at)
+    begun = started one (r.views id v at)
 
     longer_is : x.front ▷▷ es ≡ r.history ▷▷ es
     longer_is = ap (λ (l : List Event). l ▷▷ es) whole
@@ -41,7 +41,7 @@ module _ (k : Start) (id : ℕ) (v : View) (x : Log) (one : v.logs ≡ x ∷ [])
     given_turns : Turns k s r id v at w d es (set s.words 0 1) (set s.homes 0 (some d))
     given_turns = let here : IsTurn v x r.contents d es doing = subst (λ (z : Contents). IsTurn v x z d es doing) same turn in record {
       log = x;
-      log_in = has_one v.logs x one;
+      log_in = has_one one;
       authors = turn.authors;
       legal = subst (λ (z : Start × List Event). IsLegal (begin_of z.0) z.1 (state_of d)) (λ i. (begun i, longer_is i)) turn.legal;
       sound = sound;
@@ -54,15 +54,15 @@ module _ (k : Start) (id : ℕ) (v : View) (x : Log) (one : v.logs ≡ x ∷ [])
             (at_set s.views id i w u e)),
       );
       mine = record {
-        logs = λ y h. let m = only_log w.logs (log_behind es x) y given_one h in
+        logs = λ y h. let m = only_log given_one h in
             subst (λ (z : Log). IsLog k (r.history ▷▷ es) d doing z) (sym m) record {
               seen = subst (λ (z : List Event). IsSeenBy (x.front ▷▷ es) z) longer_is (seen_again (x.front ▷▷ es));
-              own = part_mine x.number es r.history turn.authors ∙ ap (λ (l : List Event). es ++ l) ((r.views id v at).logs x (has_one v.logs x one)).own;
+              own = part_mine x.number es r.history turn.authors ∙ ap (λ (l : List Event). es ++ l) ((r.views id v at).logs x (has_one one)).own;
               held = ap (λ (z : List Event). held_by z x.number) (sym longer_is) ∙ turn.now;
               fresh = subst (λ (z : Start). HasFreshNumbers z (state_of d) (log_behind es x)) begun turn.fresh;
             };
         file = turn.file;
-        empty = λ e. absurd (not_empty w.logs (log_behind es x) given_one e);
+        empty = λ e. absurd (not_empty given_one e);
         start = inr begun;
       };
       numbers = λ p. logs_behind p es v.logs;
@@ -86,10 +86,10 @@ module _ (k : Start) (id : ℕ) (v : View) (x : Log) (one : v.logs ≡ x ∷ [])
       ))
       r.place
 
-pub may_store : (k : Start) (slots id : ℕ) (me : Seated) (v : View) (d : Contents) (es : List Event) (doing : Doing) → slots ≡ 1
+pub may_store : (k : Start) {slots : ℕ} (id : ℕ) {me : Seated} {v : View} {d : Contents} {es : List Event} {doing : Doing} → slots ≡ 1
     → me ≡ (v, (0, d) ∷ [])
-    → (x : Log) (c : Contents) → v.logs ≡ x ∷ [] → v.loan ≡ Some c → IsTable d → IsTurn v x c d es doing → Allows (IsKept k) slots id me 0 (λ _. 1)
+    → {x : Log} {c : Contents} → v.logs ≡ x ∷ [] → v.loan ≡ Some c → IsTable d → IsTurn v x c d es doing → Allows (IsKept k) slots id me 0 (λ _. 1)
     (λ _. Gives es doing (step slots 0 1 0 none) me 1)
-may_store k slots id me v d es doing s m x c one has sound turn =
+may_store k id {v} {d} {es} {doing} s m {x} {c} one has sound turn =
     let P : ℕ × Seated → Type 0 = λ z. Allows (IsKept k) z.0 id z.1 0 (λ _. 1) (λ _. Gives es doing (step z.0 0 1 0 none) z.1 1) in
     subst P (λ i. (sym s i, sym m i)) (give_keeps k id v x one c d has es doing sound turn)

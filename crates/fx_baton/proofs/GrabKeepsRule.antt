@@ -11,30 +11,29 @@ use Rattle.fx_baton.proofs.Counts.{holds_small}
 use Rattle.fx_baton.proofs.StepsKeepRule.{Turns, keeps_rule}
 
 -- a seat with one pass
-pub only_log : (xs : List Log) (x y : Log) → xs ≡ x ∷ [] → Contains xs y → y ≡ x
-only_log xs x y e h = contains_only x y (subst (λ (l : List Log). Contains l y) e h)
+pub only_log : {xs : List Log} {x y : Log} → xs ≡ x ∷ [] → Contains xs y → y ≡ x
+only_log {x} {y} e h = contains_only x y (subst (λ (l : List Log). Contains l y) e h)
 
-pub has_one : (xs : List Log) (x : Log) → xs ≡ x ∷ [] → Contains xs x
-has_one xs x e = subst (λ (l : List Log). Contains l x) (sym e) (contains_head x [])
+pub has_one : {xs : List Log} {x : Log} → xs ≡ x ∷ [] → Contains xs x
+has_one {x} e = subst (λ (l : List Log). Contains l x) (sym e) (contains_head x [])
 
-pub not_empty : (xs : List Log) (x : Log) → xs ≡ x ∷ [] → xs ≡ [] → ⊥
-not_empty xs x e none_there = let c : x ∷ [] ≡ [] = sym e ∙ none_there in cc c
+pub not_empty : {xs : List Log} {x : Log} → xs ≡ x ∷ [] → xs ≡ [] → ⊥
+not_empty {x} e none_there = let c : x ∷ [] ≡ [] = sym e ∙ none_there in cc c
 
 -- a view holds no more files than it has passes
-holds_few : (k : Start) (h : List Event) (c : Contents) (n : ℕ) (v : View) (xs : List Log) → v.logs ≡ xs → IsView k h c v
+holds_few : {k : Start} {h : List Event} {c : Contents} (n : ℕ) {v : View} (xs : List Log) → v.logs ≡ xs → IsView k h c v
     → holds_by n v.doing ≤ length xs
-holds_few k h c n v [] e r = let a = ap (holds_by n) (r.empty e).0 in omega arith
-holds_few k h c n v (x ∷ xs) e r = let a = holds_small n v.doing in omega arith
+holds_few n [] e r = let a = ap (holds_by n) (r.empty e).0 in omega arith
+holds_few n {v} (x ∷ xs) e r = let a = holds_small n v.doing in omega arith
 
 -- a seat with a pass began where the table did
-pub started : (k : Start) (h : List Event) (c : Contents) (v : View) (x : Log) → v.logs ≡ x ∷ [] → IsView k h c v → v.start ≡ k
-started k h c v x one r = ⊎_elim (λ z. absurd (not_empty v.logs x one z)) (λ is. is) r.start
+pub started : {k : Start} {h : List Event} {c : Contents} {v : View} {x : Log} → v.logs ≡ x ∷ [] → IsView k h c v → v.start ≡ k
+started {v} {x} one r = ⊎_elim (λ z. absurd (not_empty one z)) (λ is. is) r.start
 
 module _ (k : Start) (id : ℕ) (v : View) (x : Log) (one : v.logs ≡ x ∷ []) where
   room : (s : Shared) (r : IsKept k s) (n : ℕ) → (state_of r.contents).holds n ≤ 16
   room s r n =
-      let a = sum_le_at (λ (z : View). holds_by n z.doing) (λ (z : View). length z.logs) s.views
-      (λ i u e. holds_few k r.history r.contents n u u.logs refl (r.views i u e)) in
+      let a = sum_le_at (λ (z : View). holds_by n z.doing) (λ (z : View). length z.logs) s.views (λ i u e. holds_few n u.logs refl (r.views i u e)) in
       let b = r.held n in let c = r.count in let d = r.few in omega arith
 
   module _ (s : Shared) (r : IsKept k s) (at : get_elem? s.views id ≡ some v) where
@@ -42,10 +41,10 @@ module _ (k : Start) (id : ℕ) (v : View) (x : Log) (one : v.logs ≡ x ∷ [])
     mine = r.views id v at
 
     log_of : IsLog k r.history r.contents v.doing x
-    log_of = mine.logs x (has_one v.logs x one)
+    log_of = mine.logs x (has_one one)
 
     begun : v.start ≡ k
-    begun = started k r.history r.contents v x one mine
+    begun = started one mine
 
     knows : Knows v x r.contents r.history
     knows = record {
@@ -67,7 +66,7 @@ module _ (k : Start) (id : ℕ) (v : View) (x : Log) (one : v.logs ≡ x ∷ [])
     taken_turns : (home : IsHome r.contents s) → Turns k s r id v at lent r.contents [] (set s.words 0 0) (set s.homes 0 none)
     taken_turns home = record {
       log = x;
-      log_in = has_one v.logs x one;
+      log_in = has_one one;
       authors = λ e h. absurd (contains_none e h);
       legal = r.legal;
       sound = r.sound;
@@ -85,7 +84,7 @@ module _ (k : Start) (id : ℕ) (v : View) (x : Log) (one : v.logs ≡ x ∷ [])
         logs = λ y h. subst (λ (z : Log). IsLog k r.history r.contents v.doing z) (sym (contains_only _ y h))
             record { seen = seen_again r.history; own = log_of.own; held = log_of.held; fresh = log_of.fresh };
         file = mine.file;
-        empty = λ e. absurd (not_empty lent.logs (record x { front = r.history }) refl e);
+        empty = λ e. absurd (not_empty refl e);
         start = inr begun;
       };
       numbers = λ p. ap (logs_of p) (sym one);
@@ -136,9 +135,9 @@ module _ (k : Start) (id : ℕ) (v : View) (x : Log) (one : v.logs ≡ x ∷ [])
       ))
       r.place
 
-pub may_exchange : (k : Start) (slots id : ℕ) (me : Seated) → slots ≡ 1 → me.1 ≡ [] → me.0.loan ≡ None → (x : Log) → me.0.logs ≡ x ∷ []
+pub may_exchange : (k : Start) {slots : ℕ} (id : ℕ) {me : Seated} → slots ≡ 1 → me.1 ≡ [] → me.0.loan ≡ None → {x : Log} → me.0.logs ≡ x ∷ []
     → Allows (IsKept k) slots id me 0 (λ n. either (n == 1) 0 n) (Grabs (step slots 0 1 0 none) me)
-may_exchange k slots id me s m free x one =
+may_exchange k id {me} s m free {x} one =
     let P : ℕ × List (ℕ × Contents) → Type 0 = λ z. Allows (IsKept k) z.0 id (me.0, z.1) 0 (λ n. either (n == 1) 0 n)
     (Grabs (step z.0 0 1 0 none) (me.0, z.1)) in
     subst P (λ i. (sym s i, sym m i)) (grab_keeps k id me.0 x one free)

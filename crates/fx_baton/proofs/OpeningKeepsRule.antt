@@ -10,9 +10,9 @@ use Rattle.std.specs.List.{range_with_len}
 use Rattle.std.proofs.lemmas.List.FromFn.{length-map-range_with_len}
 use Rattle.fx_table.proofs.Ones.{counted_once}
 
-single_at : {A : Type 0} (v : A) (i : ℕ) (u : A) → get_elem? (v ∷ []) i ≡ some u → v ≡ u
-single_at v zero u e = some-injective v u e
-single_at v (suc i) u e = absurd (some-ne-none u (sym e))
+single_at : {A : Type 0} {v : A} (i : ℕ) {u : A} → get_elem? (v ∷ []) i ≡ some u → v ≡ u
+single_at {v} zero {u} e = some-injective v u e
+single_at (suc i) {u} e = absurd (some-ne-none u (sym e))
 
 -- a table without removed files has none that is leaving
 not_leaving : (number : ℕ) (node : Node) → removed_at number node ≡ None → is_leaving node ≡ false
@@ -20,8 +20,8 @@ not_leaving number (Leaving file) e = let no : Some (record { number = number; i
 not_leaving number _ e = refl
 
 module _ (k : Start) (c : Contents) (begins : state_of c ≡ begin_of k) (sound : IsTable c) (few : k.passes ≤ 16) where
-  fresh_there : (n : ℕ) → 256 ≤ n → n < numbers_for k.chains → (begin_of k).fresh n ≡ true
-  fresh_there n low high =
+  fresh_there : {n : ℕ} → 256 ≤ n → n < numbers_for k.chains → (begin_of k).fresh n ≡ true
+  fresh_there {n} low high =
       elim (nat_lt n (state_of k.plain.value).size) as
       (λ b. nat_lt n (state_of k.plain.value).size ≡ b → (not b && nat_lt n (numbers_for k.chains)) ≡ true) [
         | true ↦ λ e. absurd (let l = ltb-true n (state_of k.plain.value).size e in let size = ap (λ (z : State). z.size) begins in
@@ -33,7 +33,7 @@ module _ (k : Start) (c : Contents) (begins : state_of c ≡ begin_of k) (sound 
   new_view = record {
     logs =
         λ x h. subst (λ (z : Log). IsLog k [] c Idle z)
-        (sym (contains_map new_log (range_with_len 1 k.passes) x h).2) record { seen = ([], refl); own = refl; held = refl; fresh = λ n low from high its. ap (λ (z : State). z.fresh n) begins ∙ fresh_there n low high };
+        (sym (contains_map new_log (range_with_len 1 k.passes) x h).2) record { seen = ([], refl); own = refl; held = refl; fresh = λ n low from high its. ap (λ (z : State). z.fresh n) begins ∙ fresh_there low high };
     file = λ f e. let no : None ≡ Some f = e in absurd (cc no);
     empty = λ _. (refl, refl);
     start = inr refl;
@@ -45,8 +45,8 @@ module _ (k : Start) (c : Contents) (begins : state_of c ≡ begin_of k) (sound 
     contents = c;
     legal = record { leads = (tt, begins); releases = tt };
     sound = sound;
-    place = inl (refl, refl, λ i u e. ap (λ (z : View). z.loan) (sym (single_at (first_view k) i u e)));
-    views = λ i u e. subst (IsView k [] c) (single_at (first_view k) i u e) new_view;
+    place = inl (refl, refl, λ i u e. ap (λ (z : View). z.loan) (sym (single_at i e)));
+    views = λ i u e. subst (IsView k [] c) (single_at i e) new_view;
     numbers = λ p. let a = counted_once (λ (x : Log). x.number) new_log (λ n. refl) p k.passes in omega arith;
     count = let a = length-map-range_with_len new_log 1 k.passes in omega arith;
     few = few;

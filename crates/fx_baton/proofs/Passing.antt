@@ -10,8 +10,8 @@ use Rattle.fx_baton.specs.Turns.{by, actions_of, doing_of, use_of, events_of, ta
 use Rattle.fx_baton.specs.declared.view.Call.TheVariants.{Look as LookCall, Release as ReleaseCall, Retire as RetireCall}
 
 -- a legal history leads to the state at its end
-pub ends_there : (k : Start) (h : List Event) (end : State) → IsLegal (begin_of k) h end → IsLegal (begin_of k) h (state_at (opening_of k) h)
-ends_there k h end l = record { leads = (l.leads.0, refl); releases = l.releases }
+pub ends_there : (k : Start) {h : List Event} {end : State} → IsLegal (begin_of k) h end → IsLegal (begin_of k) h (state_at (opening_of k) h)
+ends_there k l = record { leads = (l.leads.0, refl); releases = l.releases }
 
 module _ (id : TableId) (k : Start) (p : BatonPass) (fits : IsPassOf id k p) (seat : Seat Contents View)
     (table : seat.table_id ≡ p.seat.table_id) (taken : Takes p.seat.me fits.seated.log seat.me) where
@@ -42,8 +42,7 @@ module _ (id : TableId) (k : Start) (p : BatonPass) (fits : IsPassOf id k p) (se
 
   front_now : IsFront (opening_of k) (view_of took)
   front_now = record {
-    legal = subst (λ (h : List Event). IsLegal (begin_of k) h (state_at (opening_of k) h)) (sym new_front)
-        (ends_there k taken.history (state_of taken.contents)
+    legal = subst (λ (h : List Event). IsLegal (begin_of k) h (state_at (opening_of k) h)) (sym new_front) (ends_there k
         (subst (λ (z : Start). IsLegal (begin_of z) taken.history (state_of taken.contents)) fits.seated.start taken.knows.legal));
     mine = ap (part_of_pass p.number) new_front ∙ (ap (λ (n : ℕ). part_of_pass n taken.history) (sym fits.seated.number)
         ∙ (taken.knows.own ∙ (sym (ap first_own fits.seated.one) ∙ sym same_own)));
@@ -141,8 +140,7 @@ module _ (id : TableId) (k : Start) (call : Call) (idle : Bool) (p : BatonPass) 
 
   front_is : IsFront (opening_of k) (view_of gave)
   front_is = record {
-    legal = subst (λ (h : List Event). IsLegal (begin_of k) h (state_at (opening_of k) h)) (sym front_after)
-        (ends_there k (es ++ before.front) (state_of t.given) legal_now);
+    legal = subst (λ (h : List Event). IsLegal (begin_of k) h (state_at (opening_of k) h)) (sym front_after) (ends_there k legal_now);
     mine = ap (part_of_pass p.number) front_after ∙ (ap (λ (n : ℕ). part_of_pass n (es ++ before.front)) (sym t.has.seated.number)
         ∙ (part_mine before.number es before.front t.turn.authors ∙ (ap (λ (l : List Event). es ++ l) t.has.knows.own ∙ sym own_after)));
   }

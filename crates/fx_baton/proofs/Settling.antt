@@ -9,9 +9,9 @@ use Rattle.fx_baton.specs.Settling.{Observes}
 use Rattle.fx_baton.proofs.Closing.{known, whole}
 
 -- any seat may look, and nothing changes
-pub may_observe : (k : Start) (slots id : ℕ) (me : Seated) → me.0.start ≡ k
+pub may_observe : {k : Start} (slots id : ℕ) {me : Seated} → me.0.start ≡ k
     → Allows (IsKept k) slots id me 0 (λ n. n) (Observes (step slots 0 0 0 mathlib.Core.Option.none) me)
-may_observe k slots id me start s r wide at small = (
+may_observe {k} slots id {me} start s r wide at small = (
   me.0,
   keeps,
   tt,

@@ -17,8 +17,8 @@ module _ (k : Start) (s : Shared) (r : IsKept k s) (id : ℕ) (v : View) (at : g
   -- another seat has no pass with the number of one of this seat
   apart : (i : ℕ) (u : View) → i ≢ id → get_elem? s.views i ≡ some u → (x y : Log) → Contains v.logs x → Contains u.logs y → y.number ≢ x.number
   apart i u n e x y hx hy same =
-      let a = some_log x.number v.logs x hx refl in
-      let b = some_log x.number u.logs y hy same in
+      let a = some_log v.logs hx refl in
+      let b = some_log u.logs hy same in
       let t = sum_two (λ (z : View). logs_of x.number z.logs) s.views id i v u (λ j. n (sym j)) at e in
       let o = r.numbers x.number in
       let l = once_is k.passes x.number in
@@ -43,8 +43,8 @@ module _ (k : Start) (s : Shared) (r : IsKept k s) (id : ℕ) (v : View) (at : g
     pub others : (n : ℕ) → pass_of_number k.passes n ≢ log.number → (state_of r.contents).fresh n ≡ true → (state_of c).fresh n ≡ true
 
   module _ (t : Turns) where
-    other_log : (i : ℕ) (u : View) → i ≢ id → get_elem? s.views i ≡ some u → (y : Log) → Contains u.logs y → IsLog k longer c u.doing y
-    other_log i u n e y hy =
+    other_log : {i : ℕ} {u : View} → i ≢ id → get_elem? s.views i ≡ some u → (y : Log) → Contains u.logs y → IsLog k longer c u.doing y
+    other_log {i} {u} n e y hy =
         let a = (r.views i u e).logs y hy in
         let other : y.number ≢ t.log.number = apart i u n e t.log y t.log_in hy in
         let foreign : (x : Event) → Contains es x → x.pass ≢ y.number = λ x hx same. other (sym same ∙ t.authors x hx) in
@@ -68,14 +68,13 @@ module _ (k : Start) (s : Shared) (r : IsKept k s) (id : ℕ) (v : View) (at : g
         let holds : ℕ → View → ℕ = λ m z. holds_by m z.doing in
         let removals : ℕ → View → ℕ = λ m z. removals_by m z.doing in
         t.files f ((r.views i u e).file f is) (⊎_elim
-        (λ one. inl (let a = sum_at (holds f.number) (set s.views id w) i u here in let b = all_holds f.number in omega arith))
-        (λ one. inr (one_true (leaving c f.number)
+        (λ one. inl (let a = sum_at (holds f.number) (set s.views id w) i u here in let b = all_holds f.number in omega arith)) (λ one. inr (one_true
         (let a = sum_at (removals f.number) (set s.views id w) i u here in let b = all_removals f.number in omega arith)))
-        (hand_is_counted u.doing f is))
+        (hand_is_counted u.doing is))
 
     author : (1 ≤ t.log.number) × (t.log.number ≤ k.passes)
     author =
-        let a = some_log t.log.number v.logs t.log t.log_in refl in
+        let a = some_log v.logs t.log_in refl in
         let b = sum_at (λ (z : View). logs_of t.log.number z.logs) s.views id v at in
         let o = r.numbers t.log.number in
         let n = once_is k.passes t.log.number in
@@ -91,8 +90,7 @@ module _ (k : Start) (s : Shared) (r : IsKept k s) (id : ℕ) (v : View) (at : g
       views = λ i u e. ⊎_elim
           (λ (m : (i ≡ id) × (w ≡ u)). subst (IsView k longer c) m.1 t.mine)
           (λ (m : (i ≢ id) × (get_elem? s.views i ≡ some u)). let a = r.views i u m.1 in
-          record { logs = other_log i u m.0 m.1; file = still_there i u m.0 m.1; empty = a.empty; start = a.start })
-          (at_set s.views id i w u e);
+          record { logs = other_log m.0 m.1; file = still_there i u m.0 m.1; empty = a.empty; start = a.start }) (at_set s.views id i w u e);
       numbers = λ p. let a = sum_set (λ (z : View). logs_of p z.logs) s.views id v w at in let b = r.numbers p in let d = t.numbers p in omega arith;
       count = let a = sum_set (λ (z : View). length z.logs) s.views id v w at in let b = r.count in let d = t.count in omega arith;
       few = r.few;

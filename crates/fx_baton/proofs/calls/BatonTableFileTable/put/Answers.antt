@@ -7,10 +7,10 @@ pub slot_mut-plain-requires : goal.slot_mut-plain-requires
 slot_mut-plain-requires g c = may_lend c.borrow.ensures
 
 pub entry_at-entry-requires : goal.entry_at-entry-requires
-entry_at-entry-requires g c = slot_inside c.borrow.ensures c.slot_mut-plain.ensures.value c.args.slot c.requires.slot
+entry_at-entry-requires g c = slot_inside c.borrow.ensures c.slot_mut-plain.ensures.value c.requires.slot
 
 pub put-replaced-requires-clause-slot : goal.put-replaced-requires-clause-slot
-put-replaced-requires-clause-slot g c = slot_inside c.borrow.ensures c.slot_mut-plain.ensures.value c.args.slot c.requires.slot
+put-replaced-requires-clause-slot g c = slot_inside c.borrow.ensures c.slot_mut-plain.ensures.value c.requires.slot
 
 pub put-replaced-requires-clause-fresh : goal.put-replaced-requires-clause-fresh
 put-replaced-requires-clause-fresh g c = number_fresh c.borrow.ensures c.slot_mut-plain.ensures.value c.requires.numbers _ c.next_number-number.ensures
@@ -22,12 +22,11 @@ give_back-requires g c =
     let number = c.next_number-number in
     let lets_leave = subst (λ (z : Closed). LetsLeave now l.new.self (Put c.args.slot (numbered number.result z) ((state_of now).at c.args.slot)) ((state_of now).at c.args.slot) l.result)
     (sym c.identity-identity.ensures) l.ensures.replaced in
-    put_called c.borrow.ensures c.slot_mut-plain.ensures.value c.requires.idle c.requires.numbers c.args.slot number.result c.identity-identity.result _ _ _
-    number.ensures lets_leave c.is_none.ensures
+    put_called c.borrow.ensures c.slot_mut-plain.ensures.value c.requires.idle c.requires.numbers number.ensures lets_leave c.is_none.ensures
 
 pub returns-clause-placed : goal.returns-clause-placed
 returns-clause-placed g c =
     placed_so _ _ c.args.slot _ 0 _ _
     (c.retired.ensures ((state_of c.slot_mut-plain.result.now).at c.args.slot) c.put-replaced.ensures.replaced.answer c.entry_at-entry.ensures)
     _ _ c.args.file c.next_number-number.ensures c.identity-identity.ensures
-    (added c.borrow.ensures c.slot_mut-plain.ensures.value c.put-replaced.new.self c.give_back.ensures)
+    (added c.borrow.ensures c.slot_mut-plain.ensures.value c.give_back.ensures)

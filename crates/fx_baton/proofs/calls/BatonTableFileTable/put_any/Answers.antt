@@ -13,17 +13,16 @@ give_back-requires g c =
     let number = c.next_number-number in
     let step = subst (λ (z : Closed). Steps (state_of c.slot_mut-plain.result.now) (Allocate c.in-Ok.slot (numbered number.result z))
     (state_of c.put_any.new.self)) (sym c.identity-identity.ensures) c.in-Ok.ensures.ok in
-    allocate_called c.borrow.ensures c.slot_mut-plain.ensures.value c.requires.idle c.requires.numbers c.in-Ok.slot number.result
-    c.identity-identity.result _ number.ensures step c.put_any.ensures.leaving c.put_any.ensures.sound
+    allocate_called c.borrow.ensures c.slot_mut-plain.ensures.value c.requires.idle c.requires.numbers number.ensures step c.put_any.ensures.leaving c.put_any.ensures.sound
 
 pub give_back-requires-in-Err : goal.give_back-requires-in-Err
 give_back-requires-in-Err g c =
-    full_called c.borrow.ensures c.slot_mut-plain.ensures.value c.requires.idle _ c.in-Err.ensures.full c.in-Err.ensures.err c.put_any.ensures.sound
+    full_called c.borrow.ensures c.slot_mut-plain.ensures.value c.requires.idle c.in-Err.ensures.full c.in-Err.ensures.err c.put_any.ensures.sound
 
 pub returns-in-Ok-clause-allocated : goal.returns-in-Ok-clause-allocated
 returns-in-Ok-clause-allocated g c =
-    allocated_so c.borrow.ensures c.slot_mut-plain.ensures.value c.in-Ok.slot _ _ c.args.file c.put_any.new.self c.next_number-number.ensures
+    allocated_so c.borrow.ensures c.slot_mut-plain.ensures.value c.next_number-number.ensures
     c.identity-identity.ensures c.give_back.ensures c.in-Ok.ensures.ok.0.0
 
 pub returns-in-Err-clause-allocated : goal.returns-in-Err-clause-allocated
-returns-in-Err-clause-allocated g c = (c.in-Err.ensures.refused, added c.borrow.ensures c.slot_mut-plain.ensures.value c.put_any.new.self c.give_back-in-Err.ensures)
+returns-in-Err-clause-allocated g c = (c.in-Err.ensures.refused, added c.borrow.ensures c.slot_mut-plain.ensures.value c.give_back-in-Err.ensures)

@@ -8,7 +8,7 @@ pub release-closed-requires : goal.release-closed-requires
 release-closed-requires g c = holds_some c.borrow.ensures c.slot_mut-plain.ensures.value c.args.hold c.requires.held
 
 pub give_back-requires : goal.give_back-requires
-give_back-requires g c = release_called c.borrow.ensures c.slot_mut-plain.ensures.value c.args.hold c.requires.held _ _ c.release-closed.ensures
+give_back-requires g c = release_called c.borrow.ensures c.slot_mut-plain.ensures.value c.args.hold c.requires.held c.release-closed.ensures
 
 pub returns-clause-released : goal.returns-clause-released
 returns-clause-released g c =

@@ -10,7 +10,7 @@ retire-closed-requires g c = leaves_now c.borrow.ensures c.slot_mut-plain.ensure
 pub give_back-requires : goal.give_back-requires
 give_back-requires g c =
     let l = c.retire-closed.ensures in
-    retire_called c.borrow.ensures c.slot_mut-plain.ensures.value c.args.retired c.requires.removed _ l.steps l.leaving l.sound
+    retire_called c.borrow.ensures c.slot_mut-plain.ensures.value c.args.retired c.requires.removed l.steps l.leaving l.sound
 
 pub returns-clause-retired : goal.returns-clause-retired
 returns-clause-retired g c =

@@ -8,6 +8,5 @@ store-requires g c =
     let t = c.requires.turn in (
       t.has.table,
       omega arith,
-      may_store _ _ _ _ _ _ _ _ counts.1 (ap (λ l. (c.args.pass.now.seat.me.0, l)) t.has.slots)
-          t.has.seated.log t.taken t.has.seated.one t.has.loan t.sound t.turn,
+      may_store _ _ counts.1 (ap (λ l. (c.args.pass.now.seat.me.0, l)) t.has.slots) t.has.seated.one t.has.loan t.sound t.turn,
     )

@@ -10,7 +10,7 @@ compare_exchange-requires g c =
     let o = c.requires.one in (
       i.table ∙ c.requires.fits,
       omega arith,
-      may_exchange _ _ _ _ counts.1 (ap (λ m. m.1) i.me ∙ f.0) (ap (λ m. m.0.loan) i.me ∙ f.1) o.0 (ap (λ m. m.0.logs) i.me ∙ o.1),
+      may_exchange _ _ counts.1 (ap (λ m. m.1) i.me ∙ f.0) (ap (λ m. m.0.loan) i.me ∙ f.1) (ap (λ m. m.0.logs) i.me ∙ o.1),
     )
 
 pub returns-then-compare_exchange-eq1-clause-taken : goal.returns-then-compare_exchange-eq1-clause-taken
