@@ -30,9 +30,9 @@ reading_of-take bytes = elim (cases_lt LONGEST_SCRIPT (length bytes)) [
 abbrev pub IsKept : Option (List ℕ) → List ℕ → Type 0
 IsKept input kept = IfSome input (λ bytes. kept ≡ take (LONGEST_SCRIPT + 1) bytes)
 
-pub script_kept : (input : Option (List ℕ)) (kept : List ℕ) (meaning : Meaning) → IsKept input kept → IsScript kept meaning → IsInput input meaning
-script_kept None kept meaning is script = tt
-script_kept (Some bytes) kept meaning is script = sym (reading_of-take bytes) ∙ (sym (ap reading_of is) ∙ script)
+pub script_kept : (input : Option (List ℕ)) (kept : List ℕ) {meaning : Meaning} → IsKept input kept → IsScript kept meaning → IsInput input meaning
+script_kept None kept is script = tt
+script_kept (Some bytes) kept is script = sym (reading_of-take bytes) ∙ (sym (ap reading_of is) ∙ script)
 
 pub fault_kept : (input : Option (List ℕ)) (kept : List ℕ) (error : ScriptError)
     → IsKept input kept → IsFaultOf kept error → IsInputFault input (fault_told error)

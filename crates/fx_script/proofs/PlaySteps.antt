@@ -29,11 +29,11 @@ Appends-append (Some a) (Some b) (Some c) xs ys first second =
     second ∙ ap (λ (k : List ℕ). k ++ ys) first ∙ append_assoc a xs ys
 
 -- what is known of a play without memory may be put otherwise
-fault_maps : (fault : PlayFault) (one other : Type 0) → (one → other) → IsPlayFault fault one → IsPlayFault fault other
-fault_maps Read one other f known = known
-fault_maps (Script line kind) one other f known = known
-fault_maps Write one other f known = known
-fault_maps NoMemory one other f known = f known
+fault_maps : (fault : PlayFault) {one other : Type 0} → (one → other) → IsPlayFault fault one → IsPlayFault fault other
+fault_maps Read f known = known
+fault_maps (Script line kind) f known = known
+fault_maps Write f known = known
+fault_maps NoMemory f known = f known
 
 -- what some commands print, with what those behind them print
 
@@ -73,7 +73,7 @@ prints_nothing now (command ∷ commands) = inl refl
 -- where nothing was written, that is what no commands print
 pub nothing_written : (fault : PlayFault) (ring : RingContents) (commands : List Instruction) (before written : Option (List ℕ))
     → IsPlayFault fault (written ≡ before) → IsPlayFault fault (Writes (PrintsFirst ring commands) before written)
-nothing_written fault ring commands before written = fault_maps fault _ _ (λ same.
+nothing_written fault ring commands before written = fault_maps fault (λ same.
     ([], prints_nothing ring commands, subst (λ (w : Option (List ℕ)). Appends before w []) (sym same) (Appends-nothing before)))
 
 -- the first so many commands were played: what was written is the text of these
@@ -105,10 +105,10 @@ module _ (ring now : RingContents) (commands : List Command) (i : ℕ) (before k
   )
 
   -- and one more
-  pub one_more : (next : RingContents) (command : Command) → i < length commands → command ≡ slice_index_or commands i command
+  pub one_more : (next : RingContents) {command : Command} → i < length commands → command ≡ slice_index_or commands i command
       → Writes (Prints now (instruction_of command) next) known written
       → Writes (PrintsUpTo ring (instructions_of (take (i + 1) commands)) next) before written
-  one_more next command inside is one =
+  one_more next {command} inside is one =
       let alone = one_alone now next (instruction_of command) known written one in (
         so_far.0 ++ alone.0,
         subst (λ (l : List Instruction). PrintsUpTo ring l next (so_far.0 ++ alone.0))
@@ -131,7 +131,7 @@ module _ (ring now : RingContents) (commands : List Command) (i : ℕ) (before k
   -- or the play came to no end behind them
   pub ends_early : (fault : PlayFault) → IsPlayFault fault (Writes (PrintsFirst now back) known written)
       → IsPlayFault fault (Writes (PrintsFirst ring (instructions_of commands)) before written)
-  ends_early fault = fault_maps fault _ _ (λ (line, prints, appended). (
+  ends_early fault = fault_maps fault (λ (line, prints, appended). (
     so_far.0 ++ line,
     subst (λ (l : List Instruction). PrintsFirst ring l (so_far.0 ++ line)) whole
         (first_more now line front back ring so_far.0 so_far.1 prints),
@@ -167,7 +167,7 @@ module _ (ring opened after closed : RingContents) (opens : ring_of opened ≡ r
       → IfErr r (λ fault. IsPlayFault fault (Writes (PrintsFirst opened (instructions_of commands)) before written))
       → IfErr r (λ fault. IsPlayFault fault (Writes (PrintsFirst ring (instructions_of commands)) before written))
   failed_open (Ok count) failed = tt
-  failed_open (Err fault) failed = fault_maps fault _ _ (λ (text, prints, appended).
+  failed_open (Err fault) failed = fault_maps fault (λ (text, prints, appended).
       (text, first_same opened ring (sym opens) (instructions_of commands) text prints, appended)) failed
 
 -- the text of commands that begin with a ring without a table is the script's
@@ -183,7 +183,7 @@ module _ (meaning : Meaning) (ring : RingContents) (start : IsStart meaning ring
   pub first_text : (r : Result (Unit {0}) PlayFault) → IfErr r (λ fault. IsPlayFault fault (Writes (PrintsFirst ring commands) before written))
       → IfErr r (λ fault. IsPlayFault fault (Writes (IsTextOfFirst meaning) before written))
   first_text (Ok done) failed = tt
-  first_text (Err fault) failed = fault_maps fault _ _ (λ (text, prints, appended).
+  first_text (Err fault) failed = fault_maps fault (λ (text, prints, appended).
       (text, (ring, start, subst (λ (l : List Instruction). PrintsFirst ring l text) same prints), appended)) failed
 
 -- without a table no file is left

@@ -22,14 +22,14 @@ module _ (old same next : RingContents) (line : List ℕ) (is : ring_of same ≡
   OnSubmit fault many ring reported = MatchOption fault (MatchBool many ((ring_of next ≡ ring) × (line ≡ too_many_line)) reported)
       (λ f. (ring_of next ≡ ring) × (line ≡ refused_line f))
 
-  reports : (fault : Option CutFault) (many : Bool) (ring : RingState) (one other : Type 0) → (one → other)
+  reports : (fault : Option CutFault) (many : Bool) (ring : RingState) {one other : Type 0} → (one → other)
       → OnSubmit fault many ring one → OnSubmit fault many ring other
-  reports None true ring one other f p = p
-  reports None false ring one other f p = f p
-  reports (Some fault) many ring one other f p = p
+  reports None true ring f p = p
+  reports None false ring f p = f p
+  reports (Some fault) many ring f p = p
 
-  report_same : (asked : List Asked) → PrintsReport old asked next line → PrintsReport same asked next line
-  report_same asked (report, one, text) =
+  report_same : {asked : List Asked} → PrintsReport old asked next line → PrintsReport same asked next line
+  report_same {asked} (report, one, text) =
       (report, same_history old same next asked report is one, subst (λ (r : RingState). line ≡ report_text r.catalogue report) (sym is) text)
 
   prints_same : (command : Instruction) → Prints old command next line → Prints same command next line
@@ -50,9 +50,7 @@ module _ (old same next : RingContents) (line : List ℕ) (is : ring_of same ≡
       × PrintsClosed r (removed_from r.at off list) (result_line (codes "regupdate") (pos (length list))) line)
       (IsRefused r (ring_of next) (codes "regupdate") line)) (sym is) p
   prints_same (SubmitsAll asked) p = subst (λ (r : RingState). OnSubmit (fault_of asked) (nat_le MOST_SUBMISSIONS r.submissions) r
-      (PrintsReport same asked next line)) (sym is)
-      (reports (fault_of asked) (nat_le MOST_SUBMISSIONS old.submissions) (ring_of old) (PrintsReport old asked next line)
-      (PrintsReport same asked next line) (report_same asked) p)
+      (PrintsReport same asked next line)) (sym is) (reports (fault_of asked) (nat_le MOST_SUBMISSIONS old.submissions) (ring_of old) (report_same) p)
 
 module _ (old same : RingContents) (is : ring_of same ≡ ring_of old) where
   pub up_to_same : (commands : List Instruction) (last : RingContents) (text : List ℕ) → PrintsUpTo old commands last text

@@ -25,25 +25,25 @@ both_consumed (Some xs) (Some ys) None x y first second = absurd second
 both_consumed (Some xs) (Some ys) (Some zs) x y first second = first ∙ (ap (λ (l : List ℕ). x ++ l) second ∙ sym (append_assoc x y zs))
 
 -- one more read
-pub one_read : (n count : ℕ) (old now next : Option (List ℕ)) (input more buffer : List ℕ) → Kept n old now input
+pub one_read : {n : ℕ} (count : ℕ) {old now next : Option (List ℕ)} {input more : List ℕ} (buffer : List ℕ) → Kept n old now input
     → Consumes now next (take count buffer)
     → more ≡ input ++ take (n - length input) (take count buffer) → Kept n old next more
-one_read n count old now next input more buffer kept gone grown = record {
+one_read {n} count {old} {now} {next} buffer kept gone grown = record {
   read = kept.read ++ take count buffer;
   gone = both_consumed old now next kept.read (take count buffer) kept.gone gone;
   kept = grown ∙ (ap (λ (xs : List ℕ). xs ++ take (n - length xs) (take count buffer)) kept.kept ∙ take_append n kept.read (take count buffer));
 }
 
-pub few_kept : (n : ℕ) (input more part : List ℕ) → length input ≤ n → more ≡ input ++ take (n - length input) part → length more ≤ n
-few_kept n input more part few grown = omega (arith, ap length grown, length-append {A = ℕ}, length-take {A = ℕ})
+pub few_kept : {n : ℕ} (input : List ℕ) {more : List ℕ} (part : List ℕ) → length input ≤ n → more ≡ input ++ take (n - length input) part → length more ≤ n
+few_kept input part few grown = omega (arith, ap length grown, length-append {A = ℕ}, length-take {A = ℕ})
 
 -- a read that gave nothing at the end: all was read
-pub at_end : (n : ℕ) (old now next : Option (List ℕ)) (input : List ℕ) (count : ℕ) (buffer : List ℕ) → Kept n old now input
+pub at_end : {n : ℕ} (old now next : Option (List ℕ)) {input : List ℕ} {count : ℕ} (buffer : List ℕ) → Kept n old now input
     → Consumes now next (take count buffer) → count ≡ 0 → IsAtEnd next → IfSome old (λ bytes. input ≡ take n bytes)
-at_end n None now next input count buffer kept gone none end = tt
-at_end n (Some bytes) None next input count buffer kept gone none end = absurd kept.gone
-at_end n (Some bytes) (Some left) None input count buffer kept gone none end = absurd gone
-at_end n (Some bytes) (Some left) (Some last) input count buffer kept gone none end =
+at_end None now next buffer kept gone none end = tt
+at_end (Some bytes) None next buffer kept gone none end = absurd kept.gone
+at_end (Some bytes) (Some left) None buffer kept gone none end = absurd gone
+at_end {n} (Some bytes) (Some left) (Some last) buffer kept gone none end =
     let nothing : left ≡ [] = gone ∙ (ap (λ (k : ℕ). take k buffer ++ last) none ∙ end) in
     let all : bytes ≡ kept.read = kept.gone ∙ (ap (λ (l : List ℕ). kept.read ++ l) nothing ∙ append-nil kept.read) in
     kept.kept ∙ ap (take n) (sym all)

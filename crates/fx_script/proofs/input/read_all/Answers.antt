@@ -6,8 +6,7 @@ use Rattle.fx_script.proofs.input.read_all.Goals as goal
 pub returns-then-n-eq0-clause-kept : goal.returns-then-n-eq0-clause-kept
 returns-then-n-eq0-clause-kept g c =
     let remaining = g.I.Read.remaining in
-    at_end (LONGEST_SCRIPT + 1) (remaining c.args.reader.now) (remaining c.reading.reader) (remaining c.read.new.self)
-    c.reading.input.items c.in-Ok.n c.read.new.buf c.reading.invariant.kept
+    at_end (remaining c.args.reader.now) (remaining c.reading.reader) (remaining c.read.new.self) c.read.new.buf c.reading.invariant.kept
     c.in-Ok.ensures.bytes.0 c.if-n-eq0.true (c.in-Ok.ensures.bytes.1 c.if-n-eq0.true (search rules))
 
 pub reading-preserved : goal.reading-preserved
@@ -18,7 +17,6 @@ reading-preserved g c =
     let more : List ℕ = c.extend_from_slice.new.self.items in
     let grown : more ≡ input ++ take (most - length input) (take c.in-Ok.n c.read.new.buf) = search rules in
     record {
-      kept = one_read most c.in-Ok.n (remaining c.args.reader.now) (remaining c.reading.reader) (remaining c.read.new.self)
-          input more c.read.new.buf c.reading.invariant.kept c.in-Ok.ensures.bytes.0 grown;
-      few = few_kept most input more (take c.in-Ok.n c.read.new.buf) c.reading.invariant.few grown;
+      kept = one_read c.in-Ok.n c.read.new.buf c.reading.invariant.kept c.in-Ok.ensures.bytes.0 grown;
+      few = few_kept input (take c.in-Ok.n c.read.new.buf) c.reading.invariant.few grown;
     }

@@ -13,8 +13,7 @@ returns-in-Ok-play_command-clause-ok g c =
     (contents c.args.writer.now) known = search rules in
     let inside : c.in-Ok.count < length c.args.commands.now = search rules in
     one_more c.args.ring c.play_together-ring.result.0 c.args.commands.now c.in-Ok.count (contents c.args.writer.now) known
-    (contents c.play_command.new.writer) so_far c.play_command.new.ring c.in-Some.next.now inside c.in-Some.ensures.lookup.1
-    c.in-Ok-play_command.ensures.ok
+    (contents c.play_command.new.writer) so_far c.play_command.new.ring inside c.in-Some.ensures.lookup.1 c.in-Ok-play_command.ensures.ok
 
 pub returns-in-Err-play_command-clause-fault : goal.returns-in-Err-play_command-clause-fault
 returns-in-Err-play_command-clause-fault g c =

@@ -16,4 +16,4 @@ pub returns-clause-script : goal.returns-clause-script
 returns-clause-script g c =
     let input = g.I.Read.remaining c.args.reader.now in
     let kept = subst (IsKept input) (sym c.as_slice.ensures.value) c.in_ok-input.ensures.kept in
-    script_kept input c.as_slice.result.now c.in_ok-script.script kept c.in_ok-script.ensures.script
+    script_kept input c.as_slice.result.now kept c.in_ok-script.ensures.script

@@ -30,6 +30,5 @@ loop-i-preserved g c =
     let same : SubmitsAll (all_asked c.as_slice.result.now) ≡ instruction_of c.index-commands-i.result =
     ap (λ l. SubmitsAll (all_asked l)) c.as_slice.ensures.value ∙ ap instruction_of (sym c.in-Submit.is) in
     one_more c.args.opened.now.ring ring c.args.commands.now c.loop-i.i (contents c.args.writer.now) known
-    (contents c.write_text.new.writer) c.loop-i.invariant next c.index-commands-i.result (search rules)
-    c.index-commands-i.is
+    (contents c.write_text.new.writer) c.loop-i.invariant next (search rules) c.index-commands-i.is
     (string_bytes c.in-Some.text, subst (λ (i : Instruction). Prints ring i next (string_bytes c.in-Some.text)) same prints, written)
