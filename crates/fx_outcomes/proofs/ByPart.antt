@@ -10,8 +10,8 @@ use Rattle.fx_base.specs.Identity.{Identity}
 use Rattle.fx_order.specs.declared.access.ChainAccess.{ChainAccess}
 use Rattle.fx_outcomes.proofs.Commuting.{AreApart, ComesTo, Leaves, first_of, in_front, left_by, swapped, table}
 
-by_less : (m n : ℕ) (P : Bool → Type 0) → (m < n → P true) → (n ≤ m → P false) → P (nat_lt m n)
-by_less m n P less not = elim (cases_lt m n) [
+by_less : {m n : ℕ} (P : Bool → Type 0) → (m < n → P true) → (n ≤ m → P false) → P (nat_lt m n)
+by_less {m} {n} P less not = elim (cases_lt m n) [
   | inl l ↦ subst P (sym (lt-ltb m n l)) (less l)
   | inr g ↦ subst P (sym (le-ltb m n g)) (not g)
 ]
@@ -30,23 +30,21 @@ module _ (part : ℕ → ℕ) where
   IsByPart [] = Unit {0}
   IsByPart (x ∷ l) = All (λ y. part x.chain ≤ part y.chain) l × IsByPart l
 
-  all_insert : (P : ChainAccess → Type 0) (x : ChainAccess) (l : List ChainAccess) → P x → All P l → All P (insert x l)
-  all_insert P x [] one all = All-cons P x [] one all
-  all_insert P x (y ∷ l) one all =
-      by_less (part y.chain) (part x.chain) (λ b. All P (if b then y ∷ insert x l else x ∷ y ∷ l))
-      (λ _. All-cons P y (insert x l) (All-head P y l all) (all_insert P x l one (All-tail P y l all)))
-      (λ _. All-cons P x (y ∷ l) one all)
+  all_insert : (P : ChainAccess → Type 0) {x : ChainAccess} (l : List ChainAccess) → P x → All P l → All P (insert x l)
+  all_insert P {x} [] one all = All-cons P x [] one all
+  all_insert P {x} (y ∷ l) one all =
+      by_less (λ b. All P (if b then y ∷ insert x l else x ∷ y ∷ l))
+      (λ _. All-cons P y (insert x l) (All-head P y l all) (all_insert P l one (All-tail P y l all))) (λ _. All-cons P x (y ∷ l) one all)
 
   pub all_by_part : (P : ChainAccess → Type 0) (l : List ChainAccess) → All P l → All P (part_by_part l)
   all_by_part P [] all = all
-  all_by_part P (x ∷ l) all = all_insert P x (part_by_part l) (All-head P x l all) (all_by_part P l (All-tail P x l all))
+  all_by_part P (x ∷ l) all = all_insert P (part_by_part l) (All-head P x l all) (all_by_part P l (All-tail P x l all))
 
   insert_by_part : (x : ChainAccess) (l : List ChainAccess) → IsByPart l → IsByPart (insert x l)
   insert_by_part x [] by = (All-nil (λ (y : ChainAccess). part x.chain ≤ part y.chain), tt)
   insert_by_part x (y ∷ l) by =
-      by_less (part y.chain) (part x.chain) (λ b. IsByPart (if b then y ∷ insert x l else x ∷ y ∷ l))
-      (λ less. (all_insert (λ (z : ChainAccess). part y.chain ≤ part z.chain) x l (omega (arith, less)) by.0, insert_by_part x l by.1))
-      (λ not. (
+      by_less (λ b. IsByPart (if b then y ∷ insert x l else x ∷ y ∷ l))
+      (λ less. (all_insert (λ (z : ChainAccess). part y.chain ≤ part z.chain) l (omega (arith, less)) by.0, insert_by_part x l by.1)) (λ not. (
         All-cons (λ (z : ChainAccess). part x.chain ≤ part z.chain) y l not
             (All-weaker (λ (z : ChainAccess). part y.chain ≤ part z.chain) (λ (z : ChainAccess). part x.chain ≤ part z.chain) (λ z more. omega (arith, not, more)) l by.0),
         by,
@@ -74,7 +72,7 @@ module _ (part : ℕ → ℕ) where
   same_of_insert : (chain : ℕ) (x : ChainAccess) (l : List ChainAccess) → of chain (insert x l) ≡ of chain (x ∷ l)
   same_of_insert chain x [] = refl
   same_of_insert chain x (y ∷ l) =
-      by_less (part y.chain) (part x.chain) (λ b. of chain (if b then y ∷ insert x l else x ∷ y ∷ l) ≡ of chain (x ∷ y ∷ l))
+      by_less (λ b. of chain (if b then y ∷ insert x l else x ∷ y ∷ l) ≡ of chain (x ∷ y ∷ l))
       (λ less. one_more chain y (insert x l) (x ∷ l) (same_of_insert chain x l)
       ∙ flipped chain x y l (λ same. let parts = ap part same in absurd (omega (arith, less, parts))))
       (λ _. refl)
@@ -87,12 +85,12 @@ module _ (part : ℕ → ℕ) where
   same_chain chain l = ap accesses_of (same_of chain l)
 
   -- a chain of an earlier part than all of these has no access among them
-  pub none_before : (chain : ℕ) (l : List ChainAccess) → All (λ x. part chain < part x.chain) l → accesses_of_chain chain l ≡ []
-  none_before chain [] later = refl
-  none_before chain (x ∷ l) later =
+  pub none_before : {chain : ℕ} (l : List ChainAccess) → All (λ x. part chain < part x.chain) l → accesses_of_chain chain l ≡ []
+  none_before [] later = refl
+  none_before {chain} (x ∷ l) later =
       by_equality x.chain chain (λ b. accesses_of (cond b (x ∷ of chain l) (of chain l)) ≡ [])
       (λ same. let less = All-head (λ (y : ChainAccess). part chain < part y.chain) x l later in let parts = ap part same in absurd (omega (arith, less, parts)))
-      (λ _. none_before chain l (All-tail (λ (y : ChainAccess). part chain < part y.chain) x l later))
+      (λ _. none_before l (All-tail (λ (y : ChainAccess). part chain < part y.chain) x l later))
 
   -- the same files are removed
   abbrev removed : List ChainAccess → List Closed
@@ -103,7 +101,7 @@ module _ (part : ℕ → ℕ) where
   same_removed_insert x (y ∷ l) =
       let mine : List Closed = option_to_list (removed_by x.access) in
       let its : List Closed = option_to_list (removed_by y.access) in
-      by_less (part y.chain) (part x.chain) (λ b. IsPermutation (removed (if b then y ∷ insert x l else x ∷ y ∷ l)) (removed (x ∷ y ∷ l)))
+      by_less (λ b. IsPermutation (removed (if b then y ∷ insert x l else x ∷ y ∷ l)) (removed (x ∷ y ∷ l)))
       (λ _. IsPermutation-trans (removed (y ∷ insert x l)) (its ++ (mine ++ removed l)) (removed (x ∷ y ∷ l))
       (IsPermutation-append_right its (removed (insert x l)) (removed (x ∷ l)) (same_removed_insert x l))
       (subst (λ (z : List Closed). IsPermutation z (mine ++ (its ++ removed l))) (append_assoc its mine (removed l))
@@ -126,14 +124,13 @@ module _ (part : ℕ → ℕ) where
     apart : (x y : ChainAccess) → part y.chain < part x.chain → IsInPart x → IsInPart y → AreApart size range x.access y.access
     apart x y less mine its slot few one other = let same = sym (mine slot few one) ∙ its slot few other in absurd (omega (arith, less, same))
 
-    insert_leaves : (x : ChainAccess) (l : List ChainAccess) (at : ℕ → Option Identity) (end : Table) → IsInPart x → All IsInPart l
+    insert_leaves : {x : ChainAccess} (l : List ChainAccess) (at : ℕ → Option Identity) (end : Table) → IsInPart x → All IsInPart l
         → Leaves size range (table size range at) (accesses_of (x ∷ l)) end → Leaves size range (table size range at) (accesses_of (insert x l)) end
-    insert_leaves x [] at end one all leaves = leaves
-    insert_leaves x (y ∷ l) at end one all leaves =
-        by_less (part y.chain) (part x.chain) (λ b. Leaves size range (table size range at) (accesses_of (if b then y ∷ insert x l else x ∷ y ∷ l)) end)
-        (λ less.
+    insert_leaves [] at end one all leaves = leaves
+    insert_leaves {x} (y ∷ l) at end one all leaves =
+        by_less (λ b. Leaves size range (table size range at) (accesses_of (if b then y ∷ insert x l else x ∷ y ∷ l)) end) (λ less.
         let s = swapped size range at x.access y.access (accesses_of l) end (apart x y less one (All-head IsInPart y l all)) leaves in
-        in_front size range at y.access (accesses_of (insert x l)) end s.0 (insert_leaves x l (left_by y.access at) end one (All-tail IsInPart y l all) s.1))
+        in_front size range at y.access (accesses_of (insert x l)) end s.0 (insert_leaves l (left_by y.access at) end one (All-tail IsInPart y l all) s.1))
         (λ _. leaves)
 
     pub leaves_by_part : (l : List ChainAccess) (at : ℕ → Option Identity) (end : Table) → All IsInPart l
@@ -141,5 +138,5 @@ module _ (part : ℕ → ℕ) where
     leaves_by_part [] at end all leaves = leaves
     leaves_by_part (x ∷ l) at end all leaves =
         let one = first_of size range at x.access (accesses_of l) end leaves in
-        insert_leaves x (part_by_part l) at end (All-head IsInPart x l all) (all_by_part IsInPart l (All-tail IsInPart x l all))
+        insert_leaves (part_by_part l) at end (All-head IsInPart x l all) (all_by_part IsInPart l (All-tail IsInPart x l all))
         (in_front size range at x.access (accesses_of (part_by_part l)) end one.0 (leaves_by_part l (left_by x.access at) end (All-tail IsInPart x l all) one.1))

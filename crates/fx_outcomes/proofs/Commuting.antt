@@ -94,8 +94,8 @@ module _ (size : ℕ) (range : ℕ × ℕ) where
     pub second : Permits (table (left_by b at)) a
     pub same : left_by b (left_by a at) ≡ left_by a (left_by b at)
 
-  pub swap : (a b : Access) (at : ℕ → Option Identity) → AreApart a b → Permits (table at) a → Permits (table (left_by a at)) b → Swapped a b at
-  swap a b at apart mine its =
+  pub swap : {a b : Access} (at : ℕ → Option Identity) → AreApart a b → Permits (table at) a → Permits (table (left_by a at)) b → Swapped a b at
+  swap {a} {b} at apart mine its =
       let own = writes_own a at mine in
       let other = writes_own b (left_by a at) its in
       record {
@@ -128,7 +128,7 @@ module _ (size : ℕ) (range : ℕ × ℕ) where
   swapped at a b accesses end apart leaves =
       let one = first_of at a (b ∷ accesses) end leaves in
       let two = first_of (left_by a at) b accesses end one.1 in
-      let s = swap a b at apart one.0 two.0 in (
+      let s = swap at apart one.0 two.0 in (
         s.first,
         in_front (left_by b at) a accesses end s.second (subst (λ (f : ℕ → Option Identity). Leaves (table f) accesses end) s.same two.1),
       )

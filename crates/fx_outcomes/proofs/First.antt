@@ -60,8 +60,7 @@ module _ (catalogue : List FileEntry) (size submission : ℕ) (order : List Chai
         let mem = both_parts HasMemory done.0 done.1 (subst (AllByRecursion HasMemory) done.2 memory) in
         let at = one_at chain run runs start in
         let f = find (chain + 1) runs done.1 mem.1 done.4 at.2 in
-        let g = settles catalogue size (rules_of catalogue size) (are_right catalogue size) (first_member submission chain) run
-        (accesses_of_chain chain order) done.0 mem.0 done.3 in
+        let g = settles catalogue size (rules_of catalogue size) (are_right catalogue size) (first_member submission chain) run mem.0 done.3 in
         record {
           finals = put chain done.0 f.finals;
           whole = done.2 ∙ (
@@ -97,7 +96,7 @@ all_said idle says old requests states all report left memory any =
       within = one.is.chains;
       each = λ q low high. inr (f.each q low (omega (arith, high)));
     } in
-    let run = runs_on old.catalogue old.size says idle all.idling (length runs) f.finals states all.parts all.closed one.order one.by all.first all.inside comes in (
+    let run = runs_on old.catalogue old.size says idle all.idling (length runs) f.finals all.parts all.closed one.order one.by all.inside comes in (
       subst (AllByRecursion says) (sym f.whole) (all_told says f.finals 1 runs (λ q low high. run.2.said q low (omega (arith, high)))),
       record {
         state = run.0;

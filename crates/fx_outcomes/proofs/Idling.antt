@@ -49,14 +49,14 @@ module _ (made : ℕ) where
   )
 
   module _ (catalogue : List FileEntry) (size : ℕ) where
-    read_done : (place : Place) (own : List Access) (c : Completed) (operation : Operation) → is_read operation ≡ true
+    read_done : {place : Place} (own : List Access) (c : Completed) (operation : Operation) → is_read operation ≡ true
         → IsRequestDone catalogue size place operation own c → All IsLook own × (c.place ≡ place)
-    read_done place own c (Reads slot off len) is =
+    read_done {place} own c (Reads slot off len) is =
         reads size place (λ l d. All IsLook l × (d.place ≡ place)) (λ _. (All-nil IsLook, refl)) own c catalogue slot off len (look slot None, refl)
         (λ file. (look slot (Some file), refl))
-    read_done place own c (Opens name target) isnt = absurd (false≢true isnt)
-    read_done place own c (Closes slot) isnt = absurd (false≢true isnt)
-    read_done place own c (Updates off list) isnt = absurd (false≢true isnt)
+    read_done own c (Opens name target) isnt = absurd (false≢true isnt)
+    read_done own c (Closes slot) isnt = absurd (false≢true isnt)
+    read_done own c (Updates off list) isnt = absurd (false≢true isnt)
 
     pub reads_done : (place : Place) (requests : List Asked) (accesses : List Access) (cs : List Completed)
         → list_all (λ request. is_read request.operation) requests ≡ true → IsChainDone catalogue size place requests accesses cs
@@ -64,7 +64,7 @@ module _ (made : ℕ) where
     reads_done place [] accesses cs all x = (none accesses x.0, subst (AllByRecursion (Left place [])) (sym x.1) tt)
     reads_done place (request ∷ requests) accesses cs all x =
         let both = and_parts _ _ all in
-        let mine = read_done place x.0 x.2 request.operation both.0 x.6 in
+        let mine = read_done x.0 x.2 request.operation both.0 x.6 in
         let L : Completed → Type 0 = Left place (request ∷ requests) in
         let on : Completed → Type 0 = Left (next_member place) requests in
         let rest : All IsLook x.1 × AllByRecursion L x.3 = either_way {R = All IsLook x.1 × AllByRecursion L x.3} (severs request x.2)

@@ -35,8 +35,7 @@ module _ (catalogue : List FileEntry) (size : ℕ) where
       → IsNext catalogue size rest a
       × OfChain (step (rules_of catalogue size) rest a).1 (told ++ (step (rules_of catalogue size) rest a).0) final accesses
   steps_on rest told final a accesses of =
-      let stepped = steps catalogue size (rules_of catalogue size) (are_right catalogue size) rest.place rest.requests rest.made a accesses
-      of.later of.memory of.ready of.rest_is in
+      let stepped = steps catalogue size (rules_of catalogue size) (are_right catalogue size) rest.requests of.memory of.ready of.rest_is in
       let goes = stepped.1 in (
         stepped.0,
         record {
@@ -52,7 +51,7 @@ module _ (catalogue : List FileEntry) (size : ℕ) where
   -- without an access that is left it is over
   pub told_whole : (rest : Rest) (told final : List Completed) → OfChain rest told final [] → (rest.requests ≡ []) × (final ≡ told)
   told_whole rest told final of =
-      let none = ends catalogue size (rules_of catalogue size) (are_right catalogue size) rest of.later of.memory of.ready of.rest_is in
+      let none = ends catalogue size (rules_of catalogue size) (are_right catalogue size) of.memory of.ready of.rest_is in
       (none.0, of.whole ∙ (ap (λ (l : List Completed). told ++ l) none.1 ∙ append-nil told))
 
 -- an idle chain is left alone: what it told and may tell is said, and its accesses look at slots
@@ -70,9 +69,9 @@ module _ (catalogue : List FileEntry) (size : ℕ) (says : Completed → Type 0)
   Goes_on rest final accesses = OfIdle says idle rest final accesses ⊎ IsSaid rest final accesses
 
   -- a chain that is idle from here on
-  as_idle : (rest : Rest) (final : List Completed) (accesses : List Access) → idle rest ≡ true → Goes_on rest final accesses → OfIdle says idle rest final accesses
-  as_idle rest final accesses is (inl of) = of
-  as_idle rest final accesses is (inr (told, said, of)) =
+  as_idle : {rest : Rest} {final : List Completed} {accesses : List Access} → idle rest ≡ true → Goes_on rest final accesses → OfIdle says idle rest final accesses
+  as_idle is (inl of) = of
+  as_idle {rest} {accesses} is (inr (told, said, of)) =
       let done = reads_done rest.made catalogue size rest.place rest.requests (of.rest_is.front ++ accesses) of.later (idling.reads rest is) of.rest_is.done in
       record {
         is_idle = is;
@@ -87,16 +86,16 @@ module _ (catalogue : List FileEntry) (size : ℕ) (says : Completed → Type 0)
       behind (x ∷ front) l all = behind front l (All-tail IsLook x (front ++ l) all)
 
   -- and one that isn't
-  as_chain : (rest : Rest) (final : List Completed) (accesses : List Access) → idle rest ≡ false → Goes_on rest final accesses
+  as_chain : {rest : Rest} {final : List Completed} {accesses : List Access} → idle rest ≡ false → Goes_on rest final accesses
       → IsSaid rest final accesses
-  as_chain rest final accesses isnt (inl of) = absurd (false≢true (sym isnt ∙ of.is_idle))
-  as_chain rest final accesses isnt (inr of) = of
+  as_chain isnt (inl of) = absurd (false≢true (sym isnt ∙ of.is_idle))
+  as_chain isnt (inr of) = of
 
   -- without an access that is left it is idle, and all that it tells is said
-  ended : (rest : Rest) (final : List Completed) (accesses : List Access) → accesses ≡ [] → Goes_on rest final accesses
+  ended : {rest : Rest} {final : List Completed} {accesses : List Access} → accesses ≡ [] → Goes_on rest final accesses
       → (idle rest ≡ true) × AllByRecursion says final
-  ended rest final accesses is (inl of) = (of.is_idle, of.said)
-  ended rest final accesses is (inr (told, said, of)) =
+  ended is (inl of) = (of.is_idle, of.said)
+  ended {rest} {final} is (inr (told, said, of)) =
       let none = told_whole catalogue size rest told final (subst (OfChain catalogue size rest told final) is of) in
       (idling.over rest none.0, subst (AllByRecursion says) (sym none.1) said)
 
@@ -108,23 +107,23 @@ module _ (catalogue : List FileEntry) (size : ℕ) (says : Completed → Type 0)
       pub each : (chain : ℕ) → 1 ≤ chain → chain ≤ chains → Goes_on (state.rests chain) (finals chain) (accesses_of_chain chain order)
 
     -- its first access is one that its chain may make next, unless the chain is idle
-    next_one : (state : StateView) (x : ChainAccess) (order : List ChainAccess) → idle (state.rests x.chain) ≡ false → Comes state (x ∷ order)
+    next_one : {state : StateView} {x : ChainAccess} {order : List ChainAccess} → idle (state.rests x.chain) ≡ false → Comes state (x ∷ order)
         → (told : List Completed) × AllByRecursion says told
         × (IsNext catalogue size (state.rests x.chain) x.access
         × OfChain catalogue size (step (rules_of catalogue size) (state.rests x.chain) x.access).1
         (told ++ (step (rules_of catalogue size) (state.rests x.chain) x.access).0) (finals x.chain) (accesses_of_chain x.chain order))
-    next_one state x order awake comes =
+    next_one {state} {x} {order} awake comes =
         let own = All-head (λ (y : ChainAccess). (1 ≤ y.chain) × (y.chain ≤ chains)) x order comes.within in
         let (told, said, of) = subst (IsSaid (state.rests x.chain) (finals x.chain)) (own_first x order)
-        (as_chain (state.rests x.chain) (finals x.chain) (accesses_of_chain x.chain (x ∷ order)) awake (comes.each x.chain own.0 own.1)) in
+        (as_chain awake (comes.each x.chain own.0 own.1)) in
         (told, said, steps_on catalogue size (state.rests x.chain) told (finals x.chain) x.access (accesses_of_chain x.chain order) of)
 
     -- and where what that answers is said, the others go on from where it leads
-    goes_on : (state next : StateView) (x : ChainAccess) (order : List ChainAccess) → idle (state.rests x.chain) ≡ false → Comes state (x ∷ order)
+    goes_on : {state next : StateView} {x : ChainAccess} {order : List ChainAccess} → idle (state.rests x.chain) ≡ false → Comes state (x ∷ order)
         → AllByRecursion says (step (rules_of catalogue size) (state.rests x.chain) x.access).0
         → Leads (rules_of catalogue size) state x.chain x.access next → Comes next order
-    goes_on state next x order awake comes said leads =
-        let one = next_one state x order awake comes in
+    goes_on {state} {next} {x} {order} awake comes said leads =
+        let one = next_one awake comes in
         let now = (step (rules_of catalogue size) (state.rests x.chain) x.access).0 in
         record {
           permitted = subst (λ (t : Table). PermitsAll t (accesses_of order)) (sym leads.table) comes.permitted.1;
@@ -141,13 +140,12 @@ module _ (catalogue : List FileEntry) (size : ℕ) (says : Completed → Type 0)
         }
 
     -- the access of an idle chain looks at a slot, and the order goes on without it
-    goes_by : (state : StateView) (x : ChainAccess) (order : List ChainAccess) → idle (state.rests x.chain) ≡ true → Comes state (x ∷ order)
+    goes_by : {state : StateView} {x : ChainAccess} {order : List ChainAccess} → idle (state.rests x.chain) ≡ true → Comes state (x ∷ order)
         → (table_with state.table x.access ≡ state.table) × Comes state order
-    goes_by state x order asleep comes =
+    goes_by {state} {x} {order} asleep comes =
         let own = All-head (λ (y : ChainAccess). (1 ≤ y.chain) × (y.chain ≤ chains)) x order comes.within in
         let rest : Rest = state.rests x.chain in
-        let of = subst (OfIdle says idle rest (finals x.chain)) (own_first x order)
-        (as_idle rest (finals x.chain) (accesses_of_chain x.chain (x ∷ order)) asleep (comes.each x.chain own.0 own.1)) in
+        let of = subst (OfIdle says idle rest (finals x.chain)) (own_first x order) (as_idle asleep (comes.each x.chain own.0 own.1)) in
         let look = All-head IsLook x.access (accesses_of_chain x.chain order) of.looks in
         let same : table_with state.table x.access ≡ state.table = ap (table_with state.table) look.2 in (
           same,
@@ -173,32 +171,31 @@ module _ (catalogue : List FileEntry) (size : ℕ) (says : Completed → Type 0)
       pub said : (chain : ℕ) → 1 ≤ chain → chain ≤ chains → AllByRecursion says (finals chain)
       pub table_is : state.table ≡ table
 
-    pub runs_on : (states : List StateView) (parts : Parts) → AreClosed catalogue size idle parts says chains states → (order : List ChainAccess)
-        → IsByPart parts.of_chain order → (state : StateView) → Contains states state → Comes state order
+    pub runs_on : {states : List StateView} (parts : Parts) → AreClosed catalogue size idle parts says chains states → (order : List ChainAccess)
+        → IsByPart parts.of_chain order → {state : StateView} → Contains states state → Comes state order
         → (end : StateView) × Contains states end × Ended (table_after state.table (accesses_of order)) end
-    runs_on states parts closed [] by state there comes = (
+    runs_on parts closed [] by {state} there comes = (
       state,
       there,
       record {
-        over = λ chain low high. (ended (state.rests chain) (finals chain) [] refl (comes.each chain low high)).0;
-        said = λ chain low high. (ended (state.rests chain) (finals chain) [] refl (comes.each chain low high)).1;
+        over = λ chain low high. (ended refl (comes.each chain low high)).0;
+        said = λ chain low high. (ended refl (comes.each chain low high)).1;
         table_is = refl;
       },
     )
-    runs_on states parts closed (x ∷ order) by state there comes =
+    runs_on {states} parts closed (x ∷ order) by {state} there comes =
         elim (idle (state.rests x.chain)) as (λ b. idle (state.rests x.chain) ≡ b
         → (end : StateView) × Contains states end × Ended (table_after (table_with state.table x.access) (accesses_of order)) end) [
           | true ↦ λ asleep.
-              let on = goes_by state x order asleep comes in
-              let rest = runs_on states parts closed order by.1 state there on.1 in
+              let on = goes_by asleep comes in
+              let rest = runs_on parts closed order by.1 there on.1 in
               (rest.0, rest.1, subst (λ (t : Table). Ended (table_after t (accesses_of order)) rest.0) (sym on.0) rest.2)
           | false ↦ λ awake.
               let own = All-head (λ (y : ChainAccess). (1 ≤ y.chain) × (y.chain ≤ chains)) x order comes.within in
-              let one = next_one state x order awake comes in
-              let turn = has_turn idle parts state.rests chains x order
-              (λ chain low high none. (ended (state.rests chain) (finals chain) (accesses_of_chain chain (x ∷ order)) none (comes.each chain low high)).0) by in
+              let one = next_one awake comes in
+              let turn = has_turn idle parts state.rests chains x order (λ chain low high none. (ended none (comes.each chain low high)).0) by in
               let to = closed state there x.chain own.0 own.1 turn awake x.access one.2.0 comes.permitted.0 in
-              let rest = runs_on states parts closed order by.1 to.next to.inside (goes_on state to.next x order awake comes to.said to.leads) in (
+              let rest = runs_on parts closed order by.1 to.inside (goes_on awake comes to.said to.leads) in (
                 rest.0,
                 rest.1,
                 subst (λ (t : Table). Ended (table_after t (accesses_of order)) rest.0) to.leads.table rest.2,

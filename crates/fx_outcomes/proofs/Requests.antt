@@ -14,52 +14,47 @@ use Rattle.fx_outcomes.specs.Answering.{count_of, answer_of, open_count, open_an
 abbrev Says : List Access → Completed → ℕ → Completed → Type 0
 Says own c count answer = (length own ≡ count) × (c ≡ answer)
 
-by_test : (own : List Access) (c : Completed) (b : Bool) (m n : ℕ) (d e : Completed) (P Q : Type 0) → (P → Says own c m d) → (Q → Says own c n e)
+by_test : (own : List Access) {c : Completed} (b : Bool) {m n : ℕ} {d e : Completed} (P Q : Type 0) → (P → Says own c m d) → (Q → Says own c n e)
     → MatchBool b P Q → Says own c (if b then m else n) (if b then d else e)
-by_test own c true m n d e P Q yes_so not_so given = yes_so given
-by_test own c false m n d e P Q yes_so not_so given = not_so given
+by_test own true P Q yes_so not_so given = yes_so given
+by_test own false P Q yes_so not_so given = not_so given
 
-refused_so : (place : Place) (errno : Errno) (own : List Access) (c : Completed) → IsRefused place errno own c → Says own c 0 (refusal place errno)
-refused_so place errno own c x = (ap length x.0, x.1)
+refused_so : {place : Place} (errno : Errno) {own : List Access} {c : Completed} → IsRefused place errno own c → Says own c 0 (refusal place errno)
+refused_so errno x = (ap length x.0, x.1)
 
-made_so : (own : List Access) (a : Access) (c : Completed) (by_last : Option Access → Completed) → own ≡ a ∷ [] → c ≡ by_last (Some a)
+made_so : {own : List Access} {a : Access} {c : Completed} (by_last : Option Access → Completed) → own ≡ a ∷ [] → c ≡ by_last (Some a)
     → Says own c 1 (by_last (last_of own))
-made_so own a c by_last is answer = (ap length is, answer ∙ ap (λ (l : List Access). by_last (last_of l)) (sym is))
+made_so by_last is answer = (ap length is, answer ∙ ap (λ (l : List Access). by_last (last_of l)) (sym is))
 
 module _ (catalogue : List FileEntry) (size : ℕ) (place : Place) (own : List Access) (c : Completed) (memory : HasMemory c) where
   opens_so : (entry : ℕ) (target : Target) → IsOpenDone size place entry target own c → Says own c (open_count size target) (open_answer size place target (last_of own))
   opens_so entry (Slot slot) =
-      by_test own c (size == 0) _ _ _ _ _ _ (refused_so place ENXIO own c)
-      (by_test own c (nat_le size slot) _ _ _ _ _ _ (refused_so place EINVAL own c) (λ x. (ap length x.1.0, x.1.1)))
+      by_test own (size == 0) _ _ (refused_so ENXIO) (by_test own (nat_le size slot) _ _ (refused_so EINVAL) (λ x. (ap length x.1.0, x.1.1)))
   opens_so entry Any =
-      by_test own c (size == 0) _ _ _ _ _ _ (refused_so place ENFILE own c) (λ x. elim x [
-        | inl y ↦ made_so own (Allocates y.0 _) c (allocated place) y.1.0 y.1.1
-        | inr y ↦ made_so own FindsFull c (allocated place) y.0 y.1
+      by_test own (size == 0) _ _ (refused_so ENFILE) (λ x. elim x [
+        | inl y ↦ made_so (allocated place) y.1.0 y.1.1
+        | inr y ↦ made_so (allocated place) y.0 y.1
       ])
 
   pub says : (operation : Operation) → IsRequestDone catalogue size place operation own c
       → Says own c (count_of catalogue size operation) (answer_of catalogue size place operation (last_of own))
-  says (Opens name target) =
-      by_test own c (has_name name catalogue) _ _ _ _ _ _ (λ x. opens_so x.0 target x.2) (refused_so place ENOENT own c)
+  says (Opens name target) = by_test own (has_name name catalogue) _ _ (λ x. opens_so x.0 target x.2) (refused_so ENOENT)
   says (Reads slot off len) =
-      by_test own c (nat_le size slot) _ _ _ _ _ _ (refused_so place EBADF own c) (λ x. elim x [
+      by_test own (nat_le size slot) _ _ (refused_so EBADF) (λ x. elim x [
         | inl y ↦ absurd (memory (ap (λ (d : Completed). d.res) y.1.1))
         | inr y ↦ elim y [
-          | inl z ↦ made_so own (Looks slot None) c (read_answer catalogue place off len) z.0 z.1
-          | inr z ↦ made_so own (Looks slot (Some z.0)) c (read_answer catalogue place off len) z.1.0 z.1.1
+          | inl z ↦ made_so (read_answer catalogue place off len) z.0 z.1
+          | inr z ↦ made_so (read_answer catalogue place off len) z.1.0 z.1.1
         ]
       ])
   says (Closes slot) =
-      by_test own c (size == 0) _ _ _ _ _ _ (refused_so place ENXIO own c)
-      (by_test own c (nat_le size slot) _ _ _ _ _ _ (refused_so place EINVAL own c) (λ x. elim x [
-        | inl y ↦ made_so own (Takes slot None) c (close_answer place) y.0 y.1
-        | inr y ↦ made_so own (Takes slot (Some y.0)) c (close_answer place) y.1.0 y.1.1
+      by_test own (size == 0) _ _ (refused_so ENXIO) (by_test own (nat_le size slot) _ _ (refused_so EINVAL) (λ x. elim x [
+        | inl y ↦ made_so (close_answer place) y.0 y.1
+        | inr y ↦ made_so (close_answer place) y.1.0 y.1.1
       ]))
   says (Updates off list) =
-      by_test own c (size == 0) _ _ _ _ _ _ (refused_so place ENXIO own c)
-      (by_test own c (length list == 0 || nat_lt size (off + length list)) _ _ _ _ _ _ (refused_so place EINVAL own c)
-      (by_test own c (list_any (is_bad_entry (length catalogue)) list) _ _ _ _ _ _ (refused_so place EBADF own c)
-      (λ x. (entries_made place 0 off list own x.0, x.1))))
+      by_test own (size == 0) _ _ (refused_so ENXIO) (by_test own (length list == 0 || nat_lt size (off + length list)) _ _ (refused_so EINVAL)
+      (by_test own (list_any (is_bad_entry (length catalogue)) list) _ _ (refused_so EBADF) (λ x. (entries_made place 0 off list own x.0, x.1))))
 
 -- each request is done so
 pub are_right : (catalogue : List FileEntry) (size : ℕ) → AreRight catalogue size (rules_of catalogue size)

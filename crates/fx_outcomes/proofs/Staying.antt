@@ -43,12 +43,12 @@ module _ (catalogue : List FileEntry) (table : Table) (of_slot : ℕ → ℕ) (p
   entry place in_list slot (negsuc zero) own stays x = one Stays own _ x.1 (λ at few comes. subst (λ (k : ℕ). of_slot k ≡ part) (sym comes) (stays (omega (arith, few, comes))))
   entry place in_list slot (negsuc (suc n)) own stays x = none Stays own x
 
-  entries : (place : Place) (in_list slot : ℕ) (list : List ℤ) (own : List Access) → ((at : ℕ) → at < table.size → slot ≤ at → at < slot + length list → of_slot at ≡ part)
+  entries : (place : Place) (in_list : ℕ) {slot : ℕ} (list : List ℤ) (own : List Access) → ((at : ℕ) → at < table.size → slot ≤ at → at < slot + length list → of_slot at ≡ part)
       → AreEntriesDone place in_list slot list own → All Stays own
-  entries place in_list slot [] own stays x = none Stays own x
-  entries place in_list slot (number ∷ list) own stays x =
+  entries place in_list [] own stays x = none Stays own x
+  entries place in_list {slot} (number ∷ list) own stays x =
       let first = entry place in_list slot number x.0 (λ few. stays slot few (omega arith) (omega arith)) x.3 in
-      let rest = entries place (in_list + 1) (slot + 1) list x.1 (λ at few low high. stays at few (omega (arith, low)) (omega (arith, high))) x.4 in
+      let rest = entries place (in_list + 1) list x.1 (λ at few low high. stays at few (omega (arith, low)) (omega (arith, high))) x.4 in
       subst (All Stays) (sym x.2) (All-append Stays x.0 x.1 first rest)
 
   request : (place : Place) (own : List Access) (c : Completed) (operation : Operation) → StaysIn table of_slot part operation
@@ -63,7 +63,7 @@ module _ (catalogue : List FileEntry) (table : Table) (of_slot : ℕ → ℕ) (p
       (λ file. one Stays _ _ refl (λ at few comes. stays at few comes))
   request place own c (Updates off list) stays =
       updates table.size place AllStay (none_stay place) own c (length catalogue) off list
-      (λ _ _ x. entries place 0 off list own (λ at few low high. stays at few (low, high)) x)
+      (λ _ _ x. entries place 0 list own (λ at few low high. stays at few (low, high)) x)
 
   chain : (place : Place) (run : List Asked) (accesses : List Access) (cs : List Completed) → All (λ r. StaysIn table of_slot part r.operation) run
       → IsChainDone catalogue table.size place run accesses cs → All Stays accesses
@@ -81,25 +81,24 @@ module _ (catalogue : List FileEntry) (table : Table) (parts : Parts) where
 
   each_chain : (submission first : ℕ) (runs : List (List Asked)) (order : List ChainAccess) (completions : List Completed)
       → AreChainsDone catalogue table.size submission first runs order completions → AreParts table parts first runs
-      → (q : ℕ) → first ≤ q → q < first + length runs → All (Keeps q) (accesses_of_chain q order)
-  each_chain submission first [] order completions done are q low high = absurd (omega (arith, low, high))
-  each_chain submission first (run ∷ runs) order completions done are q low high =
+      → {q : ℕ} → first ≤ q → q < first + length runs → All (Keeps q) (accesses_of_chain q order)
+  each_chain submission first [] order completions done are low high = absurd (omega (arith, low, high))
+  each_chain submission first (run ∷ runs) order completions done are {q} low high =
       by_equality q first (λ _. All (Keeps q) (accesses_of_chain q order))
       (λ same. subst (λ (n : ℕ). All (Keeps n) (accesses_of_chain n order)) (sym same)
       (chain catalogue table parts.of_slot (parts.of_chain first) (first_member submission first) run (accesses_of_chain first order) done.0 are.0 done.3))
-      (λ other. each_chain submission (first + 1) runs order done.1 done.4 are.1 q (omega (arith, low, other)) (omega (arith, high)))
+      (λ other. each_chain submission (first + 1) runs order done.1 done.4 are.1 (omega (arith, low, other)) (omega (arith, high)))
 
   -- what holds of each chain's accesses holds of the order's
-  of_each : (chains : ℕ) (order : List ChainAccess) → All (λ x. (1 ≤ x.chain) × (x.chain ≤ chains)) order
+  of_each : {chains : ℕ} (order : List ChainAccess) → All (λ x. (1 ≤ x.chain) × (x.chain ≤ chains)) order
       → ((q : ℕ) → 1 ≤ q → q ≤ chains → All (Keeps q) (accesses_of_chain q order)) → All (λ x. Keeps x.chain x.access) order
-  of_each chains [] within each = All-nil (λ (x : ChainAccess). Keeps x.chain x.access)
-  of_each chains (x ∷ order) within each =
+  of_each [] within each = All-nil (λ (x : ChainAccess). Keeps x.chain x.access)
+  of_each {chains} (x ∷ order) within each =
       let own = All-head (λ (y : ChainAccess). (1 ≤ y.chain) × (y.chain ≤ chains)) x order within in
       All-cons (λ (y : ChainAccess). Keeps y.chain y.access) x order
       (All-head (Keeps x.chain) x.access (accesses_of_chain x.chain order)
       (subst (All (Keeps x.chain)) (own_first x order) (each x.chain own.0 own.1)))
-      (of_each chains order (All-tail (λ (y : ChainAccess). (1 ≤ y.chain) × (y.chain ≤ chains)) x order within)
-      (λ q low high. elim (of_chain x order q) [
+      (of_each order (All-tail (λ (y : ChainAccess). (1 ≤ y.chain) × (y.chain ≤ chains)) x order within) (λ q low high. elim (of_chain x order q) [
         | inl mine ↦ All-tail (Keeps q) x.access (accesses_of_chain q order) (subst (All (Keeps q)) mine.1 (each q low high))
         | inr other ↦ subst (All (Keeps q)) other.1 (each q low high)
       ]))
@@ -108,4 +107,4 @@ module _ (catalogue : List FileEntry) (table : Table) (parts : Parts) where
       → All (λ x. (1 ≤ x.chain) × (x.chain ≤ length runs)) order → AreChainsDone catalogue table.size submission 1 runs order completions
       → AreParts table parts 1 runs → All (IsInPart parts.of_chain table.size table.range parts.of_slot) order
   all_in_part submission runs order completions within done are =
-      of_each (length runs) order within (λ q low high. each_chain submission 1 runs order completions done are q low (omega (arith, high)))
+      of_each order within (λ q low high. each_chain submission 1 runs order completions done are low (omega (arith, high)))

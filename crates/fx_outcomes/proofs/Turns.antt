@@ -10,7 +10,7 @@ pub has_turn : (idle : Rest → Bool) (parts : Parts) (rests : ℕ → Rest) (ch
     → IsByPart parts.of_chain (x ∷ order)
     → (other : ℕ) → 1 ≤ other → other ≤ chains → parts.of_chain other < parts.of_chain x.chain → idle (rests other) ≡ true
 has_turn idle parts rests chains x order over by other low high less =
-    over other low high (none_before parts.of_chain other (x ∷ order)
+    over other low high (none_before parts.of_chain (x ∷ order)
     (All-cons (λ (y : ChainAccess). parts.of_chain other < parts.of_chain y.chain) x order less
     (All-weaker (λ (y : ChainAccess). parts.of_chain x.chain ≤ parts.of_chain y.chain) (λ (y : ChainAccess). parts.of_chain other < parts.of_chain y.chain)
     (λ y more. omega (arith, less, more)) order by.0)))

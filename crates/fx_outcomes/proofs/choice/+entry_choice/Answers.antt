@@ -19,5 +19,4 @@ returns-then-made-gt0 t c =
     let is : int_le (negsuc 0) z ≡ true = subst (λ (y : ℤ). int_le (negsuc 0) y ≡ true) read (sym c.is_done.ensures ∙ c.if-not-is_done.false) in
     subst (λ (l : List ℤ). IsEntryChoice (table_of_slots c.args.slots.now) c.args.place c.args.at.0 c.args.at.1 l c.args.made c.entry_choice-then-made-gt0.result)
     (sym (first_and_rest c.args.list.now (pos 0) c.in-len1-up.len_at_least))
-    (entry_past (table_of_slots c.args.slots.now) c.args.place c.args.at.0 c.args.at.1 z (take (length c.args.list.now - 1) (drop 1 c.args.list.now))
-    c.args.made c.entry_choice-then-made-gt0.result is (omega (arith, c.if-made-gt0.true)) c.entry_choice-then-made-gt0.ensures)
+    (entry_past (table_of_slots c.args.slots.now) c.args.place c.args.at.0 c.args.at.1 z (take (length c.args.list.now - 1) (drop 1 c.args.list.now)) is (omega (arith, c.if-made-gt0.true)) c.entry_choice-then-made-gt0.ensures)

@@ -9,7 +9,7 @@ use Rattle.fx_outcomes.proofs.choice.open_any_choices.Goals as goal
 -- src/choice.rt:81:5
 pub loop-slot-preserved : goal.loop-slot-preserved
 loop-slot-preserved c =
-    let more = one_slot_more c.loop-slot.choices.items c.loop-slot.slot c.installed-file.result c.loop-slot.invariant.full c.loop-slot.invariant.each in
+    let more = one_slot_more c.loop-slot.choices.items c.loop-slot.invariant.full c.loop-slot.invariant.each in
     record {
       full = subst (λ (l : List Access). Contains l FindsFull) (sym c.in_ok-push.ensures.items) more.0;
       each = λ k low. subst (λ (l : List Access). Contains l (Allocates k c.installed-file.result)) (sym c.in_ok-push.ensures.items) (more.1 k low);

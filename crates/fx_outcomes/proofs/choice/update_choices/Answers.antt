@@ -11,8 +11,6 @@ returns-then-has_bad_entry c = λ catalogue many.
 
 pub returns-in-Some : goal.returns-in-Some
 returns-in-Some c = IfOk-weaker c.one.result _ _
-    (λ choices is catalogue many.
-    update_each catalogue (table_of_slots c.args.slots.now) c.args.place c.args.made c.args.update.0 c.args.update.1.now (Some c.in-Some.access)
-    (subst (IsEntryChoice (table_of_slots c.args.slots.now) c.args.place 0 c.args.update.0 c.args.update.1.now c.args.made) c.in-Some.is c.entry_choice.ensures)
-    choices.items is)
+    (λ choices is catalogue many. update_each catalogue (table_of_slots c.args.slots.now) c.args.place c.args.made c.args.update.0 c.args.update.1.now
+    (subst (IsEntryChoice (table_of_slots c.args.slots.now) c.args.place 0 c.args.update.0 c.args.update.1.now c.args.made) c.in-Some.is c.entry_choice.ensures) is)
     c.one.ensures
