@@ -21,11 +21,11 @@ pub as_many : (asked : List Asked) (chains : List Chain) → map (members_of ask
 as_many asked chains whole = ap length (sym whole) ∙ length-map chains (members_of asked)
 
 -- what is told aside
-plain : (claimed : Claimed) (s : State) → IsStateExploredBy claimed s → (i : ℕ) → i < length claimed.submission.now.chains.now → HasTurnBy claimed s i
+plain : {claimed : Claimed} {s : State} → IsStateExploredBy claimed s → (i : ℕ) → i < length claimed.submission.now.chains.now → HasTurnBy claimed s i
     → is_idle_at claimed.submission.now s i ≡ false
     → IsChainExplored claimed.submission.now.setting.catalogue.now claimed.submission.now.setting.size (said_by claimed) (states_of claimed)
     (view_in claimed.submission.now s) (i + 1)
-plain claimed s each i few turn awake a next may = (each i few turn awake a next may).is
+plain each i few turn awake a next may = (each i few turn awake a next may).is
 
 abbrev parts_by : Claimed → Parts
 parts_by claimed = parts_of claimed.found.now.numbers
@@ -37,13 +37,13 @@ abbrev turn_at : Claimed → StateView → ℕ → Type 0
 turn_at claimed view chain = HasTurn (idle_by claimed) (parts_by claimed) (length (runs_in claimed.submission.now)) view chain
 
 -- each state of the list is explored, so the list is closed
-closed_all : (claimed : Claimed) → length (runs_in claimed.submission.now) ≡ length claimed.submission.now.chains.now
+closed_all : {claimed : Claimed} → length (runs_in claimed.submission.now) ≡ length claimed.submission.now.chains.now
     → All (IsStateExploredBy claimed) claimed.found.now.states.items
     → AreClosed claimed.submission.now.setting.catalogue.now claimed.submission.now.setting.size (idle_by claimed) (parts_by claimed) (said_by claimed) (length (runs_in claimed.submission.now))
     (states_of claimed)
-closed_all claimed many each state there chain low high =
+closed_all {claimed} many each state there chain low high =
     let its = contains_map (view_in claimed.submission.now) claimed.found.now.states.items state there in
-    let explored = plain claimed its.0 (All-contains (IsStateExploredBy claimed) claimed.found.now.states.items its.0 each its.1) in
+    let explored = plain (All-contains (IsStateExploredBy claimed) claimed.found.now.states.items its.0 each its.1) in
     let number : chain - 1 + 1 ≡ chain = omega (arith, low) in
     subst (λ (v : StateView). turn_at claimed v chain → idle_by claimed (v.rests chain) ≡ false
     → IsChainExplored claimed.submission.now.setting.catalogue.now claimed.submission.now.setting.size (said_by claimed) (states_of claimed) v chain) (sym its.2)
@@ -65,10 +65,10 @@ no_next claimed rest a none next =
 tells_so : (submission : Submission) → IsTrue submission.tells → submission.tells ≡ true
 tells_so submission tells = tells
 
-told_closed : (claimed : Claimed) → IsTrue claimed.submission.now.tells → length (runs_in claimed.submission.now) ≡ length claimed.submission.now.chains.now
+told_closed : {claimed : Claimed} → IsTrue claimed.submission.now.tells → length (runs_in claimed.submission.now) ≡ length claimed.submission.now.chains.now
     → All (IsStateExploredBy claimed) claimed.found.now.states.items
     → AreToldClosed claimed.submission.now.setting.catalogue.now claimed.submission.now.setting.size (parts_by claimed) (length (runs_in claimed.submission.now)) (told_states claimed)
-told_closed claimed tells many each here there chain low high turn a =
+told_closed {claimed} tells many each here there chain low high turn a =
     let its = contains_map (told_by claimed) claimed.found.now.states.items here there in
     let explored = All-contains (IsStateExploredBy claimed) claimed.found.now.states.items its.0 each its.1 in
     let number : chain - 1 + 1 ≡ chain = omega (arith, low) in
@@ -128,11 +128,11 @@ abbrev settled_in_by : Claimed → ℕ → ℕ → List Completed × Rest
 settled_in_by claimed chain k = settled_at (rules_in claimed.submission.now) (first_member claimed.submission.now.number chain) (slice_index_or (runs_in claimed.submission.now) k [])
 
 -- where a chain of the first state is, by its number from 1
-chains_begin : (claimed : Claimed) (first : State) (k : ℕ) → IsAtStartBy claimed first k
+chains_begin : {claimed : Claimed} {first : State} {k : ℕ} → IsAtStartBy claimed first k
     → AllByRecursion (said_by claimed) (settled_in_by claimed (1 + k) k).0
     × ((view_in claimed.submission.now first).rests (1 + k) ≡ (settled_in_by claimed (1 + k) k).1)
     × (IsTrue claimed.submission.now.tells → (told_by claimed first).told (1 + k) ≡ (settled_in_by claimed (1 + k) k).0)
-chains_begin claimed first k at =
+chains_begin {claimed} {first} {k} at =
     let sub = claimed.submission.now in
     let order : k + 1 ≡ 1 + k = omega arith in
     let back : 1 + k - 1 ≡ k = omega arith in
@@ -144,17 +144,17 @@ chains_begin claimed first k at =
       λ tells. ap (λ (n : ℕ). slice_index_or (answers_of first.telling.answers.items) n []) back ∙ at.told tells,
     )
 
-pub all_by : (claimed : Claimed) (slots : Slots) (first : State) → length (runs_in claimed.submission.now) ≡ length claimed.submission.now.chains.now
+pub all_by : {claimed : Claimed} {slots : Slots} {first : State} → length (runs_in claimed.submission.now) ≡ length claimed.submission.now.chains.now
     → 0 < length claimed.found.now.states.items → first ≡ slice_index_or claimed.found.now.states.items 0 first
     → table_of_slots first.slots ≡ table_of_slots slots → claimed.submission.now.setting.size ≡ length slots.at.items
     → (IsTrue claimed.submission.now.tells → first.telling.removed.items ≡ [])
     → ArePartsIn claimed.submission.now slots claimed.found.now.numbers → AreAtStartBy claimed first → All (IsStateExploredBy claimed) claimed.found.now.states.items
     → AreAllBy claimed slots
-all_by claimed slots first many some is table size none in_parts start each =
+all_by {claimed} {slots} {first} many some is table size none in_parts start each =
     let sub = claimed.submission.now in
     let as_slots : table_of_slots slots ≡ record (table_of_slots slots) { size = sub.setting.size } = λ j. record (table_of_slots slots) { size = sym size j } in
     let apart = subst (λ (t : Table). AreParts t (parts_by claimed) 1 (runs_in sub)) as_slots (parts_in claimed slots many in_parts) in
-    let begin = λ (k : ℕ) (few : k < length (runs_in sub)). chains_begin claimed first k (start k (omega (arith, few, many))) in
+    let begin = λ (k : ℕ) (few : k < length (runs_in sub)). chains_begin (start k (omega (arith, few, many))) in
     record {
       are = λ submissions registrations number.
           subst (λ (n : ℕ). AreAllStates (idle_by claimed) (said_by claimed) (record (ring_of_slots sub.setting.catalogue.now slots submissions registrations) { size = n }) (all_asked sub.requests.now) (states_of claimed)) size
@@ -168,8 +168,8 @@ all_by claimed slots first many some is table size none in_parts start each =
               chains = subst (λ (n : ℕ). AreAtStart (rules_in sub) (said_by claimed) n 1 (runs_in sub) (view_in sub first)) number
                   (at_start_all (rules_in sub) (said_by claimed) sub.number 1 (runs_in sub) (view_in sub first) (λ k few. ((begin k few).0, (begin k few).1)));
             };
-            inside = inside_at (view_in sub) claimed.found.now.states.items 0 first (view_in sub first) some is refl;
-            closed = closed_all claimed many each;
+            inside = inside_at (view_in sub) claimed.found.now.states.items some is refl;
+            closed = closed_all many each;
           });
       told = λ tells submissions registrations number.
           subst (λ (n : ℕ). AreAllTold (record (ring_of_slots sub.setting.catalogue.now slots submissions registrations) { size = n }) (all_asked sub.requests.now) (told_states claimed)) size
@@ -183,7 +183,7 @@ all_by claimed slots first many some is table size none in_parts start each =
               chains = subst (λ (n : ℕ). AreToldAtStart (rules_in sub) n 1 (runs_in sub) (told_by claimed first)) number
                   (told_at_start_all (rules_in sub) sub.number 1 (runs_in sub) (told_by claimed first) (λ k few. ((begin k few).2 tells, (begin k few).1)));
             };
-            inside = inside_at (told_by claimed) claimed.found.now.states.items 0 first (told_by claimed first) some is refl;
-            closed = told_closed claimed tells many each;
+            inside = inside_at (told_by claimed) claimed.found.now.states.items some is refl;
+            closed = told_closed tells many each;
           });
     }

@@ -30,33 +30,33 @@ told_all told chain (run ∷ runs) (own ∷ others) many each =
     λ j. first j ++ rest j
 
 -- a play that is confirmed gives a report
-pub is_possible : (old : RingState) (asked : List Asked) (report : Reported) (possible : PossibleReport)
+pub is_possible : {old : RingState} {asked : List Asked} {report : Reported} {possible : PossibleReport}
     → IsPlayOf old asked possible.order.items report possible.slots → report ≡ reported possible.report
     → All (λ file. file.entry < length old.catalogue) possible.report.closes.files → IsPossible old asked possible
-is_possible old asked report possible play same entries = record {
+is_possible {old} {asked} {possible} play same entries = record {
   by = subst (λ (r : Reported). IsReportBy old asked possible.order.items r possible.slots) same play.by;
   may = λ ring is. (let m = play.may ring is in (m.0, m.1, subst (λ (r : Reported). MayReport ring asked r m.0) same m.2));
   entries = entries;
 }
 
 -- the closes of a report as they were played
-pub same_report : (submission : ℕ) (completions : List Completed) (files : List Closed) (closes : CloseListView) → closes.files ≡ files → closes.room ≡ 0
+pub same_report : (submission : ℕ) (completions : List Completed) {files : List Closed} {closes : CloseListView} → closes.files ≡ files → closes.room ≡ 0
     → ◌≡◌ {A = Reported} (record { submission = submission; completions = completions; closes = record { files = files; room = 0 } })
     (record { submission = submission; completions = completions; closes = closes })
-same_report submission completions files closes same none = λ j. record {
+same_report submission completions {files} {closes} same none = λ j. record {
   submission = submission;
   completions = completions;
   closes = record { files = sym same j; room = sym none j };
 }
 
 -- a report that tells of the state that a history comes to tells of the history's
-tells_of : (sub : Submission) (old : RingState) (submissions : ℕ) (here : State) (report : Reported) (left : RingState) (possible : PossibleReport)
+tells_of : {sub : Submission} {old : RingState} {submissions : ℕ} (here : State) (report : Reported) (left : RingState) {possible : PossibleReport}
     → sub.number ≡ submissions + 1 → old.submissions ≡ submissions → length (runs_in sub) ≡ length sub.chains.now
     → (one : IsOneOrder old (all_asked sub.requests.now) report left) (states : List ToldState)
     → (has : HasReport old (all_asked sub.requests.now) states report left)
     → has.here ≡ told_of sub.number (runs_in sub) here
     → IsToldOf sub here possible → IsPossible old (all_asked sub.requests.now) possible → TellsOf old report left possible
-tells_of sub old submissions here report left possible number counted many one states has is told its =
+tells_of {sub} {old} here report left {possible} number counted many one states has is told its =
     let answers : List (List Completed) = answers_of here.telling.answers.items in
     let same_many = length-map here.telling.answers.items (λ (v : Vec Completion). all_completed v.items) in
     let chains = told.chains in
@@ -71,11 +71,11 @@ tells_of sub old submissions here report left possible number counted many one s
           (ap (λ (h : ToldState). h.state.table) is ∙ sym told.table);
     }
 
-pub reports_by : (claimed : Claimed) (slots : Slots) (reports given : List PossibleReport) (submissions registrations : ℕ)
+pub reports_by : {claimed : Claimed} {slots : Slots} {reports given : List PossibleReport} {submissions : ℕ} (registrations : ℕ)
     → claimed.submission.now.number ≡ submissions + 1 → given ≡ reports → IsTrue claimed.submission.now.tells
     → AreAllReportsBy claimed slots given → All (IsPossibleIn claimed.submission.now slots) reports
     → HasEachReport (ring_of_slots claimed.submission.now.setting.catalogue.now slots submissions registrations) (all_asked claimed.submission.now.requests.now) reports
-reports_by claimed slots reports given submissions registrations number are tells whole each ring left report same may =
+reports_by {claimed} {slots} {reports} {submissions} registrations number are tells whole each ring left report same may =
     let sub = claimed.submission.now in
     let old = ring_of_slots sub.setting.catalogue.now slots submissions registrations in
     let requests = all_asked sub.requests.now in
@@ -90,6 +90,6 @@ reports_by claimed slots reports given submissions registrations number are tell
     let its = All-contains (IsPossibleIn sub slots) reports telling.0 each telling.1 submissions registrations number in (
       telling.0,
       telling.1,
-      tells_of sub old submissions at.0 report (ring_of left) telling.0 number (λ _. submissions) (as_many requests sub.chains.now sub.runs)
+      tells_of at.0 report (ring_of left) number (λ _. submissions) (as_many requests sub.chains.now sub.runs)
           one (told_states claimed) has at.2 telling.2 its,
     )

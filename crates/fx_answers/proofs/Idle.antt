@@ -25,10 +25,10 @@ pub over_idle : (submission : Submission) (rest : Rest) → rest.requests ≡ []
 over_idle submission rest none = ap (λ (l : List Asked). idle_by submission l rest.place) none
 
 -- nothing is left, or reads, and they aren't asked for
-cases : (tells asks reads : Bool) → (if tells then false else (reads && not asks)) ≡ true → (tells ≡ false) × (reads ≡ true) × (asks ≡ false)
-cases true asks reads is = absurd (false≢true is)
-cases false true reads is = absurd (false≢true (and_parts _ _ is).1)
-cases false false reads is = (refl, (and_parts _ _ is).0, refl)
+cases : (tells asks : Bool) {reads : Bool} → (if tells then false else (reads && not asks)) ≡ true → (tells ≡ false) × (reads ≡ true) × (asks ≡ false)
+cases true asks is = absurd (false≢true is)
+cases false true is = absurd (false≢true (and_parts _ _ is).1)
+cases false false is = (refl, (and_parts _ _ is).0, refl)
 
 pub idle_cases : (submission : Submission) (rest : Rest) → is_idle submission rest ≡ true
     → (rest.requests ≡ []) ⊎ ((submission.tells ≡ false) × (are_reads rest.requests ≡ true) × (asks_from submission.asked rest.place ≡ false))
@@ -37,13 +37,13 @@ idle_cases submission rest =
     by_equality (length rest.requests) 0
     (λ b. (if b then true else (if submission.tells then false else (are_reads rest.requests && not asks))) ≡ true
     → (rest.requests ≡ []) ⊎ ((submission.tells ≡ false) × (are_reads rest.requests ≡ true) × (asks ≡ false)))
-    (λ none _. inl (nil_from_length rest.requests none)) (λ _ is. inr (cases submission.tells asks (are_reads rest.requests) is))
+    (λ none _. inl (nil_from_length rest.requests none)) (λ _ is. inr (cases submission.tells asks is))
 
 -- the place of a request that is left is asked from there
-asked_left : (rest : Rest) (own : Place) → IsLeft rest own → asks_from (Some own) rest.place ≡ true
-asked_left rest own left =
-    and_from (own.submission == rest.place.submission) _ (tested own.submission rest.place.submission left.submission)
-    (and_from (own.chain == rest.place.chain) _ (tested own.chain rest.place.chain left.chain) (le-leb rest.place.member own.member left.behind))
+asked_left : {rest : Rest} {own : Place} → IsLeft rest own → asks_from (Some own) rest.place ≡ true
+asked_left {rest} {own} left =
+    and_from (own.submission == rest.place.submission) _ (tested left.submission)
+    (and_from (own.chain == rest.place.chain) _ (tested left.chain) (le-leb rest.place.member own.member left.behind))
 
 pub are_idle : (claimed : Claimed) → AreIdle (said_by claimed) (is_idle claimed.submission.now)
 are_idle claimed = record {
@@ -54,7 +54,7 @@ are_idle claimed = record {
   ];
   said = λ rest c is left asked. elim (idle_cases claimed.submission.now rest is) [
     | inl none ↦ (let few = ap length none in let behind = left.behind in let within = left.within in absurd (omega (arith, few, behind, within)))
-    | inr some ↦ absurd (false≢true (sym some.2 ∙ (ap (λ (o : Option Place). asks_from o rest.place) asked ∙ asked_left rest c.place left)))
+    | inr some ↦ absurd (false≢true (sym some.2 ∙ (ap (λ (o : Option Place). asks_from o rest.place) asked ∙ asked_left left)))
   ];
 }
 

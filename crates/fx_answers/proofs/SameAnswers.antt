@@ -19,19 +19,19 @@ same_once_more {X} {Y} f xs ys i in_xs in_ys before x y is_x is_y same k d few =
     (λ other. before k d (omega (arith, few, other)))
 
 -- one chain answers more
-pub set_answers : (before all : List (Vec Completion)) (i : ℕ) (old mine : Vec Completion) (own : List Completed) → answers_of all ≡ answers_of before
+pub set_answers : (before all : List (Vec Completion)) {i : ℕ} {old : Vec Completion} (mine : Vec Completion) (own : List Completed) → answers_of all ≡ answers_of before
     → i < length before → old ≡ slice_index_or before i old → all_completed mine.items ≡ all_completed old.items ++ own
     → answers_of (slice_set all i mine) ≡ slice_set (answers_of before) i (slice_index_or (answers_of before) i [] ++ own)
-set_answers before all i old mine own same within is adds =
+set_answers before all {i} {old} mine own same within is adds =
     let f : Vec Completion → List Completed = λ v. all_completed v.items in
     let at : slice_index_or (answers_of before) i [] ≡ all_completed old.items = get_or-map f before i old [] within ∙ ap f (sym is) in
     map-set f all i mine ∙ (λ j. slice_set (same j) i ((adds ∙ ap (λ (l : List Completed). l ++ own) (sym at)) j))
 
 -- a list is cut where the first chain's answers end
-pub cut_told : (cs : List Completion) (n m : ℕ) (own : Vec Completion) (others answers : List (Vec Completion)) → n ≡ m → answers ≡ own ∷ others
+pub cut_told : (cs : List Completion) {n m : ℕ} {own : Vec Completion} {others answers : List (Vec Completion)} → n ≡ m → answers ≡ own ∷ others
     → all_completed (take n cs) ≡ all_completed own.items → all_completed (take (length cs - m) (drop m cs)) ≡ all_told (answers_of others)
     → all_completed cs ≡ all_told (answers_of answers)
-cut_told cs n m own others answers same is front back =
+cut_told cs {n} {m} {others} same is front back =
     let left = length-drop m cs in
     let behind : all_completed (drop m cs) ≡ all_told (answers_of others) =
     ap all_completed (sym (take_all (length cs - m) (drop m cs) (omega (arith, left)))) ∙ back in

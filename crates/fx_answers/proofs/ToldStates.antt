@@ -21,21 +21,21 @@ module _ (catalogue : List FileEntry) (size chains : ℕ) (finals : ℕ → List
     pub closed : IsPermutation (here.removed ++ removed_in (accesses_of order)) files
 
   -- its first access is one that its chain may make next
-  next_one : (here : ToldState) (x : ChainAccess) (order : List ChainAccess) → Comes here (x ∷ order)
+  next_one : (here : ToldState) {x : ChainAccess} {order : List ChainAccess} → Comes here (x ∷ order)
       → IsNext catalogue size (here.state.rests x.chain) x.access
       × OfChain catalogue size (step (rules_of catalogue size) (here.state.rests x.chain) x.access).1
       (here.told x.chain ++ (step (rules_of catalogue size) (here.state.rests x.chain) x.access).0) (finals x.chain) (accesses_of_chain x.chain order)
-  next_one here x order comes =
+  next_one here {x} {order} comes =
       let own = All-head (λ (y : ChainAccess). (1 ≤ y.chain) × (y.chain ≤ chains)) x order comes.within in
       steps_on catalogue size (here.state.rests x.chain) (here.told x.chain) (finals x.chain) x.access (accesses_of_chain x.chain order)
       (subst (OfChain catalogue size (here.state.rests x.chain) (here.told x.chain) (finals x.chain)) (own_first x order)
       (comes.each x.chain own.0 own.1))
 
   -- and the others go on from where it leads
-  goes_on : (here next : ToldState) (x : ChainAccess) (order : List ChainAccess) → Comes here (x ∷ order)
+  goes_on : (here : ToldState) {next : ToldState} {x : ChainAccess} {order : List ChainAccess} → Comes here (x ∷ order)
       → LeadsOn (rules_of catalogue size) here x.chain x.access next → Comes next order
-  goes_on here next x order comes to =
-      let one = next_one here x order comes in
+  goes_on here {next} {x} {order} comes to =
+      let one = next_one here comes in
       let now = (step (rules_of catalogue size) (here.state.rests x.chain) x.access).1 in
       let taken : List Closed = option_to_list (removed_by x.access) in
       let others : List Closed = removed_in (accesses_of order) in
@@ -68,9 +68,9 @@ module _ (catalogue : List FileEntry) (size chains : ℕ) (finals : ℕ → List
     pub table_is : here.state.table ≡ table
 
   -- a chain without an access that is left is over
-  over_at : (here : ToldState) (order : List ChainAccess) → Comes here order → (chain : ℕ) → 1 ≤ chain → chain ≤ chains → accesses_of_chain chain order ≡ []
+  over_at : (here : ToldState) {order : List ChainAccess} → Comes here order → (chain : ℕ) → 1 ≤ chain → chain ≤ chains → accesses_of_chain chain order ≡ []
       → has_none (here.state.rests chain) ≡ true
-  over_at here order comes chain low high none =
+  over_at here comes chain low high none =
       let of = subst (OfChain catalogue size (here.state.rests chain) (here.told chain) (finals chain)) none (comes.each chain low high) in
       ap (λ (l : List Asked). length l == 0) (told_whole catalogue size (here.state.rests chain) (here.told chain) (finals chain) of).0
 
@@ -81,7 +81,7 @@ module _ (catalogue : List FileEntry) (size chains : ℕ) (finals : ℕ → List
     here,
     there,
     record {
-      over = λ chain low high. over_at here [] comes chain low high refl;
+      over = λ chain low high. over_at here comes chain low high refl;
       told = λ chain low high. (told_whole catalogue size (here.state.rests chain) (here.told chain) (finals chain) (comes.each chain low high)).1;
       closed = subst (λ (l : List Closed). IsPermutation l files) (append-nil here.removed) comes.closed;
       table_is = refl;
@@ -89,10 +89,10 @@ module _ (catalogue : List FileEntry) (size chains : ℕ) (finals : ℕ → List
   )
   runs_on states parts closed (x ∷ order) by here there comes =
       let own = All-head (λ (y : ChainAccess). (1 ≤ y.chain) × (y.chain ≤ chains)) x order comes.within in
-      let one = next_one here x order comes in
-      let turn = has_turn has_none parts here.state.rests chains x order (over_at here (x ∷ order) comes) by in
+      let one = next_one here comes in
+      let turn = has_turn has_none parts here.state.rests chains x order (over_at here comes) by in
       let to = closed here there x.chain own.0 own.1 turn x.access one.0 comes.permitted.0 in
-      let rest = runs_on states parts closed order by.1 to.0 to.1 (goes_on here to.0 x order comes to.2) in (
+      let rest = runs_on states parts closed order by.1 to.0 to.1 (goes_on here comes to.2) in (
         rest.0,
         rest.1,
         subst (λ (t : Table). Ended (table_after t (accesses_of order)) rest.0) to.2.leads.table rest.2,

@@ -19,9 +19,9 @@ less_one i = omega arith
 
 module _ (submission : ℕ) (runs : List (List Asked)) (state : State) (i : ℕ) where
   -- where the chain is
-  pub rest_of_chain : (own : List Asked) (progress : Progress) → slice_index_or runs i [] ≡ own → slice_index_or state.chains.items i not_begun ≡ progress
+  pub rest_of_chain : {own : List Asked} {progress : Progress} → slice_index_or runs i [] ≡ own → slice_index_or state.chains.items i not_begun ≡ progress
       → (view_of submission runs state).rests (i + 1) ≡ rest_in (first_member submission (i + 1)) own progress
-  rest_of_chain own progress run is =
+  rest_of_chain run is =
       ap (λ (n : ℕ). rest_in (first_member submission (i + 1)) (slice_index_or runs n []) (slice_index_or state.chains.items n not_begun)) (less_one i)
       ∙ (λ j. rest_in (first_member submission (i + 1)) (run j) (is j))
 
@@ -58,39 +58,39 @@ pub among : (submission : ℕ) (runs : List (List Asked)) (states : List State) 
     → Contains (map (view_of submission runs) states) (view_of submission runs state)
 among submission runs states there state k is table chains =
     let within = slice_get_within states k there is in
-    inside_at (view_of submission runs) states k there (view_of submission runs state) within
+    inside_at (view_of submission runs) states within
     (sym (get_or_from_slice_get states k there there is)) (same_view submission runs there state table chains)
 
 -- whether a chain is idle, by its members that are left
-pub idle_here : (submission : Submission) (state : State) (i : ℕ) (own : List Request) (left : List Request) (progress : Progress)
+pub idle_here : (submission : Submission) (state : State) (i : ℕ) (own : List Request) (left : List Request) {progress : Progress}
     → all_asked own ≡ slice_index_or (runs_in submission) i [] → slice_index_or state.chains.items i not_begun ≡ progress
     → all_asked left ≡ drop progress.done (all_asked own)
     → is_idle_at submission state i ≡ idle_by submission (all_asked left) (moved (first_member submission.number (i + 1)) progress.done)
-idle_here submission state i own left progress run is behind =
+idle_here submission state i own left {progress} run is behind =
     let place = moved (first_member submission.number (i + 1)) progress.done in
-    ap (is_idle submission) (rest_of_chain submission.number (runs_in submission) state i (all_asked own) progress (sym run) is)
+    ap (is_idle submission) (rest_of_chain submission.number (runs_in submission) state i (sym run) is)
     ∙ (idle_for submission place (drop progress.done (all_asked own)) progress.made
     ∙ ap (λ (l : List Asked). idle_by submission l place) (sym behind))
 
 -- where some are left and nothing is told, by whether these are reads and are asked for
-pub idle_some_here : (submission : Submission) (state : State) (i : ℕ) (own left : List Request) (progress : Progress) (reads asks : Bool)
+pub idle_some_here : (submission : Submission) (state : State) (i : ℕ) (own left : List Request) {progress : Progress} {reads asks : Bool}
     → all_asked own ≡ slice_index_or (runs_in submission) i [] → slice_index_or state.chains.items i not_begun ≡ progress
     → all_asked left ≡ drop progress.done (all_asked own) → (length left ≡ 0 → ⊥) → submission.tells ≡ false
     → reads ≡ list_all (λ request. is_read (asked_of request).operation) left
     → asks ≡ asks_from submission.asked (moved (first_member submission.number (i + 1)) progress.done)
     → is_idle_at submission state i ≡ (reads && not asks)
-idle_some_here submission state i own left progress reads asks run is behind some silent are ask =
+idle_some_here submission state i own left {progress} run is behind some silent are ask =
     let many = length-map left asked_of in
-    idle_here submission state i own left progress run is behind
+    idle_here submission state i own left run is behind
     ∙ (idle_some submission (all_asked left) (moved (first_member submission.number (i + 1)) progress.done) (λ none. some (omega (arith, none, many))) silent
     ∙ (λ j. (sym (are ∙ all_reads left)) j && not (sym ask j)))
 
 -- a chain that stands where its requests settle
-pub at_start_by : (rules : Rules) (P : Completed → Type 0) (place : Place) (run : List Asked) (before after : List Completion) (done : ℕ) (progress : Progress)
+pub at_start_by : {rules : Rules} (P : Completed → Type 0) {place : Place} {run : List Asked} {before : List Completion} (after : List Completion) {done : ℕ} {progress : Progress}
     → Settles rules place run (all_completed before) (all_completed after) done → before ≡ [] → All (λ c. P (completed_of c)) after
     → progress.done ≡ done → progress.made ≡ 0
     → AllByRecursion P (settled_at rules place run).0 × (rest_in place run progress ≡ (settled_at rules place run).1)
-at_start_by rules P place run before after done progress settles none all at made =
+at_start_by {rules} P {place} {run} after settles none all at made =
     let told : all_completed after ≡ (settled_at rules place run).0 =
     settles.told ∙ ap (λ (l : List Completion). all_completed l ++ (settled_at rules place run).0) none in (
       subst (AllByRecursion P) told (recursion_from_All P (map completed_of after) (All-map P completed_of after all)),
@@ -98,10 +98,10 @@ at_start_by rules P place run before after done progress settles none all at mad
     )
 
 -- what a chain answers comes behind what it was told, and what the others were told stays
-leads_on : (submission : Submission) (state : State) (i : ℕ) (a : Access) (own : List Completed) (next : State)
+leads_on : {submission : Submission} {state : State} {i : ℕ} {a : Access} {own : List Completed} {next : State}
     → IsStepTo submission state i a own next → IsToldOn state.telling i a own next.telling
     → LeadsOn (rules_in submission) (told_of submission.number (runs_in submission) state) (i + 1) a (told_of submission.number (runs_in submission) next)
-leads_on submission state i a own next to on =
+leads_on {state} {i} {own} {next} to on =
     let before : List (List Completed) = answers_of state.telling.answers.items in
     let after : List (List Completed) = answers_of next.telling.answers.items in
     let many = length-map state.telling.answers.items (λ (v : Vec Completion). all_completed v.items) in
@@ -134,5 +134,5 @@ explored claimed state i a told next to said inside on among = record {
     inside = inside;
     leads = to.leads;
   };
-  told = λ tells. (told_by claimed next, among, leads_on claimed.submission.now state i a (all_completed told) next to (on tells));
+  told = λ tells. (told_by claimed next, among, leads_on to (on tells));
 }

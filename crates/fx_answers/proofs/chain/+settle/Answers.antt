@@ -10,11 +10,9 @@ returns t c =
     let rest : List Request = take (length c.args.requests.now - 1) (drop 1 c.args.requests.now) in
     subst (λ (l : List Request). Settles rules c.args.place (all_asked l) (all_completed c.args.told.now.items) (all_completed c.settle.new.told.items)
     (1 + c.in_ok-settle.field-0))
-    (sym (first_is c.args.requests.now c.request-item.result c.in-len1-up.len_at_least c.request-item.is))
-    (settled_on rules c.args.place request (all_asked rest) (all_completed c.args.told.now.items) (all_completed c.push.new.self.items) (all_completed c.settle.new.told.items)
-    c.in_ok-settle.field-0
-    (tested (rules.count request) 0 (sym c.count.ensures ∙ c.if-count-ne0.false))
+    (sym (first_is c.args.requests.now c.request-item.result c.in-len1-up.len_at_least c.request-item.is)) (settled_on rules c.args.place
+    (tested (sym c.count.ensures ∙ c.if-count-ne0.false))
     (ap (severs request) (sym c.in_ok-c.ensures) ∙ (sym c.severs-severs.ensures ∙ c.if-severs.false))
-    (pushed c.args.told.now.items c.push.new.self.items c.in_ok-c.c _ c.in_ok-push.ensures.items c.in_ok-c.ensures)
+    (pushed c.args.told.now.items c.in_ok-c.c c.in_ok-push.ensures.items c.in_ok-c.ensures)
     (subst (λ (p : Place). Settles rules p (all_asked rest) (all_completed c.push.new.self.items) (all_completed c.settle.new.told.items) c.in_ok-settle.field-0)
     c.moved-2.ensures c.in_ok-settle.ensures))

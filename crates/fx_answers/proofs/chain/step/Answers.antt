@@ -19,8 +19,7 @@ returns-then-count-made c =
     steps_more rules c.args.place (all_asked c.args.members.now) c.args.progress c.args.access
     (asked_of c.request-item.result) (all_asked _)
     (sym c.left.ensures.left ∙ ap all_asked (first_is c.left.result.now c.request-item.result c.in-len1-up.len_at_least c.request-item.is))
-    (all_completed c.args.told.now.items) (record { done = c.args.progress.done; made = c.args.progress.made + 1 })
-    (λ same. c.if-count-made.true (c.count.ensures ∙ same)) refl refl
+    (all_completed c.args.told.now.items) (λ same. c.if-count-made.true (c.count.ensures ∙ same)) refl refl
 
 pub returns : goal.returns
 returns c =
@@ -34,8 +33,7 @@ returns c =
     (completed_of c.in_ok-c.c) c.in_ok-passed.passed
     (sym c.count.ensures ∙ c.if-count-made.false)
     (c.in_ok-c.ensures ∙ ap (λ (p : Place). rules.answer p request (Some c.args.access)) c.moved-here.ensures)
-    (sym c.severs-severs.ensures ∙ c.if-severs.false)
-    (pushed c.args.told.now.items c.push.new.self.items c.in_ok-c.c _ c.in_ok-push.ensures.items refl)
+    (sym c.severs-severs.ensures ∙ c.if-severs.false) (pushed c.args.told.now.items c.in_ok-c.c c.in_ok-push.ensures.items refl)
     (subst (λ (p : Place). Settles rules p (all_asked rest) (all_completed c.push.new.self.items) (all_completed c.settle.new.told.items) c.in_ok-passed.passed)
     (c.moved-2.ensures ∙ ap (λ (p : Place). moved p 1) c.moved-here.ensures) c.in_ok-passed.ensures)
     refl refl

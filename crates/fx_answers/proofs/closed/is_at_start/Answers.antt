@@ -15,8 +15,7 @@ returns c = λ yes.
     (subst (λ (l : List Asked). Settles rules_are c.first.result l (all_completed c.new-told.result.items) (all_completed c.settle.new.told.items) c.in_ok-done.done)
     c.members-own.ensures.run c.in_ok-done.ensures) in
     let its : slice_index_or chains c.args.i not_begun ≡ c.progress-here.result = sym c.progress-here.ensures in
-    let at = at_start_by rules_are (said_by claimed) (first_in claimed c.args.i) (run_in claimed c.args.i) c.new-told.result.items c.settle.new.told.items c.in_ok-done.done
-    (slice_index_or chains c.args.i not_begun) settles c.new-told.ensures.items
+    let at = at_start_by (said_by claimed) c.settle.new.told.items settles c.new-told.ensures.items
     (subst (All (λ (x : Completion). said_by claimed (completed_of x))) c.deref-2.ensures.value (c.are_listed.ensures yes))
     (ap (λ (p : Progress). p.done) its ∙ c.if-here-done.false)
     (ap (λ (p : Progress). p.made) its ∙ c.if-here-ne0.false) in

@@ -26,5 +26,5 @@ returns c = of_both c.slots_left.result _ _ _ c.slots_left.ensures.order c.slots
     } in
     record {
       by = by;
-      may = may_of old (all_asked sub.requests.now) order (report_of sub c.args.play.now) left (omega (arith, size, sub.few_slots)) sub.accepted by;
+      may = may_of (omega (arith, size, sub.few_slots)) sub.accepted by;
     })

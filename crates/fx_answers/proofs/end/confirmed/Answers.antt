@@ -3,6 +3,4 @@ use Rattle.fx_answers.proofs.Promised.{is_end}
 use Rattle.fx_answers.proofs.end.confirmed.Goals as goal
 
 pub returns : goal.returns
-returns c = λ submissions registrations number.
-    is_end _ _ (report_of c.args.submission.now c.in_ok-play.play) _
-    ((rw c.in-Some.is at c.in_ok-left.ensures) submissions registrations number)
+returns c = λ submissions registrations number. is_end ((rw c.in-Some.is at c.in_ok-left.ensures) submissions registrations number)

@@ -3,6 +3,4 @@ use Rattle.fx_answers.proofs.Promised.{ends_by}
 use Rattle.fx_answers.proofs.end.may_leave.Goals as goal
 
 pub returns-clause-all : goal.returns-clause-all
-returns-clause-all c = λ yes registrations.
-    ends_by _ c.args.slots.now c.in_ok-ends.ends.items _ c.args.submissions registrations refl c.deref-2.ensures.value (c.in_ok-are_all.ensures yes)
-    c.in_ok-ends.ensures
+returns-clause-all c = λ yes registrations. ends_by registrations refl c.deref-2.ensures.value (c.in_ok-are_all.ensures yes) c.in_ok-ends.ensures

@@ -3,6 +3,4 @@ use Rattle.fx_answers.proofs.Promised.{answers_by}
 use Rattle.fx_answers.proofs.outcome.may_answer.Goals as goal
 
 pub returns-clause-all : goal.returns-clause-all
-returns-clause-all c = λ yes registrations.
-    answers_by _ c.args.slots.now c.args.question.now.place c.in_ok-answers.answers.items c.args.submissions registrations refl refl
-    c.deref-2.ensures.value (c.in_ok-are_all.ensures yes)
+returns-clause-all c = λ yes registrations. answers_by registrations refl refl c.deref-2.ensures.value (c.in_ok-are_all.ensures yes)

@@ -10,6 +10,6 @@ returns c =
     let many = as_many (all_asked sub.requests.now) sub.chains.now sub.runs in
     elim c.earlier.ensures [
       | inl same ↦ subst its (sym same) c.requires.turn
-      | inr own ↦ subst its (sym own) (is_turn sub c.args.numbers.now c.args.state.now c.args.i (omega (arith, c.requires.inside, many))
+      | inr own ↦ subst its (sym own) (is_turn sub c.args.numbers.now c.args.state.now (omega (arith, c.requires.inside, many))
           (sym c.is_idle.ensures ∙ c.if-is_idle.false))
     ]

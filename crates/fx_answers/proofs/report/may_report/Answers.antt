@@ -3,6 +3,5 @@ use Rattle.fx_answers.proofs.EachReport.{reports_by}
 use Rattle.fx_answers.proofs.report.may_report.Goals as goal
 
 pub returns-clause-all : goal.returns-clause-all
-returns-clause-all c = λ yes registrations.
-    reports_by _ c.args.slots.now c.in_ok-reports.reports.items _ c.args.submissions registrations refl c.deref-2.ensures.value refl
+returns-clause-all c = λ yes registrations. reports_by registrations refl c.deref-2.ensures.value refl
     (c.in_ok-are_all.ensures yes) c.in_ok-reports.ensures

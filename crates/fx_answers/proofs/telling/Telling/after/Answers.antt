@@ -15,7 +15,7 @@ returns c =
     ∙ (λ j. all_completed (c.new-mine.ensures.items j) ++ all_completed (c.deref-2.ensures.value j)) in
     record {
       there = c.requires;
-      answers = set_answers before c.push_lists.new.all.items c.args.i c.index.result.now c.push_copies-2.new.all (all_completed c.args.own.now)
+      answers = set_answers before c.push_lists.new.all.items c.push_copies-2.new.all (all_completed c.args.own.now)
           lists c.requires c.index.ensures (c.in_ok-push_copies-2.ensures ∙ ap (λ (l : List Completed). l ++ all_completed c.args.own.now) first);
       removed = subst (λ (l : List Closed). IsPermutation (l ++ option_to_list (removed_by c.args.access.now)) c.in_ok-removed.removed.items)
           c.deref-3.ensures.value c.in_ok-removed.ensures;
