@@ -12,6 +12,7 @@ use Rattle.std.proofs.Common.{length-set}
 use Rattle.std.proofs.lemmas.List.Sums.{count_by-le-length}
 use Rattle.fx_table.proofs.Ones.{bit_else}
 use Rattle.fx_counted.proofs.Ending.{drawn, told}
+use Rattle.fx_counted.proofs.Frames.{of_one}
 
 abbrev pick : {P : Type 0} → Dec P → Phase → Phase → Phase
 pick (yes _) a b = a
@@ -58,24 +59,23 @@ module _ (turn : Turn) where
   wide : draw_place < length st.words
   wide = let a = r.shape.words in let b = (near turn).draw in omega arith
 
+  told_v : told_of v ≡ one_if x.no_chains_left
+  told_v = of_one (λ z. one_if z.no_chains_left) one
+
+  drawn_v : (c : ℕ) → drawn_of c v ≡ times c x.drawn
+  drawn_v c = of_one (λ z. times c z.drawn) one
+
   -- the pass's last chain was given
   pub chain_few : chain_in x ≤ d.given
   chain_few = dite (ℕ_discrete (chain_in x) 0) (λ none. omega arith)
       (λ some_chain. let a = chain_drawn x.drawn (omega (arith, some_chain)) in let b = sum_at (drawn_of (chain_in x)) st.views id v here in
-      let c : drawn_of (chain_in x) v ≡ 0 + times (chain_in x) x.drawn = ap (λ (l : List Log). sum_by (λ z. times (chain_in x) z.drawn) l) one in
-      let e = d.each (chain_in x) in omega (arith, once_is d.given (chain_in x)))
+      let c = drawn_v (chain_in x) in let e = d.each (chain_in x) in omega (arith, once_is d.given (chain_in x)))
 
   -- few passes are told that there are no more chains, so the word doesn't run over
   word_is : (found + 1) % 2 ^ 64 ≡ found + 1
   word_is = let a = sum_le_at told_of lengths st.views (λ j u e. told_few u.logs) in let b = r.whole in let f = r.shape.passes in
       let told : sum_by told_of st.views ≤ 16 = omega arith in
       let b = d.counts in let c = d.few in let e = r.shape.chains in omega (arith, told, b, c, e)
-
-  told_v : told_of v ≡ one_if x.no_chains_left
-  told_v = let e : told_of v ≡ 0 + one_if x.no_chains_left = ap (λ (l : List Log). sum_by (λ z. one_if z.no_chains_left) l) one in omega arith
-
-  drawn_v : (c : ℕ) → drawn_of c v ≡ times c x.drawn
-  drawn_v c = let e : drawn_of c v ≡ 0 + times c x.drawn = ap (λ (l : List Log). sum_by (λ z. times c z.drawn) l) one in omega arith
 
   -- what a draw has to keep
   module _ (drawn : List ℕ) (told : Bool) (left : ℕ) (phase' : ℕ → Phase) where
@@ -166,12 +166,8 @@ module _ (turn : Turn) where
     alone : v.start.passes ≡ 1 → found ≡ chain_in x
     alone passes =
         let all : length v.logs ≡ v.start.passes = ap (length {A = Log}) one ∙ sym passes in
-        let drawn_here : times d.given x.drawn ≡ once d.given d.given =
-        (let e : sum_by (λ (z : Log). times d.given z.drawn) v.logs ≡ 0 + times d.given x.drawn = ap (λ (l : List Log). sum_by (λ z. times d.given z.drawn) l) one in
-        let f = drawn v.start st r id v here all d.given in omega arith) in
-        let none_told : sum_by told_of st.views ≡ 0 =
-        (let e : sum_by (λ (z : Log). one_if z.no_chains_left) v.logs ≡ 0 + one_if x.no_chains_left = ap (λ (l : List Log). sum_by (λ z. one_if z.no_chains_left) l) one in
-        let f = told v.start st r id v here all in let g = ap one_if untold in omega arith) in
+        let drawn_here = sym (drawn_v d.given) ∙ drawn v.start st r id v here all d.given in
+        let none_told = sym (told v.start st r id v here all) ∙ (told_v ∙ ap one_if untold) in
         let counts = d.counts in
         let few = chain_few in
         dite (dec_le d.given (chain_in x)) (λ le. omega (arith, le, few, counts, none_told))

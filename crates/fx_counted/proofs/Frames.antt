@@ -1,6 +1,6 @@
 -- What a step of one seat leaves as it was.
 use Rattle.fx_counted.proofs.Words.{Contains, sum_of, sum_by, ◌≡◌, ◌≢◌, ℕ, ◌+◌, List, [], ◌∷◌, set, sym, refl, ap, ◌∙◌, subst, arith, ⊎_elim, eqb}
-use Rattle.fx_counted.proofs.Words.{some, some-injective, get_elem?, at_set, set_here, set_else, File, Event, numbered, sum_two, Does, OwnerAgrees}
+use Rattle.fx_counted.proofs.Words.{some, some-injective, get_elem?, at_set, set_here, set_else, File, Event, numbered, sum_two, sum_set, Does, OwnerAgrees}
 use Rattle.fx_counted.proofs.Words.{WorkAgrees, ViewAgrees, Agrees, Shared, logs_of, Phase, spare, placed, leaving, emptied, owner, file_in, Log}
 use Rattle.fx_counted.proofs.Words.{Start, View, Work, Idle, Placing, Holding, Retiring, Emptying, dite, ℕ_discrete, Between}
 use Rattle.fx_table.proofs.Members.{stands_at}
@@ -63,6 +63,16 @@ module _ (id p j : ℕ) (other : j ≢ id) (phase phase' : ℕ → Phase) (stays
     start = ok.start;
   }
 
+-- the one pass of a seat makes up what the seat counts for
+pub of_one : (f : Log → ℕ) {l : List Log} {x : Log} → l ≡ x ∷ [] → sum_by f l ≡ f x
+of_one f {l} {x} one = let e : sum_by f l ≡ 0 + f x = ap (sum_by f) one in omega arith
+
+-- a total over all passes, where the one pass of a seat counts for as much as before
+pub total_same : (f : Log → ℕ) (views : List View) (id : ℕ) (v w : View) {x y : Log} → get_elem? views id ≡ some v → v.logs ≡ x ∷ [] → w.logs ≡ y ∷ []
+    → f y ≡ f x → sum_by (λ (u : View). sum_by f u.logs) (set views id w) ≡ sum_by (λ (u : View). sum_by f u.logs) views
+total_same f views id v w here one one' same = let t = sum_set (λ (u : View). sum_by f u.logs) views id v w here in
+    let a = of_one f one in let b = of_one f one' in omega arith
+
 -- a pass that one view has is in no other one
 pub not_there : (k : Start) (st : Shared) → Agrees k st → (id j : ℕ) (v u : View) (x : Log)
     → get_elem? st.views id ≡ some v → v.logs ≡ x ∷ [] → j ≢ id → get_elem? st.views j ≡ some u
@@ -70,8 +80,7 @@ pub not_there : (k : Start) (st : Shared) → Agrees k st → (id j : ℕ) (v u 
 not_there k st r id j v u x here one other there y at same =
     let t = sum_two (logs_of x.number) st.views j id u v other there here in
     let a = r.passes x.number in
-    let c : logs_of x.number v ≡ 0 + one_if (eqb x.number x.number) = ap
-    (λ (l : List Log). sum_by (λ z. one_if (eqb z.number x.number)) l) one in
+    let c = of_one (λ z. one_if (eqb z.number x.number)) one in
     let d = bit_here x.number x.number refl in
     let e = sum_of (λ z. one_if (eqb z.number x.number)) u.logs y at in
     let f = bit_here x.number y.number same in

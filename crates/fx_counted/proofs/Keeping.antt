@@ -9,7 +9,7 @@ use Rattle.fx_counted.proofs.Words.{Valid, carried_after, HasPass, held_by, held
 use Rattle.fx_counted.proofs.Words.{no_use, ◌▷◌}
 use mathlib.Core.Option as maybe
 use Rattle.fx_counted.proofs.Histories.{Grows, IsHistory, grows_none, grows_one, part_mine}
-use Rattle.fx_counted.proofs.Frames.{Stays, KeepsHeld, view_stays, not_there, views_after}
+use Rattle.fx_counted.proofs.Frames.{Stays, KeepsHeld, view_stays, not_there, views_after, of_one, total_same}
 use Rattle.fx_table.proofs.Ones.{one_if}
 use Rattle.atomic_table.specs.Table.{Allows}
 
@@ -126,13 +126,6 @@ module _ (turn : Turn) where
       pub control : ControlCounts (state_after_all v.start h').at (range_of (opening_of v.start)) views' (word_at words' control_place)
       pub draws : DrawsCount v.start.chains v.start.numbers phase' views' (word_at words' draw_place)
 
-    -- how often the passes of the view are counted
-    one_total : (f : Log → ℕ) → sum_by f v.logs ≡ f x
-    one_total f = let e : sum_by f v.logs ≡ 0 + f x = ap (sum_by f) one in omega arith
-
-    total_same : (f : Log → ℕ) → f y ≡ f x → sum_by (λ (u : View). sum_by f u.logs) views' ≡ sum_by (λ (u : View). sum_by f u.logs) st.views
-    total_same f same = let t = sum_set (λ (u : View). sum_by f u.logs) st.views id v (now v y d c) here in let a = one_total f in omega arith
-
     its_view : Step → ViewAgrees v.start h' phase' id (now v y d c)
     its_view s = record {
       logs = λ z h. subst (LogAgrees v.start h' phase' d) (sym (contains_only y z h)) s.log;
@@ -157,8 +150,9 @@ module _ (turn : Turn) where
           (λ f is. s.keeps j u f other there is) (r.each_view j u there));
       holds = λ n. let t = sum_set (held_of n) st.views id v (now v y d c) here in let a = r.holds n in let b = s.holds n in omega arith;
       look_ups = let t = sum_set looks_of st.views id v (now v y d c) here in let a = r.look_ups in
-          let b = s.look_ups in let e = one_total (λ z. z.looks_left) in omega arith;
-      passes = λ p. total_same (λ z. one_if (eqb z.number p)) (ap (λ (q : ℕ). one_if (eqb q p)) s.number) ∙ r.passes p;
+          let b = s.look_ups in let e = of_one (λ z. z.looks_left) one in omega arith;
+      passes = λ p. total_same (λ z. one_if (eqb z.number p)) st.views id v (now v y d c) here one refl (ap (λ (q : ℕ). one_if (eqb q p)) s.number)
+          ∙ r.passes p;
       whole = let t = sum_set lengths st.views id v (now v y d c) here in let e = ap (length {A = Log}) one in let a = r.whole in omega arith;
       authors = λ p none. let t = r.passes p in let u = sum_at (logs_of p) st.views id v here in
           s.grows.parts p (λ same. let a = its_one p same in omega arith) ∙ r.authors p none;
@@ -167,7 +161,7 @@ module _ (turn : Turn) where
     }
       where
         its_one : (p : ℕ) → x.number ≡ p → logs_of p v ≡ 1
-        its_one p same = one_total (λ z. one_if (eqb z.number p)) ∙ rw (eq-eqb x.number p same) refl
+        its_one p same = of_one (λ z. one_if (eqb z.number p)) one ∙ rw (eq-eqb x.number p same) refl
 
   -- what the step tells
   pub tells : (carried homes : List (ℕ × Option Closed)) (h' : List Event) (left looks_left : ℕ) (d : Work)

@@ -5,6 +5,7 @@ use Rattle.fx_counted.proofs.Words.{added, removed_by, changes_of, added_of, rem
 use Rattle.fx_counted.proofs.Words.{state_after_all, drawn_of, told_of, Phase, unborn, seated, leaving, retired, emptied, closed, Log, Start, View}
 use Rattle.fx_counted.proofs.Words.{takes_in}
 use Rattle.fx_counted.specs.Agrees.{IsSeated, IsGone}
+use Rattle.fx_counted.proofs.Frames.{total_same}
 use Rattle.fx_table.proofs.Ones.{one_if, times}
 
 module _ (k : Start) (h h' : List Event) (phase phase' : ℕ → Phase) (slot : ℕ) where
@@ -88,22 +89,13 @@ module _ (views : List View) (id : ℕ) (v w : View) (here : get_elem? views id 
   pub draws_same : {chains numbers : ℕ} {phase phase' : ℕ → Phase} {word word' : ℕ} {x y : Log} → v.logs ≡ x ∷ []
       → w.logs ≡ y ∷ [] → y.drawn ≡ x.drawn → y.no_chains_left ≡ x.no_chains_left → word' ≡ word
       → ((n : ℕ) → phase n ≡ unborn → phase' n ≡ unborn) → DrawsCount chains numbers phase views word → DrawsCount chains numbers phase' (set views id w) word'
-  draws_same {chains} {numbers} {phase} {phase'} {word} {word'} {x} {y} one one' drawn told same keeps ok =
-      let t = sum_set told_of views id v w here in
-      let told_v : told_of v ≡ 0 + one_if x.no_chains_left = ap (λ (l : List Log). sum_by (λ z. one_if z.no_chains_left) l) one in
-      let told_w : told_of w ≡ 0 + one_if y.no_chains_left = ap (λ (l : List Log). sum_by (λ z. one_if z.no_chains_left) l) one' in
-      let told_y = ap one_if told in
-      let total_told : sum_by told_of (set views id w) ≡ sum_by told_of views = omega arith in
+  draws_same one one' drawn told same keeps ok =
+      let t : sum_by told_of (set views id w) ≡ sum_by told_of views =
+      total_same (λ z. one_if z.no_chains_left) views id v w here one one' (ap one_if told) in
       record {
         given = ok.given;
         few = ok.few;
-        each = λ c.
-            let t = sum_set (drawn_of c) views id v w here in
-            let a : drawn_of c v ≡ 0 + times c x.drawn = ap (λ (l : List Log). sum_by (λ z. times c z.drawn) l) one in
-            let b : drawn_of c w ≡ 0 + times c y.drawn = ap (λ (l : List Log). sum_by (λ z. times c z.drawn) l) one' in
-            let e = ap (times c) drawn in
-            let s : sum_by (drawn_of c) (set views id w) ≡ sum_by (drawn_of c) views = omega arith in
-            s ∙ ok.each c;
+        each = λ c. total_same (λ z. times c z.drawn) views id v w here one one' (ap (times c) drawn) ∙ ok.each c;
         counts = let c = ok.counts in omega arith;
         all = λ some. ok.all (omega arith);
         unused = λ n low high. keeps n (ok.unused n low high);
