@@ -14,7 +14,6 @@ pub mod SlotSteps
 pub mod LookUps
 pub mod FullSlots
 pub mod Swaps
-pub mod Changes
 pub mod Calm
 pub mod ControlSteps
 pub mod SlotLaws

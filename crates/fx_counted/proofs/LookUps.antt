@@ -7,9 +7,10 @@ use Rattle.fx_counted.proofs.Words.{file_in, Stepped, IsInside, Log, View, Idle,
 use Rattle.fx_counted.proofs.Words.{holds_now, Between}
 use Rattle.fx_counted.proofs.Steps.{busy, stays_same, owner_stays, IsHistory, grows_one, legal_more, held_mine, part_mine, changed_else, same_shape}
 use Rattle.fx_counted.proofs.Steps.{Turn, turn_of, word_at, now, logged, its_log, tells, by_turn, Made, log_now, far, one_if, bit_here, one_more_at}
-use Rattle.fx_counted.proofs.Steps.{node_same, control_same, NodeIn}
+use Rattle.fx_counted.proofs.Steps.{node_same, control_same, NodeIn, Step, step_kept}
 use Rattle.fx_counted.specs.Agrees.{IsSeated}
-use Rattle.fx_counted.proofs.SlotSteps.{SlotStep, slot_agrees}
+use Rattle.std.proofs.Common.{length-set}
+use Rattle.fx_counted.proofs.SlotSteps.{slots_now, node_now, control_now, draws_now, words_now}
 
 pub add_one : (n : ℕ) → takes_in n + 1 < 4294967296 → n < 18446744073709551616 → (n + 1) % 2 ^ 64 ≡ n + 1
 add_one n low fits = omega arith
@@ -80,32 +81,32 @@ module _ (turn : Turn) (idle : turn.v.work ≡ Between Idle) (some_left : 0 < tu
           (next : PlacesNext v.start y (holds_now file)) (placed : placing (holds_now file) ≡ 0)
           (work : WorkAgrees v.start r.phase id (holds_now file)) (holds : (n : ℕ)
           → (state_after_all v.start h').holds n ≡ old.holds n + holding n (holds_now file)) where
-        look_step : SlotStep turn s inside x.numbers_left (x.looks_left - 1) (holds_now file) v.change h' r.phase word' st.homes
+        look_step : Step turn y (holds_now file) v.change h' r.phase (words_now turn s inside word') st.homes
         look_step = let o = its_log turn in let p = ap placing idle in record {
+          words = length-set st.words (slot_place s) word';
           homes = refl;
+          number = refl;
           grows = grows_one x.number r.history e refl;
           legal = legal;
-          slot = slot;
-          others = λ i l other. (ap (λ (g : ℕ → Option File). g i) at_same, λ f there seat. (looks_else i l other f there seat, refl));
-          more = omega arith;
-          nodes = nodes;
+          slots = slots_now turn s inside word' h' r.phase slot (omega arith)
+              (λ i l other. (ap (λ (g : ℕ → Option File). g i) at_same, λ f there seat. (looks_else i l other f there seat, refl)));
+          nodes = λ n has. node_now turn s inside word' h' st.homes (r.phase n) n has (nodes n has);
           owners = λ n has. owner_stays st.views id v w here n (λ bad. let b = ap busy idle in omega arith) (r.phase n) (r.each_owner n has);
           no_other = λ n absent. ap (λ (g : ℕ → Option File). g n) removed_same ∙ r.no_other n absent;
           stays = stays_same id x.number r.phase;
           keeps = λ j u f other there is_held. refl;
-          unused = λ n is_new. is_new;
           log = log_now turn h' r.phase x.numbers_left (x.looks_left - 1) (holds_now file) (omega arith) held next
               (λ n low high. o.spares n (omega arith) high);
           work = work;
           holds = λ n. let b : held_of n v ≡ 0 = ap (holding n) idle in let c = holds n in omega arith;
           look_ups = omega arith;
-          control = control_same st.views id v w here (ap (λ (g : ℕ
-              → Option File). full_in g (range_of (opening_of v.start)).0
-              (range_of (opening_of v.start)).1) at_same) refl refl r.control;
+          control = control_now turn s inside word' (control_same st.views id v w here (ap (λ (g : ℕ → Option File).
+              full_in g (range_of (opening_of v.start)).0 (range_of (opening_of v.start)).1) at_same) refl refl r.control);
+          draws = draws_now turn s inside word' h' x.numbers_left (x.looks_left - 1) (holds_now file) v.change r.phase (λ n is_new. is_new);
         }
 
         look_agrees : Agrees v.start record { words = set st.words (slot_place s) word'; homes = st.homes; views = set st.views id w }
-        look_agrees = slot_agrees turn s inside x.numbers_left (x.looks_left - 1) (holds_now file) v.change h' r.phase word' st.homes look_step
+        look_agrees = step_kept turn y (holds_now file) v.change h' r.phase (words_now turn s inside word') st.homes look_step
 
     missed : (is : old.at s ≡ None) → Agrees v.start (stepped st (slot_place s) word' id [] (w None is) keeps)
     missed is = look_agrees None is refl refl
@@ -137,8 +138,8 @@ module _ (turn : Turn) (idle : turn.v.work ≡ Between Idle) (some_left : 0 < tu
       holds_now_is : (n : ℕ) → (state_after_all v.start h₁).holds n ≡ old.holds n + one_if (eqb q n)
       holds_now_is n = one_more_at old.holds q n
 
-      node_now : (n : ℕ) → IsNumber v.start n → NodeIn v.start st.words st.homes h₁ n (r.phase n)
-      node_now n has = dite (ℕ_discrete n q)
+      node_found : (n : ℕ) → IsNumber v.start n → NodeIn v.start st.words st.homes h₁ n (r.phase n)
+      node_found n has = dite (ℕ_discrete n q)
           (λ same. let ph : r.phase n ≡ seated s f.identity = ap r.phase same ∙ seat.2 in
           let o = subst (NodeIn v.start st.words st.homes r.history n) ph (r.each_node n has) in
           let a = looks_now n in let b = holds_now_is n in let c = o.counts in
@@ -165,7 +166,7 @@ module _ (turn : Turn) (idle : turn.v.work ≡ Between Idle) (some_left : 0 < tu
             takes = let a = so.takes in let b = takes_now in omega arith;
           }
           (λ i l other g there its. looks_else_is g.number (λ same. other (ap slot_in (sym its ∙ (ap r.phase same ∙ seat.2)))))
-          node_now
+          node_found
           (held_mine x.number (e (Some f) is) r.history refl) tt refl (seat.0, ap file_in seat.2)
           holds_now_is
 

@@ -11,10 +11,9 @@ use Rattle.atomic_table.specs.Table.{Allows}
 use Rattle.fx_counted.specs.Laws.{IsInRange}
 use Rattle.fx_counted.proofs.Births.{in_phase}
 use Rattle.fx_counted.proofs.Calm.{no_event, calm_agrees}
-use Rattle.fx_counted.proofs.Changes.{in_size, names_old, removal_agrees, removal_tells, installation_agrees, installation_tells, removed_view}
-use Rattle.fx_counted.proofs.Changes.{installed_view}
 use Rattle.fx_counted.proofs.ControlSteps.{goes_on}
-use Rattle.fx_counted.proofs.Swaps.{Effect}
+use Rattle.fx_counted.proofs.Swaps.{Effect, in_size, names_old, removal_agrees, removal_tells, installation_agrees, installation_tells, removed_view}
+use Rattle.fx_counted.proofs.Swaps.{installed_view}
 
 placing_same : (n m : ℕ) → Placing n ≡ Placing m → n ≡ m
 placing_same n m e = cc e
@@ -29,33 +28,27 @@ carried_same p q f g e = let z : Some f ≡ Some g = ap file_carried e in cc z
 module _ (turn : Turn) (s : ℕ) (inside : s < slots_of turn.v.start) where
   open turn use {st, v, r, id, x, here, one}
 
-  abbrev found : ℕ
-  found = word_at st.words (slot_place s)
-
   abbrev old : Option File
   old = (state_after_all v.start r.history).at s
 
-  module _ (stands : MayChange v.start s v.change) where
-    abbrev Facts : Action → Option File → (ℕ → Bool) → Type 0
-    Facts = Effect turn s inside old refl
+  abbrev Facts : Action → Option File → (ℕ → Bool) → Type 0
+  Facts = Effect turn s inside old refl
 
-    in_range : s < (state_after_all v.start r.history).size
-    in_range = in_size turn s inside stands old refl
+  cleared : Facts (Clear s old) None (state_after_all v.start r.history).fresh
+  cleared = let legal = legal_more v.start r.history (event_of (shown x v.work) (Clear s old)) r.legal (in_size turn s inside, refl) tt in
+      record { legal = legal; state = refl; looked = refl; all = omega arith; held = refl }
 
-    cleared : Facts (Clear s old) None (state_after_all v.start r.history).fresh
-    cleared = let legal = legal_more v.start r.history (event_of (shown x v.work) (Clear s old)) r.legal (in_range, refl) tt in
-        record { legal = legal; state = refl; looked = refl; all = omega arith; held = refl }
+  taken : Facts (Take s old) None (state_after_all v.start r.history).fresh
+  taken = let legal = legal_more v.start r.history (event_of (shown x v.work) (Take s old)) r.legal (in_size turn s inside, refl) tt in
+      record { legal = legal; state = refl; looked = refl; all = omega arith; held = refl }
 
-    taken : Facts (Take s old) None (state_after_all v.start r.history).fresh
-    taken = let legal = legal_more v.start r.history (event_of (shown x v.work) (Take s old)) r.legal (in_range, refl) tt in
-        record { legal = legal; state = refl; looked = refl; all = omega arith; held = refl }
-
-    put : (n : ℕ) (file : Closed) → v.work ≡ Placing n → Facts (Put s (numbered n file) old) (Some (numbered n file))
-        (changed_at (state_after_all v.start r.history).fresh n false)
-    put n file works = let its = subst (WorkAgrees v.start r.phase id) works (its_work turn) in
-        let o = in_phase turn n its.0 (placed id) its.1 in
-        let legal = legal_more v.start r.history (event_of (shown x v.work) (Put s (numbered n file) old)) r.legal (in_range, o.fresh, refl) tt in
-        record { legal = legal; state = refl; looked = refl; all = omega arith; held = refl }
+  put : (n : ℕ) (file : Closed) → v.work ≡ Placing n → Facts (Put s (numbered n file) old) (Some (numbered n file))
+      (changed_at (state_after_all v.start r.history).fresh n false)
+  put n file works = let its = subst (WorkAgrees v.start r.phase id) works (its_work turn) in
+      let o = in_phase turn n its.0 (placed id) its.1 in
+      let legal = legal_more v.start r.history (event_of (shown x v.work) (Put s (numbered n file) old)) r.legal
+      (in_size turn s inside, o.fresh, refl) tt in
+      record { legal = legal; state = refl; looked = refl; all = omega arith; held = refl }
 
   -- the slot of a word's place
   at_slot : (m m' : Sat) (action : ℕ → Action) (used : Use) (d : Work) (c : Change)
@@ -64,22 +57,22 @@ module _ (turn : Turn) (s : ℕ) (inside : s < slots_of turn.v.start) where
 
 -- a removal, by an action that does to the slot what a removal does
 module _ (act : ℕ → Option File → Action)
-    (does : (turn : Turn) (s : ℕ) (inside : s < slots_of turn.v.start) (stands : MayChange turn.v.start s turn.v.change)
-    → Facts turn s inside stands (act s (old turn s inside)) None (state_after_all turn.v.start turn.r.history).fresh) where
+    (does : (turn : Turn) (s : ℕ) (inside : s < slots_of turn.v.start)
+    → Facts turn s inside (act s (old turn s inside)) None (state_after_all turn.v.start turn.r.history).fresh) where
   removes_keep : (k : Start) (slots id i slot : ℕ) (m : Sat) (x : Log) → HasPass k m x → m.0.work ≡ Between Idle
       → slot < slots_of k → MayChange k slot m.0.change → i ≡ slot_place slot
       → Allows (Agrees k) slots id m i (λ _. 0) (Removes act (step slots i 0 0 none) m)
   removes_keep k slots id i s m x has idle inside stands place = by_turn k slots id i m x (λ k. (s < slots_of k) × MayChange k s m.0.change)
       (λ _. slot_place s) (λ _. 0) (λ i. Removes act (step slots i 0 0 none) m) has (inside, stands) place
-      (λ st r here is fits. let turn = turn_of m x has.1 id st r here in let was = old turn s is.0 in let it = does turn s is.0 is.1 in (
-        removed_view turn s is.0 is.1 was refl idle (act s was) it,
+      (λ st r here is fits. let turn = turn_of m x has.1 id st r here in let was = old turn s is.0 in let it = does turn s is.0 in (
+        removed_view turn s is.0 was refl (act s was) is.1 idle it,
         keeps,
         tt,
-        removal_agrees turn s is.0 is.1 was refl idle (act s was) it,
+        removal_agrees turn s is.0 was refl (act s was) is.1 idle it,
         record {
           file = was;
-          names = names_old turn s is.0 is.1 was refl;
-          stepped = at_slot turn s is.0 m _ (λ z. act z was) no_use _ _ (removal_tells turn s is.0 is.1 was refl idle (act s was) it m.1);
+          names = names_old turn s is.0 was refl;
+          stepped = at_slot turn s is.0 m _ (λ z. act z was) no_use _ _ (removal_tells turn s is.0 was refl (act s was) is.1 idle it m.1);
           carried = refl;
         },
       ))
@@ -95,23 +88,23 @@ installs_keep k slots id i s n new file m x has works carries small inside stand
     (λ k. (m.1 ≡ (place_of k n, Some file) ∷ []) × (s < slots_of k) × MayChange k s m.0.change) (λ _. slot_place s) (λ _. new)
     (λ i. Installs (step slots i new 0 none) m) has (carries, inside, stands) place
     (λ st r here is fits. let turn = turn_of m x has.1 id st r here in let old = old turn s is.1 in let f₀ = word_at st.words (slot_place s) in
-    let a : Action = Put s (numbered n file) old in let does = put turn s is.1 is.2 n file works in
-    let w = installed_view turn s is.1 is.2 old refl n file works small a does in (
+    let a : Action = Put s (numbered n file) old in let does = put turn s is.1 n file works in
+    let w = installed_view turn s is.1 old refl a is.2 n file works small does in (
       w,
       gives,
       tt,
       subst (λ (z : List (ℕ × Option Closed) × ℕ). Agrees m.0.start (stepped st (slot_place s) z.1 id z.0 w gives)) (λ i. (sym is.0 i, sym made i))
-          (installation_agrees turn s is.1 is.2 old refl n file works small a does),
+          (installation_agrees turn s is.1 old refl a is.2 n file works small does),
       record {
         replaced = old;
-        names = names_old turn s is.1 is.2 old refl;
+        names = names_old turn s is.1 old refl;
         stepped = λ n₂ file₂ works₂ carries₂.
             let same_n : n ≡ n₂ = placing_same n n₂ (sym works ∙ works₂) in
             let same_f : file ≡ file₂ = carried_same (place_of m.0.start n) (place_of m.0.start n₂) file file₂ (sym is.0 ∙ carries₂) in
             subst (λ (z : ℕ × Closed). Stepped m ([] ▷ Put (slot_of (slot_place s)) (numbered z.0 z.1) old) one_number
             (Between (retiring old (takes_in f₀))) (turned m.0.change (if_full old) 1) (w, rest m.1)) (λ i. (same_n i, same_f i))
             (at_slot turn s is.1 m (w, rest m.1) (λ z. Put z (numbered n file) old) one_number _ _
-            (installation_tells turn s is.1 is.2 old refl n file works small a does m.1 (rest m.1)));
+            (installation_tells turn s is.1 old refl a is.2 n file works small does m.1 (rest m.1)));
         carried = refl;
       },
     ))
@@ -197,7 +190,7 @@ module _ (turn : Turn) (slots s n old_word : ℕ) (file : Closed) (carried : Lis
         let z = (same_shape v.start r.history).1 in let p = ap (λ (p : ℕ × ℕ). p.0) z in let q = ap (λ (p : ℕ × ℕ). p.1) z in
         let low = in_range.0 in let high = in_range.1 in
         let legal = legal_more v.start r.history (event_of (shown x v.work) a) r.legal
-        (in_size turn s within stands None at_none, (omega arith, omega arith), at_none, o.fresh) tt in
+        (in_size turn s within, (omega arith, omega arith), at_none, o.fresh) tt in
         record { legal = legal; state = refl; looked = refl; all = omega arith; held = refl }
 
     abbrev w : View
@@ -209,7 +202,7 @@ module _ (turn : Turn) (slots s n old_word : ℕ) (file : Closed) (carried : Lis
       gives,
       tt,
       subst (λ (c : List (ℕ × Option Closed)). Agrees v.start (stepped st (slot_place s) new id c w gives)) (sym carries)
-          (installation_agrees turn s within stands None at_none n file works small a allocated),
+          (installation_agrees turn s within None at_none a stands n file works small allocated),
       record {
         wins = λ n₂ file₂ works₂ carries₂ _.
             let same_n : n ≡ n₂ = placing_same n n₂ (sym works ∙ works₂) in
@@ -218,7 +211,7 @@ module _ (turn : Turn) (slots s n old_word : ℕ) (file : Closed) (carried : Lis
                   ([] ▷ Allocate (slot_of (slot_place s)) (numbered z.0 z.1)) one_number (Between Idle) z.2 (w, rest m.1))
                   (λ i. (same_n i, same_f i, turned (same i) 0 1))
                   (at_slot turn s within m (w, rest m.1) (λ z. Allocate z (numbered n file)) one_number (Between Idle) (turned v.change 0 1)
-                  (installation_tells turn s within stands None at_none n file works small a allocated m.1 (rest m.1))),
+                  (installation_tells turn s within None at_none a stands n file works small allocated m.1 (rest m.1))),
               refl,
             );
         loses = λ other. absurd (other is);

@@ -1,14 +1,19 @@
--- What a swap of a slot's word has to keep, whatever comes to the slot.
-use Rattle.fx_counted.proofs.Words.{◌≡◌, ◌≢◌, ℕ, ◌<◌, ◌≤◌, List, ◌∷◌, set, length, sym, refl, ap, ◌∙◌, subst, arith, Option, Some, None, dite}
-use Rattle.fx_counted.proofs.Words.{ℕ_discrete, get_elem?, Closed, held_by, held_after, changed_at, with_removed, State, numbered, File, Event, Bool}
-use Rattle.fx_counted.proofs.Words.{Action, range_of, event_of, takes_in, Names, SlotAgrees, NodeAgrees, OwnerAgrees, WorkAgrees, Agrees}
-use Rattle.fx_counted.proofs.Words.{ControlCounts, looks, all_looks, word_of, place_of, control_place, slot_place, opening_of, slots_of, IsNumber}
-use Rattle.fx_counted.proofs.Words.{state_after_all, shown, end_in, next_in, held_in, holding, Phase, unborn, spare, seated, leaving, owner, file_in}
-use Rattle.fx_counted.proofs.Words.{retiring, Change, Log, View, Work, Retiring, Between}
-use Rattle.fx_counted.proofs.Steps.{Stays, KeepsHeld, does_now, IsHistory, grows_one, held_mine, changed_here, changed_else, Turn, Homes, word_at}
-use Rattle.fx_counted.proofs.Steps.{now, logged, its_log, log_now, NodeIn}
+-- A swap of a slot's word keeps the rule: a removal, and an installation.
+use Rattle.fx_counted.proofs.Words.{◌≡◌, ◌≢◌, ℕ, ◌-◌, ◌<◌, ◌≤◌, ◌^◌, false, List, [], ◌∷◌, set, length, sym, refl, ap, ◌∙◌, subst, arith, Option, Some, None}
+use Rattle.fx_counted.proofs.Words.{dite, ◌⊎◌, inl, inr, ⊎_elim, some, ℕ_discrete, get_elem?, set_here, set_else, Closed, held_by, held_after, ◌▷◌, changed_at, with_removed}
+use Rattle.fx_counted.proofs.Words.{State, numbered, File, Event, Bool, Action, no_use, one_number, range_of, event_of, takes_in, slot_word_of, name_made}
+use Rattle.fx_counted.proofs.Words.{entry_made, takes_made, Names, SlotAgrees, NodeAgrees, OwnerAgrees, WorkAgrees, PlacesNext, Agrees, ControlCounts}
+use Rattle.fx_counted.proofs.Words.{if_full, looks, all_looks, word_of, place_of, control_place, slot_place, opening_of, slots_of, IsNumber}
+use Rattle.fx_counted.proofs.Words.{state_after_all, shown, end_in, next_in, held_in, placing, holding, Phase, unborn, spare, placed, seated, leaving}
+use Rattle.fx_counted.proofs.Words.{owner, file_in, IsInside, Stepped, retiring, turned, Change, Log, View, Work, Idle, Placing, Retiring, Between, keeps, stepped}
+use Rattle.fx_counted.proofs.Steps.{busy, stays_same, owner_stays, does_now, IsHistory, grows_one, part_mine, held_mine, changed_here, changed_else}
+use Rattle.fx_counted.proofs.Steps.{same_shape, Turn, Homes, word_at, now, logged, its_log, its_work, log_now, tells, went, tells_one, node_same, NodeIn}
+use Rattle.fx_counted.proofs.Steps.{Step, step_kept}
+use Rattle.std.proofs.Common.{length-set}
 use Rattle.fx_counted.specs.Agrees.{IsSeated}
-use Rattle.fx_counted.proofs.SlotSteps.{SlotStep, slot_agrees}
+use Rattle.fx_counted.proofs.Births.{in_phase, roomy, else_place, unheld}
+use Rattle.fx_counted.proofs.FullSlots.{Stands, control_swap}
+use Rattle.fx_counted.proofs.SlotSteps.{slots_now, node_now, control_now, draws_now, words_now}
 
 -- the phases after a file has left its slot for the seat id
 abbrev pub gone_out : ℕ → Option File → ℕ → (ℕ → Phase) → ℕ → Phase
@@ -20,11 +25,11 @@ abbrev pub NotOf : ℕ → Option File → Type 0
 NotOf n None = Unit {0}
 NotOf n (Some f) = n ≢ f.number
 
-pub out_else : (id : ℕ) (old : Option File) (takes : ℕ) (phase : ℕ → Phase) (n : ℕ) → NotOf n old → gone_out id old takes phase n ≡ phase n
+out_else : (id : ℕ) (old : Option File) (takes : ℕ) (phase : ℕ → Phase) (n : ℕ) → NotOf n old → gone_out id old takes phase n ≡ phase n
 out_else id None takes phase n other = refl
 out_else id (Some f) takes phase n other = changed_else phase f.number (leaving id takes f.identity) n other
 
-pub removed_else : (removed : ℕ → Option File) (old : Option File) (n : ℕ) → NotOf n old → with_removed removed old n ≡ removed n
+removed_else : (removed : ℕ → Option File) (old : Option File) (n : ℕ) → NotOf n old → with_removed removed old n ≡ removed n
 removed_else removed None n other = refl
 removed_else removed (Some f) n other = changed_else removed f.number (Some f) n other
 
@@ -47,17 +52,23 @@ module _ (turn : Turn) (s : ℕ) (inside : s < slots_of turn.v.start) where
   abbrev pub state : State
   state = state_after_all v.start r.history
 
-  pub so : SlotAgrees v.start r.history r.phase s found
+  pub in_size : s < state.size
+  in_size = let z = (same_shape v.start r.history).0 in omega arith
+
+  so : SlotAgrees v.start r.history r.phase s found
   so = r.each_slot s inside
 
   -- the file that is at the slot
-  pub seat_of : (f : File) → state.at s ≡ Some f
+  seat_of : (f : File) → state.at s ≡ Some f
       → IsNumber v.start f.number × (takes_in found ≡ looks r.history f.number) × (r.phase f.number ≡ seated s f.identity)
   seat_of f is = subst (IsSeated v.start (looks r.history) r.phase s found) is so.seat
 
   module _ (old : Option File) (was : state.at s ≡ old) where
+    pub names_old : Names found old
+    names_old = subst (Names found) was so.names
+
     -- a number whose phase isn't that of a file at the slot is not the old file's
-    pub not_old : (n : ℕ) (ph : Phase) → r.phase n ≡ ph → ((f : Closed) → ph ≢ seated s f) → NotOf n old
+    not_old : (n : ℕ) (ph : Phase) → r.phase n ≡ ph → ((f : Closed) → ph ≢ seated s f) → NotOf n old
     not_old n ph is not_seated = go old was
       where
         go : (old : Option File) → state.at s ≡ old → NotOf n old
@@ -65,7 +76,7 @@ module _ (turn : Turn) (s : ℕ) (inside : s < slots_of turn.v.start) where
         go (Some f) was = λ same. not_seated f.identity (sym is ∙ (ap r.phase same ∙ (seat_of f was).2))
 
     -- a seated file is elsewhere, if it is not the old one
-    pub elsewhere : (n i : ℕ) (g : Closed) → NotOf n old → state.at i ≡ Some (numbered n g) → i ≢ s
+    elsewhere : (n i : ℕ) (g : Closed) → NotOf n old → state.at i ≡ Some (numbered n g) → i ≢ s
     elsewhere n i g other there same = go old was other
       where
         go : (old : Option File) → state.at s ≡ old → NotOf n old → ⊥
@@ -73,152 +84,295 @@ module _ (turn : Turn) (s : ℕ) (inside : s < slots_of turn.v.start) where
         go (Some f) was other = let z : Some f ≡ Some (numbered n g) = sym was ∙ (ap state.at (sym same) ∙ there) in
             other (let e : f ≡ numbered n g = cc z in sym (ap (λ (f : File). f.number) e))
 
-    module _ (a : Action) where
-      abbrev pub e : Event
-      e = event_of (shown x v.work) a
+    abbrev d : Work
+    d = Between (retiring old (takes_in found))
 
-      abbrev pub h' : List Event
-      h' = e ∷ r.history
+    inside_now : (file : Option File) → old ≡ file → IsInside v.start (Between (retiring file (takes_in found)))
+    inside_now None is = tt
+    inside_now (Some f) is = (seat_of f (was ∙ is)).0
+
+    module _ (a : Action) where
+      abbrev h' : List Event
+      h' = event_of (shown x v.work) a ∷ r.history
+
+      abbrev after : State
+      after = state_after_all v.start h'
 
       -- what a removal, and an installation of a file, do to the state
       pub record Effect (new : Option File) (fresh : ℕ → Bool) : Type 0 where
         pub legal : IsHistory v.start h'
-        pub state : state_after_all v.start h'
-            ≡ record state { at = changed_at state.at s new; removed = with_removed state.removed old; fresh = fresh }
+        pub state : after ≡ record state { at = changed_at state.at s new; removed = with_removed state.removed old; fresh = fresh }
         pub looked : looks h' ≡ looks r.history
         pub all : all_looks h' ≡ all_looks r.history
         pub held : held_after (held_by r.history x.number) a ≡ held_by r.history x.number
 
-    module _ (a : Action) (word' : ℕ) (new : Option File) (homes' : Homes) (phase₁ : ℕ → Phase) (left : ℕ) (c : Change) where
-      abbrev pub y : Log
-      y = logged x (h' a) left x.looks_left
+      module _ (word' : ℕ) (new : Option File) (homes' : Homes) (phase₁ : ℕ → Phase) (left : ℕ) (c : Change) where
+        abbrev y : Log
+        y = logged x h' left x.looks_left
 
-      abbrev pub d : Work
-      d = Between (retiring old (takes_in found))
+        abbrev w : View
+        w = now v y d c
 
-      abbrev pub w : View
-      w = now v y d c
+        abbrev phase' : ℕ → Phase
+        phase' = gone_out id old (takes_in found) phase₁
 
-      abbrev pub phase' : ℕ → Phase
-      phase' = gone_out id old (takes_in found) phase₁
+        record Swap : Type 0 where
+          fresh : ℕ → Bool
+          does : Effect new fresh
+          homes : length homes' ≡ length st.homes
+          -- what comes to the slot
+          names : Names word' new
+          no_takes : takes_in word' ≡ 0
+          seat : IsSeated v.start (looks r.history) phase₁ s word' new
+          new_apart : (f : File) → new ≡ Some f → NotOf f.number old
+          -- the phases change at most where the pass was placing
+          kept : (n : ℕ) → (phase₁ n ≡ r.phase n) ⊎ (r.phase n ≡ placed id)
+          nodes : (n : ℕ) → IsNumber v.start n → NotOf n old
+              → NodeAgrees after n (looks r.history n) (word_at st.words (word_of v.start n)) (get_elem? homes' (place_of v.start n)) (phase₁ n)
+          old_home : (f : File) → old ≡ Some f → get_elem? homes' (place_of v.start f.number) ≡ get_elem? st.homes (place_of v.start f.number)
+          owners : (n : ℕ) → IsNumber v.start n → NotOf n old → OwnerAgrees (set st.views id w) n (phase₁ n)
+          -- the pass
+          fewer : left ≤ x.numbers_left
+          spares : (n : ℕ) → next_in v.start y ≤ n → n < end_in v.start x → (phase₁ n ≡ spare x.number) × NotOf n old
+          none_held : (held_in v.work ≡ None) × ((n : ℕ) → holding n v.work ≡ 0)
+          control : ControlCounts (changed_at state.at s new) (range_of (opening_of v.start)) (set st.views id w) (word_at st.words control_place)
 
-      abbrev pub next_state : State
-      next_state = state_after_all v.start (h' a)
+        module _ (p : Swap) where
+          old_node : (f : File) → old ≡ Some f → NodeAgrees after f.number (looks r.history f.number) (word_at st.words (word_of v.start f.number))
+              (get_elem? homes' (place_of v.start f.number)) (leaving id (takes_in found) f.identity)
+          old_node f is = let its = seat_of f (was ∙ is) in let n = in_phase turn f.number its.0 (seated s f.identity) its.2 in
+              let h = ap (λ (z : State). z.holds f.number) p.does.state in record {
+                counts = let a = n.counts in omega arith;
+                at_home = p.old_home f is ∙ n.at_home;
+                all_takes = its.1;
+                removed = ap (λ (z : State). z.removed f.number) p.does.state
+                    ∙ (ap (λ (o : Option File). with_removed state.removed o f.number) is
+                    ∙ changed_here state.removed f.number (Some f) f.number refl);
+              }
 
-      pub record Swap : Type 0 where
-        pub fresh : ℕ → Bool
-        pub does : Effect a new fresh
-        pub homes : length homes' ≡ length st.homes
-        -- what comes to the slot
-        pub names : Names word' new
-        pub no_takes : takes_in word' ≡ 0
-        pub seat : IsSeated v.start (looks r.history) phase₁ s word' new
-        pub new_apart : (f : File) → new ≡ Some f → NotOf f.number old
-        -- the phases change at most where the pass was placing
-        pub seats : (n i : ℕ) (g : Closed) → r.phase n ≡ seated i g → phase₁ n ≡ seated i g
-        pub stays : Stays id x.number r.phase phase₁
-        pub keeps : KeepsHeld id st.views r.phase phase₁
-        pub unused : (n : ℕ) → r.phase n ≡ unborn → phase₁ n ≡ unborn
-        pub nodes : (n : ℕ) → IsNumber v.start n → NotOf n old
-            → NodeAgrees next_state n (looks r.history n) (word_at st.words (word_of v.start n)) (get_elem? homes' (place_of v.start n)) (phase₁ n)
-        pub old_home : (f : File) → old ≡ Some f → get_elem? homes' (place_of v.start f.number) ≡ get_elem? st.homes (place_of v.start f.number)
-        pub owners : (n : ℕ) → IsNumber v.start n → NotOf n old → OwnerAgrees (set st.views id w) n (phase₁ n)
-        -- the pass
-        pub fewer : left ≤ x.numbers_left
-        pub spares : (n : ℕ) → next_in v.start y ≤ n → n < end_in v.start x → (phase₁ n ≡ spare x.number) × NotOf n old
-        pub none_held : (held_in v.work ≡ None) × ((n : ℕ) → holding n v.work ≡ 0)
-        pub control : ControlCounts (changed_at state.at s new) (range_of (opening_of v.start)) (set st.views id w) (word_at st.words control_place)
+          out_here : (f : File) → old ≡ Some f → phase' f.number ≡ leaving id (takes_in found) f.identity
+          out_here f is = ap (λ (o : Option File). gone_out id o (takes_in found) phase₁ f.number) is
+              ∙ changed_here phase₁ f.number (leaving id (takes_in found) f.identity) f.number refl
 
-      module _ (p : Swap) where
-        old_node : (f : File) → old ≡ Some f → NodeAgrees next_state f.number (looks r.history f.number) (word_at st.words (word_of v.start f.number))
-            (get_elem? homes' (place_of v.start f.number)) (leaving id (takes_in found) f.identity)
-        old_node f is = let its = seat_of f (was ∙ is) in
-            let n = subst (NodeIn v.start st.words st.homes r.history f.number) its.2 (r.each_node f.number its.0) in
-            let h = ap (λ (z : State). z.holds f.number) p.does.state in record {
-              counts = let a = n.counts in omega arith;
-              at_home = p.old_home f is ∙ n.at_home;
-              all_takes = its.1;
-              removed = ap (λ (z : State). z.removed f.number) p.does.state
-                  ∙ (ap (λ (o : Option File). with_removed state.removed o f.number) is
-                  ∙ changed_here state.removed f.number (Some f) f.number refl);
-            }
+          else_phase : (n : ℕ) → NotOf n old → phase' n ≡ phase₁ n
+          else_phase n other = out_else id old (takes_in found) phase₁ n other
 
-        out_here : (f : File) → old ≡ Some f → phase' f.number ≡ leaving id (takes_in found) f.identity
-        out_here f is = ap (λ (o : Option File). gone_out id o (takes_in found) phase₁ f.number) is
-            ∙ changed_here phase₁ f.number (leaving id (takes_in found) f.identity) f.number refl
+          -- a number that is neither the old file's nor placed
+          same_phase : (n : ℕ) (ph : Phase) → r.phase n ≡ ph → NotOf n old → (ph ≡ placed id → ⊥) → phase' n ≡ ph
+          same_phase n ph is apart other = else_phase n apart
+              ∙ ⊎_elim (λ same. same ∙ is) (λ mine. absurd (other (sym is ∙ mine))) (p.kept n)
 
-        else_phase : (n : ℕ) → NotOf n old → phase' n ≡ phase₁ n
-        else_phase n other = out_else id old (takes_in found) phase₁ n other
+          -- no look is told
+          now_in : (n : ℕ) {ph : Phase} → ph ≡ phase' n → NodeAgrees after n (looks r.history n) (word_at st.words (word_of v.start n))
+              (get_elem? homes' (place_of v.start n)) ph → NodeIn v.start st.words homes' h' n (phase' n)
+          now_in n is = subst (λ (z : ℕ × Phase). NodeAgrees after n z.0 (word_at st.words (word_of v.start n))
+              (get_elem? homes' (place_of v.start n)) z.1) (λ i. (sym p.does.looked i n, is i))
 
-        -- no look is told
-        now_in : (n : ℕ) {ph : Phase} → ph ≡ phase' n → NodeAgrees next_state n (looks r.history n) (word_at st.words (word_of v.start n))
-            (get_elem? homes' (place_of v.start n)) ph → NodeIn v.start st.words homes' (h' a) n (phase' n)
-        now_in n is = subst (λ (z : ℕ × Phase). NodeAgrees next_state n z.0 (word_at st.words (word_of v.start n))
-            (get_elem? homes' (place_of v.start n)) z.1) (λ i. (sym p.does.looked i n, is i))
+          swap_step : Step turn y d c h' phase' (words_now turn s inside word') homes'
+          swap_step = let o = its_log turn in let alone = retires_alone old (takes_in found) in record {
+            words = length-set st.words (slot_place s) word';
+            homes = p.homes;
+            number = refl;
+            grows = grows_one x.number r.history _ refl;
+            legal = p.does.legal;
+            slots = slots_now turn s inside word' h' phase' (
+              let at_is : after.at s ≡ new = ap (λ (z : State). z.at s) p.does.state ∙ changed_here state.at s new s refl in record {
+                names = subst (Names word') (sym at_is) p.names;
+                seat = subst (IsSeated v.start (looks h') phase' s word') (sym at_is) (seat_now new refl p.seat);
+                takes = let z = p.no_takes in omega arith;
+              }
+            ) (let z = p.does.all in omega arith) (λ i l other. (
+              ap (λ (z : State). z.at i) p.does.state ∙ changed_else state.at s new i other,
+              λ f there its. (
+                ap (λ (g : ℕ → ℕ). g f.number) p.does.looked,
+                same_phase f.number (seated i f.identity) its (not_old f.number (seated i f.identity) its (λ g bad. other (cc bad))) (λ bad. cc bad)
+                    ∙ sym its,
+              ),
+            ));
+            nodes = λ n has. node_now turn s inside word' h' homes' (phase' n) n has (by_old old n (NodeIn v.start st.words homes' h' n (phase' n))
+                (λ f is same. subst (λ (m : ℕ). NodeIn v.start st.words homes' h' m (phase' m)) (sym same)
+                (now_in f.number (sym (out_here f is)) (old_node f is)))
+                (λ other. now_in n (sym (else_phase n other)) (p.nodes n has other)));
+            owners = λ n has. by_old old n (OwnerAgrees (set st.views id w) n (phase' n))
+                (λ f is same. subst (λ (m : ℕ). OwnerAgrees (set st.views id w) m (phase' m)) (sym same)
+                (subst (OwnerAgrees (set st.views id w) f.number) (sym (out_here f is))
+                (does_now st.views id v w (Between (Retiring f (takes_in found))) here (ap (λ (o : Option File). Between (retiring o (takes_in found))) is))))
+                (λ other. subst (OwnerAgrees (set st.views id w) n) (sym (else_phase n other)) (p.owners n has other));
+            no_other = λ n absent. ap (λ (z : State). z.removed n) p.does.state
+                ∙ (removed_else state.removed old n (absent_old n absent old refl) ∙ r.no_other n absent);
+            stays = record {
+              owned = λ n some not_mine. same_phase n (r.phase n) refl (not_old n (r.phase n) refl (λ f bad. some (ap owner bad)))
+                  (λ bad. not_mine (ap owner bad));
+              spared = λ n q is other. same_phase n (spare q) is (not_old n (spare q) is (λ f bad. cc bad)) (λ bad. cc bad);
+            };
+            keeps = λ j u f other there holds. by_old old f.number (file_in (phase' f.number) ≡ file_in (r.phase f.number))
+                (λ g is same. ap (λ (m : ℕ). file_in (phase' m)) same
+                ∙ (ap file_in (out_here g is)
+                ∙ (sym (ap file_in (seat_of g (was ∙ is)).2) ∙ ap (λ (m : ℕ). file_in (r.phase m)) (sym same))))
+                (λ apart. ap file_in (same_phase f.number (r.phase f.number) refl apart
+                (λ bad. unheld turn f.number (ap file_in bad) j u f there holds refl)));
+            log = log_now turn h' phase' left x.looks_left d p.fewer
+                (held_mine x.number (event_of (shown x v.work) a) r.history refl ∙ (p.does.held ∙ (o.held ∙ (p.none_held.0 ∙ sym alone.1))))
+                tt (λ n low high. let q = p.spares n (omega arith) high in else_phase n q.1 ∙ q.0);
+            work = works old refl;
+            holds = λ n. let a = p.none_held.1 n in let b = alone.0 n in
+                let g = ap (λ (z : State). z.holds n) p.does.state in omega arith;
+            look_ups = let z = p.does.all in omega arith;
+            control = control_now turn s inside word' (subst (λ (z : State). ControlCounts z.at (range_of (opening_of v.start))
+                (set st.views id w) (word_at st.words control_place)) (sym p.does.state) p.control);
+            draws = draws_now turn s inside word' h' left x.looks_left d c phase'
+                (λ n is. same_phase n unborn is (not_old n unborn is (λ f bad. cc bad)) (λ bad. cc bad));
+          }
+            where
+              seat_now : (file : Option File) → new ≡ file → IsSeated v.start (looks r.history) phase₁ s word' file
+                  → IsSeated v.start (looks h') phase' s word' file
+              seat_now None is z = tt
+              seat_now (Some f) is z = (z.0, z.1 ∙ sym (ap (λ (g : ℕ → ℕ). g f.number) p.does.looked), else_phase f.number (p.new_apart f is) ∙ z.2)
 
-        swap_step : SlotStep turn s inside left x.looks_left d c (h' a) phase' word' homes'
-        swap_step = let o = its_log turn in let alone = retires_alone old (takes_in found) in record {
-          homes = p.homes;
-          grows = grows_one x.number r.history (e a) refl;
-          legal = p.does.legal;
-          slot = let at_is : next_state.at s ≡ new = ap (λ (z : State). z.at s) p.does.state ∙ changed_here state.at s new s refl in record {
-            names = subst (Names word') (sym at_is) p.names;
-            seat = subst (IsSeated v.start (looks (h' a)) phase' s word') (sym at_is) (seat_now new refl p.seat);
-            takes = let z = p.no_takes in omega arith;
-          };
-          others = λ i l other. (
-            ap (λ (z : State). z.at i) p.does.state ∙ changed_else state.at s new i other,
-            λ f there its. (
-              ap (λ (g : ℕ → ℕ). g f.number) p.does.looked,
-              else_phase f.number (not_old f.number (seated i f.identity) its (λ g bad. other (cc bad)))
-                  ∙ (p.seats f.number i f.identity its ∙ sym its),
-            ),
-          );
-          more = let z = p.does.all in omega arith;
-          nodes = λ n has. by_old old n (NodeIn v.start st.words homes' (h' a) n (phase' n))
-              (λ f is same. subst (λ (m : ℕ). NodeIn v.start st.words homes' (h' a) m (phase' m)) (sym same)
-              (now_in f.number (sym (out_here f is)) (old_node f is)))
-              (λ other. now_in n (sym (else_phase n other)) (p.nodes n has other));
-          owners = λ n has. by_old old n (OwnerAgrees (set st.views id w) n (phase' n))
-              (λ f is same. subst (λ (m : ℕ). OwnerAgrees (set st.views id w) m (phase' m)) (sym same)
-              (subst (OwnerAgrees (set st.views id w) f.number) (sym (out_here f is))
-              (does_now st.views id v w (Between (Retiring f (takes_in found))) here (ap (λ (o : Option File). Between (retiring o (takes_in found))) is))))
-              (λ other. subst (OwnerAgrees (set st.views id w) n) (sym (else_phase n other)) (p.owners n has other));
-          no_other = λ n absent. ap (λ (z : State). z.removed n) p.does.state
-              ∙ (removed_else state.removed old n (absent_old n absent old refl) ∙ r.no_other n absent);
-          stays = record {
-            owned = λ n some not_mine. else_phase n (not_old n (r.phase n) refl (λ f bad. some (ap owner bad))) ∙ p.stays.owned n some not_mine;
-            spared = λ n q is other. else_phase n (not_old n (spare q) is (λ f bad. cc bad)) ∙ p.stays.spared n q is other;
-          };
-          keeps = λ j u f other there holds. by_old old f.number (file_in (phase' f.number) ≡ file_in (r.phase f.number))
-              (λ g is same. ap (λ (m : ℕ). file_in (phase' m)) same
-              ∙ (ap file_in (out_here g is)
-              ∙ (sym (ap file_in (seat_of g (was ∙ is)).2) ∙ ap (λ (m : ℕ). file_in (r.phase m)) (sym same))))
-              (λ apart. ap file_in (else_phase f.number apart) ∙ p.keeps j u f other there holds);
-          unused = λ n is. else_phase n (not_old n unborn is (λ f bad. cc bad)) ∙ p.unused n is;
-          log = log_now turn (h' a) phase' left x.looks_left d p.fewer
-              (held_mine x.number (e a) r.history refl ∙ (p.does.held ∙ (o.held ∙ (p.none_held.0 ∙ sym alone.1))))
-              tt (λ n low high. let q = p.spares n (omega arith) high in else_phase n q.1 ∙ q.0);
-          work = works old refl;
-          holds = λ n. let a = p.none_held.1 n in let b = alone.0 n in
-              let g = ap (λ (z : State). z.holds n) p.does.state in omega arith;
-          look_ups = let z = p.does.all in omega arith;
-          control = subst (λ (z : State). ControlCounts z.at (range_of (opening_of v.start))
-              (set st.views id w) (word_at st.words control_place)) (sym p.does.state) p.control;
-        }
-          where
-            seat_now : (file : Option File) → new ≡ file → IsSeated v.start (looks r.history) phase₁ s word' file
-                → IsSeated v.start (looks (h' a)) phase' s word' file
-            seat_now None is z = tt
-            seat_now (Some f) is z = (z.0, z.1 ∙ sym (ap (λ (g : ℕ → ℕ). g f.number) p.does.looked), else_phase f.number (p.new_apart f is) ∙ z.2)
+              absent_old : (n : ℕ) → (IsNumber v.start n → ⊥) → (file : Option File) → old ≡ file → NotOf n file
+              absent_old n absent None is = tt
+              absent_old n absent (Some f) is = λ same. absent (subst (IsNumber v.start) (sym same) (seat_of f (was ∙ is)).0)
 
-            absent_old : (n : ℕ) → (IsNumber v.start n → ⊥) → (file : Option File) → old ≡ file → NotOf n file
-            absent_old n absent None is = tt
-            absent_old n absent (Some f) is = λ same. absent (subst (IsNumber v.start) (sym same) (seat_of f (was ∙ is)).0)
+              works : (file : Option File) → old ≡ file → WorkAgrees v.start phase' id (Between (retiring file (takes_in found)))
+              works None is = tt
+              works (Some f) is = ((seat_of f (was ∙ is)).0, out_here f is)
 
-            works : (file : Option File) → old ≡ file → WorkAgrees v.start phase' id (Between (retiring file (takes_in found)))
-            works None is = tt
-            works (Some f) is = ((seat_of f (was ∙ is)).0, out_here f is)
+          swap_agrees : Agrees v.start record { words = words_now turn s inside word'; homes = homes'; views = set st.views id w }
+          swap_agrees = step_kept turn y d c h' phase' (words_now turn s inside word') homes' swap_step
 
-        pub swap_agrees : Agrees v.start record { words = set st.words (slot_place s) word'; homes = homes'; views = set st.views id w }
-        swap_agrees = slot_agrees turn s inside left x.looks_left d c (h' a) phase' word' homes' swap_step
+      module _ (stands : Stands (range_of (opening_of v.start)) s v.change) where
+        -- a removal
+        module _ (idle : v.work ≡ Between Idle) (does : Effect None state.fresh) where
+          abbrev c₀ : Change
+          c₀ = turned v.change (if_full old) 0
+
+          abbrev pub removed_view : View
+          removed_view = went turn h' d c₀
+
+          removal : Swap 0 None st.homes r.phase x.numbers_left c₀
+          removal = let o = its_log turn in record {
+            fresh = state.fresh;
+            does = does;
+            homes = refl;
+            names = refl;
+            no_takes = refl;
+            seat = tt;
+            new_apart = λ f is. absurd (cc is);
+            kept = λ n. inl refl;
+            nodes = λ n has other. node_same state after n (looks r.history n) (looks r.history n) _ _ _ _
+                (ap (λ (z : State). z.fresh n) does.state) (ap (λ (z : State). z.removed n) does.state ∙ removed_else state.removed old n other)
+                (ap (λ (z : State). z.holds n) does.state) refl refl refl (ap (λ (z : State). z.size) does.state) (r.phase n)
+                (λ i g is there. ap (λ (z : State). z.at i) does.state ∙ changed_else state.at s None i (elsewhere n i g other there))
+                (r.each_node n has);
+            old_home = λ f is. refl;
+            owners = λ n has other. owner_stays st.views id v removed_view here n (λ bad. let b = ap busy idle in omega arith) (r.phase n)
+                (r.each_owner n has);
+            fewer = omega arith;
+            spares = λ n low high. let p = ap placing idle in let q = o.spares n (omega arith) high in (q, not_old n (spare x.number) q (λ g bad. cc bad));
+            none_held = (ap held_in idle, λ n. ap (holding n) idle);
+            control = control_swap state.at (range_of (opening_of v.start)) st.views id v _ _ s old None here was stands refl r.control;
+          }
+
+          pub removal_agrees : Agrees v.start (stepped st (slot_place s) 0 id [] removed_view keeps)
+          removal_agrees = swap_agrees 0 None st.homes r.phase x.numbers_left c₀ removal
+
+          pub removal_tells : (carried : List (ℕ × Option Closed)) → Stepped (v, carried) ([] ▷ a) no_use d c₀ (removed_view, carried)
+          removal_tells carried = tells_one turn a does.legal carried carried d c₀ (inside_now old refl)
+
+        -- an installation
+        module _ (n : ℕ) (file : Closed) (works : v.work ≡ Placing n) (small : file.entry < 2 ^ 8)
+            (does : Effect (Some (numbered n file)) (changed_at state.fresh n false)) where
+          its : IsNumber v.start n × (r.phase n ≡ placed id)
+          its = subst (WorkAgrees v.start r.phase id) works (its_work turn)
+
+          next : (n ≡ next_in v.start x) × (0 < x.numbers_left)
+          next = subst (PlacesNext v.start x) works (its_log turn).next
+
+          apart_old : NotOf n old
+          apart_old = not_old n (placed id) its.1 (λ g bad. cc bad)
+
+          abbrev homes₁ : Homes
+          homes₁ = set st.homes (place_of v.start n) (some (Some file))
+
+          abbrev phase₁ : ℕ → Phase
+          phase₁ = changed_at r.phase n (seated s file)
+
+          else_phase₁ : (m : ℕ) → m ≢ n → phase₁ m ≡ r.phase m
+          else_phase₁ = changed_else r.phase n (seated s file)
+
+          abbrev c₁ : Change
+          c₁ = turned v.change (if_full old) 1
+
+          abbrev pub installed_view : View
+          installed_view = now v (logged x h' (x.numbers_left - 1) x.looks_left) d c₁
+
+          abbrev Node : ℕ → Phase → Type 0
+          Node m ph = NodeAgrees after m (looks r.history m) (word_at st.words (word_of v.start m)) (get_elem? homes₁ (place_of v.start m)) ph
+
+          node_here : Node n (seated s file)
+          node_here = let o = in_phase turn n its.0 (placed id) its.1 in let h = ap (λ (z : State). z.holds n) does.state in record {
+            counts = let a = o.counts in let b = o.no_looks in let c = o.no_holds in omega arith;
+            at_home = set_here st.homes (place_of v.start n) (some (Some file)) (roomy turn n its.0);
+            inside = let z = in_size in let q = ap (λ (z : State). z.size) does.state in omega arith;
+            there = ap (λ (z : State). z.at s) does.state ∙ changed_here state.at s (Some (numbered n file)) s refl;
+            not_removed = ap (λ (z : State). z.removed n) does.state ∙ (removed_else state.removed old n apart_old ∙ o.not_removed);
+          }
+
+          node_else : (m : ℕ) → IsNumber v.start m → m ≢ n → NotOf m old → Node m (r.phase m)
+          node_else m has other apart = node_same state after m (looks r.history m) (looks r.history m) _ _ _ _
+              (ap (λ (z : State). z.fresh m) does.state ∙ changed_else state.fresh n false m other)
+              (ap (λ (z : State). z.removed m) does.state ∙ removed_else state.removed old m apart)
+              (ap (λ (z : State). z.holds m) does.state) refl refl
+              (set_else st.homes (place_of v.start n) (place_of v.start m) (some (Some file)) (else_place turn n its.0 m has other))
+              (ap (λ (z : State). z.size) does.state) (r.phase m)
+              (λ i g is there. ap (λ (z : State). z.at i) does.state
+              ∙ changed_else state.at s (Some (numbered n file)) i (elsewhere m i g apart there)) (r.each_node m has)
+
+          installation : Swap (slot_word_of n file.entry) (Some (numbered n file)) homes₁ phase₁ (x.numbers_left - 1) c₁
+          installation = let o = its_log turn in record {
+            fresh = changed_at state.fresh n false;
+            does = does;
+            homes = length-set st.homes (place_of v.start n) (some (Some file));
+            names = (name_made n file.entry small, entry_made n file.entry small);
+            no_takes = takes_made n file.entry;
+            seat = (
+              its.0,
+              takes_made n file.entry ∙ sym (in_phase turn n its.0 (placed id) its.1).no_looks,
+              changed_here r.phase n (seated s file) n refl,
+            );
+            new_apart = λ f is. let same : n ≡ f.number = (let e : numbered n file ≡ f = cc is in
+                ap (λ (f : File). f.number) e) in subst (λ (m : ℕ). NotOf m old) same apart_old;
+            kept = λ m. dite (ℕ_discrete m n) (λ same. inr (ap r.phase same ∙ its.1)) (λ other. inl (else_phase₁ m other));
+            nodes = λ m has apart. dite (ℕ_discrete m n)
+                (λ same. subst (λ (m : ℕ). Node m (phase₁ m)) (sym same)
+                (subst (Node n) (sym (changed_here r.phase n (seated s file) n refl)) node_here))
+                (λ other. subst (Node m) (sym (else_phase₁ m other)) (node_else m has other apart));
+            old_home = λ f is. let q = seat_of f (was ∙ is) in
+                set_else st.homes (place_of v.start n) (place_of v.start f.number) (some (Some file))
+                (else_place turn n its.0 f.number q.0
+                (λ same. let z : seated s f.identity ≡ placed id = sym q.2 ∙ (ap r.phase same ∙ its.1) in cc z));
+            owners = λ m has apart. dite (ℕ_discrete m n)
+                (λ same. subst (λ (z : ℕ × Phase). OwnerAgrees (set st.views id installed_view) z.0 z.1)
+                (λ i. (sym same i, sym (changed_here r.phase n (seated s file) m same) i)) tt)
+                (λ other. subst (OwnerAgrees (set st.views id installed_view) m) (sym (else_phase₁ m other))
+                (owner_stays st.views id v installed_view here m (λ bad. let b = ap busy works in other (omega arith)) (r.phase m) (r.each_owner m has)));
+            fewer = omega arith;
+            spares = λ m low high. let p = ap placing works in let z = next in let few = o.left_inside in let q = o.spares m (omega arith) high in (
+              else_phase₁ m (λ same. let bad : spare x.number ≡ placed id = sym q ∙ (ap r.phase same ∙ its.1) in cc bad) ∙ q,
+              not_old m (spare x.number) q (λ g bad. cc bad),
+            );
+            none_held = (ap held_in works, λ m. ap (holding m) works);
+            control = control_swap state.at (range_of (opening_of v.start)) st.views id v _ _ s old (Some (numbered n file)) here was stands refl r.control;
+          }
+
+          pub installation_agrees : Agrees v.start record {
+            words = set st.words (slot_place s) (slot_word_of n file.entry);
+            homes = homes₁;
+            views = set st.views id installed_view;
+          }
+          installation_agrees = swap_agrees (slot_word_of n file.entry) (Some (numbered n file)) homes₁ phase₁ (x.numbers_left - 1) c₁ installation
+
+          pub installation_tells : (carried homes : List (ℕ × Option Closed)) → Stepped (v, carried) ([] ▷ a) one_number d c₁ (installed_view, homes)
+          installation_tells carried homes = tells turn carried homes h' (x.numbers_left - 1) x.looks_left d c₁ ([] ▷ a) one_number
+              (grows_one x.number r.history _ refl) does.legal (part_mine x.number _ r.history refl)
+              (let z = next in omega arith) (omega arith) (inside_now old refl)
