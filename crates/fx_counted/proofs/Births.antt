@@ -6,7 +6,7 @@ use Rattle.fx_counted.proofs.Words.{Agrees, word_of, place_of, opening_of, chain
 use Rattle.fx_counted.proofs.Words.{end_in, next_in, held_in, placing, held_of, holding, Phase, spare, placed, emptied, closed, owner, file_in}
 use Rattle.fx_counted.proofs.Words.{Stepped, Start, View, Idle, Placing, Holding, Emptying, looks, mul-le-mul_left, BirthsKeep, RestsKeep, Births}
 use Rattle.fx_counted.proofs.Words.{Rests, inl, Between}
-use Rattle.fx_counted.proofs.Steps.{grows_none, changed_here, changed_else, busy, does_now, Turn, turn_of, word_at, its_log, its_work, by_turn, went}
+use Rattle.fx_counted.proofs.Steps.{grows_none, each_changed, changed_here, changed_else, busy, does_now, Turn, turn_of, word_at, its_log, its_work, by_turn, went}
 use Rattle.fx_counted.proofs.Steps.{tells_none, one_same, near, far, NodeStep, node_agrees, NodeIn}
 use Rattle.std.proofs.Common.{length-set}
 
@@ -147,8 +147,8 @@ module _ (turn : Turn) where
               not_removed = n.not_removed;
             } tt
             (λ m low high. let p = ap placing is in
-            dite (ℕ_discrete m q) (λ same. changed_here r.phase q (spare x.number) m same)
-            (λ other. changed_else r.phase q (spare x.number) m other ∙ o.spares m (let a = next.0 in omega arith) high)),
+            each_changed (λ m z. z ≡ spare x.number) r.phase q (spare x.number) m (λ same. refl)
+            (λ other. o.spares m (let a = next.0 in omega arith) high)),
       )
 
 pub births_keep : BirthsKeep

@@ -11,7 +11,7 @@ use Rattle.fx_counted.proofs.Steps.{tells_none, tells_one, near, far}
 use Rattle.std.proofs.Common.{length-set}
 use Rattle.fx_counted.proofs.Calm.{Quiet, no_event, calm_agrees}
 use Rattle.fx_counted.proofs.FullSlots.{full_few, full_all}
-use Rattle.fx_counted.proofs.Retirements.{sub_wraps}
+use Rattle.fx_counted.proofs.LettingGo.{sub_wraps}
 
 -- what one of them adds to the gap between two totals
 pub total_gap : {X : Type 0} (f g : X → ℕ) (xs : List X) (i : ℕ) (v : X) → get_elem? xs i ≡ some v

@@ -1,10 +1,10 @@
 -- Histories that grow by one event.
 use Rattle.fx_counted.proofs.Words.{◌≡◌, ◌≢◌, ℕ, ◌+◌, ◌≤◌, List, [], ◌∷◌, sym, refl, ap, ◌∙◌, arith, eq-eqb, ne_eqb, Some, None, dite, ℕ_discrete}
 use Rattle.fx_counted.proofs.Words.{held_after, held_by, IsSeenBy, part_of_pass, Event, Action, Look, start_of, range_of, looks, all_looks}
-use Rattle.fx_counted.proofs.Words.{opening_of, slots_of, state_after_all, Start, ReleasesItsOwn, IsLegal, looks_after, look_in, map, action_of}
+use Rattle.fx_counted.proofs.Words.{opening_of, slots_of, state_after_all, Start, ReleasesItsOwn, IsLegal, looks_after, look_in, map, action_of, changed_at, cond}
 use Rattle.fx_plain.specs.Step.{Allows}
 use Rattle.fx_plain.proofs.Leading.{same_shape as shape_of_state}
-use Rattle.fx_plain.proofs.Cells.{changed_here, changed_else}
+use Rattle.fx_plain.proofs.Cells.{changed_here, changed_else, by_equality}
 
 pub part_mine : (p : ℕ) (e : Event) (h : List Event) → e.pass ≡ p → part_of_pass p (e ∷ h) ≡ e ∷ part_of_pass p h
 part_mine p e h is = rw (eq-eqb e.pass p is) refl
@@ -17,6 +17,11 @@ held_mine p e h is = rw (eq-eqb e.pass p is) refl
 
 pub held_other : (p : ℕ) (e : Event) (h : List Event) → e.pass ≢ p → held_by (e ∷ h) p ≡ held_by h p
 held_other p e h is = rw (ne_eqb e.pass p is) refl
+
+-- what holds of the value that is changed, and of each other one as it was, holds of each
+pub each_changed : {Y : Type 0} (P : ℕ → Y → Type 0) (f : ℕ → Y) (k : ℕ) (v : Y) (n : ℕ) → (n ≡ k → P n v) → (n ≢ k → P n (f n))
+    → P n (changed_at f k v n)
+each_changed P f k v n here else = by_equality n k (λ b. P n (cond b v (f n))) here else
 
 -- the history grew by events of p
 pub record Grows (p : ℕ) (h h' : List Event) : Type 0 where

@@ -8,6 +8,7 @@ pub mod Unchanged
 pub mod NodeSteps
 pub mod Steps
 pub mod Births
+pub mod LettingGo
 pub mod Retirements
 pub mod Releases
 pub mod SlotSteps

@@ -7,8 +7,7 @@ use Rattle.fx_counted.proofs.Words.{chain_numbers, IsNumber, state_after_all, en
 use Rattle.fx_counted.proofs.Words.{seated, owner, file_in, Log, View, Work, Holding, retired, ⊎_elim, ◌⊎◌, Between}
 use Rattle.std.proofs.Common.{length-set}
 use Rattle.fx_counted.proofs.Places.{inside, apart}
-use Rattle.fx_counted.proofs.Histories.{Grows, IsHistory}
-use Rattle.fx_plain.proofs.Cells.{changed_here, changed_else}
+use Rattle.fx_counted.proofs.Histories.{Grows, IsHistory, each_changed}
 use Rattle.fx_counted.proofs.Frames.{busy, owner_stays}
 use Rattle.fx_counted.proofs.Keeping.{Turn, Homes, word_at, logged, Step, step_kept, log_now, went, NodeIn}
 use Rattle.fx_counted.proofs.Unchanged.{slot_same, node_same, control_same, draws_same}
@@ -34,6 +33,10 @@ module _ (turn : Turn) where
 
   pub far : PlacesAreApart (slots_of v.start) (chain_numbers v.start)
   far = apart (slots_of v.start) (chain_numbers v.start) r.shape.slots
+
+  -- the phase of a number may become this one: the number is the pass's, or its file retired
+  abbrev pub MayTurn : ℕ → Phase → Type 0
+  MayTurn q ph = (ph ≡ r.phase q) ⊎ (owner (r.phase q) ≡ id + 1) ⊎ (r.phase q ≡ spare x.number) ⊎ ((f : Closed) × (r.phase q ≡ retired f))
 
   module _ (q : ℕ) (its : IsNumber v.start q) (word' : ℕ) (homes' : Homes) (h' : List Event) (ph : Phase) (d : Work) where
     abbrev i : ℕ
@@ -62,8 +65,7 @@ module _ (turn : Turn) where
       pub homes : length homes' ≡ length st.homes
       pub home_else : (n : ℕ) → IsNumber v.start n → n ≢ q
           → get_elem? homes' (home_place (slots_of v.start) n) ≡ get_elem? st.homes (home_place (slots_of v.start) n)
-      -- the phase may change
-      pub may : (ph ≡ r.phase q) ⊎ (owner (r.phase q) ≡ id + 1) ⊎ (r.phase q ≡ spare x.number) ⊎ ((f : Closed) × (r.phase q ≡ retired f))
+      pub may : MayTurn q ph
       pub keeps : (j : ℕ) (u : View) (f : File) → j ≢ id → get_elem? st.views j ≡ some u → u.work ≡ Between (Holding f)
           → f.number ≡ q → file_in ph ≡ file_in (r.phase q)
       pub free : (n : ℕ) → n ≢ q → busy v.work ≢ n + 1
@@ -77,23 +79,13 @@ module _ (turn : Turn) where
       pub holds : (n : ℕ) → (state_after_all v.start h').holds n + held_of n v ≡ (state_after_all v.start r.history).holds n + held_of n w
 
     module _ (s : NodeStep) where
-      phase_here : phase' q ≡ ph
-      phase_here = changed_here r.phase q ph q refl
-
-      phase_else : (n : ℕ) → n ≢ q → phase' n ≡ r.phase n
-      phase_else n other = changed_else r.phase q ph n other
-
-      -- a fact of the phases that holds at q holds everywhere
-      each_phase : (P : ℕ → Phase → Type 0) (n : ℕ) → (n ≡ q → P q ph) → P n (r.phase n) → P n (phase' n)
-      each_phase P n mine else = dite (ℕ_discrete n q)
-          (λ same. subst (λ (m : ℕ). P m (phase' m)) (sym same) (subst (P q) (sym phase_here) (mine same)))
-          (λ other. subst (P n) (sym (phase_else n other)) else)
-
-      -- what others rely on stays: a number that isn't the pass's, nor retired
-      same_if : (z : Phase) → r.phase q ≡ z → (owner z ≡ id + 1 → ph ≡ z) → (z ≡ spare x.number → ph ≡ z) → ((f : Closed) → z ≡ retired f → ph ≡ z)
-          → ph ≡ z
-      same_if z is owned spared gone = ⊎_elim (λ e. e ∙ is) (λ t. ⊎_elim (λ e. owned (sym (ap owner is) ∙ e))
-          (λ t. ⊎_elim (λ e. spared (sym is ∙ e)) (λ e. gone e.0 (sym is ∙ e.1)) t) t) s.may
+      -- what others rely on stays: the phase of a number that isn't the pass's, nor retired
+      stays_if : (n : ℕ) (z : Phase) → r.phase n ≡ z → (owner z ≡ id + 1 → ph ≡ z) → (z ≡ spare x.number → ph ≡ z)
+          → ((f : Closed) → z ≡ retired f → ph ≡ z) → phase' n ≡ z
+      stays_if n z is owned spared gone = each_changed (λ m p. p ≡ z) r.phase q ph n
+          (λ same. let at_q = ap r.phase (sym same) ∙ is in ⊎_elim (λ e. e ∙ at_q) (λ t. ⊎_elim (λ e. owned (sym (ap owner at_q) ∙ e))
+          (λ t. ⊎_elim (λ e. spared (sym at_q ∙ e)) (λ e. gone e.0 (sym at_q ∙ e.1)) t) t) s.may)
+          (λ other. is)
 
       at_is : (slot : ℕ) → (state_after_all v.start h').at slot ≡ (state_after_all v.start r.history).at slot
       at_is slot = ap (λ (g : ℕ → Option File). g slot) s.told.at
@@ -108,35 +100,29 @@ module _ (turn : Turn) where
         slots = λ slot l. slot_same (word_else (slot_place slot) (λ same. far.node_and_slot q slot l its (sym same))) (at_is slot) (omega (arith, s.told.all))
             (λ f there seat. (
               ap (λ (g : ℕ → ℕ). g f.number) s.told.looked,
-              each_phase (λ m p. p ≡ r.phase m) f.number
-                  (λ same. let e : r.phase q ≡ seated slot f.identity = ap r.phase (sym same) ∙ seat in
-                  same_if _ e (λ o. absurd (omega (arith, o))) (λ o. absurd (cc o)) (λ g o. absurd (cc o)) ∙ sym e) refl,
+              stays_if f.number (seated slot f.identity) seat (λ o. absurd (omega (arith, o))) (λ o. absurd (cc o)) (λ g o. absurd (cc o)) ∙ sym seat,
             ))
             (r.each_slot slot l);
-        nodes = λ n has. dite (ℕ_discrete n q)
-            (λ same. subst (λ (m : ℕ). NodeIn v.start (set st.words i word') homes' h' m (phase' m)) (sym same)
-            (subst (λ (z : ℕ × ℕ × Phase). NodeAgrees (state_after_all v.start h') q z.0 z.1 (get_elem? homes' (home_place (slots_of v.start) q)) z.2)
-            (λ j. (sym s.told.looked j q, sym (get_or-set_same st.words i word' 0 wide) j, sym phase_here j)) s.node))
-            (λ other. subst (NodeIn v.start (set st.words i word') homes' h' n) (sym (phase_else n other))
-            (node_same (state_after_all v.start r.history) (state_after_all v.start h') n _ _ _ _ _ _
+        nodes = λ n has. each_changed (NodeIn v.start (set st.words i word') homes' h') r.phase q ph n
+            (λ same. subst (λ (m : ℕ). NodeIn v.start (set st.words i word') homes' h' m ph) (sym same)
+            (subst (λ (z : ℕ × ℕ). NodeAgrees (state_after_all v.start h') q z.0 z.1 (get_elem? homes' (home_place (slots_of v.start) q)) ph)
+            (λ j. (sym s.told.looked j q, sym (get_or-set_same st.words i word' 0 wide) j)) s.node))
+            (λ other. node_same (state_after_all v.start r.history) (state_after_all v.start h') n _ _ _ _ _ _
             (ap (λ (g : ℕ → Bool). g n) s.told.fresh) (s.told.removed n other)
             (s.told.holds n other) (ap (λ (g : ℕ → ℕ). g n) s.told.looked)
             (word_else (node_place (slots_of v.start) n) (far.nodes n q has its other))
-            (s.home_else n has other) s.told.size (r.phase n) (λ slot f is there. at_is slot) (r.each_node n has)));
-        owners = λ n has. dite (ℕ_discrete n q)
-            (λ same. subst (λ (m : ℕ). OwnerAgrees (set st.views id w) m (phase' m)) (sym same)
-            (subst (OwnerAgrees (set st.views id w) q) (sym phase_here) s.known))
-            (λ other. subst (OwnerAgrees (set st.views id w) n) (sym (phase_else n other))
-            (owner_stays st.views id v w here n (s.free n other) (r.phase n) (r.each_owner n has)));
+            (s.home_else n has other) s.told.size (r.phase n) (λ slot f is there. at_is slot) (r.each_node n has));
+        owners = λ n has. each_changed (OwnerAgrees (set st.views id w)) r.phase q ph n
+            (λ same. subst (λ (m : ℕ). OwnerAgrees (set st.views id w) m ph) (sym same) s.known)
+            (λ other. owner_stays st.views id v w here n (s.free n other) (r.phase n) (r.each_owner n has));
         no_other = λ n absent. s.told.removed n (λ same. absent (subst (IsNumber v.start) (sym same) its)) ∙ r.no_other n absent;
         stays = record {
-          owned = λ n some not_mine. each_phase (λ m p. p ≡ r.phase m) n
-              (λ same. let e = ap (λ (m : ℕ). owner (r.phase m)) same in same_if _ refl (λ o. absurd (not_mine (e ∙ o)))
-              (λ o. absurd (some (e ∙ ap owner o))) (λ g o. absurd (some (e ∙ ap owner o)))) refl;
-          spared = λ n p is other. each_phase (λ m z. z ≡ spare p) n (λ same. same_if _ (ap r.phase (sym same) ∙ is)
-              (λ o. absurd (omega (arith, o))) (λ o. absurd (other (cc o))) (λ g o. absurd (cc o))) is;
+          owned = λ n some not_mine. stays_if n (r.phase n) refl (λ o. absurd (not_mine o)) (λ o. absurd (some (ap owner o)))
+              (λ g o. absurd (some (ap owner o)));
+          spared = λ n p is other. stays_if n (spare p) is (λ o. absurd (omega (arith, o))) (λ o. absurd (other (cc o))) (λ g o. absurd (cc o));
         };
-        keeps = λ j u f other there is. each_phase (λ m z. file_in z ≡ file_in (r.phase m)) f.number (λ same. s.keeps j u f other there is same) refl;
+        keeps = λ j u f other there is. each_changed (λ m z. file_in z ≡ file_in (r.phase m)) r.phase q ph f.number
+            (λ same. s.keeps j u f other there is same ∙ ap (λ (m : ℕ). file_in (r.phase m)) (sym same)) (λ _. refl);
         log = log_now turn h' phase' x.numbers_left x.looks_left d (omega arith) s.held s.next s.spares;
         work = s.work;
         holds = s.holds;
@@ -146,8 +132,7 @@ module _ (turn : Turn) where
             (word_else control_place (λ same. far.node_and_control q its (sym same))) refl r.control;
         draws = draws_same st.views id v w here one refl refl refl
             (word_else draw_place (λ same. far.node_and_draw q its (sym same)))
-            (λ n is. each_phase (λ m z. z ≡ unborn) n (λ same. same_if _ (ap r.phase (sym same) ∙ is)
-            (λ o. absurd (omega (arith, o))) (λ o. absurd (cc o)) (λ g o. absurd (cc o))) is) r.draws;
+            (λ n is. stays_if n unborn is (λ o. absurd (omega (arith, o))) (λ o. absurd (cc o)) (λ g o. absurd (cc o))) r.draws;
       }
 
       pub node_agrees : Agrees v.start record { words = set st.words i word'; homes = homes'; views = set st.views id w }

@@ -7,7 +7,7 @@ use Rattle.fx_counted.proofs.Words.{if_full, looks, all_looks, word_of, place_of
 use Rattle.fx_counted.proofs.Words.{state_after_all, shown, end_in, next_in, held_in, placing, holding, Phase, unborn, spare, placed, seated, leaving}
 use Rattle.fx_counted.proofs.Words.{owner, file_in, IsInside, Stepped, retiring, turned, Change, Log, View, Work, Idle, Placing, Retiring, Between, keeps, stepped}
 use Rattle.fx_counted.proofs.Steps.{busy, stays_same, owner_stays, does_now, IsHistory, grows_one, part_mine, held_mine, changed_here, changed_else}
-use Rattle.fx_counted.proofs.Steps.{same_shape, Turn, Homes, word_at, now, logged, its_log, its_work, log_now, tells, went, tells_one, node_same, NodeIn}
+use Rattle.fx_counted.proofs.Steps.{each_changed, same_shape, Turn, Homes, word_at, now, logged, its_log, its_work, log_now, tells, went, tells_one, node_same, NodeIn}
 use Rattle.fx_counted.proofs.Steps.{Step, step_kept}
 use Rattle.std.proofs.Common.{length-set}
 use Rattle.fx_counted.specs.Agrees.{IsSeated}
@@ -297,9 +297,6 @@ module _ (turn : Turn) (s : ℕ) (inside : s < slots_of turn.v.start) where
           abbrev phase₁ : ℕ → Phase
           phase₁ = changed_at r.phase n (seated s file)
 
-          else_phase₁ : (m : ℕ) → m ≢ n → phase₁ m ≡ r.phase m
-          else_phase₁ = changed_else r.phase n (seated s file)
-
           abbrev c₁ : Change
           c₁ = turned v.change (if_full old) 1
 
@@ -342,23 +339,21 @@ module _ (turn : Turn) (s : ℕ) (inside : s < slots_of turn.v.start) where
             );
             new_apart = λ f is. let same : n ≡ f.number = (let e : numbered n file ≡ f = cc is in
                 ap (λ (f : File). f.number) e) in subst (λ (m : ℕ). NotOf m old) same apart_old;
-            kept = λ m. dite (ℕ_discrete m n) (λ same. inr (ap r.phase same ∙ its.1)) (λ other. inl (else_phase₁ m other));
-            nodes = λ m has apart. dite (ℕ_discrete m n)
-                (λ same. subst (λ (m : ℕ). Node m (phase₁ m)) (sym same)
-                (subst (Node n) (sym (changed_here r.phase n (seated s file) n refl)) node_here))
-                (λ other. subst (Node m) (sym (else_phase₁ m other)) (node_else m has other apart));
+            kept = λ m. each_changed (λ m ph. (ph ≡ r.phase m) ⊎ (r.phase m ≡ placed id)) r.phase n (seated s file) m
+                (λ same. inr (ap r.phase same ∙ its.1)) (λ other. inl refl);
+            nodes = λ m has apart. each_changed Node r.phase n (seated s file) m
+                (λ same. subst (λ (m : ℕ). Node m (seated s file)) (sym same) node_here) (λ other. node_else m has other apart);
             old_home = λ f is. let q = seat_of f (was ∙ is) in
                 set_else st.homes (place_of v.start n) (place_of v.start f.number) (some (Some file))
                 (else_place turn n its.0 f.number q.0
                 (λ same. let z : seated s f.identity ≡ placed id = sym q.2 ∙ (ap r.phase same ∙ its.1) in cc z));
-            owners = λ m has apart. dite (ℕ_discrete m n)
-                (λ same. subst (λ (z : ℕ × Phase). OwnerAgrees (set st.views id installed_view) z.0 z.1)
-                (λ i. (sym same i, sym (changed_here r.phase n (seated s file) m same) i)) tt)
-                (λ other. subst (OwnerAgrees (set st.views id installed_view) m) (sym (else_phase₁ m other))
-                (owner_stays st.views id v installed_view here m (λ bad. let b = ap busy works in other (omega arith)) (r.phase m) (r.each_owner m has)));
+            owners = λ m has apart. each_changed (OwnerAgrees (set st.views id installed_view)) r.phase n (seated s file) m (λ same. tt)
+                (λ other. owner_stays st.views id v installed_view here m (λ bad. let b = ap busy works in other (omega arith)) (r.phase m)
+                (r.each_owner m has));
             fewer = omega arith;
             spares = λ m low high. let p = ap placing works in let z = next in let few = o.left_inside in let q = o.spares m (omega arith) high in (
-              else_phase₁ m (λ same. let bad : spare x.number ≡ placed id = sym q ∙ (ap r.phase same ∙ its.1) in cc bad) ∙ q,
+              each_changed (λ m ph. ph ≡ spare x.number) r.phase n (seated s file) m
+                  (λ same. let bad : spare x.number ≡ placed id = sym q ∙ (ap r.phase same ∙ its.1) in absurd (cc bad)) (λ other. q),
               not_old m (spare x.number) q (λ g bad. cc bad),
             );
             none_held = (ap held_in works, λ m. ap (holding m) works);
