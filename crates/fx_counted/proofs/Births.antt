@@ -7,7 +7,7 @@ use Rattle.fx_counted.proofs.Words.{end_in, next_in, held_in, placing, held_of, 
 use Rattle.fx_counted.proofs.Words.{Stepped, Start, View, Idle, Placing, Holding, Emptying, looks, mul-le-mul_left, BirthsKeep, RestsKeep, Births}
 use Rattle.fx_counted.proofs.Words.{Rests, inl, Between}
 use Rattle.fx_counted.proofs.Steps.{grows_none, each_changed, changed_here, changed_else, busy, does_now, Turn, turn_of, word_at, its_log, its_work, by_turn, went}
-use Rattle.fx_counted.proofs.Steps.{tells_none, one_same, near, far, NodeStep, node_agrees, NodeIn}
+use Rattle.fx_counted.proofs.Steps.{tells_none, one_same, near, far, NodeStep, node_agrees, in_phase}
 use Rattle.std.proofs.Common.{length-set}
 
 -- the file that a pass holds is open
@@ -23,11 +23,6 @@ module _ (turn : Turn) where
 
   abbrev pub home_now : ℕ → Home
   home_now q = get_elem? st.homes (place_of v.start q)
-
-  -- a number in its phase
-  pub in_phase : (q : ℕ) → IsNumber v.start q → (ph : Phase) → r.phase q ≡ ph
-      → NodeIn v.start st.words st.homes r.history q ph
-  in_phase q its ph is = subst (NodeIn v.start st.words st.homes r.history q) is (r.each_node q its)
 
   pub roomy : (q : ℕ) → IsNumber v.start q → place_of v.start q < length st.homes
   roomy q its = let a = r.shape.homes in let b = (near turn).home q its in omega arith
@@ -62,7 +57,7 @@ module _ (turn : Turn) where
     is_spare = let o = its_log turn in let p = ap placing idle in o.spares b (omega arith) end_is
 
     birth : NodeStep turn b its_b born (set st.homes (place_of v.start b) none) r.history (placed id) (Placing b)
-    birth = let n = in_phase b its_b (spare x.number) is_spare in let o = its_log turn in record {
+    birth = let n = in_phase v.start st r b its_b (spare x.number) is_spare in let o = its_log turn in record {
       grows = grows_none x.number r.history;
       legal = r.legal;
       told = one_same v b r.history;
@@ -123,7 +118,7 @@ module _ (turn : Turn) where
   rest_emptied : (q : ℕ) → v.work ≡ Emptying q → (its : IsNumber v.start q) × NodeStep turn q its 0
       (set st.homes (place_of v.start q) (some None)) r.history closed (Between Idle)
   rest_emptied q is = let w = subst (WorkAgrees v.start r.phase id) is (its_work turn) in
-      let n = in_phase q w.0 (emptied id) w.1 in let o = its_log turn in (
+      let n = in_phase v.start st r q w.0 (emptied id) w.1 in let o = its_log turn in (
         w.0,
         rest_step q w.0 (emptied id) closed w.1 refl refl (ap held_in is) (ap busy is)
             (λ m. ap (holding m) is) record { counts = refl; at_home = refl; no_holds = n.no_holds; not_removed = n.not_removed } tt
@@ -134,7 +129,7 @@ module _ (turn : Turn) where
   rest_placed : (q : ℕ) → v.work ≡ Placing q → (its : IsNumber v.start q) × NodeStep turn q its 0
       (set st.homes (place_of v.start q) (some None)) r.history (spare x.number) (Between Idle)
   rest_placed q is = let w = subst (WorkAgrees v.start r.phase id) is (its_work turn) in
-      let n = in_phase q w.0 (placed id) w.1 in let o = its_log turn in
+      let n = in_phase v.start st r q w.0 (placed id) w.1 in let o = its_log turn in
       let next : (q ≡ next_in v.start x) × (0 < x.numbers_left) = subst (PlacesNext v.start x) is o.next in (
         w.0,
         rest_step q w.0 (placed id) (spare x.number) w.1 refl refl (ap held_in is)
@@ -156,7 +151,7 @@ births_keep k slots id i m x has idle left place = by_turn k slots id i m x (λ 
     (λ i _. Births (step slots i born 0 none) m born) has tt place (λ st r here _ fits. let turn = turn_of m x has.1 id st r here in (
       went turn r.history (Placing (b turn idle left)) m.0.change,
       takes (place_of m.0.start (b turn idle left)) None,
-      (in_phase turn (b turn idle left) (its_b turn idle left) (spare x.number) (is_spare turn idle left)).at_home,
+      (in_phase m.0.start st r (b turn idle left) (its_b turn idle left) (spare x.number) (is_spare turn idle left)).at_home,
       node_agrees turn (b turn idle left) (its_b turn idle left) born (set st.homes (place_of m.0.start (b turn idle left)) none) r.history
           (placed id)
           (Placing (b turn idle left)) (birth turn idle left),

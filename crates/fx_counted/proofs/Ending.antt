@@ -6,9 +6,8 @@ use Rattle.fx_counted.proofs.Words.{opening_of, slots_of, chain_numbers, IsNumbe
 use Rattle.fx_counted.proofs.Words.{seated, leaving, retired, emptied, Log, Start, View, Work, Idle, Placing, Retiring, Emptying, action_of, Between}
 use Rattle.fx_plain.proofs.AtRest.{inside_behind, opens_inside}
 use Rattle.fx_table.proofs.Gathering.{only_here}
-use Rattle.fx_counted.specs.Agrees.{IsSeated}
 use Rattle.fx_counted.proofs.Histories.{same_shape}
-use Rattle.fx_counted.proofs.Keeping.{word_at}
+use Rattle.fx_counted.proofs.Keeping.{NodeIn, in_phase, seat_in}
 use Rattle.fx_table.proofs.Ones.{one_if, times}
 
 is_number : (k : Start) (n : ℕ) → IsNumber k n ⊎ (IsNumber k n → ⊥)
@@ -32,14 +31,8 @@ module _ (k : Start) (s : Shared) (r : Agrees k s) (all_idle : (i : ℕ) (u : Vi
   unheld : (n : ℕ) → end.holds n ≡ 0
   unheld n = r.holds n ∙ sum_zero_at (held_of n) s.views (λ i u e. ap (holding n) (all_idle i u e))
 
-  abbrev word : ℕ → ℕ
-  word n = word_at s.words (word_of k n)
-
   abbrev Node : ℕ → Phase → Type 0
-  Node n ph = NodeAgrees end n (looks r.history n) (word n) (get_elem? s.homes (place_of k n)) ph
-
-  node_is : (n : ℕ) → IsNumber k n → (ph : Phase) → r.phase n ≡ ph → Node n ph × OwnerAgrees s.views n ph
-  node_is n has ph is = (subst (Node n) is (r.each_node n has), subst (OwnerAgrees s.views n) is (r.each_owner n has))
+  Node = NodeIn k s.words s.homes r.history
 
   removed_by : (n : ℕ) (ph : Phase) → Node n ph → OwnerAgrees s.views n ph → end.removed n ≡ None
   removed_by n (seated slot file) a o = a.not_removed
@@ -50,7 +43,7 @@ module _ (k : Start) (s : Shared) (r : Agrees k s) (all_idle : (i : ℕ) (u : Vi
   pub settled_end : IsSettled end
   settled_end = record {
     unheld = unheld;
-    closed = λ n. ⊎_elim (λ has. let a = node_is n has (r.phase n) refl in removed_by n (r.phase n) a.0 a.1) (λ absent. r.no_other n absent) (is_number k n);
+    closed = λ n. ⊎_elim (λ has. removed_by n (r.phase n) (r.each_node n has) (r.each_owner n has)) (λ absent. r.no_other n absent) (is_number k n);
   }
 
   -- at the end the file that lies in the place of a number is at its slot
@@ -72,23 +65,19 @@ module _ (k : Start) (s : Shared) (r : Agrees k s) (all_idle : (i : ℕ) (u : Vi
   home_by n _ a o = (None, a.at_home, λ file e. absurd (cc e))
 
   pub home_file : (n : ℕ) → IsNumber k n → (x : Option Closed) × (get_elem? s.homes (place_of k n) ≡ some (some x)) × AtItsSlot n x
-  home_file n has = let a = node_is n has (r.phase n) refl in home_by n (r.phase n) a.0 a.1
-
-  seat_at : (slot : ℕ) → slot < slots_of k → (f : File) → end.at slot ≡ Some f
-      → IsSeated k (looks r.history) r.phase slot (word_at s.words (slot_place slot)) (Some f)
-  seat_at slot l f there = subst (IsSeated k (looks r.history) r.phase slot (word_at s.words (slot_place slot))) there (r.each_slot slot l).seat
+  home_file n has = home_by n (r.phase n) (r.each_node n has) (r.each_owner n has)
 
   -- the file at a slot lies in the place of its number
   pub file_home : (slot : ℕ) (f : File) → slot < slots_of k → end.at slot ≡ Some f
       → IsNumber k f.number × (get_elem? s.homes (place_of k f.number) ≡ some (some (Some f.identity)))
-  file_home slot f l there = let sat = seat_at slot l f there in (sat.0, (node_is f.number sat.0 (seated slot f.identity) sat.2).0.at_home)
+  file_home slot f l there = let sat = seat_in k s r slot l f there in (sat.0, (in_phase k s r f.number sat.0 (seated slot f.identity) sat.2).at_home)
 
   -- files at different slots have different numbers
   pub one_slot : (slot other : ℕ) (f g : File) → slot < slots_of k → other < slots_of k → end.at slot ≡ Some f → end.at other ≡ Some g
       → f.number ≡ g.number → slot ≡ other
   one_slot slot other f g l m there here same =
-      let a = seat_at slot l f there in
-      let b = seat_at other m g here in
+      let a = seat_in k s r slot l f there in
+      let b = seat_in k s r other m g here in
       let e : seated slot f.identity ≡ seated other g.identity = sym a.2 ∙ (ap r.phase same ∙ b.2) in
       cc e
 

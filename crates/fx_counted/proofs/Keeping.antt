@@ -1,6 +1,6 @@
 -- A step of a seat with one pass keeps the rule, if it keeps what the step changes.
 use Rattle.fx_counted.proofs.Words.{Contains, contains_head, contains_only, sum_by, ◌≡◌, ℕ, ◌+◌, ◌<◌, ◌≤◌, List, [], ◌∷◌, ◌++◌, map, set, length, sym}
-use Rattle.fx_counted.proofs.Words.{refl, ap, ◌∙◌, subst, arith, get_or, Option, None, inr, eq-eqb, eqb, some, get_elem?, Closed, part_of_pass, Event}
+use Rattle.fx_counted.proofs.Words.{refl, ap, ◌∙◌, subst, arith, get_or, Option, None, Some, File, inr, eq-eqb, eqb, some, get_elem?, Closed, part_of_pass, Event}
 use Rattle.fx_counted.proofs.Words.{Action, Use, Adds, range_of, PassView, event_of, sum_set, sum_at, SlotAgrees, NodeAgrees, OwnerAgrees, WorkAgrees}
 use Rattle.fx_counted.proofs.Words.{LogAgrees, ViewAgrees, lengths, Agrees, ControlCounts, looks, all_looks, DrawsCount, control_place, draw_place}
 use Rattle.fx_counted.proofs.Words.{slot_place, node_place, home_place, Shared, opening_of, slots_of, IsNumber, state_after_all, Sat, shown}
@@ -12,6 +12,7 @@ use Rattle.fx_counted.proofs.Histories.{Grows, IsHistory, grows_none, grows_one,
 use Rattle.fx_counted.proofs.Frames.{Stays, KeepsHeld, view_stays, not_there, views_after, of_one, total_same}
 use Rattle.fx_table.proofs.Ones.{one_if}
 use Rattle.atomic_table.specs.Table.{Allows}
+use Rattle.fx_counted.specs.Agrees.{IsSeated}
 
 abbrev pub Homes : Type 0
 Homes = List (maybe.Option (Option Closed))
@@ -41,6 +42,16 @@ shape_kept k s s' words homes a = record {
   words = words ∙ a.words;
   homes = homes ∙ a.homes;
 }
+
+module _ (k : Start) (s : Shared) (r : Agrees k s) where
+  -- a number in its phase
+  pub in_phase : (n : ℕ) → IsNumber k n → (ph : Phase) → r.phase n ≡ ph → NodeIn k s.words s.homes r.history n ph
+  in_phase n its ph is = subst (NodeIn k s.words s.homes r.history n) is (r.each_node n its)
+
+  -- the file that is at a slot
+  pub seat_in : (slot : ℕ) → slot < slots_of k → (f : File) → (state_after_all k r.history).at slot ≡ Some f
+      → IsSeated k (looks r.history) r.phase slot (word_at s.words (slot_place slot)) (Some f)
+  seat_in slot l f is = subst (IsSeated k (looks r.history) r.phase slot (word_at s.words (slot_place slot))) is (r.each_slot slot l).seat
 
 -- a seat with one pass, which makes the next step
 pub record Turn : Type 0 where

@@ -1,26 +1,22 @@
 -- A look-up keeps the rule.
 use Rattle.fx_counted.proofs.Words.{◌≡◌, ◌≢◌, ℕ, ◌+◌, ◌-◌, ◌%◌, ◌^◌, ◌<◌, List, [], ◌∷◌, set, sym, refl, ap, ◌∙◌, subst, arith, Option, Some, None}
-use Rattle.fx_counted.proofs.Words.{dite, none, ℕ_discrete, keeps, stepped, step, Closed, ◌▷◌, held_by, State, File, Event, Look, range_of, event_of}
-use Rattle.fx_counted.proofs.Words.{name_in, entry_in, takes_in, Names, SlotAgrees, Agrees, PlacesNext, WorkAgrees, looks, full_in, slot_place}
-use Rattle.fx_counted.proofs.Words.{opening_of, slots_of, IsNumber, state_after_all, shown, held_in, placing, held_of, holding, Phase, seated}
-use Rattle.fx_counted.proofs.Words.{file_in, Stepped, IsInside, Log, View, Idle, eqb, one_look, name_more, entry_more, takes_more, LooksKeep, Looks}
-use Rattle.fx_counted.proofs.Words.{holds_now, Between}
-use Rattle.fx_counted.proofs.Steps.{busy, stays_same, owner_stays, IsHistory, grows_one, legal_more, held_mine, part_mine, changed_else, same_shape}
-use Rattle.fx_counted.proofs.Steps.{Turn, turn_of, word_at, now, logged, its_log, tells, by_turn, Made, log_now, far, one_if, bit_here, one_more_at}
-use Rattle.fx_counted.proofs.Steps.{node_same, control_same, NodeIn, Step, step_kept}
-use Rattle.fx_counted.specs.Agrees.{IsSeated}
+use Rattle.fx_counted.proofs.Words.{none, keeps, step, Closed, ◌▷◌, State, File, Event, Look, range_of, event_of, name_in, entry_in, takes_in, Names}
+use Rattle.fx_counted.proofs.Words.{SlotAgrees, PlacesNext, WorkAgrees, looks, full_in, slot_place, opening_of, slots_of, IsNumber, state_after_all}
+use Rattle.fx_counted.proofs.Words.{shown, held_in, placing, held_of, holding, Phase, seated, file_in, Stepped, IsInside, Log, View, Idle, one_look}
+use Rattle.fx_counted.proofs.Words.{name_more, entry_more, takes_more, LooksKeep, Looks, holds_now, Between}
+use Rattle.fx_counted.proofs.Steps.{busy, stays_same, owner_stays, IsHistory, grows_one, legal_more, held_mine, part_mine, same_shape, Step, step_kept}
+use Rattle.fx_counted.proofs.Steps.{Turn, turn_of, word_at, now, logged, its_log, tells, by_turn, Made, log_now, far, bit_here, one_more_at}
+use Rattle.fx_counted.proofs.Steps.{node_same, control_same, NodeIn, in_phase, seat_in}
 use Rattle.std.proofs.Common.{length-set}
+use Rattle.fx_table.proofs.Ones.{bit_else}
+use Rattle.fx_counted.specs.Agrees.{IsSeated}
 use Rattle.fx_counted.proofs.SlotSteps.{slots_now, node_now, control_now, draws_now, words_now}
 
 pub add_one : (n : ℕ) → takes_in n + 1 < 4294967296 → n < 18446744073709551616 → (n + 1) % 2 ^ 64 ≡ n + 1
 add_one n low fits = omega arith
 
--- the file that a look-up found, and a seat's slot
-abbrev slot_in : Phase → ℕ
-slot_in (seated s f) = s
-slot_in _ = 0
-
-module _ (turn : Turn) (idle : turn.v.work ≡ Between Idle) (some_left : 0 < turn.x.looks_left) (s : ℕ) (inside : s < slots_of turn.v.start) where
+module _ (turn : Turn) (idle : turn.v.work ≡ Between Idle) (some_left : 0 < turn.x.looks_left) (s : ℕ) (inside : s < slots_of turn.v.start)
+    (fits : word_at turn.st.words (slot_place s) < 18446744073709551616) where
   open turn use {st, v, r, id, x, here, one}
 
   abbrev found : ℕ
@@ -38,159 +34,133 @@ module _ (turn : Turn) (idle : turn.v.work ≡ Between Idle) (some_left : 0 < tu
   room : takes_in found + 1 < 4294967296
   room = let a = so.takes in let b = r.look_ups in let c = r.shape.passes in omega arith
 
-  module _ (fits : found < 18446744073709551616) where
-    word_is : word' ≡ found + 1
-    word_is = add_one found room fits
+  word_is : word' ≡ found + 1
+  word_is = add_one found room fits
 
-    names_now : (file : Option File) → Names found file → Names word' file
-    names_now None o = ap name_in word_is ∙ (name_more found room ∙ o)
-    names_now (Some f) o = (ap name_in word_is ∙ (name_more found room ∙ o.0), ap entry_in word_is ∙ (entry_more found room ∙ o.1))
+  names_now : (file : Option File) → Names found file → Names word' file
+  names_now None o = ap name_in word_is ∙ (name_more found room ∙ o)
+  names_now (Some f) o = (ap name_in word_is ∙ (name_more found room ∙ o.0), ap entry_in word_is ∙ (entry_more found room ∙ o.1))
 
-    takes_now : takes_in word' ≡ takes_in found + 1
-    takes_now = ap takes_in word_is ∙ takes_more found room
+  takes_now : takes_in word' ≡ takes_in found + 1
+  takes_now = ap takes_in word_is ∙ takes_more found room
 
-    module _ (file : Option File) (is : old.at s ≡ file) where
-      abbrev e : Event
-      e = event_of (shown x v.work) (Look s file)
+  abbrev h' : Option File → List Event
+  h' file = event_of (shown x v.work) (Look s file) ∷ r.history
 
-      abbrev h' : List Event
-      h' = e ∷ r.history
+  -- the file that is found is looked up once more, and held once more
+  looks_are : (file : Option File) (n : ℕ) → looks (h' file) n ≡ looks r.history n + holding n (holds_now file)
+  looks_are None n = omega arith
+  looks_are (Some f) n = one_more_at (looks r.history) f.number n
 
-      legal : IsHistory v.start h'
-      legal = legal_more v.start r.history e r.legal (let z = (same_shape v.start r.history).0 in omega arith, sym is) tt
+  state_is : (file : Option File) → state_after_all v.start (h' file) ≡ record old { holds = λ n. old.holds n + holding n (holds_now file) }
+  state_is None = λ i. record old { holds = λ n. (let e : old.holds n ≡ old.holds n + 0 = omega arith in e) i }
+  state_is (Some f) = λ i. record old { holds = λ n. one_more_at old.holds f.number n i }
 
-      abbrev y : Log
-      y = logged x h' x.numbers_left (x.looks_left - 1)
+  -- what the pass does now
+  does_now : (file : Option File) → old.at s ≡ file → (held_in (holds_now file) ≡ file) × (placing (holds_now file) ≡ 0)
+      × ((y : Log) → PlacesNext v.start y (holds_now file)) × WorkAgrees v.start r.phase id (holds_now file) × IsInside v.start (holds_now file)
+  does_now None is = (refl, refl, λ y. tt, tt, tt)
+  does_now (Some f) is = let seat = seat_in v.start st r s inside f is in (refl, refl, λ y. tt, (seat.0, ap file_in seat.2), seat.0)
 
-      abbrev w : View
-      w = now v y (holds_now file) v.change
+  seat_now : (file : Option File) → old.at s ≡ file → IsSeated v.start (looks (h' file)) r.phase s word' file
+  seat_now None is = tt
+  seat_now (Some f) is = let seat = seat_in v.start st r s inside f is in (
+    seat.0,
+    takes_now ∙ (let a = seat.1 in let b = looks_are (Some f) f.number in let e = bit_here f.number f.number refl in omega arith),
+    seat.2,
+  )
 
-      told : (carried : List (ℕ × Option Closed)) → IsInside v.start (holds_now file)
-          → Stepped (v, carried) ([] ▷ Look s file) one_look (holds_now file) v.change (w, carried)
-      told carried its = tells turn carried carried h' x.numbers_left (x.looks_left - 1)
-          (holds_now file) v.change ([] ▷ Look s file) one_look (grows_one x.number r.history e refl) legal
-          (part_mine x.number e r.history refl) (omega arith) (omega (arith, some_left)) its
+  -- a number whose file is not at the slot was not found
+  not_found : (file : Option File) → old.at s ≡ file → (n : ℕ) (ph : Phase) → r.phase n ≡ ph → ((g : Closed) → ph ≢ seated s g)
+      → holding n (holds_now file) ≡ 0
+  not_found None is n ph at not_seated = refl
+  not_found (Some f) is n ph at not_seated = bit_else n f.number
+      (λ same. not_seated f.identity (sym at ∙ (ap r.phase (sym same) ∙ (seat_in v.start st r s inside f is).2)))
 
-      -- what is the same whatever was found
-      module _ (at_same : (state_after_all v.start h').at ≡ old.at) (removed_same : (state_after_all v.start h').removed ≡ old.removed)
-          (slot : SlotAgrees v.start h' r.phase s word')
-          (looks_else : (i : ℕ) → i < slots_of v.start → i ≢ s → (f : File) → old.at i ≡ Some f
-          → r.phase f.number ≡ seated i f.identity → looks h' f.number ≡ looks r.history f.number)
-          (nodes : (n : ℕ) → IsNumber v.start n → NodeIn v.start st.words st.homes h' n (r.phase n))
-          (held : held_by h' x.number ≡ held_in (holds_now file))
-          (next : PlacesNext v.start y (holds_now file)) (placed : placing (holds_now file) ≡ 0)
-          (work : WorkAgrees v.start r.phase id (holds_now file)) (holds : (n : ℕ)
-          → (state_after_all v.start h').holds n ≡ old.holds n + holding n (holds_now file)) where
-        look_step : Step turn y (holds_now file) v.change h' r.phase (words_now turn s inside word') st.homes
-        look_step = let o = its_log turn in let p = ap placing idle in record {
-          words = length-set st.words (slot_place s) word';
-          homes = refl;
-          number = refl;
-          grows = grows_one x.number r.history e refl;
-          legal = legal;
-          slots = slots_now turn s inside word' h' r.phase slot (omega arith)
-              (λ i l other. (ap (λ (g : ℕ → Option File). g i) at_same, λ f there seat. (looks_else i l other f there seat, refl)));
-          nodes = λ n has. node_now turn s inside word' h' st.homes (r.phase n) n has (nodes n has);
-          owners = λ n has. owner_stays st.views id v w here n (λ bad. let b = ap busy idle in omega arith) (r.phase n) (r.each_owner n has);
-          no_other = λ n absent. ap (λ (g : ℕ → Option File). g n) removed_same ∙ r.no_other n absent;
-          stays = stays_same id x.number r.phase;
-          keeps = λ j u f other there is_held. refl;
-          log = log_now turn h' r.phase x.numbers_left (x.looks_left - 1) (holds_now file) (omega arith) held next
-              (λ n low high. o.spares n (omega arith) high);
-          work = work;
-          holds = λ n. let b : held_of n v ≡ 0 = ap (holding n) idle in let c = holds n in omega arith;
-          look_ups = omega arith;
-          control = control_now turn s inside word' (control_same st.views id v w here (ap (λ (g : ℕ → Option File).
-              full_in g (range_of (opening_of v.start)).0 (range_of (opening_of v.start)).1) at_same) refl refl r.control);
-          draws = draws_now turn s inside word' h' x.numbers_left (x.looks_left - 1) (holds_now file) v.change r.phase (λ n is_new. is_new);
+  module _ (file : Option File) (is : old.at s ≡ file) where
+    abbrev y : Log
+    y = logged x (h' file) x.numbers_left (x.looks_left - 1)
+
+    abbrev w : View
+    w = now v y (holds_now file) v.change
+
+    abbrev new : State
+    new = state_after_all v.start (h' file)
+
+    legal : IsHistory v.start (h' file)
+    legal = legal_more v.start r.history _ r.legal (let z = (same_shape v.start r.history).0 in omega arith, sym is) tt
+
+    node_after : (n : ℕ) → IsNumber v.start n → (ph : Phase) → r.phase n ≡ ph → NodeIn v.start st.words st.homes (h' file) n ph
+    node_after n has (seated i g) at = let o = in_phase v.start st r n has (seated i g) at in let a = looks_are file n in
+        let b = ap (λ (z : State). z.holds n) (state_is file) in let c = o.counts in record {
+          counts = omega arith;
+          at_home = o.at_home;
+          inside = let l = o.inside in let e = ap (λ (z : State). z.size) (state_is file) in omega arith;
+          there = ap (λ (z : State). z.at i) (state_is file) ∙ o.there;
+          not_removed = ap (λ (z : State). z.removed n) (state_is file) ∙ o.not_removed;
         }
+    node_after n has ph at = let none_found = not_found file is n ph at (λ g bad. cc bad) in
+        node_same old new n (looks r.history n) (looks (h' file) n) _ _ _ _
+        (ap (λ (z : State). z.fresh n) (state_is file)) (ap (λ (z : State). z.removed n) (state_is file))
+        (let a = ap (λ (z : State). z.holds n) (state_is file) in omega arith) (let a = looks_are file n in omega arith) refl refl
+        (ap (λ (z : State). z.size) (state_is file)) ph (λ i g is there. ap (λ (z : State). z.at i) (state_is file))
+        (in_phase v.start st r n has ph at)
 
-        look_agrees : Agrees v.start record { words = set st.words (slot_place s) word'; homes = st.homes; views = set st.views id w }
-        look_agrees = step_kept turn y (holds_now file) v.change h' r.phase (words_now turn s inside word') st.homes look_step
-
-    missed : (is : old.at s ≡ None) → Agrees v.start (stepped st (slot_place s) word' id [] (w None is) keeps)
-    missed is = look_agrees None is refl refl
-        record {
-          names = subst (Names word') (sym is) (names_now None (subst (Names found) is so.names));
-          seat = subst (IsSeated v.start (looks r.history) r.phase s word') (sym is) tt;
+    look_step : Step turn y (holds_now file) v.change (h' file) r.phase (words_now turn s inside word') st.homes
+    look_step = let o = its_log turn in let p = ap placing idle in let now = does_now file is in record {
+      words = length-set st.words (slot_place s) word';
+      homes = refl;
+      number = refl;
+      grows = grows_one x.number r.history _ refl;
+      legal = legal;
+      slots = slots_now turn s inside word' (h' file) r.phase (
+        let at_is : new.at s ≡ file = ap (λ (z : State). z.at s) (state_is file) ∙ is in record {
+          names = subst (Names word') (sym at_is) (names_now file (subst (Names found) is so.names));
+          seat = subst (IsSeated v.start (looks (h' file)) r.phase s word') (sym at_is) (seat_now file is);
           takes = let a = so.takes in let b = takes_now in omega arith;
         }
-        (λ i l other f there seat. refl)
-        (λ n has. r.each_node n has)
-        (held_mine x.number (e None is) r.history refl) tt refl tt (λ n. omega arith)
+      ) (omega arith) (λ i l other. (
+        ap (λ (z : State). z.at i) (state_is file),
+        λ f there seat. (
+          let a = looks_are file f.number in let b = not_found file is f.number (seated i f.identity) seat (λ g bad. other (cc bad)) in omega arith,
+          refl,
+        ),
+      ));
+      nodes = λ n has. node_now turn s inside word' (h' file) st.homes (r.phase n) n has (node_after n has (r.phase n) refl);
+      owners = λ n has. owner_stays st.views id v w here n (λ bad. let b = ap busy idle in omega arith) (r.phase n) (r.each_owner n has);
+      no_other = λ n absent. ap (λ (z : State). z.removed n) (state_is file) ∙ r.no_other n absent;
+      stays = stays_same id x.number r.phase;
+      keeps = λ j u f other there is_held. refl;
+      log = log_now turn (h' file) r.phase x.numbers_left (x.looks_left - 1) (holds_now file) (omega arith)
+          (held_mine x.number (event_of (shown x v.work) (Look s file)) r.history refl ∙ sym now.0) (now.2 y) (λ n low high. let q = now.1 in o.spares n (omega arith) high);
+      work = now.3;
+      holds = λ n. let b : held_of n v ≡ 0 = ap (holding n) idle in let c = ap (λ (z : State). z.holds n) (state_is file) in omega arith;
+      look_ups = omega arith;
+      control = control_now turn s inside word' (control_same st.views id v w here (ap (λ (z : State).
+          full_in z.at (range_of (opening_of v.start)).0 (range_of (opening_of v.start)).1) (state_is file)) refl refl r.control);
+      draws = draws_now turn s inside word' (h' file) x.numbers_left (x.looks_left - 1) (holds_now file) v.change r.phase (λ n is_new. is_new);
+    }
 
-    module _ (f : File) (is : old.at s ≡ Some f) where
-      abbrev q : ℕ
-      q = f.number
+    told : (carried : List (ℕ × Option Closed)) → Stepped (v, carried) ([] ▷ Look s file) one_look (holds_now file) v.change (w, carried)
+    told carried = tells turn carried carried (h' file) x.numbers_left (x.looks_left - 1)
+        (holds_now file) v.change ([] ▷ Look s file) one_look (grows_one x.number r.history _ refl) legal
+        (part_mine x.number _ r.history refl) (omega arith) (omega (arith, some_left)) (does_now file is).4
 
-      abbrev h₁ : List Event
-      h₁ = h' (Some f) is
-
-      seat : IsNumber v.start q × (takes_in found ≡ looks r.history q) × (r.phase q ≡ seated s f.identity)
-      seat = subst (IsSeated v.start (looks r.history) r.phase s found) is so.seat
-
-      looks_now : (n : ℕ) → looks h₁ n ≡ looks r.history n + one_if (eqb q n)
-      looks_now n = one_more_at (looks r.history) q n
-
-      looks_else_is : (n : ℕ) → n ≢ q → looks h₁ n ≡ looks r.history n
-      looks_else_is n other = changed_else (looks r.history) q (looks r.history q + 1) n other
-
-      holds_now_is : (n : ℕ) → (state_after_all v.start h₁).holds n ≡ old.holds n + one_if (eqb q n)
-      holds_now_is n = one_more_at old.holds q n
-
-      node_found : (n : ℕ) → IsNumber v.start n → NodeIn v.start st.words st.homes h₁ n (r.phase n)
-      node_found n has = dite (ℕ_discrete n q)
-          (λ same. let ph : r.phase n ≡ seated s f.identity = ap r.phase same ∙ seat.2 in
-          let o = subst (NodeIn v.start st.words st.homes r.history n) ph (r.each_node n has) in
-          let a = looks_now n in let b = holds_now_is n in let c = o.counts in
-          subst (NodeIn v.start st.words st.homes h₁ n) (sym ph) record {
-            counts = omega arith;
-            at_home = o.at_home;
-            inside = o.inside;
-            there = o.there;
-            not_removed = o.not_removed;
-          })
-          (λ other. node_same old (state_after_all v.start h₁) n (looks r.history n) (looks h₁ n) _ _ _ _ refl refl
-          (changed_else old.holds q (old.holds q + 1) n other) (looks_else_is n other) refl refl refl (r.phase n) (λ i g seat_is there. refl)
-          (r.each_node n has))
-
-      hit : Agrees v.start record { words = set st.words (slot_place s) word'; homes = st.homes; views = set st.views id (w (Some f) is) }
-      hit = look_agrees (Some f) is refl refl
-          record {
-            names = subst (Names word') (sym is) (names_now (Some f) (subst (Names found) is so.names));
-            seat = subst (IsSeated v.start (looks h₁) r.phase s word') (sym is) (
-              seat.0,
-              takes_now ∙ (let a = seat.1 in let b = looks_now q in let e = bit_here q q refl in omega arith),
-              seat.2,
-            );
-            takes = let a = so.takes in let b = takes_now in omega arith;
-          }
-          (λ i l other g there its. looks_else_is g.number (λ same. other (ap slot_in (sym its ∙ (ap r.phase same ∙ seat.2)))))
-          node_found
-          (held_mine x.number (e (Some f) is) r.history refl) tt refl (seat.0, ap file_in seat.2)
-          holds_now_is
-
-    either : (file : Option File) (is : old.at s ≡ file)
-        → Agrees v.start record { words = set st.words (slot_place s) word'; homes = st.homes; views = set st.views id (w file is) }
-        × IsInside v.start (holds_now file)
-    either None is = (missed is, tt)
-    either (Some f) is = (hit f is, (seat f is).0)
-
-    looked : (slots : ℕ) (carried : List (ℕ × Option Closed))
-        → Made turn carried (slot_place s) (λ word. (word + 1) % 2 ^ 64) (Looks (step slots (slot_place s) 1 0 none) (v, carried))
-    looked slots carried = let file = old.at s in let it = either file refl in (
-      w file refl,
-      keeps,
-      tt,
-      it.0,
-      record {
-        file = file;
-        names = so.names;
-        stepped = subst (λ (z : ℕ). Stepped (v, carried) ([] ▷ Look z file) one_look (holds_now file) v.change (w file refl, carried))
-            (sym ((far turn).slot_back s)) (told file refl carried it.1);
-        carried = refl;
-      },
-    )
+  looked : (slots : ℕ) (carried : List (ℕ × Option Closed))
+      → Made turn carried (slot_place s) (λ word. (word + 1) % 2 ^ 64) (Looks (step slots (slot_place s) 1 0 none) (v, carried))
+  looked slots carried = let file = old.at s in (
+    w file refl,
+    keeps,
+    tt,
+    step_kept turn (y file refl) (holds_now file) v.change (h' file) r.phase (words_now turn s inside word') st.homes (look_step file refl),
+    record {
+      file = file;
+      names = so.names;
+      stepped = subst (λ (z : ℕ). Stepped (v, carried) ([] ▷ Look z file) one_look (holds_now file) v.change (w file refl, carried))
+          (sym ((far turn).slot_back s)) (told file refl carried);
+      carried = refl;
+    },
+  )
 
 pub looks_keep : LooksKeep
 looks_keep k slots id i slot m x has idle left inside place = by_turn k slots id i m x (λ k. slot < slots_of k) (λ _. slot_place slot)

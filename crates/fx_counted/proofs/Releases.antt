@@ -3,9 +3,9 @@ use Rattle.fx_counted.proofs.Words.{◌≡◌, ◌≢◌, ℕ, ◌+◌, ◌-◌,
 use Rattle.fx_counted.proofs.Words.{dite, some, none, ℕ_discrete, step, Closed, ◌▷◌, State, numbered, File, Event, Release, event_of, sum_at, NodeAgrees}
 use Rattle.fx_counted.proofs.Words.{WorkAgrees, looks, word_of, IsNumber, state_after_all, shown, held_in, placing, held_of, holding, Phase, seated, leaving}
 use Rattle.fx_counted.proofs.Words.{retired, file_in, LetsGo, TakesOut, Idle, Holding, eqb, ReleasesKeep, Releases, inr, inl, Between}
-use Rattle.fx_counted.proofs.Steps.{busy, owner_stays, grows_one, legal_more, held_mine, part_mine, changed_here, changed_else, Turn, turn_of, its_log}
+use Rattle.fx_counted.proofs.Steps.{in_phase, busy, owner_stays, grows_one, legal_more, held_mine, part_mine, changed_here, changed_else, Turn, turn_of, its_log}
 use Rattle.fx_counted.proofs.Steps.{its_work, by_turn, Made, went, one_if, one_less_at}
-use Rattle.fx_counted.proofs.Births.{in_phase, word_now, home_now}
+use Rattle.fx_counted.proofs.Births.{word_now, home_now}
 use Rattle.fx_counted.proofs.LettingGo.{IsLetGo, sub_wraps, few_looks, holding_it, stays_open, lets_go, comes_out, takes_out}
 
 module _ (turn : Turn) (f : File) (works : turn.v.work ≡ Between (Holding f)) where
@@ -64,19 +64,19 @@ module _ (turn : Turn) (f : File) (works : turn.v.work ≡ Between (Holding f)) 
       → ((word ≢ 1) × NodeAgrees new q (looks r.history q) (minus word) (home_now turn q) ph)
       ⊎ ((word ≡ 1) × (minus word ≡ 0) × (r.phase q ≡ retired f.identity) × (home_now turn q ≡ some (some (Some f.identity)))
       × (old.removed q ≡ Some f) × (new.holds q ≡ 0))
-  by_phase fits (seated s g) is has = let n = in_phase turn q mine.0 (seated s g) is in let a = n.counts in
+  by_phase fits (seated s g) is has = let n = in_phase v.start st r q mine.0 (seated s g) is in let a = n.counts in
       let c = few_looks turn q in let h = held_now in let z = one_less in
       let e : minus word ≡ word - 1 = sub_wraps word 1 (omega arith) fits (omega arith) in inl (
         λ last. omega arith,
         record { counts = omega arith; at_home = n.at_home; inside = n.inside; there = n.there; not_removed = n.not_removed },
       )
-  by_phase fits (leaving j t g) is has = let n = in_phase turn q mine.0 (leaving j t g) is in let a = n.counts in
+  by_phase fits (leaving j t g) is has = let n = in_phase v.start st r q mine.0 (leaving j t g) is in let a = n.counts in
       let c = few_looks turn q in let h = held_now in let z = one_less in
       let e : minus word ≡ word - 1 = sub_wraps word 1 (omega arith) fits (omega arith) in inl (
         λ last. omega arith,
         record { counts = omega arith; at_home = n.at_home; all_takes = n.all_takes; removed = n.removed },
       )
-  by_phase fits (retired g) is has = let n = in_phase turn q mine.0 (retired g) is in let a = n.counts in
+  by_phase fits (retired g) is has = let n = in_phase v.start st r q mine.0 (retired g) is in let a = n.counts in
       let b = n.some_hold in let h = held_now in let z = one_less in let same : g ≡ f.identity = cc has in
       let e : minus word ≡ word - 1 = sub_wraps word 1 (omega arith) fits (omega arith) in
       dite (ℕ_discrete word 1)

@@ -2,9 +2,9 @@
 use Rattle.fx_counted.proofs.Words.{◌≡◌, ℕ, ◌+◌, ◌-◌, ◌%◌, ◌^◌, ◌<◌, List, [], sym, refl, ap, ◌∙◌, subst, arith, Option, dite, none, ℕ_discrete, step}
 use Rattle.fx_counted.proofs.Words.{Closed, File, State, retire_amount_of, NodeAgrees, WorkAgrees, Agrees, looks, word_of, IsNumber, state_after_all}
 use Rattle.fx_counted.proofs.Words.{held_in, placing, holding, leaving, retired, owner, file_in, TakesOut, Retiring, RetiresKeep, Retires, inr, inl, Between}
-use Rattle.fx_counted.proofs.Steps.{busy, grows_none, Turn, turn_of, its_log, its_work, by_turn, Made, one_same}
+use Rattle.fx_counted.proofs.Steps.{in_phase, busy, grows_none, Turn, turn_of, its_log, its_work, by_turn, Made, one_same}
 use Rattle.atomic_table.specs.Table.{Allows}
-use Rattle.fx_counted.proofs.Births.{in_phase, word_now, home_now}
+use Rattle.fx_counted.proofs.Births.{word_now, home_now}
 use Rattle.fx_counted.proofs.LettingGo.{IsLetGo, sub_wraps, few_looks, stays_open, lets_go, comes_out, takes_out}
 
 module _ (turn : Turn) (f : File) (t : ℕ) (works : turn.v.work ≡ Between (Retiring f t)) where
@@ -17,7 +17,7 @@ module _ (turn : Turn) (f : File) (t : ℕ) (works : turn.v.work ≡ Between (Re
   mine = subst (WorkAgrees v.start r.phase id) works (its_work turn)
 
   node : NodeAgrees (state_after_all v.start r.history) q (looks r.history q) (word_now turn q) (home_now turn q) (leaving id t f.identity)
-  node = in_phase turn q mine.0 (leaving id t f.identity) mine.1
+  node = in_phase v.start st r q mine.0 (leaving id t f.identity) mine.1
 
   abbrev minus : ℕ → ℕ
   minus word = (word + (2 ^ 64 - retire_amount_of t)) % 2 ^ 64

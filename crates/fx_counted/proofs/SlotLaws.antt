@@ -5,11 +5,10 @@ use Rattle.fx_counted.proofs.Words.{Take, Allocate, Use, no_use, one_number, nam
 use Rattle.fx_counted.proofs.Words.{HasPass, MayChange, place_of, slot_place, slot_of, Sat, slots_of, state_after_all, Stepped, Exchanges, GoesOn}
 use Rattle.fx_counted.proofs.Words.{retiring, turned, Change, Same, Log, Start, View, Work, Idle, Placing, placed, event_of, shown, set-get_or}
 use Rattle.fx_counted.proofs.Words.{exchanged, ClearsKeep, TakesKeep, InstallsKeep, LoadsKeep, ExchangesKeep, Installs, Removes, Between}
-use Rattle.fx_counted.proofs.Steps.{legal_more, same_shape, Turn, turn_of, word_at, now, logged, its_work, by_turn, went, Made, far, control_same}
+use Rattle.fx_counted.proofs.Steps.{in_phase, legal_more, same_shape, Turn, turn_of, word_at, now, logged, its_work, by_turn, went, Made, far, control_same}
 use prog.Atomic.{either}
 use Rattle.atomic_table.specs.Table.{Allows}
 use Rattle.fx_counted.specs.Laws.{IsInRange}
-use Rattle.fx_counted.proofs.Births.{in_phase}
 use Rattle.fx_counted.proofs.Calm.{no_event, calm_agrees}
 use Rattle.fx_counted.proofs.ControlSteps.{goes_on}
 use Rattle.fx_counted.proofs.Swaps.{Effect, in_size, names_old, removal_agrees, removal_tells, installation_agrees, installation_tells, removed_view}
@@ -45,7 +44,7 @@ module _ (turn : Turn) (s : ℕ) (inside : s < slots_of turn.v.start) where
   put : (n : ℕ) (file : Closed) → v.work ≡ Placing n → Facts (Put s (numbered n file) old) (Some (numbered n file))
       (changed_at (state_after_all v.start r.history).fresh n false)
   put n file works = let its = subst (WorkAgrees v.start r.phase id) works (its_work turn) in
-      let o = in_phase turn n its.0 (placed id) its.1 in
+      let o = in_phase v.start st r n its.0 (placed id) its.1 in
       let legal = legal_more v.start r.history (event_of (shown x v.work) (Put s (numbered n file) old)) r.legal
       (in_size turn s inside, o.fresh, refl) tt in
       record { legal = legal; state = refl; looked = refl; all = omega arith; held = refl }
@@ -186,7 +185,7 @@ module _ (turn : Turn) (slots s n old_word : ℕ) (file : Closed) (carried : Lis
 
     allocated : Effect turn s within None at_none a (Some (numbered n file)) (changed_at (state_after_all v.start r.history).fresh n false)
     allocated = let its = subst (WorkAgrees v.start r.phase id) works (its_work turn) in
-        let o = in_phase turn n its.0 (placed id) its.1 in
+        let o = in_phase v.start st r n its.0 (placed id) its.1 in
         let z = (same_shape v.start r.history).1 in let p = ap (λ (p : ℕ × ℕ). p.0) z in let q = ap (λ (p : ℕ × ℕ). p.1) z in
         let low = in_range.0 in let high = in_range.1 in
         let legal = legal_more v.start r.history (event_of (shown x v.work) a) r.legal

@@ -6,12 +6,12 @@ use Rattle.fx_counted.proofs.Words.{entry_made, takes_made, Names, SlotAgrees, N
 use Rattle.fx_counted.proofs.Words.{if_full, looks, all_looks, word_of, place_of, control_place, slot_place, opening_of, slots_of, IsNumber}
 use Rattle.fx_counted.proofs.Words.{state_after_all, shown, end_in, next_in, held_in, placing, holding, Phase, unborn, spare, placed, seated, leaving}
 use Rattle.fx_counted.proofs.Words.{owner, file_in, IsInside, Stepped, retiring, turned, Change, Log, View, Work, Idle, Placing, Retiring, Between, keeps, stepped}
-use Rattle.fx_counted.proofs.Steps.{busy, stays_same, owner_stays, does_now, IsHistory, grows_one, part_mine, held_mine, changed_here, changed_else}
+use Rattle.fx_counted.proofs.Steps.{in_phase, seat_in, busy, stays_same, owner_stays, does_now, IsHistory, grows_one, part_mine, held_mine, changed_here, changed_else}
 use Rattle.fx_counted.proofs.Steps.{each_changed, same_shape, Turn, Homes, word_at, now, logged, its_log, its_work, log_now, tells, went, tells_one, node_same, NodeIn}
 use Rattle.fx_counted.proofs.Steps.{Step, step_kept}
 use Rattle.std.proofs.Common.{length-set}
 use Rattle.fx_counted.specs.Agrees.{IsSeated}
-use Rattle.fx_counted.proofs.Births.{in_phase, roomy, else_place, unheld}
+use Rattle.fx_counted.proofs.Births.{roomy, else_place, unheld}
 use Rattle.fx_counted.proofs.FullSlots.{Stands, control_swap}
 use Rattle.fx_counted.proofs.SlotSteps.{slots_now, node_now, control_now, draws_now, words_now}
 
@@ -55,17 +55,9 @@ module _ (turn : Turn) (s : ℕ) (inside : s < slots_of turn.v.start) where
   pub in_size : s < state.size
   in_size = let z = (same_shape v.start r.history).0 in omega arith
 
-  so : SlotAgrees v.start r.history r.phase s found
-  so = r.each_slot s inside
-
-  -- the file that is at the slot
-  seat_of : (f : File) → state.at s ≡ Some f
-      → IsNumber v.start f.number × (takes_in found ≡ looks r.history f.number) × (r.phase f.number ≡ seated s f.identity)
-  seat_of f is = subst (IsSeated v.start (looks r.history) r.phase s found) is so.seat
-
   module _ (old : Option File) (was : state.at s ≡ old) where
     pub names_old : Names found old
-    names_old = subst (Names found) was so.names
+    names_old = subst (Names found) was (r.each_slot s inside).names
 
     -- a number whose phase isn't that of a file at the slot is not the old file's
     not_old : (n : ℕ) (ph : Phase) → r.phase n ≡ ph → ((f : Closed) → ph ≢ seated s f) → NotOf n old
@@ -73,7 +65,7 @@ module _ (turn : Turn) (s : ℕ) (inside : s < slots_of turn.v.start) where
       where
         go : (old : Option File) → state.at s ≡ old → NotOf n old
         go None was = tt
-        go (Some f) was = λ same. not_seated f.identity (sym is ∙ (ap r.phase same ∙ (seat_of f was).2))
+        go (Some f) was = λ same. not_seated f.identity (sym is ∙ (ap r.phase same ∙ (seat_in v.start st r s inside f was).2))
 
     -- a seated file is elsewhere, if it is not the old one
     elsewhere : (n i : ℕ) (g : Closed) → NotOf n old → state.at i ≡ Some (numbered n g) → i ≢ s
@@ -89,7 +81,7 @@ module _ (turn : Turn) (s : ℕ) (inside : s < slots_of turn.v.start) where
 
     inside_now : (file : Option File) → old ≡ file → IsInside v.start (Between (retiring file (takes_in found)))
     inside_now None is = tt
-    inside_now (Some f) is = (seat_of f (was ∙ is)).0
+    inside_now (Some f) is = (seat_in v.start st r s inside f (was ∙ is)).0
 
     module _ (a : Action) where
       abbrev h' : List Event
@@ -140,7 +132,7 @@ module _ (turn : Turn) (s : ℕ) (inside : s < slots_of turn.v.start) where
         module _ (p : Swap) where
           old_node : (f : File) → old ≡ Some f → NodeAgrees after f.number (looks r.history f.number) (word_at st.words (word_of v.start f.number))
               (get_elem? homes' (place_of v.start f.number)) (leaving id (takes_in found) f.identity)
-          old_node f is = let its = seat_of f (was ∙ is) in let n = in_phase turn f.number its.0 (seated s f.identity) its.2 in
+          old_node f is = let its = seat_in v.start st r s inside f (was ∙ is) in let n = in_phase v.start st r f.number its.0 (seated s f.identity) its.2 in
               let h = ap (λ (z : State). z.holds f.number) p.does.state in record {
                 counts = let a = n.counts in omega arith;
                 at_home = p.old_home f is ∙ n.at_home;
@@ -208,7 +200,7 @@ module _ (turn : Turn) (s : ℕ) (inside : s < slots_of turn.v.start) where
             keeps = λ j u f other there holds. by_old old f.number (file_in (phase' f.number) ≡ file_in (r.phase f.number))
                 (λ g is same. ap (λ (m : ℕ). file_in (phase' m)) same
                 ∙ (ap file_in (out_here g is)
-                ∙ (sym (ap file_in (seat_of g (was ∙ is)).2) ∙ ap (λ (m : ℕ). file_in (r.phase m)) (sym same))))
+                ∙ (sym (ap file_in (seat_in v.start st r s inside g (was ∙ is)).2) ∙ ap (λ (m : ℕ). file_in (r.phase m)) (sym same))))
                 (λ apart. ap file_in (same_phase f.number (r.phase f.number) refl apart
                 (λ bad. unheld turn f.number (ap file_in bad) j u f there holds refl)));
             log = log_now turn h' phase' left x.looks_left d p.fewer
@@ -231,11 +223,11 @@ module _ (turn : Turn) (s : ℕ) (inside : s < slots_of turn.v.start) where
 
               absent_old : (n : ℕ) → (IsNumber v.start n → ⊥) → (file : Option File) → old ≡ file → NotOf n file
               absent_old n absent None is = tt
-              absent_old n absent (Some f) is = λ same. absent (subst (IsNumber v.start) (sym same) (seat_of f (was ∙ is)).0)
+              absent_old n absent (Some f) is = λ same. absent (subst (IsNumber v.start) (sym same) (seat_in v.start st r s inside f (was ∙ is)).0)
 
               works : (file : Option File) → old ≡ file → WorkAgrees v.start phase' id (Between (retiring file (takes_in found)))
               works None is = tt
-              works (Some f) is = ((seat_of f (was ∙ is)).0, out_here f is)
+              works (Some f) is = ((seat_in v.start st r s inside f (was ∙ is)).0, out_here f is)
 
           swap_agrees : Agrees v.start record { words = words_now turn s inside word'; homes = homes'; views = set st.views id w }
           swap_agrees = step_kept turn y d c h' phase' (words_now turn s inside word') homes' swap_step
@@ -307,7 +299,7 @@ module _ (turn : Turn) (s : ℕ) (inside : s < slots_of turn.v.start) where
           Node m ph = NodeAgrees after m (looks r.history m) (word_at st.words (word_of v.start m)) (get_elem? homes₁ (place_of v.start m)) ph
 
           node_here : Node n (seated s file)
-          node_here = let o = in_phase turn n its.0 (placed id) its.1 in let h = ap (λ (z : State). z.holds n) does.state in record {
+          node_here = let o = in_phase v.start st r n its.0 (placed id) its.1 in let h = ap (λ (z : State). z.holds n) does.state in record {
             counts = let a = o.counts in let b = o.no_looks in let c = o.no_holds in omega arith;
             at_home = set_here st.homes (place_of v.start n) (some (Some file)) (roomy turn n its.0);
             inside = let z = in_size in let q = ap (λ (z : State). z.size) does.state in omega arith;
@@ -334,7 +326,7 @@ module _ (turn : Turn) (s : ℕ) (inside : s < slots_of turn.v.start) where
             no_takes = takes_made n file.entry;
             seat = (
               its.0,
-              takes_made n file.entry ∙ sym (in_phase turn n its.0 (placed id) its.1).no_looks,
+              takes_made n file.entry ∙ sym (in_phase v.start st r n its.0 (placed id) its.1).no_looks,
               changed_here r.phase n (seated s file) n refl,
             );
             new_apart = λ f is. let same : n ≡ f.number = (let e : numbered n file ≡ f = cc is in
@@ -343,7 +335,7 @@ module _ (turn : Turn) (s : ℕ) (inside : s < slots_of turn.v.start) where
                 (λ same. inr (ap r.phase same ∙ its.1)) (λ other. inl refl);
             nodes = λ m has apart. each_changed Node r.phase n (seated s file) m
                 (λ same. subst (λ (m : ℕ). Node m (seated s file)) (sym same) node_here) (λ other. node_else m has other apart);
-            old_home = λ f is. let q = seat_of f (was ∙ is) in
+            old_home = λ f is. let q = seat_in v.start st r s inside f (was ∙ is) in
                 set_else st.homes (place_of v.start n) (place_of v.start f.number) (some (Some file))
                 (else_place turn n its.0 f.number q.0
                 (λ same. let z : seated s f.identity ≡ placed id = sym q.2 ∙ (ap r.phase same ∙ its.1) in cc z));

@@ -7,6 +7,7 @@ use Rattle.fx_counted.specs.Bounds.{AreBounded, WordsAreBounded, slot_word_in, n
 use Rattle.fx_counted.proofs.Chains.{told_few}
 use Rattle.fx_counted.proofs.ControlSteps.{few_changes, few_full, few_added, few_removed}
 use Rattle.fx_counted.proofs.Histories.{looks_few}
+use Rattle.fx_counted.proofs.Keeping.{in_phase}
 use Rattle.fx_counted.proofs.Naming.{node_is}
 
 module _ (k : Start) (s : Shared) (r : Agrees k s) where
@@ -21,12 +22,6 @@ module _ (k : Start) (s : Shared) (r : Agrees k s) where
   few_releases : (n word holds : ℕ) → word + looks r.history n ≡ 4294967296 + holds → 4294967296 ≤ word + 16777216
   few_releases n word holds is = let a = looks_few r.history n in let b = few_looks in omega arith
 
-  of_seated : (n : ℕ) → IsNumber k n → (phase : Phase) → r.phase n ≡ phase
-      → NodeAgrees (state_after_all k r.history) n (looks r.history n) (node_word_in k s n) (get_elem? s.homes (home_place (slots_of k) n)) phase
-  of_seated n its phase is = subst
-      (NodeAgrees (state_after_all k r.history) n (looks r.history n) (node_word_in k s n) (get_elem? s.homes (home_place (slots_of k) n)))
-      is (r.each_node n its)
-
   of_slot : (slot number : ℕ) (file : Option File) → Names (slot_word_in s slot) file
       → IsSeated k (looks r.history) r.phase slot (slot_word_in s slot) file → node_in (slot_word_in s slot) ≡ Some number
       → 4294967296 ≤ node_word_in k s number + 16777216
@@ -34,14 +29,14 @@ module _ (k : Start) (s : Shared) (r : Agrees k s) where
   of_slot slot number (Some f) names seat is =
       let e : Some f.number ≡ Some number = sym (node_is (slot_word_in s slot) (Some f) names) ∙ is in
       let same : f.number ≡ number = cc in
-      let a = of_seated f.number seat.0 (seated slot f.identity) seat.2 in
+      let a = in_phase k s r f.number seat.0 (seated slot f.identity) seat.2 in
       subst (λ (n : ℕ). 4294967296 ≤ node_word_in k s n + 16777216) same (few_releases f.number _ _ a.counts)
 
   each_leaving : (seat takes : ℕ) (v : View) (f : File) → get_elem? s.views seat ≡ some v → v.work ≡ Between (Retiring f takes)
       → 4294967296 ≤ node_word_in k s f.number + 16777216
   each_leaving seat takes v f there is =
       let work : WorkAgrees k r.phase seat (Between (Retiring f takes)) = subst (WorkAgrees k r.phase seat) is (r.each_view seat v there).work in
-      let a = of_seated f.number work.0 (leaving seat takes f.identity) work.1 in few_releases f.number _ _ a.counts
+      let a = in_phase k s r f.number work.0 (leaving seat takes f.identity) work.1 in few_releases f.number _ _ a.counts
 
   few_draws : draw_word_in s ≤ k.chains + 16
   few_draws = let a = sum_le_at told_of lengths s.views (λ j u e. told_few u.logs) in let b = few_passes in
