@@ -1,14 +1,33 @@
--- What a removal adds.
-use Rattle.fx_counted.proofs.Words.{◌≡◌, ℕ, [], subst, Option, ◌▷◌, File, Adds, no_use, doing_in, retiring, IsPassOfTable, slot_place, slot_of, Goes}
-use Rattle.fx_counted.proofs.Words.{Stepped, Outside, Change, Sat, Action, CountedTable, CountedPass, opening_of_table, view_of, pass_of, Between}
-use Rattle.fx_counted.proofs.Calling.{slot_at}
-use Rattle.fx_counted.proofs.Going.{adds_so, goes_around}
+-- What a removal asks for, and what it adds.
+use Rattle.fx_counted.proofs.Words.{◌≡◌, ℕ, ◌<◌, Bool, [], ◌∙◌, subst, Option, none, ◌▷◌, File, Closed, Adds, no_use, doing_in, retiring, IsPassOfTable}
+use Rattle.fx_counted.proofs.Words.{slot_place, slot_of, slots_of, Goes, Stepped, Removes, InRange, begun, Outside, Change, Sat, Seat, View, Agrees, Start}
+use Rattle.fx_counted.proofs.Words.{Action, CountedTable, CountedPass, opening_of_table, view_of, pass_of, Between, IsIdle, step}
+use Rattle.atomic_table.specs.Table.{Allows}
+use Rattle.fx_counted.proofs.Calling.{slot_at, slot_inside}
+use Rattle.fx_counted.proofs.Going.{adds_so, goes_around, work_between}
+use Rattle.fx_counted.proofs.SlotLaws.{IsRemoval, removes_keep}
+use Rattle.fx_counted.proofs.Telling.{may_change}
 
--- a removal between a begin and an end, if there are such
-pub removal_adds : (act : ℕ → Option File → Action) (t : CountedTable) (p : CountedPass) (fits : IsPassOfTable t p) (slot i takes : ℕ)
-    (file : Option File) {m m' m'' : Sat} {c c' : Change} → i ≡ slot_place slot → Goes p.seat.me [] no_use p.seat.me.0.work c 1 m
-    → Stepped m ([] ▷ act (slot_of i) file) no_use (Between (retiring file takes)) c' m' → Goes m' [] no_use m'.0.work Outside 1 m''
-    → Adds (opening_of_table t) (view_of p) ([] ▷ act slot file) (doing_in (Between (retiring file takes))) no_use (pass_of m''.0)
-removal_adds act t p fits slot i takes file {m} {m'} {m''} place began stepped ended =
-    subst (λ (s : ℕ). Adds (opening_of_table t) (view_of p) ([] ▷ act s file) (doing_in (Between (retiring file takes))) no_use (pass_of m''.0))
-    (slot_at t slot i place) (adds_so fits (goes_around began stepped ended))
+module _ (act : ℕ → Option File → Action) (t : CountedTable) (p : CountedPass) (fits : IsPassOfTable t p) (slot i : ℕ) (place : i ≡ slot_place slot) where
+  abbrev k : Start
+  k = t.table.shared.key
+
+  -- an idle pass may swap 0 into the slot's word, behind a begin if the slot is in the range
+  pub removal_requires : (slots : ℕ) (seat : Seat (Option Closed) View) (began : Bool) → IsRemoval act → IsIdle (view_of p) → slot < slots_of k
+      → seat.table_id ≡ p.seat.table_id → InRange k slot began → Goes p.seat.me [] no_use p.seat.me.0.work (begun began) 1 seat.me
+      → (seat.table_id ≡ t.table.shared.table_id) × (i < t.table.shared.table_id.words)
+      × Allows (Agrees k) slots seat.id seat.me i (λ _. 0) (Removes act (step slots i 0 0 none) seat.me)
+  removal_requires slots seat began does idle inside table range goes = (
+    table ∙ fits.table,
+    slot_inside t slot i inside place,
+    removes_keep act does k slots seat.id i slot seat.me goes.one.0 (goes.start ∙ fits.seated.start, goes.one.1)
+        (goes.work ∙ work_between p.seat.me.0.work _ fits.seated.work idle) inside (may_change k slot began seat.me.0.change range goes.change) place,
+  )
+
+  -- a removal between a begin and an end, if there are such
+  pub removal_adds : (takes : ℕ) (file : Option File) {m m' m'' : Sat} {c c' : Change} → Goes p.seat.me [] no_use p.seat.me.0.work c 1 m
+      → Stepped m ([] ▷ act (slot_of i) file) no_use (Between (retiring file takes)) c' m' → Goes m' [] no_use m'.0.work Outside 1 m''
+      → Adds (opening_of_table t) (view_of p) ([] ▷ act slot file) (doing_in (Between (retiring file takes))) no_use (pass_of m''.0)
+  removal_adds takes file {m} {m'} {m''} began stepped ended =
+      subst (λ (s : ℕ). Adds (opening_of_table t) (view_of p) ([] ▷ act s file) (doing_in (Between (retiring file takes))) no_use (pass_of m''.0))
+      (slot_at t slot i place) (adds_so fits (goes_around began stepped ended))

@@ -33,11 +33,11 @@ module _ (turn : Turn) (s : ℕ) (inside : s < slots_of turn.v.start) where
   abbrev Facts : Action → Option File → (ℕ → Bool) → Type 0
   Facts = Effect turn s inside old refl
 
-  cleared : Facts (Clear s old) None (state_after_all v.start r.history).fresh
+  pub cleared : Facts (Clear s old) None (state_after_all v.start r.history).fresh
   cleared = let legal = legal_more v.start r.history (event_of (shown x v.work) (Clear s old)) r.legal (in_size turn s inside, refl) tt in
       record { legal = legal; state = refl; looked = refl; all = omega arith; held = refl }
 
-  taken : Facts (Take s old) None (state_after_all v.start r.history).fresh
+  pub taken : Facts (Take s old) None (state_after_all v.start r.history).fresh
   taken = let legal = legal_more v.start r.history (event_of (shown x v.work) (Take s old)) r.legal (in_size turn s inside, refl) tt in
       record { legal = legal; state = refl; looked = refl; all = omega arith; held = refl }
 
@@ -54,27 +54,28 @@ module _ (turn : Turn) (s : ℕ) (inside : s < slots_of turn.v.start) where
       → Stepped m ([] ▷ action s) used d c m' → Stepped m ([] ▷ action (slot_of (slot_place s))) used d c m'
   at_slot m m' action used d c = subst (λ (z : ℕ). Stepped m ([] ▷ action z) used d c m') (sym ((far turn).slot_back s))
 
--- a removal, by an action that does to the slot what a removal does
-module _ (act : ℕ → Option File → Action)
-    (does : (turn : Turn) (s : ℕ) (inside : s < slots_of turn.v.start)
-    → Facts turn s inside (act s (old turn s inside)) None (state_after_all turn.v.start turn.r.history).fresh) where
-  removes_keep : (k : Start) (slots id i slot : ℕ) (m : Sat) (x : Log) → HasPass k m x → m.0.work ≡ Between Idle
-      → slot < slots_of k → MayChange k slot m.0.change → i ≡ slot_place slot
-      → Allows (Agrees k) slots id m i (λ _. 0) (Removes act (step slots i 0 0 none) m)
-  removes_keep k slots id i s m x has idle inside stands place = by_turn k slots id i m x (λ k. (s < slots_of k) × MayChange k s m.0.change)
-      (λ _. slot_place s) (λ _. 0) (λ i. Removes act (step slots i 0 0 none) m) has (inside, stands) place
-      (λ st r here is fits. let turn = turn_of m x has.1 id st r here in let was = old turn s is.0 in let it = does turn s is.0 in (
-        removed_view turn s is.0 was refl (act s was) is.1 idle it,
-        keeps,
-        tt,
-        removal_agrees turn s is.0 was refl (act s was) is.1 idle it,
-        record {
-          file = was;
-          names = names_old turn s is.0 was refl;
-          stepped = at_slot turn s is.0 m _ (λ z. act z was) no_use _ _ (removal_tells turn s is.0 was refl (act s was) is.1 idle it m.1);
-          carried = refl;
-        },
-      ))
+-- the action does to a slot what a removal does
+abbrev pub IsRemoval : (ℕ → Option File → Action) → Type 0
+IsRemoval act = (turn : Turn) (s : ℕ) (inside : s < slots_of turn.v.start)
+    → Facts turn s inside (act s (old turn s inside)) None (state_after_all turn.v.start turn.r.history).fresh
+
+pub removes_keep : (act : ℕ → Option File → Action) → IsRemoval act → (k : Start) (slots id i slot : ℕ) (m : Sat) (x : Log) → HasPass k m x
+    → m.0.work ≡ Between Idle → slot < slots_of k → MayChange k slot m.0.change → i ≡ slot_place slot
+    → Allows (Agrees k) slots id m i (λ _. 0) (Removes act (step slots i 0 0 none) m)
+removes_keep act does k slots id i s m x has idle inside stands place = by_turn k slots id i m x (λ k. (s < slots_of k) × MayChange k s m.0.change)
+    (λ _. slot_place s) (λ _. 0) (λ i. Removes act (step slots i 0 0 none) m) has (inside, stands) place
+    (λ st r here is fits. let turn = turn_of m x has.1 id st r here in let was = old turn s is.0 in let it = does turn s is.0 in (
+      removed_view turn s is.0 was refl (act s was) is.1 idle it,
+      keeps,
+      tt,
+      removal_agrees turn s is.0 was refl (act s was) is.1 idle it,
+      record {
+        file = was;
+        names = names_old turn s is.0 was refl;
+        stepped = at_slot turn s is.0 m _ (λ z. act z was) no_use _ _ (removal_tells turn s is.0 was refl (act s was) is.1 idle it m.1);
+        carried = refl;
+      },
+    ))
 
 pub clears_keep : ClearsKeep
 clears_keep = removes_keep Clear cleared
