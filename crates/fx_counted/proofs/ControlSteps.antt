@@ -23,17 +23,10 @@ total_gap f g (x ∷ xs) zero v e each = let p : f x ≡ f v = ap f (some-inject
 total_gap f g (x ∷ xs) (suc i) v e each = let a = each 0 x refl in let c = sum_by-cons f x xs in
     let d = sum_by-cons g x xs in let b = total_gap f g xs i v e (λ j y d. each (suc j) y d) in omega arith
 
-pub at_most_one : (c : Change) → in_change c ≤ 1
-at_most_one Outside = omega arith
-at_most_one _ = omega arith
-
-pub adds_inside : (c : Change) → added c ≤ in_change c
-adds_inside Outside = omega arith
-adds_inside _ = omega arith
-
-pub removes_inside : (c : Change) → removed_by c ≤ in_change c
-removes_inside Outside = omega arith
-removes_inside _ = omega arith
+-- a pass has something to tell in a change alone, and one slot at most
+pub at_most_one : (c : Change) → (in_change c ≤ 1) × (added c ≤ in_change c) × (removed_by c ≤ in_change c)
+at_most_one Outside = (omega arith, omega arith, omega arith)
+at_most_one _ = (omega arith, omega arith, omega arith)
 
 is_inside : (k : Start) (phase : ℕ → Phase) (seat : ℕ) (d : Work) → WorkAgrees k phase seat d → IsInside k d
 is_inside k phase seat (Between Idle) o = tt
@@ -53,10 +46,10 @@ module _ (k : Start) (s : Shared) (r : Agrees k s) where
       let b = r.shape.range in let c = r.shape.slots in omega arith
 
   pub few_removed : sum_by removed_of s.views ≤ sum_by changes_of s.views
-  few_removed = sum_le_at removed_of changes_of s.views (λ j u e. removes_inside u.change)
+  few_removed = sum_le_at removed_of changes_of s.views (λ j u e. (at_most_one u.change).2)
 
   pub few_added : sum_by added_of s.views ≤ sum_by changes_of s.views
-  few_added = sum_le_at added_of changes_of s.views (λ j u e. adds_inside u.change)
+  few_added = sum_le_at added_of changes_of s.views (λ j u e. (at_most_one u.change).1)
 
 module _ (turn : Turn) where
   open turn use {st, v, r, id, x, here, one}
@@ -144,15 +137,15 @@ module _ (turn : Turn) where
         let fr = few_removed v.start st r in let fa = few_added v.start st r in
         let o1 = sum_at added_of st.views id v here in let l1 = sum_at removed_of st.views id v here in
         let f1 = sum_at changes_of st.views id v here in
-        let x1 = adds_inside v.change in let x2 = removes_inside v.change in
+        let x1 = at_most_one v.change in
         let big : amount ≤ word = omega arith in
         let diff : (word + (2 ^ 64 - amount)) % 2 ^ 64 ≡ word - amount = sub_wraps word amount big fits (omega arith) in
         record { upper = omega arith; lower = omega arith }
 
     -- a word that says so: this pass alone is in a change, and every slot of the range is full
     says_so : v.change ≡ Same → word ≡ full_word_of range.1 → (slot : ℕ) → range.0 ≤ slot → slot < range.0 + range.1 → IsSome (at_now slot)
-    says_so same is = let a = total_gap added_of changes_of st.views id v here (λ j u e. adds_inside u.change) in
-        let b = total_gap removed_of changes_of st.views id v here (λ j u e. removes_inside u.change) in
+    says_so same is = let a = total_gap added_of changes_of st.views id v here (λ j u e. (at_most_one u.change).1) in
+        let b = total_gap removed_of changes_of st.views id v here (λ j u e. (at_most_one u.change).2) in
         let a' = ap in_change same in let b' = ap added same in let d' = ap removed_by same in
         let u = r.control.upper in let l = r.control.lower in let few = r.shape.range in let few' = r.shape.slots in
         let up : word / 4294967296 ≡ 1 = omega arith in let low : word % 4294967296 ≡ 65536 + range.1 = omega arith in

@@ -61,28 +61,31 @@ changed_adds zero (suc n) a b = omega arith
 changed_adds (suc o) zero a b = omega arith
 changed_adds (suc o) (suc n) a b = omega arith
 
-pub control_swap : (at : ℕ → Option File) (range : ℕ
-    × ℕ) (views : List View) (id : ℕ) (v w : View) (word s : ℕ) (old new : Option File) → get_elem? views id ≡ some v
-    → at s ≡ old → Stands range s v.change
+-- what a pass then has to tell makes up for what the range gains
+turned_counts : (at : ℕ → Option File) (range : ℕ × ℕ) (s : ℕ) (old new : Option File) (c : Change) → at s ≡ old → Stands range s c
+    → (in_change (turned c (if_full old) (if_full new)) ≡ in_change c)
+    × (full_in (changed_at at s new) range.0 range.1 + added c + removed_by (turned c (if_full old) (if_full new))
+    ≡ full_in at range.0 range.1 + removed_by c + added (turned c (if_full old) (if_full new)))
+turned_counts at range s old new Same was (inl inside) = (
+  changed_counts (if_full old) (if_full new),
+  let g = full_here at s new range.0 range.1 inside.0.0 inside.0.1 in let p : if_full (at s) ≡ if_full old = ap if_full was in
+      let n = changed_adds (if_full old) (if_full new) (full_one old) (full_one new) in omega arith,
+)
+turned_counts at range s old new Outside was (inr outside) = (
+  refl,
+  let g = full_else at s new range.0 range.1 (λ i l bad. ⊎_elim (λ (z : s < range.0). absurd (omega arith))
+      (λ (z : range.0 + range.1 ≤ s). absurd (omega arith)) outside.0) in omega arith,
+)
+turned_counts at range s old new _ was (inl inside) = absurd (cc inside.1)
+turned_counts at range s old new _ was (inr outside) = absurd (cc outside.1)
+
+pub control_swap : (at : ℕ → Option File) (range : ℕ × ℕ) (views : List View) (id : ℕ) (v w : View) (word s : ℕ) (old new : Option File)
+    → get_elem? views id ≡ some v → at s ≡ old → Stands range s v.change
     → w.change ≡ turned v.change (if_full old) (if_full new) → ControlCounts at range views word
     → ControlCounts (changed_at at s new) range (set views id w) word
-control_swap at range views id v w word s old new here was (inl inside) is ok =
+control_swap at range views id v w word s old new here was stands is ok =
     let a = sum_set changes_of views id v w here in let b = sum_set added_of views id v w here in let c = sum_set removed_of views id v w here in
-    let turn : w.change ≡ changed (if_full old) (if_full new) = is ∙ ap (λ (z : Change). turned z (if_full old) (if_full new)) inside.1 in
-    let d = ap in_change turn in let e = ap added turn in let f = ap removed_by turn in
-    let d' = ap in_change inside.1 in let e' = ap added inside.1 in let f' = ap removed_by inside.1 in
-    let g = full_here at s new range.0 range.1 inside.0.0 inside.0.1 in
-    let m = changed_counts (if_full old) (if_full new) in let n = changed_adds (if_full old) (if_full new) (full_one old) (full_one new) in
-    let p : if_full (at s) ≡ if_full old = ap if_full was in
-    let u = ok.upper in let l = ok.lower in
-    record { upper = omega arith; lower = omega arith }
-control_swap at range views id v w word s old new here was (inr outside) is ok =
-    let a = sum_set changes_of views id v w here in let b = sum_set added_of views id v w here in let c = sum_set removed_of views id v w here in
-    let turn : w.change ≡ Outside = is ∙ ap (λ (z : Change). turned z (if_full old) (if_full new)) outside.1 in
-    let d = ap in_change turn in let e = ap added turn in let f = ap removed_by turn in
-    let d' = ap in_change outside.1 in let e' = ap added outside.1 in let f' = ap removed_by outside.1 in
-    let g = full_else at s new range.0 range.1
-    (λ i l bad. ⊎_elim (λ (z : s < range.0). absurd (omega arith))
-    (λ (z : range.0 + range.1 ≤ s). absurd (omega arith)) outside.0) in
+    let turn = turned_counts at range s old new v.change was stands in
+    let d = ap in_change is in let e = ap added is in let f = ap removed_by is in
     let u = ok.upper in let l = ok.lower in
     record { upper = omega arith; lower = omega arith }
