@@ -1,11 +1,11 @@
 use Rattle.fx_counted.proofs.Words.{ap, arith, length, length-append, ◌∷◌, [], Option, None, Closed, state_of}
-use Rattle.fx_counted.proofs.FirstHomes.{all_taken, count_taken, files_taken, none_behind, all_homes}
+use Rattle.fx_counted.proofs.FirstHomes.{all_taken, files_taken, none_behind, all_homes}
 use Rattle.fx_counted.proofs.open.first_homes.Goals as goal
 
 pub loop-init : goal.loop-init
 loop-init c = record {
-  homes = files_taken (state_of c.args.plain.now) (state_of c.make_room.new.plain) c.in_ok-homes.homes.items c.take_files.new.files.items
-      c.in-Ok.ensures.same.files c.in_ok-homes.ensures.items c.take_files.ensures.files;
+  homes = (files_taken (state_of c.args.plain.now) (state_of c.make_room.new.plain) c.in_ok-homes.homes.items c.take_files.new.files.items
+      c.in-Ok.ensures.same.files c.in_ok-homes.ensures.items c.take_files.ensures.files).0;
   count = let len = c.len-counter.ensures in let ok = c.take_files.new.files.ok.0 in omega (arith, len, ok);
   room = let room = c.in_ok-homes.ensures.capacity in let same = c.take_files.ensures.capacity in omega (arith, room, same);
 }
@@ -40,8 +40,8 @@ returns-clause-homes c =
     let size = c.size.ensures.value in
     let len = c.len-counter.ensures in
     let ok = c.take_files.new.files.ok.0 in
-    let taken = count_taken st (state_of c.make_room.new.plain) c.in_ok-homes.homes.items c.take_files.new.files.items
-    c.in-Ok.ensures.same.files c.in_ok-homes.ensures.items c.take_files.ensures.files in
+    let taken = (files_taken st (state_of c.make_room.new.plain) c.in_ok-homes.homes.items c.take_files.new.files.items
+    c.in-Ok.ensures.same.files c.in_ok-homes.ensures.items c.take_files.ensures.files).1 in
     let end = c.loop.auto.counter-end (omega (arith, all, len, ok, taken, size)) in
     all_homes st c.args.numbers c.loop.homes.items (omega (arith, count, past, end, all, size)) i.homes
 

@@ -1,7 +1,6 @@
 use Rattle.fx_counted.proofs.Words.{◌≡◌, ◌<◌, ℕ, ◌+◌, List, sym, ap, ◌∙◌, refl, subst, arith, replicate, set, state_of, slot_word_of, born, words_for}
 use Rattle.fx_counted.proofs.Words.{slot_place, control_place, Vec, Global}
 use Rattle.fx_counted.proofs.FirstWords.{AreWordsSoFar, none_so_far, none_more, one_more, all_written, none_told, some_told}
-use Rattle.fx_counted.proofs.Places.{low_node}
 use Rattle.fx_counted.proofs.open.first_words.Goals.{in-Some, in_default}
 use Rattle.fx_counted.proofs.open.first_words.Goals as goal
 
@@ -13,8 +12,8 @@ loop-slot-init c =
     let are : zeros ≡ replicate (words_for st.size c.args.numbers) 0 =
     c.in_ok-words.ensures.items_if_clones_equal (λ x e. e)
     ∙ ap (λ (n : ℕ). replicate n 0) (c.words_for.ensures ∙ ap (λ (n : ℕ). words_for n c.args.numbers) size) in
-    none_so_far st c.args.numbers zeros _ c.full_in_range.result are c.full_in_range.ensures.full
-    (ap (λ (n : ℕ). set zeros control_place n) c.control_word.ensures)
+    subst (λ (z : List ℕ × ℕ). AreWordsSoFar st c.args.numbers 0 (set z.0 control_place z.1)) (λ i. (sym are i, sym c.control_word.ensures i))
+    (none_so_far st c.args.numbers c.full_in_range.result c.full_in_range.ensures.full)
 
 pub loop-slot-preserved : goal.loop-slot-preserved
 loop-slot-preserved c =
@@ -25,11 +24,9 @@ loop-slot-preserved c =
     let inside : slot < st.size = omega (arith, size, test) in
     elim c.match-entry_at.branch [
       | in-Some w ↦ let t = some_told (st.at slot) slot w.in-Some.entry w.in-Some.ensures in
-          one_more st c.args.numbers slot c.loop-slot.words.items inside c.loop-slot.invariant t.0 w.in-Some.entry _ c.match-entry_at.words.items
-          t.1 t.2 t.3 w.write_slot.ensures.entry refl (ap (λ (v : Vec ℕ Global). v.items) w.words-is
-          ∙ (w.write_slot.ensures.words
-          ∙ ap (λ (n : ℕ). set (set c.loop-slot.words.items (slot_place slot) (slot_word_of slot w.in-Some.entry)) n born)
-          (sym (low_node st.size slot inside))))
+          subst (AreWordsSoFar st c.args.numbers (slot + 1)) (sym (ap (λ (v : Vec ℕ Global). v.items) w.words-is ∙ w.write_slot.ensures.words))
+          (one_more st c.args.numbers slot c.loop-slot.words.items inside c.loop-slot.invariant t.0 w.in-Some.entry t.1 t.2 t.3
+          w.write_slot.ensures.entry)
       | in_default w ↦ subst (λ (v : Vec ℕ Global). AreWordsSoFar st c.args.numbers (slot + 1) v.items) (sym w.words-is)
           (none_more st c.args.numbers slot c.loop-slot.words.items inside c.loop-slot.invariant (none_told (st.at slot) slot w.in_default.ensures))
     ]

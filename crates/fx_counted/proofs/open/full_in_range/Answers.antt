@@ -1,6 +1,7 @@
 use Rattle.fx_counted.proofs.Words.{◌≡◌, ◌-◌, ℕ, ap, ◌∙◌, arith, state_of, full_in, first_at}
-use Rattle.fx_counted.proofs.FirstWords.{all_counted, full_if_some, empty_if_none, one_counted}
+use Rattle.fx_counted.proofs.FirstWords.{all_counted, told_full, one_counted}
 use Rattle.fx_counted.proofs.FullSlots.{full_few}
+use Rattle.fx_table.proofs.Ones.{one_if}
 use Rattle.fx_counted.proofs.open.full_in_range.Goals.{then-is_some, else-is_some, After-range-start}
 use Rattle.fx_counted.proofs.open.full_in_range.Goals as goal
 
@@ -30,13 +31,14 @@ loop-slot-preserved c =
     let slot = c.loop-slot.slot in
     let few = c.loop-slot.invariant.few in
     let more = one_counted st st.range.0 slot c.loop-slot.full c.if-is_some.full (omega (arith, few)) c.loop-slot.invariant.full in
+    let told = told_full (st.at slot) slot c.entry_at.result c.entry_at.ensures in
     elim c.if-is_some.branch [
       | then-is_some w ↦ record {
-        full = more (omega (arith, full_if_some (st.at slot) slot c.entry_at.result c.entry_at.ensures w.if-is_some.ensures, w.full-is));
+        full = more (omega (arith, told, ap one_if w.if-is_some.ensures, w.full-is));
         few = omega (arith, few, w.full-is);
       }
       | else-is_some w ↦ record {
-        full = more (omega (arith, empty_if_none (st.at slot) slot c.entry_at.result c.entry_at.ensures w.if-is_some.ensures, w.full-is));
+        full = more (omega (arith, told, ap one_if w.if-is_some.ensures, w.full-is));
         few = omega (arith, few, w.full-is);
       }
     ]
