@@ -5,10 +5,11 @@ use Rattle.fx_counted.proofs.Words.{Closed, File, changed_at, no_use, next_numbe
 use Rattle.fx_counted.proofs.Words.{Agrees, word_of, place_of, opening_of, chain_in, chain_numbers, first_log, pass_of, IsNumber, state_after_all}
 use Rattle.fx_counted.proofs.Words.{end_in, next_in, held_in, placing, held_of, holding, Phase, spare, placed, emptied, closed, owner, file_in}
 use Rattle.fx_counted.proofs.Words.{Stepped, Start, View, Idle, Placing, Holding, Emptying, looks, mul-le-mul_left, BirthsKeep, RestsKeep, Births}
-use Rattle.fx_counted.proofs.Words.{Rests, inl, Between}
+use Rattle.fx_counted.proofs.Words.{Rests, inl, Between, Work}
 use Rattle.fx_counted.proofs.Steps.{grows_none, each_changed, changed_here, changed_else, busy, does_now, Turn, turn_of, word_at, its_log, its_work, by_turn, went}
-use Rattle.fx_counted.proofs.Steps.{tells_none, one_same, near, far, NodeStep, node_agrees, in_phase}
+use Rattle.fx_counted.proofs.Steps.{tells_none, one_same, near, far, MayTurn, NodeStep, node_agrees, in_phase}
 use Rattle.std.proofs.Common.{length-set}
+use mathlib.Core.Option as maybe
 
 -- the file that a pass holds is open
 pub held_file : (k : Start) (phase : ℕ → Phase) (j : ℕ) (u : View) (f : File) → u.work ≡ Between (Holding f)
@@ -42,6 +43,34 @@ module _ (turn : Turn) where
       let within : v.start.numbers * chain_in x ≤ chain_numbers v.start = mul-le-mul_left v.start.numbers o.chain in
       inr (omega arith, omega (arith, high, within))
 
+  -- a step on the place of a number without a file, of which nothing is told
+  home_step : (q : ℕ) (its : IsNumber v.start q) (ph ph' : Phase) (word' : ℕ) (lies : maybe.Option (Option Closed)) (d : Work)
+      → r.phase q ≡ ph → file_in ph ≡ None → MayTurn turn q ph' → ((n : ℕ) → n ≢ q → busy v.work ≢ n + 1)
+      → held_in v.work ≡ held_in d → ((n : ℕ) → holding n v.work ≡ holding n d)
+      → NodeAgrees (state_after_all v.start r.history) q (looks r.history q) word' (some lies) ph'
+      → OwnerAgrees (set st.views id (went turn r.history d v.change)) q ph' → PlacesNext v.start x d
+      → ((n : ℕ) → next_in v.start x + placing d ≤ n → n < end_in v.start x → changed_at r.phase q ph' n ≡ spare x.number)
+      → WorkAgrees v.start (changed_at r.phase q ph') id d
+      → NodeStep turn q its word' (set st.homes (place_of v.start q) lies) r.history ph' d
+  home_step q its ph ph' word' lies d is no_file may free held holds node known next spares work = record {
+    grows = grows_none x.number r.history;
+    legal = r.legal;
+    told = one_same v q r.history;
+    homes = length-set st.homes (place_of v.start q) lies;
+    home_else = λ m has other. set_else st.homes (place_of v.start q) (place_of v.start m) lies (else_place q its m has other);
+    may = may;
+    keeps = λ j u f other there is_held same. absurd (unheld q (ap file_in is ∙ no_file) j u f there is_held same);
+    free = free;
+    node = subst (λ (e : Home). NodeAgrees (state_after_all v.start r.history) q (looks r.history q) word' e ph')
+        (sym (set_here st.homes (place_of v.start q) lies (roomy q its))) node;
+    known = known;
+    held = (its_log turn).held ∙ held;
+    next = next;
+    spares = spares;
+    work = work;
+    holds = λ n. let e = holds n in omega arith;
+  }
+
   -- a birth
   module _ (idle : v.work ≡ Between Idle) (some_left : 0 < x.numbers_left) where
     abbrev b : ℕ
@@ -57,30 +86,13 @@ module _ (turn : Turn) where
     is_spare = let o = its_log turn in let p = ap placing idle in o.spares b (omega arith) end_is
 
     birth : NodeStep turn b its_b born (set st.homes (place_of v.start b) none) r.history (placed id) (Placing b)
-    birth = let n = in_phase v.start st r b its_b (spare x.number) is_spare in let o = its_log turn in record {
-      grows = grows_none x.number r.history;
-      legal = r.legal;
-      told = one_same v b r.history;
-      homes = length-set st.homes (place_of v.start b) none;
-      home_else = λ m has other. set_else st.homes (place_of v.start b) (place_of v.start m) none (else_place b its_b m has other);
-      may = inr (inr (inl is_spare));
-      keeps = λ j u f other there holds same. absurd (unheld b (ap file_in is_spare) j u f there holds same);
-      free = λ m other is. let e : busy v.work ≡ 0 = ap busy idle in omega arith;
-      node = record {
-        counts = refl;
-        at_home = set_here st.homes (place_of v.start b) none (roomy b its_b);
-        fresh = n.fresh;
-        no_looks = n.no_looks;
-        no_holds = n.no_holds;
-        not_removed = n.not_removed;
-      };
-      known = does_now st.views id v (went turn r.history (Placing b) v.change) (Placing b) here refl;
-      held = o.held ∙ ap held_in idle;
-      next = (refl, some_left);
-      spares = λ n low high. let p = ap placing idle in changed_else r.phase b (placed id) n (λ same. omega arith) ∙ o.spares n (omega arith) high;
-      work = (its_b, changed_here r.phase b (placed id) b refl);
-      holds = λ n. let e : held_of n v ≡ 0 = ap (holding n) idle in omega arith;
-    }
+    birth = let n = in_phase v.start st r b its_b (spare x.number) is_spare in let o = its_log turn in
+        home_step b its_b (spare x.number) (placed id) born none (Placing b) is_spare refl (inr (inr (inl is_spare)))
+        (λ m other is. let e : busy v.work ≡ 0 = ap busy idle in omega arith) (ap held_in idle) (λ n. ap (holding n) idle)
+        record { counts = refl; at_home = refl; fresh = n.fresh; no_looks = n.no_looks; no_holds = n.no_holds; not_removed = n.not_removed }
+        (does_now st.views id v (went turn r.history (Placing b) v.change) (Placing b) here refl) (refl, some_left)
+        (λ n low high. let p = ap placing idle in changed_else r.phase b (placed id) n (λ same. omega arith) ∙ o.spares n (omega arith) high)
+        (its_b, changed_here r.phase b (placed id) b refl)
 
     birth_tells : (carried homes : List (ℕ × Option Closed))
         → Stepped (v, carried) [] no_use (Placing (next_number (opening_of v.start) (pass_of v))) v.change
@@ -90,40 +102,16 @@ module _ (turn : Turn) where
         (λ i. next_in v.start (first_log (sym one i))) (tells_none turn carried homes (Placing b) v.change its_b)
 
   -- a rest, of a number whose file is closed, or which was placed in vain
-  module _ (q : ℕ) (its : IsNumber v.start q) (ph ph' : Phase) (is : r.phase q ≡ ph) (owned : owner ph ≡ id + 1)
-      (no_file : file_in ph ≡ None) (d : held_in v.work ≡ None) (works : busy v.work ≡ q + 1) (none_held : (n : ℕ) → holding n v.work ≡ 0) where
-    rest_step : NodeAgrees (state_after_all v.start r.history) q (looks r.history q) 0 (some (some None)) ph'
-        → OwnerAgrees (set st.views id (went turn r.history (Between Idle) v.change)) q ph'
-        → ((n : ℕ) → next_in v.start x ≤ n → n < end_in v.start x → changed_at r.phase q ph' n ≡ spare x.number)
-        → NodeStep turn q its 0 (set st.homes (place_of v.start q) (some None)) r.history ph' (Between Idle)
-    rest_step node known spares = let o = its_log turn in record {
-      grows = grows_none x.number r.history;
-      legal = r.legal;
-      told = one_same v q r.history;
-      homes = length-set st.homes (place_of v.start q) (some None);
-      home_else = λ m has other. set_else st.homes (place_of v.start q) (place_of v.start m) (some None) (else_place q its m has other);
-      may = inr (inl (ap owner is ∙ owned));
-      keeps = λ j u f other there holds same. absurd (unheld q (ap file_in is ∙ no_file) j u f there holds same);
-      free = λ m other bad. other (omega arith);
-      node = subst (λ (e : Home). NodeAgrees (state_after_all v.start r.history) q (looks r.history q) 0 e ph')
-          (sym (set_here st.homes (place_of v.start q) (some None) (roomy q its))) node;
-      known = known;
-      held = o.held ∙ d;
-      next = tt;
-      spares = λ n low high. spares n (omega arith) high;
-      work = tt;
-      holds = λ n. let e = none_held n in omega arith;
-    }
-
   rest_emptied : (q : ℕ) → v.work ≡ Emptying q → (its : IsNumber v.start q) × NodeStep turn q its 0
       (set st.homes (place_of v.start q) (some None)) r.history closed (Between Idle)
   rest_emptied q is = let w = subst (WorkAgrees v.start r.phase id) is (its_work turn) in
       let n = in_phase v.start st r q w.0 (emptied id) w.1 in let o = its_log turn in (
         w.0,
-        rest_step q w.0 (emptied id) closed w.1 refl refl (ap held_in is) (ap busy is)
-            (λ m. ap (holding m) is) record { counts = refl; at_home = refl; no_holds = n.no_holds; not_removed = n.not_removed } tt
+        home_step q w.0 (emptied id) closed 0 (some None) (Between Idle) w.1 refl (inr (inl (ap owner w.1)))
+            (λ m other bad. let b = ap busy is in other (omega arith)) (ap held_in is) (λ m. ap (holding m) is)
+            record { counts = refl; at_home = refl; no_holds = n.no_holds; not_removed = n.not_removed } tt tt
             (λ m low high. let p = ap placing is in let s = o.spares m (omega arith) high in
-            changed_else r.phase q closed m (λ same. cc (sym s ∙ (ap r.phase same ∙ w.1))) ∙ s),
+            changed_else r.phase q closed m (λ same. cc (sym s ∙ (ap r.phase same ∙ w.1))) ∙ s) tt,
       )
 
   rest_placed : (q : ℕ) → v.work ≡ Placing q → (its : IsNumber v.start q) × NodeStep turn q its 0
@@ -132,18 +120,12 @@ module _ (turn : Turn) where
       let n = in_phase v.start st r q w.0 (placed id) w.1 in let o = its_log turn in
       let next : (q ≡ next_in v.start x) × (0 < x.numbers_left) = subst (PlacesNext v.start x) is o.next in (
         w.0,
-        rest_step q w.0 (placed id) (spare x.number) w.1 refl refl (ap held_in is)
-            (ap busy is) (λ m. ap (holding m) is) record {
-              counts = refl;
-              at_home = refl;
-              fresh = n.fresh;
-              no_looks = n.no_looks;
-              no_holds = n.no_holds;
-              not_removed = n.not_removed;
-            } tt
-            (λ m low high. let p = ap placing is in
-            each_changed (λ m z. z ≡ spare x.number) r.phase q (spare x.number) m (λ same. refl)
-            (λ other. o.spares m (let a = next.0 in omega arith) high)),
+        home_step q w.0 (placed id) (spare x.number) 0 (some None) (Between Idle) w.1 refl (inr (inl (ap owner w.1)))
+            (λ m other bad. let b = ap busy is in other (omega arith)) (ap held_in is) (λ m. ap (holding m) is)
+            record { counts = refl; at_home = refl; fresh = n.fresh; no_looks = n.no_looks; no_holds = n.no_holds; not_removed = n.not_removed }
+            tt tt
+            (λ m low high. let p = ap placing is in each_changed (λ m z. z ≡ spare x.number) r.phase q (spare x.number) m (λ same. refl)
+            (λ other. o.spares m (let a = next.0 in omega arith) high)) tt,
       )
 
 pub births_keep : BirthsKeep
