@@ -1,5 +1,5 @@
 -- A draw keeps the rule.
-use Rattle.fx_counted.proofs.Words.{sum_by, ◌≡◌, ◌≢◌, ℕ, ◌+◌, ◌*◌, ◌%◌, ◌^◌, ◌<◌, ◌≤◌, Bool, true, false, cond, List, [], ◌∷◌, set, length, sym, refl}
+use Rattle.fx_counted.proofs.Words.{sum_by, ◌≡◌, ◌≢◌, ℕ, ◌+◌, ◌*◌, ◌%◌, ◌^◌, ◌<◌, ◌≤◌, Bool, true, false, cond, nat_lt, List, [], ◌∷◌, set, length, sym, refl}
 use Rattle.fx_counted.proofs.Words.{ap, ◌∙◌, subst, arith, eqb, lt-ltb, le-ltb, get_or-set_other, get_or-set_same, Option, Some, None, ◌⊎◌, inl, inr}
 use Rattle.fx_counted.proofs.Words.{⊎_elim, dite, none, ℕ_discrete, dec_le, get_elem?, keeps, step, Closed, numbers_up_to, sum_by-cons, sum_set}
 use Rattle.fx_counted.proofs.Words.{sum_at, sum_le_at, NodeAgrees, OwnerAgrees, lengths, PlacesNext, WorkAgrees, DrawsCount, word_of, place_of}
@@ -14,24 +14,16 @@ use Rattle.fx_table.proofs.Ones.{bit_else}
 use Rattle.fx_counted.proofs.Ending.{drawn, told}
 use Rattle.fx_counted.proofs.Frames.{of_one}
 
-abbrev pick : {P : Type 0} → Dec P → Phase → Phase → Phase
-pick (yes _) a b = a
-pick (no _) a b = b
-
 -- the phases, where the numbers from lo to below hi are the pass's
-given_out : ℕ → ℕ → ℕ → (ℕ → Phase) → ℕ → Phase
-given_out lo hi p phase n = pick (dec_le lo n) (pick (dec_le (n + 1) hi) (spare p) (phase n)) (phase n)
+abbrev given_out : ℕ → ℕ → ℕ → (ℕ → Phase) → ℕ → Phase
+given_out lo hi p phase n = cond (nat_lt n lo) (phase n) (cond (nat_lt n hi) (spare p) (phase n))
 
 given_either : (lo hi p : ℕ) (phase : ℕ → Phase) (n : ℕ) → ((lo ≤ n) × (n < hi) × (given_out lo hi p phase n ≡ spare p))
     ⊎ (((lo ≤ n) → (n < hi) → ⊥) × (given_out lo hi p phase n ≡ phase n))
-unfolding given_out
-given_either lo hi p phase n = go (dec_le lo n) (dec_le (n + 1) hi)
-  where
-    go : (d : Dec (lo ≤ n)) (e : Dec (n + 1 ≤ hi)) → ((lo ≤ n) × (n < hi) × (pick d (pick e (spare p) (phase n)) (phase n) ≡ spare p))
-        ⊎ (((lo ≤ n) → (n < hi) → ⊥) × (pick d (pick e (spare p) (phase n)) (phase n) ≡ phase n))
-    go (yes a) (yes b) = inl (a, omega arith, refl)
-    go (no f) e = inr (λ a b. f a, refl)
-    go (yes a) (no f) = inr (λ a b. f (omega arith), refl)
+given_either lo hi p phase n = dite (dec_le lo n)
+    (λ a. dite (dec_le (n + 1) hi) (λ b. inl (a, omega (arith, b), rw (le-ltb n lo a, lt-ltb n hi (omega (arith, b))) refl))
+    (λ f. inr (λ _ b. f (omega arith), rw (le-ltb n lo a, le-ltb n hi (omega (arith, f))) refl)))
+    (λ f. inr (λ a _. f a, rw (lt-ltb n lo (omega (arith, f))) refl))
 
 given_in : (lo hi p : ℕ) (phase : ℕ → Phase) (n : ℕ) → lo ≤ n → n < hi → given_out lo hi p phase n ≡ spare p
 given_in lo hi p phase n a b = ⊎_elim (λ t. t.2) (λ t. absurd (t.0 a b)) (given_either lo hi p phase n)
