@@ -51,8 +51,6 @@ returns c =
     let its = its_pass fits in
     let n = c.next_number-number.result in
     let file = c.args.file in
-    let m₂ = c.begin-began.new.seat.me in
-    let m₃ = c.swap-found.new.seat.me in
     let m₄ = c.end.new.seat.me in
     let takes = takes_in c.swap-found.result in
     let born = c.put_in.ensures in
@@ -60,9 +58,7 @@ returns c =
     let went = c.swap-found.ensures.2 in
     let start = began.goes.start ∙ (born.born.start ∙ its.0) in
     let carried = began.places ∙ born.place.place in
-    let stepped = subst (λ (z : Start). (j : ℕ) (x : Closed) → m₂.0.work ≡ Placing j → m₂.1 ≡ (place_of z j, Some x) ∷ []
-    → Stepped m₂ ([] ▷ Put (slot_of c.slot_place.result) (numbered j x) went.replaced) one_number (Between (retiring went.replaced takes))
-    (turned m₂.0.change (if_full went.replaced) 1) m₃) start went.stepped n file (began.goes.work ∙ born.born.work) carried in
+    let stepped = went.stepped n file (began.goes.work ∙ born.born.work) (carried ∙ λ i. (place_of (sym start i) n, Some file) ∷ []) in
     let around = goes_around began.goes stepped c.end.ensures.goes in
     let goes = goes_then (goes_one born.born) around in
     let adds = adds_so fits goes in

@@ -22,23 +22,10 @@ fetch_sub-found-requires c =
 
 pub returns-clause-released : goal.returns-clause-released
 returns-clause-released c =
-    let t = c.args.self.now in
-    let k = t.table.shared.key in
     let p = c.args.pass.now in
     let fits = c.requires.fits in
-    let f = c.requires.held.0 in
-    let work = work_between p.seat.me.0.work _ fits.seated.work c.requires.held.1 in
-    let m' = c.fetch_sub-found.new.seat.me in
-    let xs = [] ▷ Release f in
-    let node = ap (λ (h : Hold). h.node) c.requires.held.2 in
+    let (f, holding, value) = c.requires.held in
+    let work = work_between p.seat.me.0.work _ fits.seated.work holding in
     let out = c.fetch_sub-found.ensures.2.closes f work (omega (arith, c.if-found-ne1.false)) in
-    let place = out_place (its_pass fits) fits.places out in
-    let goes = out_and_home out c.take_out.ensures.rests in (
-      f,
-      c.requires.held.1,
-      c.requires.held.2,
-      (
-        c.take_out.ensures.file f.identity (subst (λ (n : ℕ). HasPlace k n (Some f.identity) m') (sym node) place),
-        adds_so fits goes,
-      ),
-    )
+    let place = rw (← ap (λ (h : Hold). h.node) value) at (out_place (its_pass fits) fits.places out) in
+    (f, holding, value, (c.take_out.ensures.file f.identity place, adds_so fits (out_and_home out c.take_out.ensures.rests)))

@@ -27,37 +27,26 @@ module _ (c : After-fetch_sub-found) where
   abbrev file : File
   file = c.requires.removed.0
 
-  abbrev m : Sat
-  m = c.args.pass.now.seat.me
+  work : c.args.pass.now.seat.me.0.work ≡ Between (Retiring file c.requires.removed.1)
+  work = work_between c.args.pass.now.seat.me.0.work _ c.requires.fits.seated.work c.requires.removed.2
 
-  abbrev m' : Sat
-  m' = c.fetch_sub-found.new.seat.me
-
-  abbrev k : Start
-  k = c.args.self.now.table.shared.key
-
-  work : m.0.work ≡ Between (Retiring file c.requires.removed.1)
-  work = work_between m.0.work _ c.requires.fits.seated.work c.requires.removed.2
-
-  waits : c.fetch_sub-found.result ≢ c.retire_amount-amount.result
-      → LetsGo m [] m' × (0 < (state_after_all m.0.start (pass_of m'.0).front).holds file.number)
-  waits other = c.fetch_sub-found.ensures.2.waits file _ work other
-
-  closes : c.fetch_sub-found.result ≡ c.retire_amount-amount.result → TakesOut m [] file m'
+  closes : c.fetch_sub-found.result ≡ c.retire_amount-amount.result → TakesOut c.args.pass.now.seat.me [] file c.fetch_sub-found.new.seat.me
   closes is = c.fetch_sub-found.ensures.2.closes file _ work is
 
-  place : c.fetch_sub-found.result ≡ c.retire_amount-amount.result → HasPlace k c.args.retired.node (Some file.identity) m'
-  place is = subst (λ (n : ℕ). HasPlace k n (Some file.identity) m') (sym (ap (λ (r : Retired). r.node) c.requires.removed.3))
-      (out_place (its_pass c.requires.fits) c.requires.fits.places (closes is))
+  place : c.fetch_sub-found.result ≡ c.retire_amount-amount.result
+      → HasPlace c.args.self.now.table.shared.key c.args.retired.node (Some file.identity) c.fetch_sub-found.new.seat.me
+  place is = subst (λ (n : ℕ). HasPlace c.args.self.now.table.shared.key n (Some file.identity) c.fetch_sub-found.new.seat.me)
+      (sym (ap (λ (r : Retired). r.node) c.requires.removed.3)) (out_place (its_pass c.requires.fits) c.requires.fits.places (closes is))
 
 pub returns-then-found-amount : goal.returns-then-found-amount
 returns-then-found-amount c =
     let a = (goal.at.returns-then-found-amount c).After-fetch_sub-found in
     let fits = c.requires.fits in
     let (f, takes, doing, value) = c.requires.removed in
-    let went = waits a c.if-found-amount.true in
+    let went = c.fetch_sub-found.ensures.2.waits f _ (work a) c.if-found-amount.true in
     let goes = let_go fits.seated.change went.0 in
-    let held = subst (λ (z : Start). 0 < (state_after_all z (pass_of (m' a).0).front).holds (file a).number) fits.seated.start went.1 in
+    let held = subst (λ (z : Start). 0 < (state_after_all z (pass_of c.fetch_sub-found.new.seat.me.0).front).holds f.number)
+    fits.seated.start went.1 in
     record {
       fits = still_pass _ fits goes c.fetch_sub-found.ensures.0 (went.0.carried ∙ fits.places) tt refl refl (omega arith) (omega arith) refl;
       retired = (f, takes, doing, value, (held, adds_so fits goes));
@@ -75,8 +64,8 @@ returns c =
     let fits = c.requires.fits in
     let (f, takes, doing, value) = c.requires.removed in
     let is : c.fetch_sub-found.result ≡ c.retire_amount-amount.result = omega (arith, c.if-found-amount.false) in
-    let goes = subst (λ (z : Change). Goes (m a) ([] ▷ Close (file a)) no_use (Between Idle) z 2 c.take_out.new.seat.me) fits.seated.change
-    (out_and_home (closes a is) c.take_out.ensures.rests) in
+    let goes = subst (λ (z : Change). Goes c.args.pass.now.seat.me ([] ▷ Close f) no_use (Between Idle) z 2 c.take_out.new.seat.me)
+    fits.seated.change (out_and_home (closes a is) c.take_out.ensures.rests) in
     record {
       fits = still_pass _ fits goes (c.take_out.ensures.table ∙ c.fetch_sub-found.ensures.0) c.take_out.ensures.empty tt refl refl (omega arith)
           (omega arith) refl;
