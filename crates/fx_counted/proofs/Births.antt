@@ -149,8 +149,7 @@ rests_keep k slots id i q m x has works carries place = by_turn k slots id i m x
       went turn r.history (Between Idle) m.0.change,
       gives,
       tt,
-      subst (λ (c : List (ℕ × Option Closed)). Agrees m.0.start (stepped st (word_of m.0.start q) 0 id c (went turn r.history (Between Idle) m.0.change) gives))
-          (sym carries) (⊎_elim
+      rw carries (⊎_elim
           (λ (e : m.0.work ≡ Emptying q). let s = rest_emptied turn q e in
           node_agrees turn q s.0 0 (set st.homes (place_of m.0.start q) (some None)) r.history closed (Between Idle) s.1)
           (λ (e : m.0.work ≡ Placing q). let s = rest_placed turn q e in

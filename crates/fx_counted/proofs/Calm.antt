@@ -47,8 +47,7 @@ module _ (turn : Turn) (h' : List Event) where
         legal = p.quiet.legal;
         slots = λ s l. slot_same (p.slots s) (ap (λ (z : State). z.at s) p.quiet.state) (let a = p.quiet.all in omega arith)
             (λ f there seat. (ap (λ (g : ℕ → ℕ). g f.number) p.quiet.looked, refl)) (r.each_slot s l);
-        nodes = λ n has. subst (λ (z : State × ℕ × ℕ). NodeAgrees z.0 n z.1 z.2 (get_elem? st.homes (place_of v.start n)) (r.phase n))
-            (λ i. (sym p.quiet.state i, sym p.quiet.looked i n, sym (p.nodes n has) i)) (r.each_node n has);
+        nodes = λ n has. rw (p.quiet.state, p.quiet.looked, p.nodes n has) (r.each_node n has);
         owners = λ n has. owner_same st.views id v w here refl n (r.phase n) (r.each_owner n has);
         no_other = λ n absent. ap (λ (z : State). z.removed n) p.quiet.state ∙ r.no_other n absent;
         stays = stays_same id x.number r.phase;
@@ -58,8 +57,7 @@ module _ (turn : Turn) (h' : List Event) where
         work = its_work turn;
         holds = λ n. let e = ap (λ (z : State). z.holds n) p.quiet.state in omega arith;
         look_ups = let a = p.quiet.all in omega arith;
-        control = subst (λ (z : State). ControlCounts z.at (range_of (opening_of v.start)) (set st.views id w)
-            (word_at words' control_place)) (sym p.quiet.state) p.control;
+        control = rw p.quiet.state p.control;
         draws = draws_same st.views id v w here one refl refl refl p.drawn (λ n is. is) r.draws;
       }
 

@@ -103,9 +103,7 @@ module _ (turn : Turn) where
       legal = r.legal;
       slots = λ s l. slot_same (read_else (slot_place s) (apart.slot_and_draw s)) refl (omega arith)
           (λ f there seat. (refl, either_phase phases f.number (λ e. sym e) (λ new _. absurd (cc (sym seat ∙ new))))) (r.each_slot s l);
-      nodes = λ n has. let Node = NodeIn v.start st.words st.homes r.history n in
-          subst (λ (z : ℕ). NodeAgrees (state_after_all v.start r.history) n (looks r.history n) z (get_elem? st.homes (place_of v.start n)) (phase' n))
-          (sym (read_else (word_of v.start n) (apart.node_and_draw n has)))
+      nodes = λ n has. let Node = NodeIn v.start st.words st.homes r.history n in rw (read_else (word_of v.start n) (apart.node_and_draw n has))
           (either_phase phases n (λ e. subst Node e (r.each_node n has))
           (λ new its. subst Node (sym its) (subst Node new (r.each_node n has))));
       owners = λ n has. either_phase phases n
@@ -145,8 +143,7 @@ module _ (turn : Turn) where
       step_kept turn y v.work v.change r.history phase' words' st.homes kept,
       record {
         one = (y, refl);
-        draws = subst (λ (l : List Log). Draws (opening_of v.start) (shown (first_log l) v.work) (chain_given v.start.chains found) (shown y v.work))
-            (sym one) draws;
+        draws = rw one draws;
         alone = λ passes. alone passes ∙ sym (ap (λ (l : List Log). chain_in (first_log l)) one);
         same = (refl, refl, refl, refl);
         steps = let e = ap (λ (l : List Log). (first_log l).steps) one in omega arith;
@@ -223,10 +220,7 @@ module _ (turn : Turn) where
       next_drawn carried slots = drawn_so ((found + 1) ∷ x.drawn) x.no_chains_left v.start.numbers phase'
           (draw_step _ _ _ phase' idle phases (omega arith) last_drawn r.shape.numbers (omega (arith, one_more))
           (λ n low high. given_in lo hi x.number r.phase n (omega (arith, low, one_more)) high) counts) alone carried slots
-          (let g = given_is in let c = chain_few in
-          subst (λ (c : Option ℕ). Draws (opening_of v.start) (shown x v.work) c
-          (shown (y ((found + 1) ∷ x.drawn) x.no_chains_left v.start.numbers phase') v.work))
-          (sym (ap (λ (b : Bool). cond b (Some (found + 1)) None) (lt-ltb found v.start.chains more))) (untold, omega arith, omega arith, refl))
+          (let g = given_is in let c = chain_few in rw (lt-ltb found v.start.chains more) (untold, omega arith, omega arith, refl))
 
     -- there are no more
     module _ (done : v.start.chains ≤ found) where
@@ -246,13 +240,11 @@ module _ (turn : Turn) where
       none_drawn carried slots = let o = its_log turn in let p = ap placing idle in
           drawn_so x.drawn true x.numbers_left r.phase (draw_step _ _ _ r.phase idle (λ n. inl refl) o.chain o.last o.few_left o.left_inside
           (λ n low high. o.spares n (omega arith) high) counts') alone carried slots
-          (subst (λ (c : Option ℕ). Draws (opening_of v.start) (shown x v.work) c (shown (y x.drawn true x.numbers_left r.phase) v.work))
-          (sym (ap (λ (b : Bool). cond b (Some (found + 1)) None) (le-ltb found v.start.chains done))) refl)
+          (rw (le-ltb found v.start.chains done) refl)
 
 pub draws_keep : DrawsKeep
 draws_keep k slots id i m x has idle untold place = by_turn k slots id i m x (λ _. Unit {0}) (λ _. draw_place) (λ word. (word + 1) % 2 ^ 64)
     (λ i. DrawTells (step slots i 1 0 none) m) has tt place (λ st r here _ fits. let turn = turn_of m x has.1 id st r here in
-    subst (λ (z : ℕ). Made turn m.1 draw_place (λ _. z) (DrawTells (step slots draw_place 1 0 none) m)) (sym (word_is turn))
-    (dite (dec_le (found turn + 1) m.0.start.chains)
+    rw (word_is turn) (dite (dec_le (found turn + 1) m.0.start.chains)
     (λ next. next_drawn turn idle untold (omega (arith, next)) m.1 slots)
     (λ done. none_drawn turn idle untold (omega (arith, done)) m.1 slots)))

@@ -137,8 +137,7 @@ module _ (t : CountedTable) {id : ℕ} {v : View} {words : List ℕ} (xs : List 
   all_idle = idle final.0 final.1.0 final.1.1
 
   pub home_at_end : AreAtHome t.size words (t.numbers * t.chains) xs
-  home_at_end = subst (λ (z : ℕ × ℕ). AreAtHome z.0 words z.1 xs) (λ i. (sym t.same_size i, sym (its_numbers t) i))
-      (are_at_home k final.0 final.1.0 all_idle words xs final.2 final.3 final.4)
+  home_at_end = rw (t.same_size, its_numbers t) (are_at_home k final.0 final.1.0 all_idle words xs final.2 final.3 final.4)
 
   pub known_at_end : (slot n : ℕ) → slot < t.size → number_at t.size words slot ≡ Some n → HasNode t.size 65472 n
   known_at_end slot n l is = let size = t.same_size in

@@ -40,8 +40,7 @@ module _ (id : TableId) (k : Start) where
         (λ i u e none. ((r.each_view i u e).empty none).0)
 
     pub known : (p : CountedPass) → Contains ps p → LogAgrees k r.history r.phase v.work (log_of p)
-    known p h = (r.each_view seat v at).logs (log_of p) (subst (λ (l : List Log). Contains l (log_of p)) (sym these_logs)
-        (contains_mapped log_of (reverse ps) p (contains_reversed ps p h)))
+    known p h = (r.each_view seat v at).logs (log_of p) (rw these_logs (contains_mapped log_of (reverse ps) p (contains_reversed ps p h)))
 
     sum_of_all : (f : Log → ℕ) → sum_by f v.logs ≡ sum_by (λ p. f (log_of p)) ps
     sum_of_all f = sum_gathered (λ (p : CountedPass). p.seat.me.0.logs) log_of f ps v.logs these_logs
@@ -84,9 +83,8 @@ module _ (id : TableId) (k : Start) where
     whole some_passes = record {
       legal = r.legal;
       settled = settled_end k s r all_idle;
-      seen = λ w h. let p = contains_map view_of ps w h in subst (λ (z : PassView). IsSeenBy z.front r.history) (sym p.2) (known p.0 p.1).seen;
-      own = λ w h. let p = contains_map view_of ps w h in
-          subst (λ (z : PassView). part_of_pass z.number r.history ≡ z.own) (sym p.2) (known p.0 p.1).own;
+      seen = λ w h. let p = contains_map view_of ps w h in rw p.2 (known p.0 p.1).seen;
+      own = λ w h. let p = contains_map view_of ps w h in rw p.2 (known p.0 p.1).own;
       authors = λ e h. let p = author e h in (view_of p.0, contains_mapped view_of ps p.0 p.1, p.2);
       chains_inside = λ w h c d. let p = contains_map view_of ps w h in inside c p.0 p.1 (subst (λ (z : PassView). Contains z.drawn c) p.2 d);
       drawn_once = λ c. let m = sum_map (times_drawn c) view_of ps in omega (arith, m, drawn_by c, once_is r.draws.given c);

@@ -34,8 +34,7 @@ goes_then {m} {m'} {m''} {xs} {ys} {a} {b} {w} {w'} g h = record {
 -- what the steps of a pass add to what callers see
 pub adds_so : {id : TableId} {k : Start} {p : CountedPass} (fits : IsPassOf id k p) {m' : Sat} {xs : List Action} {a : Use} {w : Work}
     {c : Change} {n : ℕ} → Goes p.seat.me xs a w c n m' → Adds (opening_of k) (view_of p) xs (doing_in w) a (pass_of m'.0)
-adds_so {id} {k} {p} fits {m'} {xs} {a} {w} goes = subst (λ (z : Start). Adds (opening_of z) (view_of p) xs (doing_in w) a (pass_of m'.0))
-    fits.seated.start goes.adds
+adds_so fits goes = rw fits.seated.start at goes.adds
 
 -- a seat with one pass behind some steps
 module _ {id : TableId} {k : Start} {p : CountedPass} (q : CountedPass) (fits : IsPassOf id k p) {xs : List Action} {a : Use} {w : Work} {n : ℕ}
@@ -119,8 +118,7 @@ out_place {k} {m} {m'} {xs} {f} its empty out = let s = out.stepped in record {
 -- the file of a pass comes out: its close, and the step in which its place goes home
 pub out_and_home : {m m' m'' : Sat} {xs : List Action} {f : File} → TakesOut m xs f m'
     → Stepped m' [] no_use (Between Idle) m'.0.change m'' → Goes m (xs ▷ Close f) no_use (Between Idle) m.0.change 2 m''
-out_and_home {m} {m'} {m''} {xs} {f} out home = subst (λ (c : Change). Goes m (xs ▷ Close f) no_use (Between Idle) c 2 m'')
-    out.stepped.change (goes_then (goes_one out.stepped) (goes_one home))
+out_and_home out home = rw out.stepped.change at (goes_then (goes_one out.stepped) (goes_one home))
 
 -- a pass outside a change that has done with its file
 pub let_go : {m m' : Sat} {xs : List Action} → m.0.change ≡ Outside → LetsGo m xs m' → Goes m xs no_use (Between Idle) Outside 1 m'

@@ -1,14 +1,11 @@
 -- The files of the slots come out of their places, one after the other.
 use Rattle.fx_counted.proofs.Words.{◌≡◌, ◌≢◌, ℕ, zero, suc, ◌<◌, ◌≤◌, Bool, cond, nat_lt, List, [], ◌∷◌, length, set, sym, refl, ap, ◌∙◌, subst}
-use Rattle.fx_counted.proofs.Words.{arith, lt-ltb, le-ltb, Option, Some, None, slice_index, dite, some, ℕ_discrete, get_elem?, set_here, set_else}
+use Rattle.fx_counted.proofs.Words.{arith, lt-ltb, le-ltb, Option, Some, None, slice_index, dite, some, ℕ_discrete, get_elem?, set_here, set_else, get_or}
 use Rattle.fx_counted.proofs.Words.{Closed, node_in, slot_place, home_place, homes_for, file_in_place}
 use lib.ListN.{length-set}
 use Rattle.fx_table.proofs.Members.{stands_at}
-
-pub elem_there : (xs : List (Option Closed)) (i : ℕ) → i < length xs → (x : Option Closed) × (get_elem? xs i ≡ some x)
-elem_there [] i l = absurd (omega arith)
-elem_there (x ∷ xs) zero l = (x, refl)
-elem_there (x ∷ xs) (suc i) l = elem_there xs i (omega arith)
+use Rattle.atomic_table.proofs.Lists.{at_index}
+use Rattle.std.proofs.lemmas.List.{get_or_default}
 
 module _ (size : ℕ) (words : List ℕ) where
   -- the number that a slot's word names, and what lies in its place
@@ -89,7 +86,7 @@ module _ (size : ℕ) (words : List ℕ) where
         (λ ne. still_none (number_at s) (emptied s xs) (home_place size n) (gone s slot n (omega (arith, ne)) (omega arith) is))
 
     pub all_gone : (place : ℕ) → place < length xs → get_elem? (emptied size xs) place ≡ some None
-    all_gone place l = let there = elem_there xs place l in go there.0 there.1
+    all_gone place l = go (get_or xs place None) (at_index xs place (get_or xs place None) l (get_or_default xs place None (get_or xs place None) l))
       where
         go : (x : Option Closed) → get_elem? xs place ≡ some x → get_elem? (emptied size xs) place ≡ some None
         go None e = none_stays size xs place e

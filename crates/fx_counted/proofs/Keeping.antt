@@ -182,8 +182,7 @@ module _ (turn : Turn) where
       → Stepped (v, carried) actions used d c (now v (logged x h' left looks_left) d c, homes)
   tells carried homes h' left looks_left d c actions used grows legal own numbers looked inside = record {
     one = (logged x h' left looks_left, refl);
-    adds = subst (λ (p : PassView). Adds (opening_of v.start) p actions (doing_in d) used
-        (shown (logged x h' left looks_left) d)) (λ i. shown (first_log (sym one i)) v.work) record {
+    adds = rw one record {
           seen = grows.seen x.front its_log.seen;
           front = record { legal = legal; mine = refl };
           own = own ∙ ap (λ (l : List Event). map (event_of (shown x v.work)) actions ++ l) its_log.own;

@@ -156,8 +156,7 @@ module _ (turn : Turn) (idle : turn.v.work ≡ Between Idle) (some_left : 0 < tu
     record {
       file = file;
       names = so.names;
-      stepped = subst (λ (z : ℕ). Stepped (v, carried) ([] ▷ Look z file) one_look (holds_now file) v.change (w file refl, carried))
-          (sym ((far turn).slot_back s)) (told file refl carried);
+      stepped = rw ((far turn).slot_back s) (told file refl carried);
       carried = refl;
     },
   )

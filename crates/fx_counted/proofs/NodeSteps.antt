@@ -104,17 +104,14 @@ module _ (turn : Turn) where
             ))
             (r.each_slot slot l);
         nodes = λ n has. each_changed (NodeIn v.start (set st.words i word') homes' h') r.phase q ph n
-            (λ same. subst (λ (m : ℕ). NodeIn v.start (set st.words i word') homes' h' m ph) (sym same)
-            (subst (λ (z : ℕ × ℕ). NodeAgrees (state_after_all v.start h') q z.0 z.1 (get_elem? homes' (home_place (slots_of v.start) q)) ph)
-            (λ j. (sym s.told.looked j q, sym (get_or-set_same st.words i word' 0 wide) j)) s.node))
+            (λ same. rw (same, s.told.looked, get_or-set_same st.words i word' 0 wide) s.node)
             (λ other. node_same (state_after_all v.start r.history) (state_after_all v.start h') n _ _ _ _ _ _
             (ap (λ (g : ℕ → Bool). g n) s.told.fresh) (s.told.removed n other)
             (s.told.holds n other) (ap (λ (g : ℕ → ℕ). g n) s.told.looked)
             (word_else (node_place (slots_of v.start) n) (far.nodes n q has its other))
             (s.home_else n has other) s.told.size (r.phase n) (λ slot f is there. at_is slot) (r.each_node n has));
         owners = λ n has. each_changed (OwnerAgrees (set st.views id w)) r.phase q ph n
-            (λ same. subst (λ (m : ℕ). OwnerAgrees (set st.views id w) m ph) (sym same) s.known)
-            (λ other. owner_stays st.views id v w here n (s.free n other) (r.phase n) (r.each_owner n has));
+            (λ same. rw same s.known) (λ other. owner_stays st.views id v w here n (s.free n other) (r.phase n) (r.each_owner n has));
         no_other = λ n absent. s.told.removed n (λ same. absent (subst (IsNumber v.start) (sym same) its)) ∙ r.no_other n absent;
         stays = record {
           owned = λ n some not_mine. stays_if n (r.phase n) refl (λ o. absurd (not_mine o)) (λ o. absurd (some (ap owner o)))

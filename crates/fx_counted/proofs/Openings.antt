@@ -50,9 +50,8 @@ module _ (k : Start) (words : List ℕ) (homes : List (Option Closed)) (o : Open
 
   slot_opens : (slot : ℕ) → slot < slots_of k → SlotAgrees k [] (first_phase k) slot (slice_index words (slot_place slot))
   slot_opens slot l = record {
-    names = subst (λ (w : ℕ). Names w (first_file k slot)) (sym (o.slot_words slot l)) (names (first_file k slot) refl);
-    seat = subst (λ (w : ℕ). IsSeated k (λ _. 0) (first_phase k) slot w (first_file k slot))
-        (sym (o.slot_words slot l)) (seat (first_file k slot) refl);
+    names = rw (o.slot_words slot l) (names (first_file k slot) refl);
+    seat = rw (o.slot_words slot l) (seat (first_file k slot) refl);
     takes = let a = o.slot_words slot l in let b = none (first_file k slot) in let c = ap takes_in a in omega arith;
   }
     where

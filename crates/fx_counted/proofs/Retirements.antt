@@ -71,8 +71,7 @@ module _ (turn : Turn) (f : File) (t : ℕ) (works : turn.v.work ≡ Between (Re
       })
 
 pub retires_keep : RetiresKeep
-retires_keep k slots id i amount t f m x has works place by = subst (λ (a : ℕ). Allows (Agrees k) slots id m i
-    (λ word. (word + (2 ^ 64 - a)) % 2 ^ 64) (Retires (step slots i a 0 none) m)) (sym by)
+retires_keep k slots id i amount t f m x has works place by = rw by
     (by_turn k slots id i m x (λ _. Unit {0}) (λ k. word_of k f.number) (λ word. (word + (2 ^ 64 - retire_amount_of t)) % 2 ^ 64)
     (λ i. Retires (step slots i (retire_amount_of t) 0 none) m) has tt place
     (λ st r here _ fits. retires_either (turn_of m x has.1 id st r here) f t works slots m.1 fits))

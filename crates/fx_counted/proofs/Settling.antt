@@ -18,12 +18,8 @@ may_observe k slots id i me start s r wide at small = (
   me.0,
   keeps,
   tt,
-  subst (Agrees k) (λ j. record {
-    words = sym (set-get_or s.words i 0) j;
-    homes = s.homes;
-    views = sym (set_again s.views id me.0 at) j;
-  }) r,
-  record { last = s; rule = subst (λ (z : Start). Agrees z s) (sym start) r; seat = id; view = at; same = refl },
+  rw (set-get_or s.words i 0, set_again s.views id me.0 at) r,
+  record { last = s; rule = rw start r; seat = id; view = at; same = refl },
 )
 
 module _ (id : TableId) (k : Start) (p : CountedPass) (fits : IsPassOf id k p) (idle : (view_of p).doing ≡ Idle) (alone : k.passes ≡ 1)

@@ -83,6 +83,5 @@ module _ (shell : State) (file : ℕ → Option Closed) where
   -- a place without a file gives none to its slot
   pub none_given : (st : State) (slot from to : ℕ) → from ≤ slot → slot < to → file slot ≡ None → IsPartlyBack shell file from to st
       → Becomes st slot (file slot) st
-  none_given st slot from to low high none p =
-      subst (λ (x : Option Closed). Becomes st slot x st) (sym none)
+  none_given st slot from to low high none p = rw none
       record { size = refl; range = refl; there = ap identity_of (p.away slot low high); others = λ other ne. refl; settled = p.settled }

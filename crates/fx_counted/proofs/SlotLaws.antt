@@ -49,11 +49,6 @@ module _ (turn : Turn) (s : ℕ) (inside : s < slots_of turn.v.start) where
       (in_size turn s inside, o.fresh, refl) tt in
       record { legal = legal; state = refl; looked = refl; all = omega arith; held = refl }
 
-  -- the slot of a word's place
-  at_slot : (m m' : Sat) (action : ℕ → Action) (used : Use) (d : Work) (c : Change)
-      → Stepped m ([] ▷ action s) used d c m' → Stepped m ([] ▷ action (slot_of (slot_place s))) used d c m'
-  at_slot m m' action used d c = subst (λ (z : ℕ). Stepped m ([] ▷ action z) used d c m') (sym ((far turn).slot_back s))
-
 -- the action does to a slot what a removal does
 abbrev pub IsRemoval : (ℕ → Option File → Action) → Type 0
 IsRemoval act = (turn : Turn) (s : ℕ) (inside : s < slots_of turn.v.start)
@@ -72,7 +67,7 @@ removes_keep act does k slots id i s m x has idle inside stands place = by_turn 
       record {
         file = was;
         names = names_old turn s is.0 was refl;
-        stepped = at_slot turn s is.0 m _ (λ z. act z was) no_use _ _ (removal_tells turn s is.0 was refl (act s was) is.1 idle it m.1);
+        stepped = rw ((far turn).slot_back s) (removal_tells turn s is.0 was refl (act s was) is.1 idle it m.1);
         carried = refl;
       },
     ))
@@ -87,24 +82,21 @@ pub installs_keep : InstallsKeep
 installs_keep k slots id i s n new file m x has works carries small inside stands place made = by_turn k slots id i m x
     (λ k. (m.1 ≡ (place_of k n, Some file) ∷ []) × (s < slots_of k) × MayChange k s m.0.change) (λ _. slot_place s) (λ _. new)
     (λ i. Installs (step slots i new 0 none) m) has (carries, inside, stands) place
-    (λ st r here is fits. let turn = turn_of m x has.1 id st r here in let old = old turn s is.1 in let f₀ = word_at st.words (slot_place s) in
+    (λ st r here is fits. let turn = turn_of m x has.1 id st r here in let old = old turn s is.1 in
     let a : Action = Put s (numbered n file) old in let does = put turn s is.1 n file works in
     let w = installed_view turn s is.1 old refl a is.2 n file works small does in (
       w,
       gives,
       tt,
-      subst (λ (z : List (ℕ × Option Closed) × ℕ). Agrees m.0.start (stepped st (slot_place s) z.1 id z.0 w gives)) (λ i. (sym is.0 i, sym made i))
-          (installation_agrees turn s is.1 old refl a is.2 n file works small does),
+      rw (is.0, made) (installation_agrees turn s is.1 old refl a is.2 n file works small does),
       record {
         replaced = old;
         names = names_old turn s is.1 old refl;
         stepped = λ n₂ file₂ works₂ carries₂.
             let same_n : n ≡ n₂ = placing_same n n₂ (sym works ∙ works₂) in
             let same_f : file ≡ file₂ = carried_same (place_of m.0.start n) (place_of m.0.start n₂) file file₂ (sym is.0 ∙ carries₂) in
-            subst (λ (z : ℕ × Closed). Stepped m ([] ▷ Put (slot_of (slot_place s)) (numbered z.0 z.1) old) one_number
-            (Between (retiring old (takes_in f₀))) (turned m.0.change (if_full old) 1) (w, rest m.1)) (λ i. (same_n i, same_f i))
-            (at_slot turn s is.1 m (w, rest m.1) (λ z. Put z (numbered n file) old) one_number _ _
-            (installation_tells turn s is.1 old refl a is.2 n file works small does m.1 (rest m.1)));
+            rw (← same_n, ← same_f, (far turn).slot_back s)
+            (installation_tells turn s is.1 old refl a is.2 n file works small does m.1 (rest m.1));
         carried = refl;
       },
     ))
@@ -117,8 +109,7 @@ module _ (turn : Turn) (i : ℕ) where
   still = went turn r.history v.work v.change
 
   read_agrees : Agrees v.start (stepped st i (word_at st.words i) id [] still keeps)
-  read_agrees = subst (λ (l : List ℕ). Agrees v.start record { words = l; homes = st.homes; views = set st.views id still })
-      (sym (set-get_or st.words i 0))
+  read_agrees = rw (set-get_or st.words i 0)
       (calm_agrees turn r.history v.change st.words record {
         quiet = no_event turn;
         words = refl;
@@ -201,16 +192,13 @@ module _ (turn : Turn) (slots s n old_word : ℕ) (file : Closed) (carried : Lis
       w,
       gives,
       tt,
-      subst (λ (c : List (ℕ × Option Closed)). Agrees v.start (stepped st (slot_place s) new id c w gives)) (sym carries)
-          (installation_agrees turn s within None at_none a stands n file works small allocated),
+      rw carries (installation_agrees turn s within None at_none a stands n file works small allocated),
       record {
         wins = λ n₂ file₂ works₂ carries₂ _.
             let same_n : n ≡ n₂ = placing_same n n₂ (sym works ∙ works₂) in
             let same_f : file ≡ file₂ = carried_same (place_of v.start n) (place_of v.start n₂) file file₂ (sym carries ∙ carries₂) in (
-              subst (λ (z : ℕ × Closed × Change). Stepped m
-                  ([] ▷ Allocate (slot_of (slot_place s)) (numbered z.0 z.1)) one_number (Between Idle) z.2 (w, rest m.1))
-                  (λ i. (same_n i, same_f i, turned (same i) 0 1))
-                  (at_slot turn s within m (w, rest m.1) (λ z. Allocate z (numbered n file)) one_number (Between Idle) (turned v.change 0 1)
+              rw (← same_n, ← same_f, (far turn).slot_back s)
+                  (subst (λ (c : Change). Stepped m ([] ▷ a) one_number (Between Idle) c (w, rest m.1)) (λ i. turned (same i) 0 1)
                   (installation_tells turn s within None at_none a stands n file works small allocated m.1 (rest m.1))),
               refl,
             );
@@ -223,9 +211,7 @@ exchanges_keep k slots id i s n old new file m x has works carries small same in
     (λ k. (m.1 ≡ (place_of k n, Some file) ∷ []) × IsInRange k s)
     (λ _. slot_place s) (λ word. either (eqb word old) new word) (λ i. Exchanges (step slots i old new none) m) has (carries, in_range) place
     (λ st r here is fits. let turn = turn_of m x has.1 id st r here in
-    subst (λ (z : ℕ). Made turn m.1 (slot_place s) (λ word. either (eqb word old) z word) (Exchanges (step slots (slot_place s) old z none) m))
-    (sym made)
-    (exchanged (word_at st.words (slot_place s)) old (slot_word_of n file.entry)
+    rw made (exchanged (word_at st.words (slot_place s)) old (slot_word_of n file.entry)
     (Goal turn slots s n old file m.1 works is.0 small same is.1 empty)
     (won turn slots s n old file m.1 works is.0 small same is.1 empty)
     (lost turn slots s n old file m.1 works is.0 small same is.1 empty)))

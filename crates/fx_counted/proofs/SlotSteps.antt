@@ -19,8 +19,7 @@ module _ (turn : Turn) (s : ℕ) (inside : s < slots_of turn.v.start) (word' : �
       → ((state_after_all v.start h').at i ≡ (state_after_all v.start r.history).at i) × SameFile v.start r.history h' r.phase phase' i)
       → (i : ℕ) → i < slots_of v.start → SlotAgrees v.start h' phase' i (word_at words_now (slot_place i))
   slots_now h' phase' slot more others i l = dite (ℕ_discrete i s)
-      (λ same. subst (λ (z : ℕ). SlotAgrees v.start h' phase' z (word_at words_now (slot_place z))) (sym same)
-      (subst (SlotAgrees v.start h' phase' s) (sym (get_or-set_same st.words (slot_place s) word' 0 wide)) slot))
+      (λ same. rw (same, get_or-set_same st.words (slot_place s) word' 0 wide) slot)
       (λ other. let o = others i l other in
       slot_same (read_else (slot_place i) (λ same. other ((far turn).slots i s same))) o.0 more o.1 (r.each_slot i l))
     where

@@ -210,8 +210,7 @@ module _ (turn : Turn) (s : ℕ) (inside : s < slots_of turn.v.start) where
             holds = λ n. let a = p.none_held.1 n in let b = alone.0 n in
                 let g = ap (λ (z : State). z.holds n) p.does.state in omega arith;
             look_ups = let z = p.does.all in omega arith;
-            control = control_now turn s inside word' (subst (λ (z : State). ControlCounts z.at (range_of (opening_of v.start))
-                (set st.views id w) (word_at st.words control_place)) (sym p.does.state) p.control);
+            control = control_now turn s inside word' (rw p.does.state p.control);
             draws = draws_now turn s inside word' h' left x.looks_left d c phase'
                 (λ n is. same_phase n unborn is (not_old n unborn is (λ f bad. cc bad)) (λ bad. cc bad));
           }
