@@ -1,9 +1,9 @@
 -- A birth keeps the rule, and so does a rest.
 use Rattle.fx_counted.proofs.Words.{◌≡◌, ◌≢◌, ℕ, ◌+◌, ◌*◌, ◌<◌, ◌≤◌, List, [], ◌∷◌, set, length, sym, refl, ap, ◌∙◌, subst, arith, Option, Some, None}
-use Rattle.fx_counted.proofs.Words.{inr, ⊎_elim, dite, some, none, ℕ_discrete, get_elem?, takes, gives, rest, stepped, step, set_here, set_else}
+use Rattle.fx_counted.proofs.Words.{inr, ⊎_elim, some, none, get_elem?, takes, gives, rest, step, set_here, set_else}
 use Rattle.fx_counted.proofs.Words.{Closed, File, changed_at, no_use, next_number, born, Home, NodeAgrees, OwnerAgrees, WorkAgrees, PlacesNext}
-use Rattle.fx_counted.proofs.Words.{Agrees, word_of, place_of, opening_of, chain_in, chain_numbers, first_log, pass_of, IsNumber, state_after_all}
-use Rattle.fx_counted.proofs.Words.{end_in, next_in, held_in, placing, held_of, holding, Phase, spare, placed, emptied, closed, owner, file_in}
+use Rattle.fx_counted.proofs.Words.{word_of, place_of, opening_of, chain_in, chain_numbers, first_log, pass_of, IsNumber, state_after_all}
+use Rattle.fx_counted.proofs.Words.{end_in, next_in, held_in, placing, holding, Phase, spare, placed, emptied, closed, owner, file_in}
 use Rattle.fx_counted.proofs.Words.{Stepped, Start, View, Idle, Placing, Holding, Emptying, looks, mul-le-mul_left, BirthsKeep, RestsKeep, Births}
 use Rattle.fx_counted.proofs.Words.{Rests, inl, Between, Work}
 use Rattle.fx_counted.proofs.Steps.{grows_none, each_changed, changed_here, changed_else, busy, does_now, Turn, turn_of, word_at, its_log, its_work, by_turn, went}

@@ -1,10 +1,10 @@
 -- A draw keeps the rule.
 use Rattle.fx_counted.proofs.Words.{sum_by, ◌≡◌, ◌≢◌, ℕ, ◌+◌, ◌*◌, ◌%◌, ◌^◌, ◌<◌, ◌≤◌, Bool, true, false, cond, nat_lt, List, [], ◌∷◌, set, length, sym, refl}
-use Rattle.fx_counted.proofs.Words.{ap, ◌∙◌, subst, arith, eqb, lt-ltb, le-ltb, get_or-set_other, get_or-set_same, Option, Some, None, ◌⊎◌, inl, inr}
-use Rattle.fx_counted.proofs.Words.{⊎_elim, dite, none, ℕ_discrete, dec_le, get_elem?, keeps, step, Closed, numbers_up_to, sum_by-cons, sum_set}
-use Rattle.fx_counted.proofs.Words.{sum_at, sum_le_at, NodeAgrees, OwnerAgrees, lengths, PlacesNext, WorkAgrees, DrawsCount, word_of, place_of}
-use Rattle.fx_counted.proofs.Words.{control_place, draw_place, slot_place, opening_of, state_after_all, chain_in, shown, first_log, drawn_of, told_of}
-use Rattle.fx_counted.proofs.Words.{once, placing, Phase, unborn, spare, owner, file_in, Log, View, Idle, looks, mul-add, mul-le-mul_left, Draws}
+use Rattle.fx_counted.proofs.Words.{ap, ◌∙◌, subst, arith, eqb, lt-ltb, le-ltb, get_or-set_other, get_or-set_same, Option, ◌⊎◌, inl, inr}
+use Rattle.fx_counted.proofs.Words.{⊎_elim, dite, none, ℕ_discrete, dec_le, keeps, step, Closed, numbers_up_to, sum_by-cons, sum_set}
+use Rattle.fx_counted.proofs.Words.{sum_at, sum_le_at, OwnerAgrees, lengths, PlacesNext, WorkAgrees, DrawsCount, word_of}
+use Rattle.fx_counted.proofs.Words.{control_place, draw_place, slot_place, opening_of, chain_in, shown, first_log, drawn_of, told_of}
+use Rattle.fx_counted.proofs.Words.{once, placing, Phase, unborn, spare, owner, file_in, Log, View, Idle, mul-add, mul-le-mul_left, Draws}
 use Rattle.fx_counted.proofs.Words.{DrawsKeep, first_or, DrawTells, next_in, end_in, chain_given, Between}
 use Rattle.fx_counted.proofs.Steps.{owner_same, grows_none, Turn, turn_of, word_at, now, its_log, Step, step_kept, by_turn, Made, near, far}
 use Rattle.fx_counted.proofs.Steps.{slot_same, control_same, one_if, times, bit_here, once_is, once_more, NodeIn}

@@ -1,7 +1,7 @@
 -- The end, when one seat has all passes again, and does nothing: everything is settled, and one history stands behind it.
-use Rattle.fx_counted.proofs.Words.{sum_zero_at, numbers_for, ◌≡◌, ℕ, suc, ◌+◌, ◌<◌, ◌≤◌, map, length, sym, refl, ap, ◌∙◌, subst, arith, ◌⊎◌, inl}
+use Rattle.fx_counted.proofs.Words.{sum_zero_at, numbers_for, ◌≡◌, ℕ, suc, ◌+◌, ◌<◌, ◌≤◌, map, length, sym, ap, ◌∙◌, arith, ◌⊎◌, inl}
 use Rattle.fx_counted.proofs.Words.{inr, ⊎_elim, Option, Some, None, sum_by, dite, some, dec_le, get_elem?, Closed, State, IsSettled, numbered, File}
-use Rattle.fx_counted.proofs.Words.{start_of, Does, NodeAgrees, OwnerAgrees, lengths, Agrees, looks, word_of, place_of, slot_place, Shared}
+use Rattle.fx_counted.proofs.Words.{start_of, Does, OwnerAgrees, lengths, Agrees, place_of, Shared}
 use Rattle.fx_counted.proofs.Words.{opening_of, slots_of, chain_numbers, IsNumber, state_after_all, held_of, told_of, once, holding, Phase, placed}
 use Rattle.fx_counted.proofs.Words.{seated, leaving, retired, emptied, Log, Start, View, Work, Idle, Placing, Retiring, Emptying, action_of, Between}
 use Rattle.fx_plain.proofs.AtRest.{inside_behind, opens_inside}

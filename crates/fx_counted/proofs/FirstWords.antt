@@ -1,8 +1,8 @@
 -- The words of a table as they are written, one slot after the other.
-use Rattle.fx_counted.proofs.Words.{◌≡◌, ◌≢◌, true, false, ℕ, zero, suc, ◌+◌, ◌-◌, ◌*◌, ◌<◌, ◌≤◌, List, length, get_or, set, replicate, sym, refl, ap}
+use Rattle.fx_counted.proofs.Words.{◌≡◌, ◌≢◌, ℕ, zero, suc, ◌+◌, ◌-◌, ◌*◌, ◌<◌, ◌≤◌, List, length, set, replicate, sym, refl, ap}
 use Rattle.fx_counted.proofs.Words.{◌∙◌, arith, get_or-set_same, get_or-set_other, Option, Some, None, option_map, slice_index, dite, ℕ_discrete}
 use Rattle.fx_counted.proofs.Words.{State, file_numbered, File, born, slot_word_of, full_in, if_full, first_at, AreFirstWords, control_place}
-use Rattle.fx_counted.proofs.Words.{draw_place, slot_place, node_place, words_for, word_for, node_for, length-append, is_some, files_in_order}
+use Rattle.fx_counted.proofs.Words.{draw_place, slot_place, words_for, word_for, node_for, length-append, is_some, files_in_order}
 use Rattle.fx_counted.proofs.Words.{identities_of, length-replicate, control_word_of, subst}
 use lib.ListN.{length-set}
 use Rattle.fx_counted.proofs.Places.{low_node}

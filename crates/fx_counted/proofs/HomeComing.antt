@@ -1,5 +1,5 @@
 -- The files of the slots come out of their places, one after the other.
-use Rattle.fx_counted.proofs.Words.{◌≡◌, ◌≢◌, ℕ, zero, suc, ◌<◌, ◌≤◌, Bool, cond, nat_lt, List, [], ◌∷◌, length, set, sym, refl, ap, ◌∙◌, subst}
+use Rattle.fx_counted.proofs.Words.{◌≡◌, ◌≢◌, ℕ, zero, suc, ◌<◌, ◌≤◌, Bool, cond, nat_lt, List, length, set, sym, refl, ap, ◌∙◌, subst}
 use Rattle.fx_counted.proofs.Words.{arith, lt-ltb, le-ltb, Option, Some, None, slice_index, dite, some, ℕ_discrete, get_elem?, set_here, set_else, get_or}
 use Rattle.fx_counted.proofs.Words.{Closed, node_in, slot_place, home_place, homes_for, file_in_place}
 use lib.ListN.{length-set}

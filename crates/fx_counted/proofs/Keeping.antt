@@ -1,10 +1,10 @@
 -- A step of a seat with one pass keeps the rule, if it keeps what the step changes.
-use Rattle.fx_counted.proofs.Words.{Contains, contains_head, contains_only, sum_by, ◌≡◌, ℕ, ◌+◌, ◌<◌, ◌≤◌, List, [], ◌∷◌, ◌++◌, map, set, length, sym}
+use Rattle.fx_counted.proofs.Words.{Contains, contains_head, contains_only, ◌≡◌, ℕ, ◌+◌, ◌<◌, ◌≤◌, List, [], ◌∷◌, ◌++◌, map, set, length, sym}
 use Rattle.fx_counted.proofs.Words.{refl, ap, ◌∙◌, subst, arith, get_or, Option, None, Some, File, inr, eq-eqb, eqb, some, get_elem?, Closed, part_of_pass, Event}
-use Rattle.fx_counted.proofs.Words.{Action, Use, Adds, range_of, PassView, event_of, sum_set, sum_at, SlotAgrees, NodeAgrees, OwnerAgrees, WorkAgrees}
+use Rattle.fx_counted.proofs.Words.{Action, Use, range_of, event_of, sum_set, sum_at, SlotAgrees, NodeAgrees, OwnerAgrees, WorkAgrees}
 use Rattle.fx_counted.proofs.Words.{LogAgrees, ViewAgrees, lengths, Agrees, ControlCounts, looks, all_looks, DrawsCount, control_place, draw_place}
 use Rattle.fx_counted.proofs.Words.{slot_place, node_place, home_place, Shared, opening_of, slots_of, IsNumber, state_after_all, Sat, shown}
-use Rattle.fx_counted.proofs.Words.{first_log, doing_in, logs_of, looks_of, held_of, Phase, IsInside, Stepped, Change, Log, View, Work, stepped, Act}
+use Rattle.fx_counted.proofs.Words.{first_log, logs_of, looks_of, held_of, Phase, IsInside, Stepped, Change, Log, View, Work, stepped, Act}
 use Rattle.fx_counted.proofs.Words.{Valid, carried_after, HasPass, held_by, held_in, PlacesNext, placing, next_in, end_in, spare, HasShape, Start}
 use Rattle.fx_counted.proofs.Words.{no_use, ◌▷◌}
 use mathlib.Core.Option as maybe
@@ -183,17 +183,17 @@ module _ (turn : Turn) where
   tells carried homes h' left looks_left d c actions used grows legal own numbers looked inside = record {
     one = (logged x h' left looks_left, refl);
     adds = rw one record {
-          seen = grows.seen x.front its_log.seen;
-          front = record { legal = legal; mine = refl };
-          own = own ∙ ap (λ (l : List Event). map (event_of (shown x v.work)) actions ++ l) its_log.own;
-          now = refl;
-          number = refl;
-          chain = refl;
-          drawn = refl;
-          no_chains_left = refl;
-          numbers_left = numbers;
-          looks_left = looked;
-        };
+      seen = grows.seen x.front its_log.seen;
+      front = record { legal = legal; mine = refl };
+      own = own ∙ ap (λ (l : List Event). map (event_of (shown x v.work)) actions ++ l) its_log.own;
+      now = refl;
+      number = refl;
+      chain = refl;
+      drawn = refl;
+      no_chains_left = refl;
+      numbers_left = numbers;
+      looks_left = looked;
+    };
     work = refl;
     inside = inside;
     change = refl;

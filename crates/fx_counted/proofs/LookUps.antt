@@ -1,5 +1,5 @@
 -- A look-up keeps the rule.
-use Rattle.fx_counted.proofs.Words.{◌≡◌, ◌≢◌, ℕ, ◌+◌, ◌-◌, ◌%◌, ◌^◌, ◌<◌, List, [], ◌∷◌, set, sym, refl, ap, ◌∙◌, subst, arith, Option, Some, None}
+use Rattle.fx_counted.proofs.Words.{◌≡◌, ◌≢◌, ℕ, ◌+◌, ◌-◌, ◌%◌, ◌^◌, ◌<◌, List, [], ◌∷◌, sym, refl, ap, ◌∙◌, subst, arith, Option, Some, None}
 use Rattle.fx_counted.proofs.Words.{none, keeps, step, Closed, ◌▷◌, State, File, Event, Look, range_of, event_of, name_in, entry_in, takes_in, Names}
 use Rattle.fx_counted.proofs.Words.{SlotAgrees, PlacesNext, WorkAgrees, looks, full_in, slot_place, opening_of, slots_of, IsNumber, state_after_all}
 use Rattle.fx_counted.proofs.Words.{shown, held_in, placing, held_of, holding, Phase, seated, file_in, Stepped, IsInside, Log, View, Idle, one_look}
@@ -114,18 +114,18 @@ module _ (turn : Turn) (idle : turn.v.work ≡ Between Idle) (some_left : 0 < tu
       grows = grows_one x.number r.history _ refl;
       legal = legal;
       slots = slots_now turn s inside word' (h' file) r.phase (
-        let at_is : new.at s ≡ file = ap (λ (z : State). z.at s) (state_is file) ∙ is in record {
-          names = subst (Names word') (sym at_is) (names_now file (subst (Names found) is so.names));
-          seat = subst (IsSeated v.start (looks (h' file)) r.phase s word') (sym at_is) (seat_now file is);
-          takes = let a = so.takes in let b = takes_now in omega arith;
-        }
-      ) (omega arith) (λ i l other. (
-        ap (λ (z : State). z.at i) (state_is file),
-        λ f there seat. (
-          let a = looks_are file f.number in let b = not_found file is f.number (seated i f.identity) seat (λ g bad. other (cc bad)) in omega arith,
-          refl,
-        ),
-      ));
+          let at_is : new.at s ≡ file = ap (λ (z : State). z.at s) (state_is file) ∙ is in record {
+            names = subst (Names word') (sym at_is) (names_now file (subst (Names found) is so.names));
+            seat = subst (IsSeated v.start (looks (h' file)) r.phase s word') (sym at_is) (seat_now file is);
+            takes = let a = so.takes in let b = takes_now in omega arith;
+          }
+          ) (omega arith) (λ i l other. (
+            ap (λ (z : State). z.at i) (state_is file),
+            λ f there seat. (
+              let a = looks_are file f.number in let b = not_found file is f.number (seated i f.identity) seat (λ g bad. other (cc bad)) in omega arith,
+              refl,
+            ),
+          ));
       nodes = λ n has. node_now turn s inside word' (h' file) st.homes (r.phase n) n has (node_after n has (r.phase n) refl);
       owners = λ n has. owner_stays st.views id v w here n (λ bad. let b = ap busy idle in omega arith) (r.phase n) (r.each_owner n has);
       no_other = λ n absent. ap (λ (z : State). z.removed n) (state_is file) ∙ r.no_other n absent;

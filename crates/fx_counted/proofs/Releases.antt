@@ -2,7 +2,7 @@
 use Rattle.fx_counted.proofs.Words.{◌≡◌, ◌≢◌, ℕ, ◌+◌, ◌-◌, ◌%◌, ◌^◌, ◌<◌, List, [], ◌∷◌, sym, refl, ap, ◌∙◌, subst, arith, Option, Some, ◌⊎◌, ⊎_elim}
 use Rattle.fx_counted.proofs.Words.{dite, some, none, ℕ_discrete, step, Closed, ◌▷◌, State, numbered, File, Event, Release, event_of, sum_at, NodeAgrees}
 use Rattle.fx_counted.proofs.Words.{WorkAgrees, looks, word_of, IsNumber, state_after_all, shown, held_in, placing, held_of, holding, Phase, seated, leaving}
-use Rattle.fx_counted.proofs.Words.{retired, file_in, LetsGo, TakesOut, Idle, Holding, eqb, ReleasesKeep, Releases, inr, inl, Between}
+use Rattle.fx_counted.proofs.Words.{retired, file_in, Idle, Holding, eqb, ReleasesKeep, Releases, inr, inl, Between}
 use Rattle.fx_counted.proofs.Steps.{in_phase, busy, owner_stays, grows_one, legal_more, held_mine, part_mine, changed_here, changed_else, Turn, turn_of, its_log}
 use Rattle.fx_counted.proofs.Steps.{its_work, by_turn, Made, went, one_if, one_less_at}
 use Rattle.fx_counted.proofs.Births.{word_now, home_now}

@@ -1,9 +1,9 @@
 -- Swaps, loads and exchanges keep the rule.
-use Rattle.fx_counted.proofs.Words.{◌≡◌, ◌≢◌, ℕ, ◌-◌, ◌<◌, ◌^◌, Bool, List, [], ◌∷◌, set, false, sym, refl, ap, ◌∙◌, subst, arith, eqb, Option, Some}
+use Rattle.fx_counted.proofs.Words.{◌≡◌, ◌≢◌, ℕ, ◌-◌, ◌<◌, ◌^◌, Bool, List, [], ◌∷◌, false, sym, refl, ap, ◌∙◌, subst, arith, eqb, Option, Some}
 use Rattle.fx_counted.proofs.Words.{None, inl, none, keeps, gives, rest, stepped, step, Closed, ◌▷◌, changed_at, numbered, File, Action, Put, Clear}
-use Rattle.fx_counted.proofs.Words.{Take, Allocate, Use, no_use, one_number, name_in, takes_in, slot_word_of, Names, WorkAgrees, Agrees, if_full}
-use Rattle.fx_counted.proofs.Words.{HasPass, MayChange, place_of, slot_place, slot_of, Sat, slots_of, state_after_all, Stepped, Exchanges, GoesOn}
-use Rattle.fx_counted.proofs.Words.{retiring, turned, Change, Same, Log, Start, View, Work, Idle, Placing, placed, event_of, shown, set-get_or}
+use Rattle.fx_counted.proofs.Words.{Take, Allocate, one_number, name_in, slot_word_of, Names, WorkAgrees, Agrees}
+use Rattle.fx_counted.proofs.Words.{HasPass, MayChange, place_of, slot_place, Sat, slots_of, state_after_all, Stepped, Exchanges, GoesOn}
+use Rattle.fx_counted.proofs.Words.{turned, Change, Same, Log, Start, View, Idle, Placing, placed, event_of, shown, set-get_or}
 use Rattle.fx_counted.proofs.Words.{exchanged, ClearsKeep, TakesKeep, InstallsKeep, LoadsKeep, ExchangesKeep, Installs, Removes, Between}
 use Rattle.fx_counted.proofs.Steps.{in_phase, legal_more, same_shape, Turn, turn_of, word_at, now, logged, its_work, by_turn, went, Made, far, control_same}
 use prog.Atomic.{either}

@@ -2,11 +2,11 @@
 use Rattle.fx_counted.proofs.Words.{◌≡◌, ◌≢◌, ℕ, ◌-◌, ◌<◌, ◌≤◌, ◌^◌, false, List, [], ◌∷◌, set, length, sym, refl, ap, ◌∙◌, subst, arith, Option, Some, None}
 use Rattle.fx_counted.proofs.Words.{dite, ◌⊎◌, inl, inr, ⊎_elim, some, ℕ_discrete, get_elem?, set_here, set_else, Closed, held_by, held_after, ◌▷◌, changed_at, with_removed}
 use Rattle.fx_counted.proofs.Words.{State, numbered, File, Event, Bool, Action, no_use, one_number, range_of, event_of, takes_in, slot_word_of, name_made}
-use Rattle.fx_counted.proofs.Words.{entry_made, takes_made, Names, SlotAgrees, NodeAgrees, OwnerAgrees, WorkAgrees, PlacesNext, Agrees, ControlCounts}
+use Rattle.fx_counted.proofs.Words.{entry_made, takes_made, Names, NodeAgrees, OwnerAgrees, WorkAgrees, PlacesNext, Agrees, ControlCounts}
 use Rattle.fx_counted.proofs.Words.{if_full, looks, all_looks, word_of, place_of, control_place, slot_place, opening_of, slots_of, IsNumber}
 use Rattle.fx_counted.proofs.Words.{state_after_all, shown, end_in, next_in, held_in, placing, holding, Phase, unborn, spare, placed, seated, leaving}
 use Rattle.fx_counted.proofs.Words.{owner, file_in, IsInside, Stepped, retiring, turned, Change, Log, View, Work, Idle, Placing, Retiring, Between, keeps, stepped}
-use Rattle.fx_counted.proofs.Steps.{in_phase, seat_in, busy, stays_same, owner_stays, does_now, IsHistory, grows_one, part_mine, held_mine, changed_here, changed_else}
+use Rattle.fx_counted.proofs.Steps.{in_phase, seat_in, busy, owner_stays, does_now, IsHistory, grows_one, part_mine, held_mine, changed_here, changed_else}
 use Rattle.fx_counted.proofs.Steps.{each_changed, same_shape, Turn, Homes, word_at, now, logged, its_log, its_work, log_now, tells, went, tells_one, node_same, NodeIn}
 use Rattle.fx_counted.proofs.Steps.{Step, step_kept}
 use Rattle.std.proofs.Common.{length-set}
@@ -168,19 +168,19 @@ module _ (turn : Turn) (s : ℕ) (inside : s < slots_of turn.v.start) where
             grows = grows_one x.number r.history _ refl;
             legal = p.does.legal;
             slots = slots_now turn s inside word' h' phase' (
-              let at_is : after.at s ≡ new = ap (λ (z : State). z.at s) p.does.state ∙ changed_here state.at s new s refl in record {
-                names = subst (Names word') (sym at_is) p.names;
-                seat = subst (IsSeated v.start (looks h') phase' s word') (sym at_is) (seat_now new refl p.seat);
-                takes = let z = p.no_takes in omega arith;
-              }
-            ) (let z = p.does.all in omega arith) (λ i l other. (
-              ap (λ (z : State). z.at i) p.does.state ∙ changed_else state.at s new i other,
-              λ f there its. (
-                ap (λ (g : ℕ → ℕ). g f.number) p.does.looked,
-                same_phase f.number (seated i f.identity) its (not_old f.number (seated i f.identity) its (λ g bad. other (cc bad))) (λ bad. cc bad)
-                    ∙ sym its,
-              ),
-            ));
+                let at_is : after.at s ≡ new = ap (λ (z : State). z.at s) p.does.state ∙ changed_here state.at s new s refl in record {
+                  names = subst (Names word') (sym at_is) p.names;
+                  seat = subst (IsSeated v.start (looks h') phase' s word') (sym at_is) (seat_now new refl p.seat);
+                  takes = let z = p.no_takes in omega arith;
+                }
+                ) (let z = p.does.all in omega arith) (λ i l other. (
+                  ap (λ (z : State). z.at i) p.does.state ∙ changed_else state.at s new i other,
+                  λ f there its. (
+                    ap (λ (g : ℕ → ℕ). g f.number) p.does.looked,
+                    same_phase f.number (seated i f.identity) its (not_old f.number (seated i f.identity) its (λ g bad. other (cc bad))) (λ bad. cc bad)
+                        ∙ sym its,
+                  ),
+                ));
             nodes = λ n has. node_now turn s inside word' h' homes' (phase' n) n has (by_old old n (NodeIn v.start st.words homes' h' n (phase' n))
                 (λ f is same. subst (λ (m : ℕ). NodeIn v.start st.words homes' h' m (phase' m)) (sym same)
                 (now_in f.number (sym (out_here f is)) (old_node f is)))

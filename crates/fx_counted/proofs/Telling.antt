@@ -1,5 +1,5 @@
 -- What a pass tells of a slot that it changes.
-use Rattle.fx_counted.proofs.Words.{◌≡◌, ℕ, ◌+◌, ◌-◌, ◌%◌, ◌^◌, Bool, true, false, inl, inr, sym, ap, ◌∙◌, subst, arith, none, step, one_change}
+use Rattle.fx_counted.proofs.Words.{◌≡◌, ℕ, ◌+◌, ◌-◌, ◌%◌, ◌^◌, Bool, true, false, inl, inr, sym, ap, ◌∙◌, arith, none, step, one_change}
 use Rattle.fx_counted.proofs.Words.{end_amount_of, Agrees, InRange, HasToTell, in_change, added, removed_by, HasPass, MayChange, control_place, Sat}
 use Rattle.fx_counted.proofs.Words.{GoesOn, Answers, Change, Outside, Same, More, Less, Log, Start, ℤ, begun, difference}
 use Rattle.atomic_table.specs.Table.{Allows}

@@ -1,8 +1,8 @@
 -- What a step leaves as it was: slots, numbers, the control word and the draw word.
-use Rattle.fx_counted.proofs.Words.{sum_by, ◌≡◌, ℕ, ◌+◌, ◌/◌, ◌%◌, ◌≤◌, List, [], ◌∷◌, set, sym, refl, ap, ◌∙◌, subst, arith, Option, Some, None}
+use Rattle.fx_counted.proofs.Words.{sum_by, ◌≡◌, ℕ, ◌/◌, ◌%◌, ◌≤◌, List, [], ◌∷◌, set, sym, refl, ap, ◌∙◌, subst, arith, Option, Some, None}
 use Rattle.fx_counted.proofs.Words.{some, get_elem?, Closed, State, numbered, File, Event, sum_set, Names, SlotAgrees, Home, NodeAgrees, in_change}
 use Rattle.fx_counted.proofs.Words.{added, removed_by, changes_of, added_of, removed_of, full_in, ControlCounts, looks, all_looks, DrawsCount}
-use Rattle.fx_counted.proofs.Words.{state_after_all, drawn_of, told_of, Phase, unborn, seated, leaving, retired, emptied, closed, Log, Start, View}
+use Rattle.fx_counted.proofs.Words.{state_after_all, told_of, Phase, unborn, seated, leaving, retired, emptied, closed, Log, Start, View}
 use Rattle.fx_counted.proofs.Words.{takes_in}
 use Rattle.fx_counted.specs.Agrees.{IsSeated, IsGone}
 use Rattle.fx_counted.proofs.Frames.{total_same}

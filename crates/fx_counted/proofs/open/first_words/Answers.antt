@@ -1,5 +1,5 @@
-use Rattle.fx_counted.proofs.Words.{◌≡◌, ◌<◌, ℕ, ◌+◌, List, sym, ap, ◌∙◌, refl, subst, arith, replicate, set, state_of, slot_word_of, born, words_for}
-use Rattle.fx_counted.proofs.Words.{slot_place, control_place, Vec, Global}
+use Rattle.fx_counted.proofs.Words.{◌≡◌, ◌<◌, ℕ, ◌+◌, List, sym, ap, ◌∙◌, subst, arith, replicate, set, state_of, words_for}
+use Rattle.fx_counted.proofs.Words.{control_place, Vec, Global}
 use Rattle.fx_counted.proofs.FirstWords.{AreWordsSoFar, none_so_far, none_more, one_more, all_written, none_told, some_told}
 use Rattle.fx_counted.proofs.open.first_words.Goals.{in-Some, in_default}
 use Rattle.fx_counted.proofs.open.first_words.Goals as goal

@@ -1,4 +1,4 @@
-use Rattle.fx_counted.proofs.Words.{ℕ, [], sym, ap, ◌∙◌, arith, subst, Some, ◌▷◌, Release, node_place, HasPlace, IsInside}
+use Rattle.fx_counted.proofs.Words.{ap, ◌∙◌, arith, subst, node_place, IsInside}
 use Rattle.fx_table.specs.declared.values.Hold.{Hold}
 use Rattle.fx_counted.proofs.Calling.{node_inside, node_is_at}
 use Rattle.fx_counted.proofs.Going.{its_pass, work_between, adds_so, out_place, out_and_home}
