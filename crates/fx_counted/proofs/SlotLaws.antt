@@ -14,15 +14,9 @@ use Rattle.fx_counted.proofs.ControlSteps.{goes_on}
 use Rattle.fx_counted.proofs.Swaps.{Effect, in_size, names_old, removal_agrees, removal_tells, installation_agrees, installation_tells, removed_view}
 use Rattle.fx_counted.proofs.Swaps.{installed_view}
 
-placing_same : (n m : ℕ) → Placing n ≡ Placing m → n ≡ m
-placing_same n m e = cc e
-
 abbrev file_carried : List (ℕ × Option Closed) → Option Closed
 file_carried [] = None
 file_carried (c ∷ cs) = c.1
-
-carried_same : (p q : ℕ) (f g : Closed) → ◌≡◌ {A = List (ℕ × Option Closed)} ((p, Some f) ∷ []) ((q, Some g) ∷ []) → f ≡ g
-carried_same p q f g e = let z : Some f ≡ Some g = ap file_carried e in cc z
 
 module _ (turn : Turn) (s : ℕ) (inside : s < slots_of turn.v.start) where
   open turn use {st, v, r, id, x, here, one}
@@ -93,8 +87,8 @@ installs_keep k slots id i s n new file m x has works carries small inside stand
         replaced = old;
         names = names_old turn s is.1 old refl;
         stepped = λ n₂ file₂ works₂ carries₂.
-            let same_n : n ≡ n₂ = placing_same n n₂ (sym works ∙ works₂) in
-            let same_f : file ≡ file₂ = carried_same (place_of m.0.start n) (place_of m.0.start n₂) file file₂ (sym is.0 ∙ carries₂) in
+            let same_n : n ≡ n₂ = cc (sym works ∙ works₂) in
+            let same_f : file ≡ file₂ = cc (ap file_carried (sym is.0 ∙ carries₂)) in
             rw (← same_n, ← same_f, (far turn).slot_back s)
             (installation_tells turn s is.1 old refl a is.2 n file works small does m.1 (rest m.1));
         carried = refl;
@@ -195,8 +189,8 @@ module _ (turn : Turn) (slots s n old_word : ℕ) (file : Closed) (carried : Lis
       rw carries (installation_agrees turn s within None at_none a stands n file works small allocated),
       record {
         wins = λ n₂ file₂ works₂ carries₂ _.
-            let same_n : n ≡ n₂ = placing_same n n₂ (sym works ∙ works₂) in
-            let same_f : file ≡ file₂ = carried_same (place_of v.start n) (place_of v.start n₂) file file₂ (sym carries ∙ carries₂) in (
+            let same_n : n ≡ n₂ = cc (sym works ∙ works₂) in
+            let same_f : file ≡ file₂ = cc (ap file_carried (sym carries ∙ carries₂)) in (
               rw (← same_n, ← same_f, (far turn).slot_back s)
                   (subst (λ (c : Change). Stepped m ([] ▷ a) one_number (Between Idle) c (w, rest m.1)) (λ i. turned (same i) 0 1)
                   (installation_tells turn s within None at_none a stands n file works small allocated m.1 (rest m.1))),

@@ -5,11 +5,6 @@ use Rattle.fx_counted.proofs.Words.{GoesOn, Answers, Change, Outside, Same, More
 use Rattle.atomic_table.specs.Table.{Allows}
 use Rattle.fx_counted.proofs.ControlSteps.{begins_keep, ends_keep, answers_keep}
 
-pub begins_by : (k : Start) (slots id i amount : ℕ) (m : Sat) (x : Log) → HasPass k m x → m.0.change ≡ Outside → i ≡ control_place
-    → amount ≡ one_change
-    → Allows (Agrees k) slots id m i (λ word. (word + amount) % 2 ^ 64) (GoesOn Same (step slots i amount 0 none) m)
-begins_by k slots id i amount m x its outside place is = rw is (begins_keep k slots id i m x its outside place)
-
 amount_told : (c : Change) (delta : ℤ) (amount : ℕ) → in_change c ≡ 1 → difference c ≡ delta → amount ≡ end_amount_of delta
     → amount + added c ≡ one_change + removed_by c
 amount_told Outside delta amount one d e = absurd (cc one)
@@ -27,7 +22,3 @@ ends_by k slots id i amount delta m x its tells is place =
 pub may_change : (k : Start) (slot : ℕ) (began : Bool) (c : Change) → InRange k slot began → c ≡ begun began → MayChange k slot c
 may_change k slot true c range is = inl (range, is)
 may_change k slot false c range is = inr (range, is)
-
-pub answers_by : (k : Start) (slots id i amount : ℕ) (m : Sat) (x : Log) → HasPass k m x → m.0.change ≡ Same → i ≡ control_place → amount ≡ one_change
-    → Allows (Agrees k) slots id m i (λ word. (word + (2 ^ 64 - amount)) % 2 ^ 64) (Answers (step slots i amount 0 none) m)
-answers_by k slots id i amount m x its same place is = rw is (answers_keep k slots id i m x its same place)

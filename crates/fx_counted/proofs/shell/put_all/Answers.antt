@@ -76,12 +76,6 @@ pub put_back-requires-clause-empty : goal.put_back-requires-clause-empty
 put_back-requires-clause-empty c = let a = (goal.at.put_back-requires-clause-empty c).After-len-slot in
     (before a).away c.len-slot.result (omega arith) (omega (arith, slot_is a))
 
-pub put_back-requires-clause-settled : goal.put_back-requires-clause-settled
-put_back-requires-clause-settled c = c.loop-file.invariant.part.settled
-
-pub put_back-requires-clause-prepared : goal.put_back-requires-clause-prepared
-put_back-requires-clause-prepared c = c.loop-file.invariant.prepared
-
 pub loop-file-preserved-in-Some-file : goal.loop-file-preserved-in-Some-file
 loop-file-preserved-in-Some-file c = let a = (goal.at.loop-file-preserved-in-Some-file c).After-len-slot in record {
   part = last_back (shell a) (file_in_place (all a)) (left a) (state_of c.put_back.new.self) 0 (length (now a))

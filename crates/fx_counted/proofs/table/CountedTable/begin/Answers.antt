@@ -1,5 +1,5 @@
 use Rattle.fx_counted.proofs.Words.{refl, arith}
-use Rattle.fx_counted.proofs.Telling.{begins_by}
+use Rattle.fx_counted.proofs.ControlSteps.{begins_keep}
 use Rattle.fx_counted.proofs.table.CountedTable.begin.Goals as goal
 
 pub fetch_add-requires : goal.fetch_add-requires
@@ -11,5 +11,5 @@ fetch_add-requires c =
     let at = c.requires.seated in (
       c.requires.table,
       omega arith,
-      begins_by t.table.shared.key _ seat.id _ began.result seat.me at.log at.pass c.requires.change refl began.ensures,
+      rw began.ensures (begins_keep t.table.shared.key _ seat.id _ seat.me at.log at.pass c.requires.change refl),
     )

@@ -1,7 +1,7 @@
 use Rattle.fx_counted.proofs.Words.{rules, ◌≡◌, ◌≢◌, refl, sym, ◌∙◌, arith, full_word_of, Same, StillPlaces}
 use Rattle.fx_counted.proofs.Calling.{full_of}
 use Rattle.fx_counted.proofs.Searching.{one_still, still_then, still_placing, allocated_then, allocated_told, answered_full, answered_not}
-use Rattle.fx_counted.proofs.Telling.{begins_by, answers_by}
+use Rattle.fx_counted.proofs.ControlSteps.{begins_keep, answers_keep}
 use Rattle.fx_counted.proofs.table.CountedTable.round.Goals.{In-None}
 use Rattle.fx_counted.proofs.table.CountedTable.round.Goals as goal
 
@@ -14,7 +14,7 @@ fetch_add-requires c =
     let amount = c.begin_amount in (
       c.requires.table,
       omega arith,
-      begins_by t.table.shared.key _ seat.id _ amount.result seat.me at.log at.pass c.requires.change refl amount.ensures,
+      rw amount.ensures (begins_keep t.table.shared.key _ seat.id _ seat.me at.log at.pass c.requires.change refl),
     )
 
 -- the pass is in a change, and has found no slot free
@@ -41,7 +41,7 @@ fetch_sub-word-requires c =
     let amount = c.begin_amount-in-None in (
       c.scan.ensures.table ∙ (c.fetch_add.ensures.0 ∙ c.requires.table),
       omega arith,
-      answers_by t.table.shared.key _ seat.id _ amount.result seat.me at.log at.pass all.0.1.change refl amount.ensures,
+      rw amount.ensures (answers_keep t.table.shared.key _ seat.id _ seat.me at.log at.pass all.0.1.change refl),
     )
 
 pub returns-then-says_full-clause-ends : goal.returns-then-says_full-clause-ends
