@@ -57,11 +57,3 @@ none_behind st homes new pushed h = record {
       (λ ne. let d = ap length pushed in let e = length-append homes (None ∷ []) in
       at_longer homes (None ∷ []) place None (h.others place g (omega (arith, ne, l, d, e))));
 }
-
-pub all_homes : (st : State) (numbers : ℕ) (homes : List (Option Closed)) → length homes ≡ homes_for st.size numbers → AreHomesUpTo st homes
-    → AreFirstHomes st numbers homes
-all_homes st numbers homes count h = record {
-  count = count;
-  files = h.files;
-  others = λ place g l. h.others place g (omega (arith, count, l));
-}

@@ -37,16 +37,6 @@ pub record IsPartlyBack (shell : State) (file : ℕ → Option Closed) (from to 
   pub settled : IsSettled st
 
 module _ (shell : State) (file : ℕ → Option Closed) where
-  pub all_away : (to : ℕ) → IsShell shell → ((slot : ℕ) → to ≤ slot → file slot ≡ None) → IsPartlyBack shell file 0 to shell
-  all_away to empty others = record {
-    size = refl;
-    range = refl;
-    away = λ slot l u. empty.vacant slot;
-    back = λ slot out. ⊎_elim (λ (l : slot < 0). absurd (omega arith))
-        (λ (g : to ≤ slot). ap identity_of (empty.vacant slot) ∙ sym (others slot g)) out;
-    settled = empty.settled;
-  }
-
   pub all_back : (st : State) (from to : ℕ) → to ≤ from → IsPartlyBack shell file from to st → AreBack shell file st
   all_back st from to done p = record {
     size = p.size;

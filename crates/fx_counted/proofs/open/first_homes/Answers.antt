@@ -1,5 +1,5 @@
 use Rattle.fx_counted.proofs.Words.{ap, arith, length, length-append, ◌∷◌, [], Option, None, Closed, state_of}
-use Rattle.fx_counted.proofs.FirstHomes.{all_taken, files_taken, none_behind, all_homes}
+use Rattle.fx_counted.proofs.FirstHomes.{all_taken, files_taken, none_behind}
 use Rattle.fx_counted.proofs.open.first_homes.Goals as goal
 
 pub loop-init : goal.loop-init
@@ -9,14 +9,6 @@ loop-init c = record {
   count = let len = c.len-counter.ensures in let ok = c.take_files.new.files.ok.0 in omega (arith, len, ok);
   room = let room = c.in_ok-homes.ensures.capacity in let same = c.take_files.ensures.capacity in omega (arith, room, same);
 }
-
-pub push_reserved-requires : goal.push_reserved-requires
-push_reserved-requires c =
-    let test = c.loop-test.true in
-    let count = c.loop.invariant.count in
-    let ok = c.loop.homes.ok.0 in
-    let room = c.loop.invariant.room in
-    omega (arith, test, count, ok, room)
 
 pub loop-preserved : goal.loop-preserved
 loop-preserved c =
@@ -29,21 +21,6 @@ loop-preserved c =
           omega (arith, count, more, length-append c.loop.homes.items (None ∷ []));
       room = let room = i.room in let same = e.capacity in omega (arith, room, same);
     }
-
-pub returns-clause-homes : goal.returns-clause-homes
-returns-clause-homes c =
-    let st = state_of c.args.plain.now in
-    let i = c.loop.invariant in
-    let count = i.count in
-    let past = c.loop-test.false in
-    let all = c.homes_for-count.ensures in
-    let size = c.size.ensures.value in
-    let len = c.len-counter.ensures in
-    let ok = c.take_files.new.files.ok.0 in
-    let taken = (files_taken st (state_of c.make_room.new.plain) c.in_ok-homes.homes.items c.take_files.new.files.items
-    c.in-Ok.ensures.same.files c.in_ok-homes.ensures.items c.take_files.ensures.files).1 in
-    let end = c.loop.auto.counter-end (omega (arith, all, len, ok, taken, size)) in
-    all_homes st c.args.numbers c.loop.homes.items (omega (arith, count, past, end, all, size)) i.homes
 
 pub returns-clause-shell : goal.returns-clause-shell
 returns-clause-shell c =

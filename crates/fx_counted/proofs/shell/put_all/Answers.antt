@@ -2,16 +2,8 @@ use Rattle.fx_counted.proofs.Words.{◌≡◌, ◌<◌, ◌≤◌, ◌+◌, ℕ,
 use Rattle.fx_counted.proofs.Words.{None, dite, dec_le, Closed, state_of, file_in_place, State, get_or_append_left}
 use Rattle.fx_counted.proofs.shell.put_all.Goals as goal
 use Rattle.std.proofs.lemmas.List.{get_or_push}
-use Rattle.fx_counted.proofs.Shells.{IsPartlyBack, Becomes, file_put, all_away, all_back, last_back, none_given}
+use Rattle.fx_counted.proofs.Shells.{IsPartlyBack, Becomes, file_put, last_back}
 use Rattle.fx_counted.proofs.shell.put_all.Goals.{After-len-slot}
-
-pub loop-file-init : goal.loop-file-init
-loop-file-init c = record {
-  part = all_away (state_of c.args.plain.now) (file_in_place c.args.places.items) (length c.args.places.items) c.requires.shell
-      (λ place g. c.requires.others place (let a = c.requires.count in omega arith));
-  prepared = c.requires.prepared;
-  items = λ k l. refl;
-}
 
 -- what was in the last place
 module _ (all xs ys : List (Option Closed)) (x : Option Closed) (split : xs ≡ ys ++ x ∷ [])
@@ -26,13 +18,6 @@ module _ (all xs ys : List (Option Closed)) (x : Option Closed) (split : xs ≡ 
   same_before : (k : ℕ) → k < length ys → file_in_place ys k ≡ file_in_place all k
   same_before k l = sym (get_or_append_left ys (x ∷ []) None k l) ∙ (ap (λ (z : List (Option Closed)). file_in_place z k) (sym split)
       ∙ same k (let a = one_less in omega arith))
-
--- a file that comes back is one of a slot
-is_slot : (size : ℕ) (file : ℕ → Option Closed) → ((place : ℕ) → size ≤ place → file place ≡ None) → (slot : ℕ) (one : Closed) → file slot ≡ Some one
-    → slot < size
-is_slot size file others slot one is = dite (dec_le size slot)
-    (λ g. let bad : Some one ≡ None = sym is ∙ others slot g in absurd (cc bad))
-    (λ l. omega (arith, l))
 
 -- what was taken from the places, in the last of them
 module _ (c : After-len-slot) where
@@ -61,21 +46,6 @@ module _ (c : After-len-slot) where
   behind : (k : ℕ) → k < length now → file_in_place now k ≡ file_in_place all k
   behind = same_before all c.loop-file.places.items now c.in-Some.file c.in-Some.ensures.items c.loop-file.invariant.items
 
-  inside : (one : Closed) → c.in-Some.file ≡ Some one → length now < length c.args.plain.now.slots
-  inside one is = is_slot _ (file_in_place all) c.requires.others (length now) one (at ∙ is)
-
-pub overflow_cast-slot : goal.overflow_cast-slot
-overflow_cast-slot c = let a = (goal.at.overflow_cast-slot c).After-len-slot in
-    omega (arith, slot_is a, inside a c.in-Some-file.file c.in-Some-file.is, c.requires.few)
-
-pub put_back-requires-clause-slot : goal.put_back-requires-clause-slot
-put_back-requires-clause-slot c = let a = (goal.at.put_back-requires-clause-slot c).After-len-slot in
-    omega (arith, slot_is a, inside a c.in-Some-file.file c.in-Some-file.is, c.loop-file.invariant.part.size)
-
-pub put_back-requires-clause-empty : goal.put_back-requires-clause-empty
-put_back-requires-clause-empty c = let a = (goal.at.put_back-requires-clause-empty c).After-len-slot in
-    (before a).away c.len-slot.result (omega arith) (omega (arith, slot_is a))
-
 pub loop-file-preserved-in-Some-file : goal.loop-file-preserved-in-Some-file
 loop-file-preserved-in-Some-file c = let a = (goal.at.loop-file-preserved-in-Some-file c).After-len-slot in record {
   part = last_back (shell a) (file_in_place (all a)) (left a) (state_of c.put_back.new.self) 0 (length (now a))
@@ -85,16 +55,3 @@ loop-file-preserved-in-Some-file c = let a = (goal.at.loop-file-preserved-in-Som
   prepared = c.put_back.ensures.prepared;
   items = behind a;
 }
-
-pub loop-file-preserved : goal.loop-file-preserved
-loop-file-preserved c = let a = (goal.at.loop-file-preserved c).After-len-slot in record {
-  part = last_back (shell a) (file_in_place (all a)) (left a) (left a) 0 (length (now a))
-      (none_given (shell a) (file_in_place (all a)) (left a) (length (now a)) 0 (length (now a) + 1) (omega arith) (omega arith)
-      (at a ∙ c.in_default-file.is) (before a)) (before a);
-  prepared = c.loop-file.invariant.prepared;
-  items = behind a;
-}
-
-pub returns : goal.returns
-returns c = all_back (state_of c.args.plain.now) (file_in_place c.args.places.items) (state_of c.loop-file.plain) 0 (length c.loop-file.places.items)
-    (omega (arith, c.in_default.ensures.cases.0, c.loop-file.places.ok.0)) c.loop-file.invariant.part

@@ -15,10 +15,3 @@ fetch_add-given-requires c =
       omega arith,
       draws_keep t.table.shared.key _ p.seat.id _ p.seat.me f.log (its_pass f) idle more refl,
     )
-
--- a pass alone that is told that there are no more chains has drawn the last one
-pub returns-then-given-from-clause-next : goal.returns-then-given-from-clause-next
-returns-then-given-from-clause-next c alone untold more = let found = c.fetch_add-given.ensures.2.alone (ap (λ (k : Start). k.passes) c.requires.fits.seated.start ∙ alone) in absurd (omega arith)
-
-pub returns-clause-next : goal.returns-clause-next
-returns-clause-next c alone untold more = ap (λ (n : ℕ). Some (n + 1)) (c.fetch_add-given.ensures.2.alone (ap (λ (k : Start). k.passes) c.requires.fits.seated.start ∙ alone))

@@ -3,12 +3,6 @@ use Rattle.fx_counted.proofs.Births.{rests_keep}
 use Rattle.fx_counted.proofs.Calling.{has_node, node_inside, node_is_at, home_is_at}
 use Rattle.fx_counted.proofs.table.CountedTable.take_out.Goals as goal
 
-pub home_place-place-requires-clause-number : goal.home_place-place-requires-clause-number
-home_place-place-requires-clause-number c = has_node c.args.self.now c.args.number c.requires.place.1.known
-
-pub node_place-requires-clause-number : goal.node_place-requires-clause-number
-node_place-requires-clause-number c = has_node c.args.self.now c.args.number c.requires.place.1.known
-
 pub exchange-requires : goal.exchange-requires
 exchange-requires c =
     let h = c.requires.place.1 in
