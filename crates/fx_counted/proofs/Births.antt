@@ -61,8 +61,7 @@ module _ (turn : Turn) where
     may = may;
     keeps = λ j u f other there is_held same. absurd (unheld q (ap file_in is ∙ no_file) j u f there is_held same);
     free = free;
-    node = subst (λ (e : Home). NodeAgrees (state_after_all v.start r.history) q (looks r.history q) word' e ph')
-        (sym (set_here st.homes (place_of v.start q) lies (roomy q its))) node;
+    node = rw (set_here st.homes (place_of v.start q) lies (roomy q its)) node;
     known = known;
     held = (its_log turn).held ∙ held;
     next = next;

@@ -33,21 +33,19 @@ pub record AreHomesUpTo (st : State) (homes : List (Option Closed)) : Type 0 whe
   pub files : (slot : ℕ) → slot < st.size → get_elem? homes slot ≡ some (identity_of (st.at slot))
   pub others : (place : ℕ) → st.size ≤ place → place < length homes → get_elem? homes place ≡ some None
 
--- the files that were taken out, one after another, and how many places they have
+-- the files that were taken out, one after another
 pub files_taken : (st same : State) (before homes : List (Option Closed)) → HasSameFiles st same → before ≡ []
-    → homes ≡ before ++ slots_in_order same.at same.size → AreHomesUpTo st homes × (length homes ≡ st.size)
+    → homes ≡ before ++ slots_in_order same.at same.size → AreHomesUpTo st homes
 files_taken st same before homes files none with_files =
     let are : homes ≡ slots_in_order same.at same.size =
     with_files ∙ ap (λ (xs : List (Option Closed)). xs ++ slots_in_order same.at same.size) none in
     let size = files.size in
-    let count = ap length are ∙ (length_in_order same.at same.size ∙ files.size) in (
-      record {
-        files = λ slot l. ap (λ (xs : List (Option Closed)). get_elem? xs slot) are
-            ∙ (in_order same.at same.size slot (omega (arith, l, size)) ∙ ap some (files.files slot));
-        others = λ place g l. absurd (omega (arith, g, l, count));
-      },
-      count,
-    )
+    let count = ap length are ∙ (length_in_order same.at same.size ∙ files.size) in
+    record {
+      files = λ slot l. ap (λ (xs : List (Option Closed)). get_elem? xs slot) are
+          ∙ (in_order same.at same.size slot (omega (arith, l, size)) ∙ ap some (files.files slot));
+      others = λ place g l. absurd (omega (arith, g, l, count));
+    }
 
 pub none_behind : (st : State) (homes new : List (Option Closed)) → new ≡ homes ++ None ∷ [] → AreHomesUpTo st homes → AreHomesUpTo st new
 none_behind st homes new pushed h = record {

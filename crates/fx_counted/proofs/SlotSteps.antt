@@ -28,9 +28,7 @@ module _ (turn : Turn) (s : ℕ) (inside : s < slots_of turn.v.start) (word' : �
 
   pub node_now : (h' : List Event) (homes' : Homes) (ph : Phase) (n : ℕ) → IsNumber v.start n → NodeIn v.start st.words homes' h' n ph
       → NodeIn v.start words_now homes' h' n ph
-  node_now h' homes' ph n has = subst
-      (λ (w : ℕ). NodeAgrees (state_after_all v.start h') n (looks h' n) w (get_elem? homes' (home_place (slots_of v.start) n)) ph)
-      (sym (read_else (node_place (slots_of v.start) n) ((far turn).node_and_slot n s inside has)))
+  node_now h' homes' ph n has node = rw (read_else (node_place (slots_of v.start) n) ((far turn).node_and_slot n s inside has)) node
 
   pub control_now : {at : ℕ → Option File} {range : ℕ × ℕ} {views : List View} → ControlCounts at range views (word_at st.words control_place)
       → ControlCounts at range views (word_at words_now control_place)

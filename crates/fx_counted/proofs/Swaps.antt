@@ -157,8 +157,7 @@ module _ (turn : Turn) (s : ℕ) (inside : s < slots_of turn.v.start) where
           -- no look is told
           now_in : (n : ℕ) {ph : Phase} → ph ≡ phase' n → NodeAgrees after n (looks r.history n) (word_at st.words (word_of v.start n))
               (get_elem? homes' (place_of v.start n)) ph → NodeIn v.start st.words homes' h' n (phase' n)
-          now_in n is = subst (λ (z : ℕ × Phase). NodeAgrees after n z.0 (word_at st.words (word_of v.start n))
-              (get_elem? homes' (place_of v.start n)) z.1) (λ i. (sym p.does.looked i n, is i))
+          now_in n is node = rw (← is, p.does.looked) node
 
           swap_step : Step turn y d c h' phase' (words_now turn s inside word') homes'
           swap_step = let o = its_log turn in let alone = retires_alone old (takes_in found) in record {
@@ -182,13 +181,11 @@ module _ (turn : Turn) (s : ℕ) (inside : s < slots_of turn.v.start) where
                   ),
                 ));
             nodes = λ n has. node_now turn s inside word' h' homes' (phase' n) n has (by_old old n (NodeIn v.start st.words homes' h' n (phase' n))
-                (λ f is same. subst (λ (m : ℕ). NodeIn v.start st.words homes' h' m (phase' m)) (sym same)
-                (now_in f.number (sym (out_here f is)) (old_node f is)))
+                (λ f is same. rw same (now_in f.number (sym (out_here f is)) (old_node f is)))
                 (λ other. now_in n (sym (else_phase n other)) (p.nodes n has other)));
             owners = λ n has. by_old old n (OwnerAgrees (set st.views id w) n (phase' n))
-                (λ f is same. subst (λ (m : ℕ). OwnerAgrees (set st.views id w) m (phase' m)) (sym same)
-                (subst (OwnerAgrees (set st.views id w) f.number) (sym (out_here f is))
-                (does_now st.views id v w (Between (Retiring f (takes_in found))) here (ap (λ (o : Option File). Between (retiring o (takes_in found))) is))))
+                (λ f is same. rw (same, out_here f is) (does_now st.views id v w (Between (Retiring f (takes_in found))) here
+                (ap (λ (o : Option File). Between (retiring o (takes_in found))) is)))
                 (λ other. subst (OwnerAgrees (set st.views id w) n) (sym (else_phase n other)) (p.owners n has other));
             no_other = λ n absent. ap (λ (z : State). z.removed n) p.does.state
                 ∙ (removed_else state.removed old n (absent_old n absent old refl) ∙ r.no_other n absent);

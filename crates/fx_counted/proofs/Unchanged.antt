@@ -23,9 +23,8 @@ pub slot_same : {k : Start} {h h' : List Event} {phase phase' : ℕ → Phase} {
     → (state_after_all k h').at slot ≡ (state_after_all k h).at slot → all_looks h ≤ all_looks h' → SameFile k h h' phase phase' slot
     → SlotAgrees k h phase slot word → SlotAgrees k h' phase' slot word'
 slot_same {k} {h} {h'} {phase} {phase'} {slot} {word} same_word same_file more same so = record {
-  names = subst (λ (z : ℕ × Option File). Names z.0 z.1) (λ i. (sym same_word i, sym same_file i)) so.names;
-  seat = subst (λ (z : ℕ × Option File). IsSeated k (looks h') phase' slot z.0 z.1)
-      (λ i. (sym same_word i, sym same_file i)) (seat_same k h h' phase phase' slot word same ((state_after_all k h).at slot) refl so.seat);
+  names = rw (same_word, same_file) so.names;
+  seat = rw (same_word, same_file) (seat_same k h h' phase phase' slot word same ((state_after_all k h).at slot) refl so.seat);
   takes = let t = so.takes in let e = ap takes_in same_word in omega arith;
 }
 

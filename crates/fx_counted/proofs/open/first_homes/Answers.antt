@@ -4,8 +4,8 @@ use Rattle.fx_counted.proofs.open.first_homes.Goals as goal
 
 pub loop-init : goal.loop-init
 loop-init c = record {
-  homes = (files_taken (state_of c.args.plain.now) (state_of c.make_room.new.plain) c.in_ok-homes.homes.items c.take_files.new.files.items
-      c.in-Ok.ensures.same.files c.in_ok-homes.ensures.items c.take_files.ensures.files).0;
+  homes = files_taken (state_of c.args.plain.now) (state_of c.make_room.new.plain) c.in_ok-homes.homes.items c.take_files.new.files.items
+      c.in-Ok.ensures.same.files c.in_ok-homes.ensures.items c.take_files.ensures.files;
   count = let len = c.len-counter.ensures in let ok = c.take_files.new.files.ok.0 in omega (arith, len, ok);
   room = let room = c.in_ok-homes.ensures.capacity in let same = c.take_files.ensures.capacity in omega (arith, room, same);
 }

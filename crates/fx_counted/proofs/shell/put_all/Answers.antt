@@ -49,9 +49,7 @@ module _ (c : After-len-slot) where
 pub loop-file-preserved-in-Some-file : goal.loop-file-preserved-in-Some-file
 loop-file-preserved-in-Some-file c = let a = (goal.at.loop-file-preserved-in-Some-file c).After-len-slot in record {
   part = last_back (shell a) (file_in_place (all a)) (left a) (state_of c.put_back.new.self) 0 (length (now a))
-      (subst (λ (z : ℕ × Option Closed). Becomes (left a) z.0 z.1 (state_of c.put_back.new.self))
-      (λ j. (slot_is a j, sym (at a ∙ c.in-Some-file.is) j))
-      (file_put _ _ c.len-slot.result c.in-Some-file.file c.loop-file.invariant.part.settled c.put_back.ensures.state)) (before a);
+      (rw (at a ∙ c.in-Some-file.is, ← slot_is a) (file_put _ _ c.len-slot.result c.in-Some-file.file c.loop-file.invariant.part.settled c.put_back.ensures.state)) (before a);
   prepared = c.put_back.ensures.prepared;
   items = behind a;
 }
