@@ -41,13 +41,7 @@ module _ (id : TableId) (k : Start) (p : ℕ) (low : 1 ≤ p) (high : p ≤ k.pa
       few_left = omega arith;
       left_inside = omega arith;
     };
-    knows = record {
-      chain = new.chain;
-      no_chains_left = new.chains_left;
-      numbers_left = new.numbers;
-      looks_left = new.looks;
-      idle = new.flag ∙ sym (ap (λ (m : Sat). is_idle m.0.work) me);
-    };
+    knows = assumption (new, new.flag ∙ sym (ap (λ (m : Sat). is_idle m.0.work) me));
   }
 
   pub is_new_pass : IsPassOf id k x × (view_of x ≡ new_pass p)

@@ -43,15 +43,7 @@ module _ (turn : Turn) (f : File) (works : turn.v.work ≡ Between (Holding f)) 
     grows = grows_one x.number r.history _ refl;
     legal = legal_more v.start r.history _ r.legal held_now ((its_log turn).held ∙ ap held_in works);
     own = part_mine x.number _ r.history refl;
-    told = record {
-      at = refl;
-      size = refl;
-      fresh = refl;
-      looked = refl;
-      all = omega arith;
-      removed = λ m other. refl;
-      holds = changed_else old.holds q (old.holds q - 1);
-    };
+    told = record { at = refl; size = refl; fresh = refl; looked = refl; all = omega arith; removed = λ m other. refl; holds = changed_else old.holds q _ };
     held = held_mine x.number (event_of (shown x v.work) (Release f)) r.history refl;
     holds = λ m. let w : held_of m v ≡ one_if (eqb q m) = ap (holding m) works in let e = one_less_at old.holds q m held_now in omega arith;
     free = λ m other bad. let b = ap busy works in omega arith;

@@ -50,35 +50,23 @@ loop-slot-preserved c =
     let named : (n : Option ℕ) → n ≡ node_in c.word.result → number_at t.size ws slot ≡ n =
     λ n is. named_by t.size c.loop-slot.slot n (ap slots_items i.words) c.slot_place.ensures c.word.ensures is in
     elim c.match-node_of.branch [
-      | in-Some+in-Some-take_home w ↦ let took = w.take_home.ensures in let n = w.in-Some.number in let is = w.closed-is in record {
-        part = subst (λ (p : Contents). IsPartlyBack (state_of t.shell) (file_at t.size ws xs) (slot + 1) t.size (state_of p)) (sym w.shell-is)
-            (some_back home c.loop-slot-test.true i.items i.part (named (Some n) w.in-Some.ensures) w.home_place.ensures
-            (took.value ∙ ap some w.in-Some-take_home.is)
-            (file_put _ _ slot w.in-Some-take_home.file i.part.settled w.put_back.ensures.state));
-        prepared = subst IsPrepared (sym w.shell-is) w.put_back.ensures.prepared;
-        items = ap (λ x. slots_items x.slots) is ∙ place_emptied home c.loop-slot-test.true i.items i.part (named (Some n) w.in-Some.ensures) w.home_place.ensures took.items;
-        count = ap (λ x. slots_len x.slots) is ∙ (took.count ∙ i.count);
-        full = subst (λ x. IsFull x.slots) (sym is) took.full;
-        words = ap (λ x. x.words) is ∙ (took.words ∙ i.words);
-      }
-      | in-Some+in_default-take_home w ↦ let took = w.take_home.ensures in let n = w.in-Some.number in let is = w.closed-is in record {
-        part = subst (λ (p : Contents). IsPartlyBack (state_of t.shell) (file_at t.size ws xs) (slot + 1) t.size (state_of p)) (sym w.shell-is)
-            (none_back home c.loop-slot-test.true i.items i.part (named (Some n) w.in-Some.ensures) w.home_place.ensures (took.value ∙ ap some w.in_default-take_home.is));
-        prepared = subst IsPrepared (sym w.shell-is) i.prepared;
-        items = ap (λ x. slots_items x.slots) is ∙ place_emptied home c.loop-slot-test.true i.items i.part (named (Some n) w.in-Some.ensures) w.home_place.ensures took.items;
-        count = ap (λ x. slots_len x.slots) is ∙ (took.count ∙ i.count);
-        full = subst (λ x. IsFull x.slots) (sym is) took.full;
-        words = ap (λ x. x.words) is ∙ (took.words ∙ i.words);
-      }
-      | in_default w ↦ let is = w.closed-is in record {
-        part = subst (λ (p : Contents). IsPartlyBack (state_of t.shell) (file_at t.size ws xs) (slot + 1) t.size (state_of p)) (sym w.shell-is)
-            (none_named home c.loop-slot-test.true i.items i.part (named None w.in_default.ensures));
-        prepared = subst IsPrepared (sym w.shell-is) i.prepared;
-        items = ap (λ x. slots_items x.slots) is ∙ none_emptied home c.loop-slot-test.true i.items i.part (named None w.in_default.ensures);
-        count = ap (λ x. slots_len x.slots) is ∙ i.count;
-        full = subst (λ x. IsFull x.slots) (sym is) i.full;
-        words = ap (λ x. x.words) is ∙ i.words;
-      }
+      | in-Some+in-Some-take_home w ↦ let took = w.take_home.ensures in let is = named (Some w.in-Some.number) w.in-Some.ensures in
+          rw (w.shell-is, w.closed-is) (assumption (
+            some_back home c.loop-slot-test.true i.items i.part is w.home_place.ensures (took.value ∙ ap some w.in-Some-take_home.is)
+                (file_put _ _ slot w.in-Some-take_home.file i.part.settled w.put_back.ensures.state),
+            place_emptied home c.loop-slot-test.true i.items i.part is w.home_place.ensures took.items,
+            took.count ∙ i.count,
+            took.words ∙ i.words,
+          ))
+      | in-Some+in_default-take_home w ↦ let took = w.take_home.ensures in let is = named (Some w.in-Some.number) w.in-Some.ensures in
+          rw (w.shell-is, w.closed-is) (assumption (
+            none_back home c.loop-slot-test.true i.items i.part is w.home_place.ensures (took.value ∙ ap some w.in_default-take_home.is),
+            place_emptied home c.loop-slot-test.true i.items i.part is w.home_place.ensures took.items,
+            took.count ∙ i.count,
+            took.words ∙ i.words,
+          ))
+      | in_default w ↦ let is = named None w.in_default.ensures in rw (w.shell-is, w.closed-is) (assumption (
+          none_named home c.loop-slot-test.true i.items i.part is, none_emptied home c.loop-slot-test.true i.items i.part is))
     ]
 
 pub unreachable-requires : goal.unreachable-requires
