@@ -115,17 +115,10 @@ module _ (turn : Turn) where
         spared = λ n q is other. either_phase phases n (λ e. sym e ∙ is) (λ new _. absurd (cc (sym is ∙ new)));
       };
       keeps = λ j u f other there holds. either_phase phases f.number (λ e. ap file_in (sym e)) (λ new its. ap file_in its ∙ sym (ap file_in new));
-      log = let o = its_log turn in let p = ap placing idle in record {
-        seen = o.seen;
-        own = o.own;
-        held = o.held;
-        chain = chain;
-        last = last;
-        few_left = few;
-        left_inside = inside;
-        next = subst (PlacesNext v.start y) (sym idle) tt;
-        spares = λ n low high. spares n (omega arith) high;
-      };
+      log = let o = its_log turn in let p = ap placing idle in
+          let its : (n : ℕ) → next_in v.start y + placing v.work ≤ n → n < end_in v.start y → phase' n ≡ spare x.number =
+          λ n low high. spares n (omega arith) high in
+          assumption (o, subst (PlacesNext v.start y) (sym idle) tt, its);
       work = subst (WorkAgrees v.start phase' id) (sym idle) tt;
       holds = λ n. omega arith;
       look_ups = omega arith;

@@ -1,5 +1,5 @@
 -- What a step of one seat leaves as it was.
-use Rattle.fx_counted.proofs.Words.{Contains, sum_of, sum_by, ◌≡◌, ◌≢◌, ℕ, ◌+◌, List, [], ◌∷◌, set, sym, refl, ap, ◌∙◌, subst, arith, ⊎_elim, eqb}
+use Rattle.fx_counted.proofs.Words.{next_in, end_in, placing, ◌<◌, ◌≤◌, Contains, sum_of, sum_by, ◌≡◌, ◌≢◌, ℕ, ◌+◌, List, [], ◌∷◌, set, sym, refl, ap, ◌∙◌, subst, arith, ⊎_elim, eqb}
 use Rattle.fx_counted.proofs.Words.{some, some-injective, get_elem?, at_set, set_here, set_else, File, Event, numbered, sum_two, sum_set, Does, OwnerAgrees}
 use Rattle.fx_counted.proofs.Words.{WorkAgrees, ViewAgrees, Agrees, Shared, logs_of, Phase, spare, placed, leaving, emptied, owner, file_in, Log}
 use Rattle.fx_counted.proofs.Words.{Start, View, Work, Idle, Placing, Holding, Retiring, Emptying, dite, ℕ_discrete, Between}
@@ -47,17 +47,10 @@ module _ (id p j : ℕ) (other : j ≢ id) (phase phase' : ℕ → Phase) (stays
       → ((f : File) → u.work ≡ Between (Holding f) → file_in (phase' f.number) ≡ file_in (phase f.number))
       → ViewAgrees k h phase j u → ViewAgrees k h' phase' j u
   view_stays k h h' g u not_its keeps ok = record {
-    logs = λ y e. let o = ok.logs y e in let n : p ≢ y.number = λ same. not_its y e (sym same) in record {
-      seen = g.seen y.front o.seen;
-      own = g.parts y.number n ∙ o.own;
-      held = g.helds y.number n ∙ o.held;
-      chain = o.chain;
-      last = o.last;
-      few_left = o.few_left;
-      left_inside = o.left_inside;
-      next = o.next;
-      spares = λ m a b. stays.spared m y.number (o.spares m a b) (λ same. n (sym same));
-    };
+    logs = λ y e. let o = ok.logs y e in let n : p ≢ y.number = λ same. not_its y e (sym same) in
+        let spares : (m : ℕ) → next_in k y + placing u.work ≤ m → m < end_in k y → phase' m ≡ spare y.number =
+        λ m a b. stays.spared m y.number (o.spares m a b) (λ same. n (sym same)) in
+        assumption (o, g.seen y.front o.seen, g.parts y.number n ∙ o.own, g.helds y.number n ∙ o.held, spares);
     work = work_stays k u.work keeps ok.work;
     empty = ok.empty;
     start = ok.start;

@@ -35,7 +35,7 @@ module _ (turn : Turn) (f : File) (its : IsNumber turn.v.start f.number) (h₁ :
     pub own : part_of_pass x.number h₁ ≡ map (event_of (shown x v.work)) xs ++ part_of_pass x.number r.history
     pub told : OneNumber v q r.history h₁
     pub held : held_by h₁ x.number ≡ None
-    pub holds : (n : ℕ) → now.holds n + held_of n v ≡ (state_after_all v.start r.history).holds n
+    pub holds : (n : ℕ) → now.holds n + held_of n v ≡ (state_after_all v.start r.history).holds n + 0
     pub free : (n : ℕ) → n ≢ q → busy v.work ≢ n + 1
     pub places : placing v.work ≡ 0
     pub open_file : file_in (r.phase q) ≡ Some f.identity
@@ -55,23 +55,7 @@ module _ (turn : Turn) (f : File) (its : IsNumber turn.v.start f.number) (h₁ :
         → NodeAgrees now q (looks r.history q) less (home_now turn q) ph → OwnerAgrees (set st.views id (went turn h₁ (Between Idle) v.change)) q ph → (told : ℕ → Sat → Type 0)
         → told (word_now turn q) (went turn h₁ (Between Idle) v.change, carried) → Made turn carried (word_of v.start q) minus told
     stays_open ph may same node known told tells_so =
-        let step : NodeStep turn q its less st.homes h₁ ph (Between Idle) = record {
-          grows = g.grows;
-          legal = g.legal;
-          told = g.told;
-          homes = refl;
-          home_else = λ m has other. refl;
-          may = may;
-          keeps = λ j u e other there holds is. same;
-          free = g.free;
-          node = node;
-          known = known;
-          held = g.held;
-          next = tt;
-          spares = spares_stay ph;
-          work = tt;
-          holds = λ n. let a = g.holds n in omega arith;
-        } in
+        let step : NodeStep turn q its less st.homes h₁ ph (Between Idle) = assumption (spares_stay ph) in
         (went turn h₁ (Between Idle) v.change, keeps, tt, node_agrees turn q its less st.homes h₁ ph (Between Idle) step, tells_so)
 
     pub lets_go : LetsGo (v, carried) xs (went turn h₁ (Between Idle) v.change, carried)
@@ -129,7 +113,7 @@ module _ (turn : Turn) (f : File) (its : IsNumber turn.v.start f.number) (h₁ :
             next = tt;
             spares = spares_stay (emptied id);
             work = (its, changed_here r.phase q (emptied id) q refl);
-            holds = λ n. let a = g.holds n in omega arith;
+            holds = g.holds;
           } in (
             went turn h₂ (Emptying q) v.change,
             takes (place_of v.start q) (Some f.identity),
