@@ -88,8 +88,7 @@ module _ (turn : Turn) where
     birth = let n = in_phase v.start st r b its_b (spare x.number) is_spare in let o = its_log turn in
         home_step b its_b (spare x.number) (placed id) born none (Placing b) is_spare refl (inr (inr (inl is_spare)))
         (λ m other is. let e : busy v.work ≡ 0 = ap busy idle in omega arith) (ap held_in idle) (λ n. ap (holding n) idle)
-        record { counts = refl; at_home = refl; fresh = n.fresh; no_looks = n.no_looks; no_holds = n.no_holds; not_removed = n.not_removed }
-        (does_now st.views id v (went turn r.history (Placing b) v.change) (Placing b) here refl) (refl, some_left)
+        (assumption n) (does_now st.views id v (went turn r.history (Placing b) v.change) (Placing b) here refl) (refl, some_left)
         (λ n low high. let p = ap placing idle in changed_else r.phase b (placed id) n (λ same. omega arith) ∙ o.spares n (omega arith) high)
         (its_b, changed_here r.phase b (placed id) b refl)
 
@@ -108,7 +107,7 @@ module _ (turn : Turn) where
         w.0,
         home_step q w.0 (emptied id) closed 0 (some None) (Between Idle) w.1 refl (inr (inl (ap owner w.1)))
             (λ m other bad. let b = ap busy is in other (omega arith)) (ap held_in is) (λ m. ap (holding m) is)
-            record { counts = refl; at_home = refl; no_holds = n.no_holds; not_removed = n.not_removed } tt tt
+            (assumption n) tt tt
             (λ m low high. let p = ap placing is in let s = o.spares m (omega arith) high in
             changed_else r.phase q closed m (λ same. cc (sym s ∙ (ap r.phase same ∙ w.1))) ∙ s) tt,
       )
@@ -121,8 +120,7 @@ module _ (turn : Turn) where
         w.0,
         home_step q w.0 (placed id) (spare x.number) 0 (some None) (Between Idle) w.1 refl (inr (inl (ap owner w.1)))
             (λ m other bad. let b = ap busy is in other (omega arith)) (ap held_in is) (λ m. ap (holding m) is)
-            record { counts = refl; at_home = refl; fresh = n.fresh; no_looks = n.no_looks; no_holds = n.no_holds; not_removed = n.not_removed }
-            tt tt
+            (assumption n) tt tt
             (λ m low high. let p = ap placing is in each_changed (λ m z. z ≡ spare x.number) r.phase q (spare x.number) m (λ same. refl)
             (λ other. o.spares m (let a = next.0 in omega arith) high)) tt,
       )

@@ -15,11 +15,7 @@ prepared_or_not old new numbers (Err e) is = tt
 
 -- what is left of a table whose files were taken out
 pub all_taken : (st : State) (same now : State) → HasSameFiles st same → IsSettled same → now ≡ record same { at = λ _. None } → IsShellOf st now
-all_taken st same now files settled is = subst (IsShellOf st) (sym is) record {
-  size = files.size;
-  range = files.range;
-  shell = record { vacant = λ slot. refl; settled = record { unheld = settled.unheld; closed = settled.closed } };
-}
+all_taken st same now files settled is = rw is assumption
 
 length_in_order : (at : ℕ → Option File) (n : ℕ) → length (slots_in_order at n) ≡ n
 length_in_order at = length-map-range_with_len (λ slot. identity_of (at slot)) 0

@@ -89,12 +89,7 @@ module _ (k : Start) (words : List ℕ) (homes : List (Option Closed)) (o : Open
       has
     where
       low : (n : ℕ) → n < slots_of k → (found : Option File) → first_file k n ≡ found → Node n (phase_for n found)
-      low n l None is = record {
-        counts = o.node_words n l ∙ ap node_for is;
-        at_home = home_is n None (o.files n l ∙ ap (λ (f : Option File). some (home_for f)) is);
-        no_holds = refl;
-        not_removed = refl;
-      }
+      low n l None is = assumption (o.node_words n l ∙ ap node_for is, home_is n None (o.files n l ∙ ap (λ (f : Option File). some (home_for f)) is))
       low n l (Some f) is = let w : slice_index words (word_of k n) ≡ born = o.node_words n l ∙ ap node_for is in record {
         counts = omega arith;
         at_home = home_is n (Some f.identity) (o.files n l ∙ ap (λ (f : Option File). some (home_for f)) is);

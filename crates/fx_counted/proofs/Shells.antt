@@ -20,13 +20,8 @@ pub record Becomes (old : State) (slot : ℕ) (file : Option Closed) (new : Stat
 -- a file came to an empty slot, under the slot's number
 pub file_put : (a b : State) (slot : ℕ) (file : Closed) → IsSettled a
     → b ≡ record a { at = changed_at a.at slot (Some (numbered slot file)) } → Becomes a slot (Some file) b
-file_put a b slot file settled is = subst (Becomes a slot (Some file)) (sym is) record {
-  size = refl;
-  range = refl;
-  there = ap identity_of (changed_here a.at slot (Some (numbered slot file)) slot refl);
-  others = λ other ne. changed_else a.at slot (Some (numbered slot file)) other ne;
-  settled = record { unheld = settled.unheld; closed = settled.closed };
-}
+file_put a b slot file settled is = let new = Some (numbered slot file) in
+    rw is (assumption (ap identity_of (changed_here a.at slot new slot refl), changed_else a.at slot new))
 
 -- between these slots the files are still away
 pub record IsPartlyBack (shell : State) (file : ℕ → Option Closed) (from to : ℕ) (st : State) : Type 0 where

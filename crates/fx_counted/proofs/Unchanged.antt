@@ -3,7 +3,7 @@ use Rattle.fx_counted.proofs.Words.{sum_by, ◌≡◌, ℕ, ◌/◌, ◌%◌, �
 use Rattle.fx_counted.proofs.Words.{some, get_elem?, Closed, State, numbered, File, Event, sum_set, Names, SlotAgrees, Home, NodeAgrees, in_change}
 use Rattle.fx_counted.proofs.Words.{added, removed_by, changes_of, added_of, removed_of, full_in, ControlCounts, looks, all_looks, DrawsCount}
 use Rattle.fx_counted.proofs.Words.{state_after_all, told_of, Phase, unborn, seated, leaving, retired, emptied, closed, Log, Start, View}
-use Rattle.fx_counted.proofs.Words.{takes_in}
+use Rattle.fx_counted.proofs.Words.{takes_in, born, ◌<◌, ◌+◌}
 use Rattle.fx_counted.specs.Agrees.{IsSeated, IsGone}
 use Rattle.fx_counted.proofs.Frames.{total_same}
 use Rattle.fx_table.proofs.Ones.{one_if, times}
@@ -36,25 +36,13 @@ module _ (st st' : State) (n l l' word word' : ℕ) (home home' : Home) (fresh :
 
   pub node_same : (ph : Phase) → ((s : ℕ) (f : Closed) → ph ≡ seated s f → st.at s ≡ Some (numbered n f) → st'.at s ≡ st.at s)
       → NodeAgrees st n l word home ph → NodeAgrees st' n l' word' home' ph
-  node_same (seated s f) at o = record {
-    counts = let a = o.counts in omega arith;
-    at_home = homed ∙ o.at_home;
-    inside = let a = o.inside in omega arith;
-    there = at s f refl o.there ∙ o.there;
-    not_removed = removed ∙ o.not_removed;
-  }
-  node_same (leaving j t f) at o = record {
-    counts = let a = o.counts in omega arith;
-    at_home = homed ∙ o.at_home;
-    all_takes = o.all_takes ∙ sym looked;
-    removed = removed ∙ o.removed;
-  }
-  node_same (retired f) at o = record {
-    counts = worded ∙ (o.counts ∙ sym holds);
-    at_home = homed ∙ o.at_home;
-    some_hold = let a = o.some_hold in omega arith;
-    removed = removed ∙ o.removed;
-  }
+  node_same (seated s f) at o = let a = o.counts in let b = o.inside in
+      let counts : word' + l' ≡ born + st'.holds n = omega arith in let inside : s < st'.size = omega arith in
+      assumption (counts, homed ∙ o.at_home, inside, at s f refl o.there ∙ o.there, removed ∙ o.not_removed)
+  node_same (leaving j t f) at o = let a = o.counts in let counts : word' + l' ≡ born + st'.holds n = omega arith in
+      assumption (counts, homed ∙ o.at_home, o.all_takes ∙ sym looked, removed ∙ o.removed)
+  node_same (retired f) at o = let a = o.some_hold in let some_hold : 0 < word' = omega arith in
+      assumption (worded ∙ (o.counts ∙ sym holds), homed ∙ o.at_home, some_hold, removed ∙ o.removed)
   node_same (emptied j) at o = gone_same o
   node_same closed at o = gone_same o
   node_same _ at o = assumption (worded ∙ o.counts, homed ∙ o.at_home, fresh ∙ o.fresh, looked ∙ o.no_looks, holds ∙ o.no_holds,
