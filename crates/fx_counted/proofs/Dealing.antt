@@ -1,5 +1,5 @@
 -- The passes that are dealt out.
-use Rattle.fx_counted.proofs.Words.{◌≡◌, ℕ, ◌+◌, ◌≤◌, List, [], ◌∷◌, sym, refl, ◌∙◌, ap, subst, arith, Option, TableId, Seat, Closed, without_first}
+use Rattle.fx_counted.proofs.Words.{◌≡◌, ◌*◌, ℕ, ◌+◌, ◌≤◌, List, [], ◌∷◌, sym, refl, ◌∙◌, ap, subst, arith, Option, TableId, Seat, Closed, without_first}
 use Rattle.fx_counted.proofs.Words.{first_alone, dealt, Sat, new_log, pass_of, view_of, IsPassOf, is_idle, CountedPass, Log, Start, View, new_pass}
 use Rattle.fx_counted.proofs.Words.{IsNewPass}
 use Rattle.std.proofs.Common.{take, drop}
@@ -30,17 +30,7 @@ module _ (id : TableId) (k : Start) (p : ℕ) (low : 1 ≤ p) (high : p ≤ k.pa
     table = ap (λ (z : Seat (Option Closed) View). z.table_id) new.its_seat ∙ table;
     places = ap (λ (m : Sat). m.1) me;
     log = new_log p;
-    seated = subst (λ (m : Sat). HasOnePass k m.0 (new_log p)) (sym me) record {
-      one = refl;
-      start = refl;
-      front = record { legal = record { leads = (tt, refl); releases = tt }; mine = refl };
-      work = tt;
-      inside = tt;
-      change = refl;
-      chain = omega arith;
-      few_left = omega arith;
-      left_inside = omega arith;
-    };
+    seated = let none : (n : ℕ) → 0 ≤ n = λ n. omega arith in rw me (assumption (none k.chains, none 64, none (k.numbers * 0)));
     knows = assumption (new, new.flag ∙ sym (ap (λ (m : Sat). is_idle m.0.work) me));
   }
 

@@ -13,16 +13,10 @@ goes_one {m} {m'} s = let few : steps_of m'.0 ≤ steps_of m.0 + 1 = (let e = s.
 
 pub goes_then : {m m' m'' : Sat} {xs ys : List Action} {a b : Use} {w w' : Work} {c c' : Change} {n n' : ℕ} → Goes m xs a w c n m'
     → Goes m' ys b w' c' n' m'' → Goes m (xs ▷▷ ys) (both_uses a b) w' c' (n + n') m''
-goes_then {m} {m'} {m''} {xs} {ys} {a} {b} {w} {w'} g h = record {
-  one = h.one;
-  adds = adds_then (opening_of m.0.start) (pass_of m.0) (pass_of m'.0) (pass_of m''.0) xs ys (doing_in w) (doing_in w') a b g.adds
-      (subst (λ (z : Start). Adds (opening_of z) (pass_of m'.0) ys (doing_in w') b (pass_of m''.0)) g.start h.adds);
-  work = h.work;
-  inside = subst (λ (z : Start). IsInside z w') g.start h.inside;
-  change = h.change;
-  start = h.start ∙ g.start;
-  steps = let p = g.steps in let q = h.steps in omega arith;
-}
+goes_then {m} {m'} {m''} {xs} {ys} {a} {b} {w} {w'} {c} {c'} {n} {n'} g h =
+    let steps : steps_of m''.0 ≤ steps_of m.0 + (n + n') = (let p = g.steps in let q = h.steps in omega arith) in
+    assumption (h, adds_then (opening_of m.0.start) (pass_of m.0) (pass_of m'.0) (pass_of m''.0) xs ys (doing_in w) (doing_in w') a b g.adds
+    (rw g.start at h.adds), rw g.start at h.inside, h.start ∙ g.start, steps)
 
 -- what the steps of a pass add to what callers see
 pub adds_so : {id : TableId} {k : Start} {p : CountedPass} (fits : IsPassOf id k p) {m' : Sat} {xs : List Action} {a : Use} {w : Work}

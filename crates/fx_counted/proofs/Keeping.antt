@@ -7,6 +7,7 @@ use Rattle.fx_counted.proofs.Words.{slot_place, node_place, home_place, Shared, 
 use Rattle.fx_counted.proofs.Words.{first_log, logs_of, looks_of, held_of, Phase, IsInside, Stepped, Change, Log, View, Work, stepped, Act}
 use Rattle.fx_counted.proofs.Words.{Valid, carried_after, HasPass, held_by, held_in, PlacesNext, placing, next_in, end_in, spare, HasShape, Start}
 use Rattle.fx_counted.proofs.Words.{no_use, ◌▷◌}
+use Rattle.fx_counted.proofs.Words.{IsSeenBy, ◌*◌, chain_in}
 use mathlib.Core.Option as maybe
 use Rattle.fx_counted.proofs.Histories.{Grows, IsHistory, grows_none, grows_one, part_mine}
 use Rattle.fx_counted.proofs.Frames.{Stays, KeepsHeld, view_stays, not_there, views_after, of_one, total_same}
@@ -93,17 +94,10 @@ module _ (turn : Turn) where
       → PlacesNext v.start (logged x h' left looks_left) d
       → ((n : ℕ) → next_in v.start (logged x h' left looks_left) + placing d ≤ n → n < end_in v.start x → phase' n ≡ spare x.number)
       → LogAgrees v.start h' phase' d (logged x h' left looks_left)
-  log_now h' phase' left looks_left d fewer held next spares = let o = its_log in let a = o.few_left in let b = o.left_inside in record {
-    seen = ([], refl);
-    own = refl;
-    held = held;
-    chain = o.chain;
-    last = o.last;
-    few_left = omega arith;
-    left_inside = omega arith;
-    next = next;
-    spares = spares;
-  }
+  log_now h' phase' left looks_left d fewer held next spares = let o = its_log in let a = o.few_left in let b = o.left_inside in
+      let seen : IsSeenBy h' h' = ([], refl) in let few_left : left ≤ 64 = omega arith in
+      let left_inside : left ≤ v.start.numbers * chain_in x = omega arith in
+      assumption (o, seen, few_left, left_inside)
 
   module _ (y : Log) (d : Work) (c : Change) (h' : List Event) (phase' : ℕ → Phase) (words' : List ℕ) (homes' : Homes) where
     abbrev views' : List View
@@ -174,18 +168,8 @@ module _ (turn : Turn) where
       → Stepped (v, carried) actions used d c (now v (logged x h' left looks_left) d c, homes)
   tells carried homes h' left looks_left d c actions used grows legal own numbers looked inside = record {
     one = (logged x h' left looks_left, refl);
-    adds = rw one record {
-      seen = grows.seen x.front its_log.seen;
-      front = record { legal = legal; mine = refl };
-      own = own ∙ ap (λ (l : List Event). map (event_of (shown x v.work)) actions ++ l) its_log.own;
-      now = refl;
-      number = refl;
-      chain = refl;
-      drawn = refl;
-      no_chains_left = refl;
-      numbers_left = numbers;
-      looks_left = looked;
-    };
+    adds = rw one (assumption (grows.seen x.front its_log.seen,
+        own ∙ ap (λ (l : List Event). map (event_of (shown x v.work)) actions ++ l) its_log.own));
     work = refl;
     inside = inside;
     change = refl;
