@@ -5,7 +5,7 @@ use Rattle.fx_counted.proofs.Words.{ℕ_discrete, get_elem?, keeps, step, sum_by
 use Rattle.fx_counted.proofs.Words.{sum_at, sum_le_at, one_change, full_word_of, WorkAgrees, lengths, Agrees, in_change, added, removed_by}
 use Rattle.fx_counted.proofs.Words.{changes_of, added_of, removed_of, full_in, ControlCounts, word_of, control_place, draw_place, slot_place}
 use Rattle.fx_counted.proofs.Words.{opening_of, state_after_all, shown, IsInside, Stepped, GoesOn, Answers, Change, Outside, Same, Log, Start, View}
-use Rattle.fx_counted.proofs.Words.{Work, Idle, Phase, Shared, BeginsKeep, EndsKeep, AnswersKeep, Between}
+use Rattle.fx_counted.proofs.Words.{Work, Idle, Phase, Shared, all_looks, BeginsKeep, EndsKeep, AnswersKeep, Between}
 use Rattle.fx_counted.proofs.Steps.{IsHistory, grows_one, legal_more, held_mine, same_shape, Turn, turn_of, word_at, its_work, by_turn, went}
 use Rattle.fx_counted.proofs.Steps.{tells_none, tells_one, near, far}
 use Rattle.std.proofs.Common.{length-set}
@@ -105,14 +105,8 @@ module _ (turn : Turn) where
       each slot (omega arith) (omega arith)) tt
 
   told_full : ((slot : ℕ) → range.0 ≤ slot → slot < range.0 + range.1 → IsSome (at_now slot)) → Quiet turn (e ∷ r.history)
-  told_full each = record {
-    grows = grows_one x.number r.history e refl;
-    legal = full_legal each;
-    state = refl;
-    looked = refl;
-    all = omega arith;
-    held = held_mine x.number e r.history refl;
-  }
+  told_full each = let all : all_looks (e ∷ r.history) ≡ all_looks r.history = omega arith in
+      assumption (grows_one x.number r.history e refl, full_legal each, all, held_mine x.number e r.history refl)
 
   pub goes_on : (c : Change) (carried : List (ℕ × Option Closed)) → Stepped (v, carried) [] no_use v.work c (went turn r.history v.work c, carried)
   goes_on c carried = tells_none turn carried carried v.work c its_inside

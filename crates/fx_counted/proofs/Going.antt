@@ -51,17 +51,12 @@ module _ {id : TableId} {k : Start} {p : CountedPass} (q : CountedPass) (fits : 
       let g = ap (λ (x : Log). x.looks_left) old_is in omega arith
 
   seated_now : IsBetweenCalls w → HasOnePass k q.seat.me.0 new
-  seated_now rests = let s = fits.seated in record {
-    one = goes.one.1;
-    start = goes.start ∙ s.start;
-    front = subst (λ (z : Start). IsFront (opening_of z) (pass_of q.seat.me.0)) fits.seated.start goes.adds.front;
-    work = subst IsBetweenCalls (sym goes.work) rests;
-    inside = subst (λ (z : Start × Work). IsInside z.0 z.1) (λ i. (s.start i, sym goes.work i)) goes.inside;
-    change = goes.change;
-    chain = let e = same_chain in let l = s.chain in omega arith;
-    few_left = let e = numbers in let l = s.few_left in omega arith;
-    left_inside = let e = numbers in let f = ap (λ (c : ℕ). k.numbers * c) same_chain in let l = s.left_inside in omega arith;
-  }
+  seated_now rests = let s = fits.seated in let chains = s.chain in let few = s.few_left in let inside = s.left_inside in
+      let e = same_chain in let l = numbers in let f = ap (λ (c : ℕ). k.numbers * c) same_chain in
+      let chain : chain_in new ≤ k.chains = omega arith in let few_left : new.numbers_left ≤ 64 = omega arith in
+      let left_inside : new.numbers_left ≤ k.numbers * chain_in new = omega arith in
+      assumption (goes.one.1, goes.start ∙ s.start, rw fits.seated.start at goes.adds.front, subst IsBetweenCalls (sym goes.work) rests,
+      subst (λ (z : Start × Work). IsInside z.0 z.1) (λ i. (s.start i, sym goes.work i)) goes.inside, goes.change, chain, few_left, left_inside)
 
   -- a pass that knows what it has used up
   pub still_pass : q.seat.table_id ≡ p.seat.table_id → q.seat.me.1 ≡ [] → IsBetweenCalls w → q.chain ≡ p.chain
