@@ -1,7 +1,7 @@
 -- The files of the slots move to the places of a shared table.
-use Rattle.fx_counted.proofs.Words.{◌≡◌, ℕ, ◌<◌, ◌≤◌, List, [], ◌∷◌, ◌++◌, length, sym, refl, ap, ◌∙◌, subst, arith, length-append, Option, None}
+use Rattle.fx_counted.proofs.Words.{◌≡◌, ℕ, ◌<◌, ◌≤◌, List, [], ◌∷◌, ◌++◌, length, sym, ap, ◌∙◌, arith, length-append, Option, None}
 use Rattle.fx_counted.proofs.Words.{Result, dite, some, ℕ_discrete, get_elem?, at_longer, Closed, Contents, state_of, State, IsSettled, identity_of}
-use Rattle.fx_counted.proofs.Words.{File, HasSameFiles, IsGivenBack, AreFirstHomes, homes_for, IsShellOf, Ok, Err, OnOk, at_last, slots_in_order}
+use Rattle.fx_counted.proofs.Words.{File, HasSameFiles, IsGivenBack, IsShellOf, Ok, Err, OnOk, at_last, slots_in_order}
 use Rattle.fx_plain.specs.State.{opening}
 use Rattle.atomic_table.proofs.Lists.{at_index}
 use Rattle.std.proofs.lemmas.List.FromFn.{length-map-range_with_len, get_or-map-range_with_len}

@@ -1,13 +1,9 @@
 -- The words of a table as they are written, one slot after the other.
-use Rattle.fx_counted.proofs.Words.{◌≡◌, ◌≢◌, ℕ, zero, suc, ◌+◌, ◌-◌, ◌*◌, ◌<◌, ◌≤◌, List, length, set, replicate, sym, refl, ap}
-use Rattle.fx_counted.proofs.Words.{◌∙◌, arith, get_or-set_same, get_or-set_other, Option, Some, None, option_map, slice_index, dite, ℕ_discrete}
-use Rattle.fx_counted.proofs.Words.{State, file_numbered, File, born, slot_word_of, full_in, if_full, first_at, AreFirstWords, control_place}
-use Rattle.fx_counted.proofs.Words.{draw_place, slot_place, words_for, word_for, node_for, length-append, is_some, files_in_order}
-use Rattle.fx_counted.proofs.Words.{identities_of, length-replicate, control_word_of, subst}
-use lib.ListN.{length-set}
-use Rattle.fx_counted.proofs.Places.{low_node}
-use Rattle.fx_plain.proofs.Cells.{read_default}
-use Rattle.fx_table.proofs.Ones.{one_if}
+use Rattle.fx_counted.proofs.Words.{◌≡◌, ℕ, zero, suc, ◌+◌, ◌*◌, ◌<◌, ◌≤◌, List, length, refl, ap}
+use Rattle.fx_counted.proofs.Words.{arith, Option, Some, None, slice_index}
+use Rattle.fx_counted.proofs.Words.{State, file_numbered, File, full_in, if_full, first_at, control_place}
+use Rattle.fx_counted.proofs.Words.{draw_place, slot_place, words_for, word_for, node_for, length-append, files_in_order}
+use Rattle.fx_counted.proofs.Words.{identities_of, control_word_of}
 
 -- the words of the slots below this one are written so
 pub record AreWordsSoFar (st : State) (numbers done : ℕ) (words : List ℕ) : Type 0 where

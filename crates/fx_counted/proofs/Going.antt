@@ -15,8 +15,14 @@ pub goes_then : {m m' m'' : Sat} {xs ys : List Action} {a b : Use} {w w' : Work}
     → Goes m' ys b w' c' n' m'' → Goes m (xs ▷▷ ys) (both_uses a b) w' c' (n + n') m''
 goes_then {m} {m'} {m''} {xs} {ys} {a} {b} {w} {w'} {c} {c'} {n} {n'} g h =
     let steps : steps_of m''.0 ≤ steps_of m.0 + (n + n') = (let p = g.steps in let q = h.steps in omega arith) in
-    assumption (h, adds_then (opening_of m.0.start) (pass_of m.0) (pass_of m'.0) (pass_of m''.0) xs ys (doing_in w) (doing_in w') a b g.adds
-    (rw g.start at h.adds), rw g.start at h.inside, h.start ∙ g.start, steps)
+    assumption (
+      h,
+      adds_then (opening_of m.0.start) (pass_of m.0) (pass_of m'.0) (pass_of m''.0) xs ys (doing_in w) (doing_in w') a b g.adds
+          (rw g.start at h.adds),
+      rw g.start at h.inside,
+      h.start ∙ g.start,
+      steps,
+    )
 
 -- what the steps of a pass add to what callers see
 pub adds_so : {id : TableId} {k : Start} {p : CountedPass} (fits : IsPassOf id k p) {m' : Sat} {xs : List Action} {a : Use} {w : Work}
@@ -55,8 +61,17 @@ module _ {id : TableId} {k : Start} {p : CountedPass} (q : CountedPass) (fits : 
       let e = same_chain in let l = numbers in let f = ap (λ (c : ℕ). k.numbers * c) same_chain in
       let chain : chain_in new ≤ k.chains = omega arith in let few_left : new.numbers_left ≤ 64 = omega arith in
       let left_inside : new.numbers_left ≤ k.numbers * chain_in new = omega arith in
-      assumption (goes.one.1, goes.start ∙ s.start, rw fits.seated.start at goes.adds.front, subst IsBetweenCalls (sym goes.work) rests,
-      subst (λ (z : Start × Work). IsInside z.0 z.1) (λ i. (s.start i, sym goes.work i)) goes.inside, goes.change, chain, few_left, left_inside)
+      assumption (
+        goes.one.1,
+        goes.start ∙ s.start,
+        rw fits.seated.start at goes.adds.front,
+        subst IsBetweenCalls (sym goes.work) rests,
+        subst (λ (z : Start × Work). IsInside z.0 z.1) (λ i. (s.start i, sym goes.work i)) goes.inside,
+        goes.change,
+        chain,
+        few_left,
+        left_inside,
+      )
 
   -- a pass that knows what it has used up
   pub still_pass : q.seat.table_id ≡ p.seat.table_id → q.seat.me.1 ≡ [] → IsBetweenCalls w → q.chain ≡ p.chain

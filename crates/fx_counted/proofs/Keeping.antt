@@ -168,8 +168,10 @@ module _ (turn : Turn) where
       → Stepped (v, carried) actions used d c (now v (logged x h' left looks_left) d c, homes)
   tells carried homes h' left looks_left d c actions used grows legal own numbers looked inside = record {
     one = (logged x h' left looks_left, refl);
-    adds = rw one (assumption (grows.seen x.front its_log.seen,
-        own ∙ ap (λ (l : List Event). map (event_of (shown x v.work)) actions ++ l) its_log.own));
+    adds = rw one (assumption (
+      grows.seen x.front its_log.seen,
+      own ∙ ap (λ (l : List Event). map (event_of (shown x v.work)) actions ++ l) its_log.own,
+    ));
     work = refl;
     inside = inside;
     change = refl;

@@ -1,7 +1,7 @@
 -- Files leave a table of one thread, and come back.
-use Rattle.fx_counted.proofs.Words.{◌≡◌, ◌≢◌, ℕ, ◌+◌, ◌<◌, ◌≤◌, sym, refl, ap, ◌∙◌, subst, arith, ◌⊎◌, inl, inr, ⊎_elim, Option, Some, None, dite}
+use Rattle.fx_counted.proofs.Words.{◌≡◌, ◌≢◌, ℕ, ◌+◌, ◌<◌, ◌≤◌, sym, refl, ap, ◌∙◌, arith, ◌⊎◌, inl, inr, ⊎_elim, Option, Some, None, dite}
 use Rattle.fx_counted.proofs.Words.{ℕ_discrete, dec_le, Closed, State, IsSettled, Contents, state_of, file_at, changed_at, numbered, identity_of}
-use Rattle.fx_counted.proofs.Words.{AreBack, IsShell}
+use Rattle.fx_counted.proofs.Words.{AreBack}
 use Rattle.std.proofs.Math.ListN.{get_or-eq_default}
 use Rattle.fx_plain.proofs.Cells.{changed_here, changed_else}
 

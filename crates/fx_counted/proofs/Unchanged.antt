@@ -1,6 +1,6 @@
 -- What a step leaves as it was: slots, numbers, the control word and the draw word.
-use Rattle.fx_counted.proofs.Words.{sum_by, ◌≡◌, ℕ, ◌/◌, ◌%◌, ◌≤◌, List, [], ◌∷◌, set, sym, refl, ap, ◌∙◌, subst, arith, Option, Some, None}
-use Rattle.fx_counted.proofs.Words.{some, get_elem?, Closed, State, numbered, File, Event, sum_set, Names, SlotAgrees, Home, NodeAgrees, in_change}
+use Rattle.fx_counted.proofs.Words.{sum_by, ◌≡◌, ℕ, ◌/◌, ◌%◌, ◌≤◌, List, [], ◌∷◌, set, sym, refl, ap, ◌∙◌, arith, Option, Some, None}
+use Rattle.fx_counted.proofs.Words.{some, get_elem?, Closed, State, numbered, File, Event, sum_set, SlotAgrees, Home, NodeAgrees, in_change}
 use Rattle.fx_counted.proofs.Words.{added, removed_by, changes_of, added_of, removed_of, full_in, ControlCounts, looks, all_looks, DrawsCount}
 use Rattle.fx_counted.proofs.Words.{state_after_all, told_of, Phase, unborn, seated, leaving, retired, emptied, closed, Log, Start, View}
 use Rattle.fx_counted.proofs.Words.{takes_in, born, ◌<◌, ◌+◌}
@@ -45,8 +45,14 @@ module _ (st st' : State) (n l l' word word' : ℕ) (home home' : Home) (fresh :
       assumption (worded ∙ (o.counts ∙ sym holds), homed ∙ o.at_home, some_hold, removed ∙ o.removed)
   node_same (emptied j) at o = gone_same o
   node_same closed at o = gone_same o
-  node_same _ at o = assumption (worded ∙ o.counts, homed ∙ o.at_home, fresh ∙ o.fresh, looked ∙ o.no_looks, holds ∙ o.no_holds,
-      removed ∙ o.not_removed)
+  node_same _ at o = assumption (
+    worded ∙ o.counts,
+    homed ∙ o.at_home,
+    fresh ∙ o.fresh,
+    looked ∙ o.no_looks,
+    holds ∙ o.no_holds,
+    removed ∙ o.not_removed,
+  )
 
 module _ (views : List View) (id : ℕ) (v w : View) (here : get_elem? views id ≡ some v) where
   -- the control word, where no slot of the range and no change does

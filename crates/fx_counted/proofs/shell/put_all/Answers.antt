@@ -1,8 +1,8 @@
-use Rattle.fx_counted.proofs.Words.{◌≡◌, ◌<◌, ◌≤◌, ◌+◌, ℕ, length, List, [], ◌∷◌, ◌++◌, refl, sym, ap, ◌∙◌, subst, arith, length-append, Option, Some}
-use Rattle.fx_counted.proofs.Words.{None, dite, dec_le, Closed, state_of, file_in_place, State, get_or_append_left}
+use Rattle.fx_counted.proofs.Words.{◌≡◌, ◌<◌, ◌+◌, ℕ, length, List, [], ◌∷◌, ◌++◌, refl, sym, ap, ◌∙◌, arith, length-append, Option}
+use Rattle.fx_counted.proofs.Words.{None, Closed, state_of, file_in_place, get_or_append_left}
 use Rattle.fx_counted.proofs.shell.put_all.Goals as goal
 use Rattle.std.proofs.lemmas.List.{get_or_push}
-use Rattle.fx_counted.proofs.Shells.{IsPartlyBack, Becomes, file_put, last_back}
+use Rattle.fx_counted.proofs.Shells.{file_put, last_back}
 
 -- what was in the last place
 module _ (all xs ys : List (Option Closed)) (x : Option Closed) (split : xs ≡ ys ++ x ∷ [])

@@ -1,4 +1,4 @@
-use Rattle.fx_counted.proofs.Words.{Start, ◌+◌, ℕ, Some, ap, refl, sym, ◌∙◌, arith}
+use Rattle.fx_counted.proofs.Words.{refl, sym, ◌∙◌, arith}
 use Rattle.fx_counted.proofs.Chains.{draws_keep}
 use Rattle.fx_counted.proofs.Going.{its_pass, work_between}
 use Rattle.fx_counted.proofs.table.CountedTable.draw.Goals as goal

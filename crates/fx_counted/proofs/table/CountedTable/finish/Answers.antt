@@ -1,10 +1,10 @@
-use Rattle.fx_counted.proofs.Words.{◌≡◌, ◌+◌, ◌*◌, ℕ, List, sym, ap, ◌∙◌, subst, arith, Option, Some, None, some, some-injective, get_elem?}
-use Rattle.fx_counted.proofs.Words.{slots_items, slots_len, IsFull, Closed, Contents, IsPrepared, state_of, node_in, slot_place}
+use Rattle.fx_counted.proofs.Words.{◌≡◌, ◌*◌, ℕ, List, sym, ap, ◌∙◌, arith, Option, Some, None, some, some-injective, get_elem?}
+use Rattle.fx_counted.proofs.Words.{slots_items, Closed, state_of, node_in, slot_place}
 use Rattle.fx_counted.proofs.table.CountedTable.finish.Goals as goal
 use Rattle.fx_counted.proofs.Finishing.{home_at_end, known_at_end, leaves_at_end, some_back, none_back, none_named, place_emptied, none_emptied}
 use Rattle.fx_counted.proofs.Frames.{read_at}
-use Rattle.fx_counted.proofs.HomeComing.{number_at, file_at, emptied, all_gone}
-use Rattle.fx_counted.proofs.Shells.{IsPartlyBack, all_back, file_put}
+use Rattle.fx_counted.proofs.HomeComing.{number_at, emptied, all_gone}
+use Rattle.fx_counted.proofs.Shells.{all_back, file_put}
 use Rattle.fx_counted.proofs.table.CountedTable.finish.Goals.{in-Some+in-Some-take_home, in-Some+in_default-take_home, in_default}
 
 -- what a slot's word names
@@ -66,7 +66,9 @@ loop-slot-preserved c =
             took.words ∙ i.words,
           ))
       | in_default w ↦ let is = named None w.in_default.ensures in rw (w.shell-is, w.closed-is) (assumption (
-          none_named home c.loop-slot-test.true i.items i.part is, none_emptied home c.loop-slot-test.true i.items i.part is))
+        none_named home c.loop-slot-test.true i.items i.part is,
+        none_emptied home c.loop-slot-test.true i.items i.part is,
+      ))
     ]
 
 pub unreachable-requires : goal.unreachable-requires

@@ -1,6 +1,6 @@
 use Rattle.fx_counted.proofs.Words.{◌≡◌, ◌⊎◌, sym, ap, ◌∙◌, ◌∷◌, subst, Some, None, rest, HasPass, Sat, View, Placing, Emptying}
 use Rattle.fx_counted.proofs.Births.{rests_keep}
-use Rattle.fx_counted.proofs.Calling.{has_node, node_inside, node_is_at, home_is_at}
+use Rattle.fx_counted.proofs.Calling.{node_inside, node_is_at, home_is_at}
 use Rattle.fx_counted.proofs.table.CountedTable.take_out.Goals as goal
 
 pub exchange-requires : goal.exchange-requires
