@@ -1,4 +1,4 @@
-use Rattle.fx_counted.proofs.Words.{rules, ◌≡◌, ◌<◌, ◌^◌, ◌∙◌, None, node_in}
+use Rattle.fx_counted.proofs.Words.{arith, rules, ◌≡◌, ◌<◌, ◌^◌, ◌∙◌, None, node_in}
 use Rattle.fx_counted.proofs.Calling.{in_size, slot_inside, slot_at}
 use Rattle.fx_counted.proofs.Naming.{no_name}
 use Rattle.fx_counted.proofs.Searching.{exchange_tried}
@@ -27,7 +27,7 @@ compare_exchange-requires c =
     let p = c.requires.placing in
     let loaded = c.load-found.ensures.2 in
     let s = loaded.stepped in
-    let small : c.args.file.entry < 2 ^ 8 = search rules in
+    let small : c.args.file.entry < 2 ^ 8 = omega arith in
     let empty : node_in c.load-found.result ≡ None = search rules in (
       c.load-found.ensures.0 ∙ c.requires.table,
       slot_inside t slot i (in_size t slot c.requires.range) place,
