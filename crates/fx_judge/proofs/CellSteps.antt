@@ -1,21 +1,19 @@
 -- A claim of an access may be made where the access may, and leaves the same files.
 use Rattle.fx_judge.proofs.Words.{◌≡◌, ℕ, ◌&&◌, ◌||◌, not, Bool, true, false, List, [], ◌∷◌, refl, sym, ap, subst, ◌∙◌, All, Contains, Option, Some}
-use Rattle.fx_judge.proofs.Words.{◌⊎◌, inl, inr, None, IsSome, IsTrue, if◌then◌else◌, is_some, slice_index_or, list_all, All-head, All-tail, All-map}
+use Rattle.fx_judge.proofs.Words.{◌⊎◌, inl, inr, map, None, IsSome, IsTrue, if◌then◌else◌, is_some, slice_index_or, list_all, All-head, All-tail, All-map}
 use Rattle.fx_judge.proofs.Words.{All-weaker, Closed, changed_at, by_equality, unchanged, Table, IsInRange, Permits, table_with, removed_by, Access}
-use Rattle.fx_judge.proofs.Words.{Looks, Puts, Clears, Takes, Allocates, FindsFull, Fits, IsLeft, IsResident, Wanted, touched, found_by, left_by}
+use Rattle.fx_judge.proofs.Words.{Looks, Allocates, FindsFull, Fits, IsLeft, Wanted, touched, found_by, left_by}
 use Rattle.fx_judge.proofs.Words.{allows, cell_at, cells_after, cell_with, suits, may_leave, is_same, is_taken, IsCell, ShowsFile, has_slot, Cell}
 use Rattle.fx_judge.proofs.Words.{Claim, At, Full, Wants, Anything, Nothing, NothingToTake, Something, Bytes, Leaves, Same, Empty, File, Resident}
 use Rattle.fx_order.proofs.Placed.{same_size}
+use Rattle.fx_plain.proofs.Cells.{changed_else, changed_here}
 use Rattle.std.proofs.lemmas.Option.{same_Some}
 
 -- what a permitted access found is at its slot
 pub found_at : (table : Table) (a : Access) (slot : ℕ) → touched a ≡ Some slot → Permits table a → found_by a ≡ table.at slot
-found_at table (Looks s found) slot is may = may.1 ∙ ap table.at (same_Some s slot is)
-found_at table (Puts s file removed) slot is may = may.1 ∙ ap table.at (same_Some s slot is)
-found_at table (Clears s removed) slot is may = may.1 ∙ ap table.at (same_Some s slot is)
-found_at table (Takes s removed) slot is may = may.1 ∙ ap table.at (same_Some s slot is)
 found_at table (Allocates s file) slot is may = may.0.1 ∙ ap table.at (same_Some s slot is)
 found_at table FindsFull slot is may = absurd (cc)
+found_at table a slot is may = may.1 ∙ ap table.at (same_Some _ slot is)
 
 pub some_or_none : {X : Type 0} (x : Option X) → ((y : X) × (x ≡ Some y)) ⊎ (x ≡ None)
 some_or_none None = inr refl
@@ -25,11 +23,14 @@ some_or_none (Some y) = inl (y, refl)
 pub at_after : (table : Table) (a : Access) (slot : ℕ) → touched a ≡ Some slot → Permits table a
     → (table_with table a).at ≡ changed_at table.at slot (left_by a)
 at_after table (Looks s found) slot is may = sym (unchanged table.at slot found (found_at table (Looks s found) slot is may))
-at_after table (Puts s file removed) slot is may = ap (λ (k : ℕ). changed_at table.at k (Some file)) (same_Some s slot is)
-at_after table (Clears s removed) slot is may = ap (λ (k : ℕ). changed_at table.at k None) (same_Some s slot is)
-at_after table (Takes s removed) slot is may = ap (λ (k : ℕ). changed_at table.at k None) (same_Some s slot is)
-at_after table (Allocates s file) slot is may = ap (λ (k : ℕ). changed_at table.at k (Some file)) (same_Some s slot is)
 at_after table FindsFull slot is may = absurd (cc)
+at_after table a slot is may = ap (λ (k : ℕ). changed_at table.at k (left_by a)) (same_Some _ slot is)
+
+-- an access that is of no slot leaves them
+pub untouched : (table : Table) (a : Access) → touched a ≡ None → (table_with table a).at ≡ table.at
+untouched table (Looks s found) is = refl
+untouched table FindsFull is = refl
+untouched table a is = absurd (cc)
 
 pub same_range : (table : Table) (a : Access) → (table_with table a).range ≡ table.range
 same_range table (Looks s found) = refl
@@ -123,15 +124,9 @@ module _ (closes : List Closed) where
     kept_cell slot file cell is shows cells_now =
         by_equality cell.slot slot (λ b. IsCell (table_with table a) closes (if b then record cell { file = file } else cell))
         (λ same. moved table closes a cell file cells_now (subst (λ (x : Option Closed). ShowsFile closes x file)
-        (sym (ap (λ (at : ℕ → Option Closed). at cell.slot) (at_after table a slot is may) ∙ at_changed cell.slot same)) shows))
+        (sym (ap (λ (at : ℕ → Option Closed). at cell.slot) (at_after table a slot is may) ∙ changed_here table.at slot (left_by a) cell.slot same)) shows))
         (λ other. moved table closes a cell cell.file cells_now (subst (λ (x : Option Closed). ShowsFile closes x cell.file)
-        (sym (ap (λ (at : ℕ → Option Closed). at cell.slot) (at_after table a slot is may) ∙ at_others cell.slot other)) cells_now.shows))
-      where
-        at_changed : (k : ℕ) → k ≡ slot → changed_at table.at slot (left_by a) k ≡ left_by a
-        at_changed k same = by_equality k slot (λ b. (if b then left_by a else table.at k) ≡ left_by a) (λ _. refl) (λ other. absurd (other same))
-
-        at_others : (k : ℕ) → (k ≡ slot → ⊥) → changed_at table.at slot (left_by a) k ≡ table.at k
-        at_others k other = by_equality k slot (λ b. (if b then left_by a else table.at k) ≡ table.at k) (λ same. absurd (other same)) (λ _. refl)
+        (sym (ap (λ (at : ℕ → Option Closed). at cell.slot) (at_after table a slot is may) ∙ changed_else table.at slot (left_by a) cell.slot other)) cells_now.shows))
 
     -- a cell whose file stays as it is
     same_cell : (slot : ℕ) (cell : Cell) → touched a ≡ Some slot → left_by a ≡ found_by a → IsCell table closes cell → IsCell (table_with table a) closes cell
@@ -141,21 +136,18 @@ module _ (closes : List Closed) where
         moved table closes a cell cell.file cells_now
         (subst (λ (f : ℕ → Option Closed). ShowsFile closes (f cell.slot) cell.file) (sym at) cells_now.shows)
 
-    shows_none : left_by a ≡ None → ShowsFile closes (left_by a) None
-    shows_none is = subst (λ (x : Option Closed). ShowsFile closes x None) (sym is) tt
-
-    shows_some : (resident : Resident) (file : Closed) → left_by a ≡ Some file → IsResident closes file resident → ShowsFile closes (left_by a) (Some resident)
-    shows_some resident file is same = subst (λ (x : Option Closed). ShowsFile closes x (Some resident)) (sym is) same
+    all_kept : (slot : ℕ) (file : Option Resident) → touched a ≡ Some slot → ShowsFile closes (left_by a) file
+        → All (IsCell (table_with table a) closes) (map (cell_with slot file) cells)
+    all_kept slot file is shows =
+        All-map (IsCell (table_with table a) closes) (cell_with slot file) cells
+        (All-weaker (IsCell table closes) (λ cell. IsCell (table_with table a) closes (cell_with slot file cell))
+        (λ cell now. kept_cell slot file cell is shows now) cells all)
 
     pub cells_follow : (claim : Claim) → Fits closes claim a → All (IsCell (table_with table a) closes) (cells_after cells claim)
     cells_follow (At slot wants Same) fits =
         All-weaker (IsCell table closes) (IsCell (table_with table a) closes) (λ cell now. same_cell slot cell fits.0 fits.2 now) cells all
     cells_follow (At slot wants Empty) fits =
-        All-map (IsCell (table_with table a) closes) (cell_with slot None) cells
-        (All-weaker (IsCell table closes) (λ cell. IsCell (table_with table a) closes (cell_with slot None cell))
-        (λ cell now. kept_cell slot None cell fits.0 (shows_none fits.2.1) now) cells all)
+        all_kept slot None fits.0 (subst (λ (x : Option Closed). ShowsFile closes x None) (sym fits.2.1) tt)
     cells_follow (At slot wants (File resident)) fits =
-        All-map (IsCell (table_with table a) closes) (cell_with slot (Some resident)) cells
-        (All-weaker (IsCell table closes) (λ cell. IsCell (table_with table a) closes (cell_with slot (Some resident) cell))
-        (λ cell now. kept_cell slot (Some resident) cell fits.0 (shows_some resident fits.2.1.0 fits.2.1.1 fits.2.1.2) now) cells all)
+        all_kept slot (Some resident) fits.0 (subst (λ (x : Option Closed). ShowsFile closes x (Some resident)) (sym fits.2.1.1) fits.2.1.2)
     cells_follow Full fits = subst (λ (x : Access). All (IsCell (table_with table x) closes) cells) (sym fits) all

@@ -1,5 +1,6 @@
 pub mod Words
 pub mod Telling
+pub mod OfChain
 pub mod Unknown
 pub mod RequestClaims
 pub mod CellSteps

@@ -1,9 +1,7 @@
-use Rattle.fx_judge.proofs.Words.{length, subst, List, table_of_slots, HasNoEnd, starting, Strand}
-use Rattle.fx_judge.proofs.Projected.{projected}
+use Rattle.fx_judge.proofs.Projected.{no_order}
 use Rattle.fx_judge.proofs.part.judge_part.Goals as goal
 
 pub returns-in-NoEnd : goal.returns-in-NoEnd
-returns-in-NoEnd c = λ order played told.
-    projected (table_of_slots c.args.table.now.slots.now) c.args.table.now.closes.now (length c.args.table.now.chains.now) order c.in_ok-strands.strands.items c.args.cells.now
-    c.requires.cells (c.in_ok-strands.ensures c.args.table.now.closes.now order told) played
-    (subst (λ (l : List Strand). HasNoEnd l (starting l c.args.cells.now)) c.deref-in-NoEnd.ensures.value (c.in_ok-shows_no_end-in-NoEnd.ensures c.if-not-branch.false))
+returns-in-NoEnd c =
+    no_order c.args.table.now.slots.now c.args.table.now.closes.now c.args.table.now.chains.now c.args.cells.now c.in_ok-strands.strands.items _
+    c.requires.cells c.in_ok-strands.ensures c.deref-in-NoEnd.ensures.value (c.in_ok-shows_no_end-in-NoEnd.ensures c.if-not-branch.false)
