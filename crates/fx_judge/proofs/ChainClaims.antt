@@ -1,11 +1,11 @@
 -- The claims of a chain, from those of its first member and of the others.
-use Rattle.fx_judge.proofs.Words.{◌≡◌, ℕ, suc, ◌+◌, ◌≤◌, Bool, true, false, List, [], ◌∷◌, ◌++◌, length, drop, arith, append_assoc, refl, sym, ap}
-use Rattle.fx_judge.proofs.Words.{subst, ◌∙◌, Ok, Err, append-nil, MatchBool, Vec, AllZip, AllByRecursion, FileEntry, Closed, ECANCELED, Completed}
+use Rattle.fx_judge.proofs.Words.{◌≡◌, ℕ, suc, ◌+◌, ◌≤◌, Bool, true, false, List, [], ◌∷◌, ◌++◌, length, drop, arith, refl, sym}
+use Rattle.fx_judge.proofs.Words.{subst, Ok, Err, MatchBool, Vec, AllZip, AllByRecursion, FileEntry, Closed, ECANCELED, Completed}
 use Rattle.fx_judge.proofs.Words.{next_member, refusal, canceled, severs, Asked, Place, IsRequestDone, IsChainDone, Access, Fits, IsPossible}
 use Rattle.fx_judge.proofs.Words.{Possibly, Tells, TellsMember, MemberClaims, Claim, Stop, Refuted}
 use Rattle.std.proofs.lemmas.List.{drop_all}
 use Rattle.fx_order.proofs.ChainFront.{both_parts}
-use Rattle.fx_judge.proofs.Entries.{all_zip_append}
+use Rattle.fx_judge.proofs.Entries.{Parted, parted_all, parted_first, parted_more}
 
 module _ (catalogue : List FileEntry) (size : ℕ) (range : ℕ × ℕ) (closes : List Closed) (place : Place) (request : Asked) (requests : List Asked)
     (c : Completed) (cs : List Completed) where
@@ -35,10 +35,8 @@ module _ (catalogue : List FileEntry) (size : ℕ) (range : ℕ × ℕ) (closes 
         whole = whole;
         first = (parts.0, subst (λ (x : Completed). IsRequestDone catalogue size place request.operation own x) head done);
         possible = parts.1;
-        behind = subst (λ (x : Completed). MatchBool (severs request x) ((others ≡ []) × (cs ≡ canceled (next_member place) requests))
-            (IsChainDone catalogue size (next_member place) requests others cs)) head
-            (subst (λ (l : List Completed). MatchBool (severs request d) ((others ≡ []) × (l ≡ canceled (next_member place) requests))
-            (IsChainDone catalogue size (next_member place) requests others l)) tail behind);
+        behind = subst (λ (z : Completed × List Completed). MatchBool (severs request z.0) ((others ≡ []) × (z.1 ≡ canceled (next_member place) requests))
+            (IsChainDone catalogue size (next_member place) requests others z.1)) (λ t. (head t, tail t)) behind;
       }
 
 -- the place of a member, from that of the first one
@@ -50,43 +48,26 @@ abbrev pub IsLeftOver : List FileEntry → ℕ → Place → Bool → List Asked
 IsLeftOver catalogue size place cut requests accesses cs =
     MatchBool cut ((accesses ≡ []) × (cs ≡ canceled place requests)) (IsChainDone catalogue size place requests accesses cs)
 
--- the accesses that these claims tell of, and those of the members that are left
-pub record Begun (catalogue : List FileEntry) (size : ℕ) (range : ℕ × ℕ) (closes : List Closed) (place : Place) (requests : List Asked) (cs : List Completed)
-    (i : ℕ) (cut : Bool) (claims : List Claim) (accesses : List Access) : Type 0 where
-  pub own : List Access
-  pub others : List Access
-  pub whole : accesses ≡ own ++ others
-  pub told : AllZip (Fits closes) claims own
-  pub possible : AllByRecursion (IsPossible size range) others
-  pub left : IsLeftOver catalogue size (member_at place i) cut (drop i requests) others (drop i cs)
-
+-- the accesses of the chain are those that these claims tell of, and those of the members that are left
 pub record ChainTold (catalogue : List FileEntry) (size : ℕ) (range : ℕ × ℕ) (closes : List Closed) (place : Place) (requests : List Asked)
     (cs : List Completed) (i : ℕ) (cut : Bool) (claims : List Claim) : Type 0 where
   pub each : (accesses : List Access) → Possibly size range (λ own. IsChainDone catalogue size place requests own cs) accesses
-      → Begun catalogue size range closes place requests cs i cut claims accesses
+      → Parted closes claims (Possibly size range (λ others. IsLeftOver catalogue size (member_at place i) cut (drop i requests) others (drop i cs))) accesses
 
 module _ (catalogue : List FileEntry) (size : ℕ) (range : ℕ × ℕ) (closes : List Closed) (place : Place) (requests : List Asked) (cs : List Completed) where
   pub nothing_told : ChainTold catalogue size range closes place requests cs 0 false []
   nothing_told = record {
-    each = λ accesses done. record {
-      own = [];
-      others = accesses;
-      whole = refl;
-      told = tt;
-      possible = done.0;
-      left = subst (λ (p : Place). IsChainDone catalogue size p requests accesses cs) first done.1;
-    };
+    each = λ accesses done.
+        let first : place.member ≡ place.member + 0 = omega arith in
+        parted_first closes _ accesses
+        (done.0, subst (λ (p : Place). IsChainDone catalogue size p requests accesses cs) (λ j. record place { member = first j }) done.1);
   }
-    where
-      first : place ≡ member_at place 0
-      first = λ j. record place { member = (let same : place.member ≡ place.member + 0 = omega arith in same) j }
 
   pub all_told : (i : ℕ) (cut : Bool) (claims : List Claim) → length requests ≤ i → ChainTold catalogue size range closes place requests cs i cut claims
       → (accesses : List Access) → Possibly size range (λ own. IsChainDone catalogue size place requests own cs) accesses → AllZip (Fits closes) claims accesses
   all_told i cut claims all t accesses done =
       let b = t.each accesses done in
-      let none : b.others ≡ [] = nothing cut (member_at place i) (drop i requests) b.others (drop i cs) (drop_all i requests all) b.left in
-      subst (AllZip (Fits closes) claims) (sym (b.whole ∙ (ap (λ (l : List Access). b.own ++ l) none ∙ append-nil b.own))) b.told
+      parted_all closes claims _ accesses b (nothing cut (member_at place i) (drop i requests) b.others (drop i cs) (drop_all i requests all) b.left.1)
     where
       nothing : (d : Bool) (p : Place) (l : List Asked) (others : List Access) (ds : List Completed) → l ≡ [] → IsLeftOver catalogue size p d l others ds → others ≡ []
       nothing true p l others ds is left = left.0
@@ -94,77 +75,60 @@ module _ (catalogue : List FileEntry) (size : ℕ) (range : ℕ × ℕ) (closes 
 
   module _ (i : ℕ) (claims : List Claim) (request : Asked) (c : Completed)
       (requests_are : drop i requests ≡ request ∷ drop (suc i) requests) (cs_are : drop i cs ≡ c ∷ drop (suc i) cs) where
-    next_place : next_member (member_at place i) ≡ member_at place (i + 1)
-    next_place = λ j. record place { member = (let same : place.member + i + 1 ≡ place.member + (i + 1) = omega arith in same) j }
-
-    one_up : suc i ≡ i + 1
-    one_up = omega arith
-
     -- the members that are left, from the next one on
     moved : (cut : Bool) (others : List Access)
         → IsLeftOver catalogue size (next_member (member_at place i)) cut (drop (suc i) requests) others (drop (suc i) cs)
         → IsLeftOver catalogue size (member_at place (i + 1)) cut (drop (i + 1) requests) others (drop (i + 1) cs)
     moved cut others left =
-        subst (λ (p : Place). IsLeftOver catalogue size p cut (drop (i + 1) requests) others (drop (i + 1) cs)) next_place
-        (subst (λ (n : ℕ). IsLeftOver catalogue size (next_member (member_at place i)) cut (drop n requests) others (drop n cs)) one_up left)
+        let member : place.member + i + 1 ≡ place.member + (i + 1) = omega arith in
+        let up : suc i ≡ i + 1 = omega arith in
+        subst (λ (z : ℕ × ℕ). IsLeftOver catalogue size (record place { member = z.0 }) cut (drop z.1 requests) others (drop z.1 cs))
+        (λ t. (member t, up t)) left
 
     here : (cut : Bool) (others : List Access) → IsLeftOver catalogue size (member_at place i) cut (drop i requests) others (drop i cs)
         → IsLeftOver catalogue size (member_at place i) cut (request ∷ drop (suc i) requests) others (c ∷ drop (suc i) cs)
     here cut others left =
-        subst (λ (l : List Completed). IsLeftOver catalogue size (member_at place i) cut (request ∷ drop (suc i) requests) others l) cs_are
-        (subst (λ (l : List Asked). IsLeftOver catalogue size (member_at place i) cut l others (drop i cs)) requests_are left)
+        subst (λ (z : List Asked × List Completed). IsLeftOver catalogue size (member_at place i) cut z.0 others z.1) (λ t. (requests_are t, cs_are t)) left
 
     -- a member that was canceled
-    pub canceled_one : ChainTold catalogue size range closes place requests cs i true claims → (own : List Claim) → own ≡ []
+    canceled_one : ChainTold catalogue size range closes place requests cs i true claims → (own : List Claim) → own ≡ []
         → ChainTold catalogue size range closes place requests cs (i + 1) true (claims ++ own)
     canceled_one t own none = record {
       each = λ accesses done.
           let b = t.each accesses done in
-          let left = here true b.others b.left in
+          let left = here true b.others b.left.1 in
           let tail : drop (suc i) cs ≡ canceled (next_member (member_at place i)) (drop (suc i) requests) = cc (left.1) in
-          record {
-            own = b.own;
-            others = b.others;
-            whole = b.whole;
-            told = subst (λ (l : List Claim). AllZip (Fits closes) l b.own) (sym (ap (λ (l : List Claim). claims ++ l) none ∙ append-nil claims)) b.told;
-            possible = b.possible;
-            left = moved true b.others (left.0, tail);
-          };
+          parted_more closes claims own _ _ accesses [] b.others b refl (subst (λ (l : List Claim). AllZip (Fits closes) l []) (sym none) tt)
+          (b.left.0, moved true b.others (left.0, tail));
     }
 
-    pub never_canceled : ChainTold catalogue size range closes place requests cs i true claims → (c ≡ refusal (member_at place i) ECANCELED → ⊥)
+    never_canceled : ChainTold catalogue size range closes place requests cs i true claims → (c ≡ refusal (member_at place i) ECANCELED → ⊥)
         → (accesses : List Access) → Possibly size range (λ own. IsChainDone catalogue size place requests own cs) accesses → ⊥
     never_canceled t other accesses done =
         let b = t.each accesses done in
-        let left = here true b.others b.left in
+        let left = here true b.others b.left.1 in
         other (cc (left.1))
 
     -- a member that was done
-    pub done_one : ChainTold catalogue size range closes place requests cs i false claims → (own : Vec Claim)
+    done_one : ChainTold catalogue size range closes place requests cs i false claims → (own : Vec Claim)
         → Tells (Possibly size range (λ a. IsRequestDone catalogue size (member_at place i) request.operation a c)) closes (Ok own)
         → ChainTold catalogue size range closes place requests cs (i + 1) (severs request c) (claims ++ own.items)
     done_one t own tells = record {
       each = λ accesses done.
           let b = t.each accesses done in
           let m = members catalogue size range closes (member_at place i) request (drop (suc i) requests) c (drop (suc i) cs) b.others
-          (b.possible, here false b.others b.left) in
-          record {
-            own = b.own ++ m.own;
-            others = m.others;
-            whole = b.whole ∙ (ap (λ (l : List Access). b.own ++ l) m.whole ∙ sym (append_assoc b.own m.own m.others));
-            told = all_zip_append (Fits closes) claims own.items b.own m.own b.told (tells m.own m.first);
-            possible = m.possible;
-            left = moved (severs request c) m.others m.behind;
-          };
+          (b.left.0, here false b.others b.left.1) in
+          parted_more closes claims own.items _ _ accesses m.own m.others b m.whole (tells m.own m.first)
+          (m.possible, moved (severs request c) m.others m.behind);
     }
 
-    pub never_done : ChainTold catalogue size range closes place requests cs i false claims
+    never_done : ChainTold catalogue size range closes place requests cs i false claims
         → ((a : List Access) → Possibly size range (λ own. IsRequestDone catalogue size (member_at place i) request.operation own c) a → ⊥)
         → (accesses : List Access) → Possibly size range (λ own. IsChainDone catalogue size place requests own cs) accesses → ⊥
     never_done t none accesses done =
         let b = t.each accesses done in
         let m = members catalogue size range closes (member_at place i) request (drop (suc i) requests) c (drop (suc i) cs) b.others
-        (b.possible, here false b.others b.left) in
+        (b.left.0, here false b.others b.left.1) in
         none m.own m.first
 
     -- the member's claims, whether or not the chain was severed in front of it

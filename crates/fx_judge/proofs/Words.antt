@@ -1,9 +1,8 @@
 -- The names that most proofs of this crate use.
 pub use Rattle.fx_base.specs.AddFault.{has_name}
 pub use Rattle.fx_base.specs.Catalogue.{FileEntry, name_at}
-pub use Rattle.fx_base.specs.CloseList.{IsInOrderOfMark}
 pub use Rattle.fx_base.specs.declared.errno.Errno.{Errno}
-pub use Rattle.fx_base.specs.declared.errno.Errno.TheVariants.{EAGAIN, EBADF, EBUSY, ECANCELED, EINVAL, EMFILE, ENFILE, ENOENT, ENOMEM, ENXIO}
+pub use Rattle.fx_base.specs.declared.errno.Errno.TheVariants.{EBADF, ECANCELED, ENFILE, ENOENT, ENOMEM}
 pub use Rattle.fx_base.specs.declared.open_file.Closed.{Closed}
 pub use Rattle.fx_chain.proofs.EntryKinds.{minus_one, unsigned}
 pub use Rattle.fx_chain.specs.Accepted.{IsAccepted, members_of}
@@ -25,7 +24,7 @@ pub use Rattle.fx_search.specs.Machine.{may_leave, may_stay, next, suits}
 pub use Rattle.fx_judge.specs.Played.{HasNoOrder, IsCell, IsOutcome, IsPlayed, ShowsFile}
 pub use Rattle.fx_search.specs.Starts.{starting}
 pub use Rattle.fx_judge.specs.Strands.{AreStrands, seen, strand_for}
-pub use Rattle.fx_judge.specs.Verdict.{CameBy, IsRefuted, IsToldOutcome, told_report}
+pub use Rattle.fx_judge.specs.Verdict.{IsRefuted, IsToldOutcome, told_report}
 pub use Rattle.fx_search.specs.declared.cell.Cell.{Cell}
 pub use Rattle.fx_judge.specs.declared.chain.MemberClaims.{MemberClaims}
 pub use Rattle.fx_search.specs.declared.claim.Claim.{Claim}
@@ -39,20 +38,18 @@ pub use Rattle.fx_judge.specs.declared.part.Outcome.{Outcome}
 pub use Rattle.fx_judge.specs.declared.stop.Stop.{Stop}
 pub use Rattle.fx_judge.specs.declared.stop.Stop.TheVariants.{Refuted}
 pub use Rattle.fx_search.specs.declared.strand.Strand.{Strand}
-pub use Rattle.fx_order.specs.declared.ring_slots.RingSlots.{RingSlots}
 pub use Rattle.fx_judge.specs.declared.told.Told.{Told}
 pub use Rattle.fx_order.proofs.Histories.{each_order_is_a_history}
 pub use Rattle.fx_order.proofs.OneRing.{no_file_that_stays_is_closed}
-pub use Rattle.fx_order.proofs.Ordered.{ring_after, same_outline}
 pub use Rattle.fx_order.proofs.Shown.{NonePast, ring_with_files, shows_ring}
 pub use Rattle.fx_order.specs.Access.{IsInRange, Permits, PermitsAll, Table, accesses_of, accesses_of_chain, removed_by, removed_in, table_after}
 pub use Rattle.fx_order.specs.Access.{table_with}
 pub use Rattle.fx_order.specs.Order.{IsOneOrder, table_of}
-pub use Rattle.fx_order.specs.Requests.{AreChainsDone, AreEntriesDone, IsChainDone, IsCloseDone, IsEntryDone, IsOpenDone, IsReadDone, IsRefused}
-pub use Rattle.fx_order.specs.Requests.{IsRequestDone, IsUpdateDone, Makes, gives}
+pub use Rattle.fx_order.specs.Requests.{AreChainsDone, AreEntriesDone, IsChainDone, IsCloseDone, IsEntryDone, IsOpenDone, IsReadDone}
+pub use Rattle.fx_order.specs.Requests.{IsRequestDone, gives}
 pub use Rattle.fx_order.specs.Slots.{ring_with_slots, table_of_slots}
 pub use Rattle.fx_order.specs.declared.access.Access.{Access}
-pub use Rattle.fx_order.specs.declared.access.Access.TheVariants.{Allocates, Clears, FindsFull, Looks, Puts, Takes}
+pub use Rattle.fx_order.specs.declared.access.Access.TheVariants.{Allocates, FindsFull, Looks, Puts, Takes}
 pub use Rattle.fx_order.specs.declared.access.ChainAccess.{ChainAccess}
 pub use Rattle.fx_plain.proofs.Cells.{by_equality, unchanged}
 pub use Rattle.fx_plain.specs.Step.{changed_at}
@@ -62,16 +59,15 @@ pub use Rattle.fx_ring.specs.Submission.{Reported}
 pub use Rattle.fx_search.specs.Residents.{IsResident}
 pub use Rattle.fx_search.specs.AtSlots.{has_slot, keeps, slot_of}
 pub use Rattle.fx_table.proofs.Members.{contains_head, contains_tail}
-pub use Rattle.std.proofs.Common.{All, Bool, Contains, Err, IsPermutation, IsSome, IsTrue, List, None, Ok, Option, Result, Some, [], ap, append_assoc}
-pub use Rattle.std.proofs.Common.{arith, cond, drop, drop-cons, eq-eqb, false, filter, get_or, if◌then◌else◌, inl, inr, int_le, int_lt, is_some}
-pub use Rattle.std.proofs.Common.{length, length-append, map, nat_abs, nat_lt, negsuc, not, of_z, pos, refl, replicate, rules, slice_get, slice_index}
+pub use Rattle.std.proofs.Common.{All, Bool, Contains, Err, IsSome, IsTrue, List, None, Ok, Option, Result, Some, [], ap, append_assoc}
+pub use Rattle.std.proofs.Common.{arith, cond, drop, eq-eqb, false, filter, get_or, if◌then◌else◌, inl, inr, int_le, int_lt, is_some}
+pub use Rattle.std.proofs.Common.{length, length-append, map, nat_abs, nat_lt, negsuc, not, of_z, pos, refl, rules, slice_get, slice_index}
 pub use Rattle.std.proofs.Common.{slice_index_or, slice_set, subst, suc, sym, take, to_z, true, w32, zero, ℕ, ℤ, ◌&&◌, ◌++◌, ◌+◌, ◌<◌, ◌==◌, ◌||◌}
 pub use Rattle.std.proofs.Common.{◌∙◌, ◌∷◌, ◌≡◌, ◌≢◌, ◌≤◌, ◌⊎◌}
-pub use Rattle.std.proofs.Math.ListN.{get_or-eq_default}
 pub use Rattle.std.proofs.lemmas.Bool.{MatchBool-at_false, MatchBool-at_true, cases_lt, le-leb, le-ltb, lt-leb, lt-ltb}
 pub use Rattle.std.proofs.lemmas.Int.{to_z-of_z}
-pub use Rattle.std.proofs.lemmas.List.{append-nil, get_or-map, get_or-replicate, get_or-set_other, get_or-set_same, get_or_default, length-map}
-pub use Rattle.std.proofs.lemmas.List.{length-replicate, length-set, take_all}
+pub use Rattle.std.proofs.lemmas.List.{append-nil, get_or_default, length-map}
+pub use Rattle.std.proofs.lemmas.List.{length-set, take_all}
 pub use Rattle.std.proofs.lemmas.List.Elements.{All-contains, All-contains_itself, All-head, All-map, All-more, All-tail, All-weaker}
 pub use Rattle.std.proofs.lemmas.List.Elements.{Contains-append_right}
 pub use Rattle.std.proofs.lemmas.List.Sorted.{All-permutation, IsPermutation-sym}
