@@ -4,4 +4,4 @@ pub mod ClosesInOrder
 pub mod FilesThere
 pub mod Calls
 pub mod ListWorked
-pub mod NextCommand
+pub mod FromHere

@@ -3,7 +3,7 @@ use Rattle.fx_check.proofs.Words.{◌≡◌, ℕ, suc, ◌+◌, ◌<◌, ◌≤�
 use Rattle.fx_check.proofs.Words.{slice_index_or, Option, append-nil, append_assoc, length-drop, option_to_list, drop-map, take-append-drop, take_all}
 use Rattle.fx_check.proofs.Words.{RingContents, RingState, new_ring, ring_of, Instruction, instruction_of, instructions_of, Prints, PrintsEnd}
 use Rattle.fx_check.proofs.Words.{RingSlots, MayPrintBy, GoesOn, LeadsNowhere, LeadsTo, Fault, Order}
-use Rattle.fx_calls.proofs.NextCommand.{next_command}
+use Rattle.fx_calls.proofs.FromHere.{from_here}
 use Rattle.std.proofs.lemmas.List.{drop-drop}
 use Rattle.std.proofs.Math.Seq.{take-add}
 use Rattle.fx_order.proofs.Shown.{ring_with_files, shows_ring}
@@ -18,10 +18,9 @@ use Rattle.fx_check.specs.Ordered.{IsTextBy, MayPrintAllBy, PrintsAllBy}
 pub next_instruction : (commands : List Command) (all : List Instruction) (done : ℕ) (command : Command) → instructions_of commands ≡ all
     → done < length commands → command ≡ slice_index_or commands done command → drop done all ≡ instruction_of command ∷ drop (done + 1) all
 next_instruction commands all done command same inside is =
-    sym (ap (λ (l : List Instruction). drop done l) same) ∙ drop-map instruction_of done commands
-    ∙ ap (λ (l : List Command). instructions_of l) (next_command commands done command inside is)
-    ∙ ap (λ (l : List Instruction). instruction_of command ∷ l) (sym (drop-map instruction_of (done + 1) commands)
-    ∙ ap (λ (l : List Instruction). drop (done + 1) l) same)
+    subst (λ (l : List Instruction). drop done l ≡ instruction_of command ∷ drop (done + 1) l) same
+    (drop-map instruction_of done commands ∙ ap (λ (l : List Command). instructions_of l) (from_here commands done command inside is)
+    ∙ ap (λ (l : List Instruction). instruction_of command ∷ l) (sym (drop-map instruction_of (done + 1) commands)))
 
 -- what commands are to print: the whole text, with the end of the script, or a beginning of it, and leave this
 pub data Aim : Type 0 where
@@ -105,10 +104,9 @@ module _ (script : Meaning) (text : List ℕ) where
     printed : (aim : Aim) (commands : List Instruction) (others all : List ℕ) → take done script.commands ≡ commands → take at text ++ others ≡ all
         → MayPrintTo aim now [] others [] → MayPrintTo aim first commands all orders
     printed aim commands others all same is may =
-        subst (λ (l : List Instruction). MayPrintTo aim first l all orders) (append-nil (take done script.commands) ∙ same)
-        (subst (λ (l : List ℕ). MayPrintTo aim first (take done script.commands ++ []) l orders) is
-        (subst (λ (l : List Order). MayPrintTo aim first (take done script.commands ++ []) (take at text ++ others) l) (append-nil orders)
-        (so_far.back aim [] others [] may)))
+        let front = append-nil (take done script.commands) ∙ same in
+        subst (λ (z : List Instruction × List ℕ × List Order). MayPrintTo aim first z.0 z.1 z.2) (λ t. (front t, is t, append-nil orders t))
+        (so_far.back aim [] others [] may)
 
     broken : (ring : RingSlots) (fault : Fault) → done ≤ length script.commands → at ≤ length text → (IsText script text → ⊥) → (done < length script.commands → (left : List ℕ)
         → CanPrint (Leaves left) first (take (done + 1) script.commands) text → ⊥)
@@ -196,9 +194,7 @@ module _ (script : Meaning) (text : List ℕ) where
             sym (append_assoc (take at text) line others) ∙ ap (λ (l : List ℕ). l ++ others) (sym (take-add at count text)) in
             let all : orders ++ (option_to_list own ++ later) ≡ grown ++ later =
             sym (append_assoc orders (option_to_list own) later) ∙ ap (λ (l : List Order). l ++ later) (sym grows) in
-            subst (λ (l : List Order). MayPrintTo aim first (take (done + 1) script.commands ++ commands) (take (at + count) text ++ others) l) all
-            (subst (λ (l : List ℕ). MayPrintTo aim first (take (done + 1) script.commands ++ commands) l (orders ++ (option_to_list own ++ later))) t
-            (subst (λ (l : List Instruction). MayPrintTo aim first l (take at text ++ (line ++ others)) (orders ++ (option_to_list own ++ later))) cs
+            subst (λ (z : List Instruction × List ℕ × List Order). MayPrintTo aim first z.0 z.1 z.2) (λ i. (cs i, t i, all i))
             (so_far.back aim (command ∷ commands) (line ++ others) (option_to_list own ++ later)
-            (one_before aim now new command commands line others own later may rest))));
+            (one_before aim now new command commands line others own later may rest));
       }

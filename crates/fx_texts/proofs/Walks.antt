@@ -1,9 +1,10 @@
 -- Commands that lead on, one behind others.
-use Rattle.fx_texts.proofs.Words.{◌≡◌, ℕ, Bool, true, false, zero, suc, ◌+◌, ◌<◌, List, [], ◌∷◌, ◌++◌, length, take, drop, refl, sym, ap, subst, ◌∙◌}
-use Rattle.fx_texts.proofs.Words.{arith, slice_index_or, Contains, append-nil, append_assoc, map-append, RingContents, RingState, ring_of}
+use Rattle.fx_texts.proofs.Words.{◌≡◌, ℕ, Bool, true, false, ◌+◌, ◌<◌, List, [], ◌∷◌, ◌++◌, length, take, drop, refl, sym, ap, subst, ◌∙◌}
+use Rattle.fx_texts.proofs.Words.{slice_index_or, Contains, append-nil, append_assoc, map-append, RingContents, RingState, ring_of}
 use Rattle.fx_texts.proofs.Words.{Instruction, instruction_of, instructions_of, Command, AreFrom, HasEachFrom, HasEachLast, Leads, LeadsAll}
 use Rattle.fx_texts.proofs.Words.{MayLeadAllTo, Stage, count_after, count_after_all, kept_text, stage}
-use Rattle.std.proofs.lemmas.List.{drop_more, take-append-drop}
+use Rattle.std.proofs.lemmas.List.{map_more, take-append-drop}
+use Rattle.fx_calls.proofs.FromHere.{from_here}
 
 leads_behind : (ring mid last : RingContents) (front : List Instruction) (command : Instruction) (before line : List ℕ) → LeadsAll ring front mid before
     → Leads mid command last line → LeadsAll ring (front ++ command ∷ []) last (before ++ line)
@@ -89,19 +90,12 @@ all_more keeps first front command old new all next ring last text same leads =
     (sym (stage_on keeps last b.before b.line (kept_text keeps b.before) refl) ∙ ap (λ (t : List ℕ). stage keeps last t) (sym b.split))
     (next (stage keeps b.mid b.before) (all ring b.mid b.before same b.all) b.mid last b.line refl b.one)
 
-pub taken_more : (commands : List Command) (done : ℕ) (command : Command) → done < length commands
-    → command ≡ slice_index_or commands done command
-    → instructions_of (take (suc done) commands) ≡ instructions_of (take done commands) ++ instruction_of command ∷ []
-taken_more [] done command inside is = absurd (omega arith)
-taken_more (x ∷ commands) zero command inside is = ap (λ (c : Command). instruction_of c ∷ []) (sym is)
-taken_more (x ∷ commands) (suc done) command inside is =
-    ap (λ (l : List Instruction). instruction_of x ∷ l) (taken_more commands done command (omega arith) is)
-
 pub taken_one : (commands : List Command) (done : ℕ) (command : Command) → done < length commands
     → command ≡ slice_index_or commands done command
     → instructions_of (take (done + 1) commands) ≡ instructions_of (take done commands) ++ instruction_of command ∷ []
 taken_one commands done command inside is =
-    ap (λ (n : ℕ). instructions_of (take n commands)) (let e : done + 1 ≡ suc done = omega arith in e) ∙ taken_more commands done command inside is
+    map_more instruction_of commands done command inside
+    ∙ ap (λ (c : Command). instructions_of (take done commands) ++ instruction_of c ∷ []) (sym is)
 
 -- the commands around one of them
 pub around : (commands : List Command) (done : ℕ) (command : Command) → done < length commands
@@ -109,8 +103,7 @@ pub around : (commands : List Command) (done : ℕ) (command : Command) → done
     → instructions_of commands ≡ instructions_of (take done commands) ++ instruction_of command ∷ instructions_of (drop (done + 1) commands)
 around commands done command inside is =
     ap (λ (cs : List Command). instructions_of cs) (sym (take-append-drop done commands)
-    ∙ ap (λ (cs : List Command). take done commands ++ cs) (drop_more commands done command inside
-    ∙ ap (λ (c : Command). c ∷ drop (done + 1) commands) (sym is)))
+    ∙ ap (λ (cs : List Command). take done commands ++ cs) (from_here commands done command inside is))
     ∙ map-append instruction_of (take done commands) (command ∷ drop (done + 1) commands)
 
 count_behind_all : (count : ℕ) (front : List Instruction) (command : Instruction)

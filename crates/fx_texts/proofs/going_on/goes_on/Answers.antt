@@ -1,7 +1,6 @@
-use Rattle.fx_texts.proofs.Words.{◌+◌, List, drop, sym, subst, IfSome, instruction_of, instructions_of, Command, MayEnd, MayLeadTo, stage_of, Reached}
-use Rattle.fx_calls.proofs.NextCommand.{next_command}
+use Rattle.fx_texts.proofs.Words.{◌+◌, List, drop, sym, subst, instruction_of, instructions_of, Command, MayEnd, MayLeadTo, stage_of}
+use Rattle.fx_calls.proofs.FromHere.{from_here}
 use Rattle.std.proofs.Math.ListN.{drop_of_length-le}
-use Rattle.std.specs.Prelude.{Option}
 use Rattle.fx_texts.proofs.LedRings.{next_ring}
 use Rattle.fx_texts.proofs.Whole.{may_end, may_end_behind}
 use Rattle.fx_texts.proofs.going_on.goes_on.Goals as goal
@@ -15,13 +14,12 @@ loop-command-preserved c =
     let commands = c.args.commands.now in
     let i = c.loop-command.command-index in
     let command = c.command-item.result in
-    let leads : MayLeadTo keeps old (instruction_of command) new =
-    subst (λ (o : Option Reached). IfSome o (λ r. MayLeadTo keeps old (instruction_of command) (stage_of cat r))) c.in-Some.is c.in_ok-next.ensures in
+    let leads : MayLeadTo keeps old (instruction_of command) new = rw c.in-Some.is at c.in_ok-next.ensures in
     record {
       ring = next_ring keeps cat c.loop-command.reached (instruction_of command) new c.loop-command.invariant.ring leads;
       ends = λ ends. c.loop-command.invariant.ends
           (subst (λ (cs : List Command). MayEnd old.ring (instructions_of cs))
-          (sym (next_command commands i command c.loop-command-test.true c.command-item.is))
+          (sym (from_here commands i command c.loop-command-test.true c.command-item.is))
           (may_end_behind keeps old new (instruction_of command) (instructions_of (drop (i + 1) commands)) leads ends));
     }
 
