@@ -31,7 +31,8 @@ all_removed at slot [] = λ k d inside. absurd (omega arith)
 all_removed at slot (number ∷ list) =
     All-append (IsAtOne at) (removed_by number (at slot)) (removed_from at (slot + 1) list) (taken at slot number) (all_removed at (slot + 1) list)
 
-one_at : (ring : RingState) → IsRing ring → (x y : Closed) → IsAtOne ring.at x → IsAtOne ring.at y → x.mark ≡ y.mark → x ≡ y
+-- the marks of files at slots tell them apart
+pub one_at : (ring : RingState) → IsRing ring → (x y : Closed) → IsAtOne ring.at x → IsAtOne ring.at y → x.mark ≡ y.mark → x ≡ y
 one_at ring is x y here there marks =
     let slots : here.0 ≡ there.0 = is.distinct here.0 there.0 x y here.1 there.1 marks in
     let same : Some x ≡ Some y = sym here.1 ∙ ap ring.at slots ∙ there.1 in

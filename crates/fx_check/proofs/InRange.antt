@@ -1,50 +1,27 @@
 -- The lines of an accepted submission's report have numbers that their types have.
-use Rattle.fx_check.proofs.Words.{◌≡◌, inl, inr, ℕ, zero, suc, ◌+◌, ◌<◌, ◌≤◌, ◌^◌, ◌==◌, pos, Bool, true, false, cond, List, [], ◌∷◌, ◌++◌, filter}
+use Rattle.fx_check.proofs.Words.{◌≡◌, inl, inr, ℕ, zero, suc, ◌+◌, ◌<◌, ◌≤◌, ◌^◌, ◌==◌, pos, List, [], ◌∷◌}
 use Rattle.fx_check.proofs.Words.{length, take, drop, All, refl, sym, subst, arith, Option, Some, None, slice_get, get_or_from_slice_get}
-use Rattle.fx_check.proofs.Words.{slice_get_within, All-append, All-cons, All-get_or, All-head, All-nil, All-tail, drop-append_seam, take-append_seam}
-use Rattle.fx_check.proofs.Words.{has_name, FileEntry, Errno, ENOENT, EBADF, ENFILE, installed, Completed, completed, next_member, canceled}
-use Rattle.fx_check.proofs.Words.{first_member, severs, Asked, Operation, Opens, Reads, Closes, Updates, Place, Target, Slot, Any, Table, accesses_of}
-use Rattle.fx_check.proofs.Words.{accesses_of_chain, Access, Allocates, ChainAccess, IsOpenDone, IsRequestDone, IsChainDone, AreChainsDone}
+use Rattle.fx_check.proofs.Words.{slice_get_within, All-append, All-cons, All-get_or, All-head, All-nil, All-tail}
+use Rattle.fx_check.proofs.Words.{has_name, FileEntry, Errno, ENOENT, EBADF, ENFILE, Completed, completed, next_member, canceled}
+use Rattle.fx_check.proofs.Words.{first_member, severs, Asked, Operation, Opens, Reads, Closes, Updates, Place, Target, Slot, Any, accesses_of}
+use Rattle.fx_check.proofs.Words.{accesses_of_chain, Access, ChainAccess, IsOpenDone, IsRequestDone, IsChainDone, AreChainsDone}
 use Rattle.fx_check.proofs.Words.{either_way, AreFiles, allocates, puts, updates}
 use Rattle.std.proofs.lemmas.Bool.{cases_lt, ltb-false, or_parts}
-use Rattle.std.proofs.lemmas.List.Elements.{All-drop, All-take}
 use Rattle.std.proofs.lemmas.List.{get_or-drop, get_or-take, get_or_past, length-drop, length-take}
+use Rattle.std.specs.List.{AllByRecursion}
 use Rattle.hex.specs.Hex.{IsBytes}
 use Rattle.fx_base.specs.Catalogue.{bytes_at, part_of}
 use Rattle.fx_base.specs.declared.catalogue.TheConstants.{LONGEST_ENTRY}
 use Rattle.fx_base.specs.declared.errno.Errno.TheVariants.{ECANCELED}
 use Rattle.fx_chain.specs.Completed.{refusal}
-use Rattle.fx_order.specs.Access.{PermitsAll, table_with}
+use Rattle.fx_judge.proofs.OfChain.{possible_of_chain}
+use Rattle.fx_judge.specs.Claims.{IsPossible}
 use Rattle.fx_lines.specs.Lines.{IsCompletionInRange, IsPlaceInRange}
+use Rattle.fx_order.proofs.ChainFront.{both_parts}
 use Rattle.fx_order.proofs.RequestCases.{closes, reads}
 
--- an allocation is at a slot of a table of this size
-abbrev IsInside : ℕ → Access → Type 0
-IsInside size (Allocates slot file) = slot < size
-IsInside size _ = Unit {0}
-
-abbrev pub AreInside : ℕ → List Access → Type 0
-AreInside size xs = All (IsInside size) xs
-
-pub permitted_inside : (t : Table) (xs : List Access) → PermitsAll t xs → AreInside t.size xs
-permitted_inside t [] may = All-nil (IsInside t.size)
-permitted_inside t (Allocates slot file ∷ xs) may =
-    All-cons (IsInside t.size) (Allocates slot file) xs may.0.0.0 (permitted_inside (table_with t (Allocates slot file)) xs may.1)
-permitted_inside t (x ∷ xs) may = All-cons (IsInside t.size) x xs tt (permitted_inside (table_with t x) xs may.1)
-
-pub inside_chain : (size c : ℕ) (order : List ChainAccess) → AreInside size (accesses_of order) → AreInside size (accesses_of_chain c order)
-inside_chain size c [] inside = inside
-inside_chain size c (x ∷ order) inside =
-    either (x.chain == c) (inside_chain size c order (All-tail (IsInside size) x.access (accesses_of order) inside))
-  where
-    either : (b : Bool) → AreInside size (accesses_of_chain c order)
-        → AreInside size (accesses_of (cond b (x ∷ filter (λ y. y.chain == c) order) (filter (λ y. y.chain == c) order)))
-    either true more =
-        All-cons (IsInside size) x.access (accesses_of_chain c order) (All-head (IsInside size) x.access (accesses_of order) inside) more
-    either false more = more
-
 -- an element of a list of which each is so
-pub all_got : {A : Type 0} (P : A → Type 0) (xs : List A) (i : ℕ) (x : A) → All P xs → slice_get xs i ≡ Some x → P x
+all_got : {A : Type 0} (P : A → Type 0) (xs : List A) (i : ℕ) (x : A) → All P xs → slice_get xs i ≡ Some x → P x
 all_got P xs i x all is = subst P (get_or_from_slice_get xs i x x is) (All-get_or P xs i x (slice_get_within xs i x is) all)
 
 no_bytes : IsBytes []
@@ -84,7 +61,10 @@ error_in_range _ place is = record { place = is; res = omega arith; got = no_byt
 number_in_range : (n : ℕ) (place : Place) → IsPlaceInRange place → n < 2 ^ 31 → IsCompletionInRange (completed place (pos n) [])
 number_in_range n place is few = record { place = is; res = few; got = no_bytes }
 
-module _ (catalogue : List FileEntry) (are : AreFiles catalogue) (size : ℕ) (small : size ≤ 256) where
+module _ (catalogue : List FileEntry) (are : AreFiles catalogue) (size : ℕ) (small : size ≤ 256) (range : ℕ × ℕ) where
+  abbrev AreInside : List Access → Type 0
+  AreInside accesses = AllByRecursion (IsPossible size range) accesses
+
   module _ (place : Place) (is : IsPlaceInRange place) where
     abbrev InRange : List Access → Completed → Type 0
     InRange accesses c = IsCompletionInRange c
@@ -92,16 +72,15 @@ module _ (catalogue : List FileEntry) (are : AreFiles catalogue) (size : ℕ) (s
     error : (errno : Errno) → IsCompletionInRange (refusal place errno)
     error errno = error_in_range errno place is
 
-    open_so : (entry : ℕ) (target : Target) (accesses : List Access) (c : Completed) → AreInside size accesses
+    open_so : (entry : ℕ) (target : Target) (accesses : List Access) (c : Completed) → AreInside accesses
         → IsOpenDone size place entry target accesses c → IsCompletionInRange c
     open_so entry (Slot slot) accesses c inside done =
         puts size place InRange error accesses c entry slot (λ _. number_in_range 0 place is (omega arith)) done
     open_so entry Any accesses c inside done =
-        allocates size place (λ own d. AreInside size own → IsCompletionInRange d) (λ errno _. error errno) accesses c entry
-        (λ slot within. let low = All-head (IsInside size) (Allocates slot (installed place 0 entry)) [] within in
-        number_in_range slot place is (omega arith)) (λ _. error ENFILE) done inside
+        allocates size place (λ own d. AreInside own → IsCompletionInRange d) (λ errno _. error errno) accesses c entry
+        (λ slot within. let low = within.0.0 in number_in_range slot place is (omega arith)) (λ _. error ENFILE) done inside
 
-    request_so : (operation : Operation) (accesses : List Access) (c : Completed) → AreInside size accesses
+    request_so : (operation : Operation) (accesses : List Access) (c : Completed) → AreInside accesses
         → IsRequestDone catalogue size place operation accesses c → IsCompletionInRange c
     request_so (Opens name target) accesses c inside =
         either_way (has_name name catalogue) (λ _ x. open_so x.0 target accesses c inside x.2)
@@ -127,13 +106,11 @@ module _ (catalogue : List FileEntry) (are : AreFiles catalogue) (size : ℕ) (s
       (canceled_so (next_member place) rs (moved place (length rs) is few) (omega arith))
 
   chain_so : (place : Place) (requests : List Asked) (accesses : List Access) (cs : List Completed) → IsPlaceInRange place
-      → place.member + length requests < 2 ^ 32 → AreInside size accesses → IsChainDone catalogue size place requests accesses cs
+      → place.member + length requests < 2 ^ 32 → AreInside accesses → IsChainDone catalogue size place requests accesses cs
       → All IsCompletionInRange cs
   chain_so place [] accesses cs is few inside x = subst (All IsCompletionInRange) (sym x.1) (All-nil IsCompletionInRange)
   chain_so place (r ∷ rs) accesses cs is few inside x =
-      let within : AreInside size (x.0 ++ x.1) = subst (AreInside size) x.4 inside in
-      let front = subst (AreInside size) (take-append_seam x.0 x.1) (All-take (IsInside size) (length x.0) (x.0 ++ x.1) within) in
-      let behind = subst (AreInside size) (drop-append_seam x.0 x.1) (All-drop (IsInside size) (length x.0) (x.0 ++ x.1) within) in
+      let (front, behind) = both_parts (IsPossible size range) x.0 x.1 (subst AreInside x.4 inside) in
       let next : IsPlaceInRange (next_member place) = moved place (length rs) is few in
       subst (All IsCompletionInRange) (sym x.5)
       (All-cons IsCompletionInRange x.2 x.3 (request_so place is r.operation x.0 x.2 front x.6)
@@ -143,7 +120,7 @@ module _ (catalogue : List FileEntry) (are : AreFiles catalogue) (size : ℕ) (s
 
   -- the completions of an order
   pub chains_so : (submission first : ℕ) (runs : List (List Asked)) (order : List ChainAccess) (cs : List Completed) → submission < 2 ^ 32
-      → first + length runs < 2 ^ 32 → All (λ run. length run ≤ 16) runs → AreInside size (accesses_of order)
+      → first + length runs < 2 ^ 32 → All (λ run. length run ≤ 16) runs → AreInside (accesses_of order)
       → AreChainsDone catalogue size submission first runs order cs → All IsCompletionInRange cs
   chains_so submission first [] order cs low few short inside x = subst (All IsCompletionInRange) (sym x) (All-nil IsCompletionInRange)
   chains_so submission first (run ∷ runs) order cs low few short inside x =
@@ -151,5 +128,5 @@ module _ (catalogue : List FileEntry) (are : AreFiles catalogue) (size : ℕ) (s
       subst (All IsCompletionInRange) (sym x.2)
       (All-append IsCompletionInRange x.0 x.1
       (chain_so (first_member submission first) run (accesses_of_chain first order) x.0
-      (record { submission = low; chain = omega arith; member = omega arith }) (omega arith) (inside_chain size first order inside) x.3)
+      (record { submission = low; chain = omega arith; member = omega arith }) (omega arith) (possible_of_chain size range first order inside) x.3)
       (chains_so submission (first + 1) runs order x.1 low (omega arith) (All-tail (λ (r : List Asked). length r ≤ 16) run runs short) inside x.4))

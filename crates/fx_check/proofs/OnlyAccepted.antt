@@ -11,6 +11,7 @@ use Rattle.fx_lines.proofs.CompletionCounts.{each_request}
 use Rattle.fx_judge.specs.Verdict.{IsRefuted}
 use Rattle.fx_check.specs.Told.{Tells}
 use Rattle.fx_check.proofs.OrderFiles.{are_from, may_close_all}
+use Rattle.fx_calls.proofs.FilesThere.{one_at}
 use Rattle.fx_check.proofs.OneAnswer.{submitted}
 use Rattle.fx_check.proofs.OneText.{rest_behind}
 use Rattle.fx_check.proofs.ReportInRange.{report_in_range}
@@ -18,13 +19,7 @@ use Rattle.fx_check.proofs.ReportInRange.{report_in_range}
 module _ (catalogue : List FileEntry) (old : RingSlots) (kept : IsKept catalogue old) where
   -- the files at slots are told apart
   pub files_apart : AreApart catalogue old.slots
-  files_apart = record {
-    names = kept.files.catalogue;
-    marks = λ file other here there same.
-        let slots : here.0 ≡ there.0 = kept.is_ring.distinct here.0 there.0 file other here.1 there.1 same in
-        let one : Some file ≡ Some other = sym here.1 ∙ ap (ring_with_slots catalogue old).at slots ∙ there.1 in
-        cc;
-  }
+  files_apart = record { names = kept.files.catalogue; marks = one_at (ring_with_slots catalogue old) kept.is_ring }
 
   module _ (asked : List Asked) (text : List ℕ) (accepted : IsAccepted asked) (few : old.submissions < MOST_SUBMISSIONS)
       (short : length (runs_of asked) ≤ 1023) where
@@ -69,8 +64,8 @@ module _ (catalogue : List FileEntry) (old : RingSlots) (kept : IsKept catalogue
       told_files : (next : RingContents) (others : List ℕ) (p : Played next others) (told : Result Told Fault)
           → (AreApart catalogue old.slots → TellsKnown catalogue old.slots asked lines told) → Tells told p.report.closes.files
       told_files next others p told tells = tells files_apart p.report
-          (may_close_all catalogue old.slots old.submissions old.registrations asked p.report (ring_of next) kept.is_ring accepted p.order)
-          (are_from catalogue old.slots old.submissions old.registrations asked p.report (ring_of next) kept.is_ring accepted p.order)
+          (may_close_all catalogue old asked p.report (ring_of next) kept.is_ring accepted p.order)
+          (are_from catalogue old asked p.report (ring_of next) kept.is_ring accepted p.order)
           (ap (λ (front : Lines × List ℕ). front.0) (same_front next others p))
 
       -- lines that tell nothing

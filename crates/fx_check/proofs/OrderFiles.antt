@@ -1,7 +1,7 @@
 -- The files that an order closes, and those that it leaves.
 use Rattle.fx_check.proofs.Words.{◌≡◌, ◌^◌, inl, inr, ⊎_elim, ℕ, ◌<◌, ◌≤◌, List, length, All, Contains, sym, ap, subst, ◌∙◌, arith, All-map}
 use Rattle.fx_check.proofs.Words.{FileEntry, Submitted, Closed, AreInRange, IsInRange, IsAccepted, IsChain, members_of, Asked, runs_of, Chain}
-use Rattle.fx_check.proofs.Words.{each_all, RingState, IsRing, Reported, accesses_of, Access, Slots, IsOneOrder, table_of, table_of_slots, Has}
+use Rattle.fx_check.proofs.Words.{each_all, RingState, IsRing, Reported, accesses_of, Access, RingSlots, IsOneOrder, table_of, table_of_slots, ring_with_slots, Has}
 use Rattle.fx_check.proofs.Words.{placed, AreFrom, IsAtSlot, MayClose, OneInstalled}
 use Rattle.std.proofs.Common.{◌⊎◌}
 use Rattle.std.proofs.lemmas.List.Elements.{All-weaker}
@@ -12,7 +12,6 @@ use Rattle.fx_chain.proofs.Runs.{are_runs}
 use Rattle.fx_ring.specs.Ring.{HasCounted}
 use Rattle.fx_order.specs.Access.{removed_in}
 use Rattle.fx_order.specs.Laws.{AreKnown, IsOfNext, IsThere}
-use Rattle.fx_order.specs.Slots.{ring_of_slots}
 use Rattle.fx_order.proofs.OneRing.{each_closed_file_is_known, in_limits}
 use Rattle.fx_order.proofs.Placed.{left_from, removed_from, removes_contained}
 use Rattle.fx_order.proofs.PlacedNew.{AnyPlace, InLimits, chain_places, has_in_chain}
@@ -36,31 +35,30 @@ of_member file s c m e is untagged submission chain member entry = record {
   tag = omega arith;
 }
 
-module _ (catalogue : List FileEntry) (slots : Slots) (submissions registrations : ℕ) (asked : List Asked) (report : Reported) (left : RingState)
-    (is : IsRing (ring_of_slots catalogue slots submissions registrations)) (accepted : IsAccepted asked)
-    (one : IsOneOrder (ring_of_slots catalogue slots submissions registrations) asked report left) where
+module _ (catalogue : List FileEntry) (old : RingSlots) (asked : List Asked) (report : Reported) (left : RingState)
+    (is : IsRing (ring_with_slots catalogue old)) (accepted : IsAccepted asked) (one : IsOneOrder (ring_with_slots catalogue old) asked report left) where
   abbrev before : RingState
-  before = ring_of_slots catalogue slots submissions registrations
+  before = ring_with_slots catalogue old
 
   abbrev known : AreKnown before asked report.closes.files
   known = each_closed_file_is_known before asked report left is accepted one
 
   -- a mark of the next submission is of no file at a slot
-  none_next : (file : Closed) → IsOfNext before asked file → HasNone slots file.mark
+  none_next : (file : Closed) → IsOfNext before asked file → HasNone old.slots file.mark
   none_next file next slot g at same =
       let counted : HasCounted before (Submitted next.place.submission next.place.chain next.place.member next.entry) =
       subst (HasCounted before) (same ∙ next.mark) (is.counted slot g at) in
       let later = next.next in
       absurd (omega arith)
 
-  may_close : (file : Closed) → IsThere before file ⊎ IsOfNext before asked file → MayClose catalogue slots file
+  may_close : (file : Closed) → IsThere before file ⊎ IsOfNext before asked file → MayClose catalogue old.slots file
   may_close file = ⊎_elim
       (λ there. record { inside = is.entries there.0 file there.2; from = inl (there.0, there.2) })
       (λ next. record { inside = next.inside; from = inr (next.untagged, none_next file next) })
 
-  pub may_close_all : MayCloseAll catalogue slots report.closes.files
+  pub may_close_all : MayCloseAll catalogue old.slots report.closes.files
   may_close_all = record {
-    each = each_all (MayClose catalogue slots) report.closes.files (λ file has. may_close file (known.from file has));
+    each = each_all (MayClose catalogue old.slots) report.closes.files (λ file has. may_close file (known.from file has));
     in_order = one.is.closed.in_order;
     distinct = known.distinct;
   }
@@ -71,16 +69,16 @@ module _ (catalogue : List FileEntry) (slots : Slots) (submissions registrations
       let at = has_in_chain (length catalogue) AnyPlace report.submission (length (runs_of asked)) one.order one.is.chains s f has in
       let high = at.2 in
       subst (λ (l : List Asked). OneInstalled l report.completions f.mark) (are_runs asked).whole
-      (chains_installed s f catalogue (length slots.at.items) report.submission 1 (runs_of asked) one.order report.completions one.is.done at.0 at.1 (omega arith) at.3)
+      (chains_installed s f catalogue (length old.slots.at.items) report.submission 1 (runs_of asked) one.order report.completions one.is.done at.0 at.1 (omega arith) at.3)
 
-  pub are_from : AreFrom slots asked report.completions report.closes.files
-  are_from = each_all (λ file. IsAtSlot slots file ⊎ OneInstalled asked report.completions file.mark) report.closes.files (λ file has.
+  pub are_from : AreFrom old.slots asked report.completions report.closes.files
+  are_from = each_all (λ file. IsAtSlot old.slots file ⊎ OneInstalled asked report.completions file.mark) report.closes.files (λ file has.
       let xs : List Access = accesses_of one.order in
       let w = removed_from (table_of before) xs file one.is.permitted (removes_contained xs file
       (Contains-permutation report.closes.files (removed_in xs) file (IsPermutation-sym (removed_in xs) report.closes.files one.is.closed.same_files) has)) in
       ⊎_elim (λ was. inl (w.slot, was)) (λ new. inr (placed_installed w.slot file new)) w.was)
 
-  module _ (few : length (runs_of asked) ≤ 1023) (early : submissions < 65535) (in_range : AreInRange (table_of_slots slots).at) where
+  module _ (few : length (runs_of asked) ≤ 1023) (early : old.submissions < 65535) (in_range : AreInRange (table_of_slots old.slots).at) where
     next_in_range : (file : Closed) → IsOfNext before asked file → IsInRange file
     next_in_range file next =
         let later = next.next in
@@ -97,7 +95,7 @@ module _ (catalogue : List FileEntry) (slots : Slots) (submissions registrations
     placed_in_range s f has =
         let at = has_in_chain (length catalogue) AnyPlace report.submission (length (runs_of asked)) one.order one.is.chains s f has in
         let high = at.2 in
-        let own = chain_places catalogue (length slots.at.items) InLimits report.submission 1 (runs_of asked) one.order report.completions (in_limits asked accepted)
+        let own = chain_places catalogue (length old.slots.at.items) InLimits report.submission 1 (runs_of asked) one.order report.completions (in_limits asked accepted)
         one.is.done at.0 at.1 (omega arith) in
         let (m, j, low, b, n) = own.0 s f at.3 in
         let members = b.0 in

@@ -56,9 +56,8 @@ module _ (catalogue : List FileEntry) (old new : RingSlots) (asked : List Asked)
       let first : IsOneOrder before asked (told_report before told 0) after = (came 0).0 in
       let counted : new.submissions ≡ old.submissions + 1 = ap (λ (r : RingState). r.submissions) first.after in
       let size : length new.slots.at.items ≡ length old.slots.at.items = ap (λ (r : RingState). r.size) first.after in
-      subst (λ (n : ℕ). AreChainsDone catalogue n new.submissions 1 (runs_of asked) accesses (all_completed told.completions.items)) (sym size)
-      (subst (λ (n : ℕ). AreChainsDone catalogue (length old.slots.at.items) n 1 (runs_of asked) accesses (all_completed told.completions.items)) (sym counted)
-      (ordered_is accesses came).done)
+      subst (λ (z : ℕ × ℕ). AreChainsDone catalogue z.0 z.1 1 (runs_of asked) accesses (all_completed told.completions.items))
+      (λ t. (sym size t, sym counted t)) (ordered_is accesses came).done
 
   abbrev pub PlacesAt : ℕ → ℕ → Order → Type 0
   PlacesAt size submission order =
@@ -106,8 +105,7 @@ module _ (catalogue : List FileEntry) (old new : RingSlots) (asked : List Asked)
               left = history.1 ∙ led ∙ ap (ring_left accesses) (sym same);
               submission = numbered ∙ counted;
               places = subst (λ (r : RingState). ArePlaces r.catalogue r.size report.submission (runs_of asked) report.completions accesses order.places.items)
-                  (sym same) (subst (λ (n : ℕ). PlacesAt (length old.slots.at.items) n order) counted
-                  (subst (λ (n : ℕ). PlacesAt n new.submissions order) size listed));
+                  (sym same) (subst (λ (z : ℕ × ℕ). PlacesAt z.0 z.1 order) (λ t. (size t, counted t)) listed);
             },
           ),
         ),
@@ -134,6 +132,6 @@ module _ (catalogue : List FileEntry) (old new : RingSlots) (asked : List Asked)
         few_registrations = omega arith;
         is_ring = is;
         files = kept.files;
-        in_range = left_in_range catalogue old.slots old.submissions old.registrations asked (told_report before told 0) after kept.is_ring accepted one
+        in_range = left_in_range catalogue old asked (told_report before told 0) after kept.is_ring accepted one
             short few kept.in_range;
       }

@@ -14,7 +14,7 @@ possible_one table size range (Allocates s file) is are may =
 possible_one table size range a is are may = tt
 
 -- what a table permits is possible there
-possible_all : (table : Table) (size : ℕ) (range : ℕ × ℕ) (accesses : List Access) → table.size ≡ size → table.range ≡ range → PermitsAll table accesses
+pub possible_all : (table : Table) (size : ℕ) (range : ℕ × ℕ) (accesses : List Access) → table.size ≡ size → table.range ≡ range → PermitsAll table accesses
     → AllByRecursion (IsPossible size range) accesses
 possible_all table size range [] is are may = tt
 possible_all table size range (a ∷ accesses) is are may =
