@@ -7,7 +7,6 @@ use Rattle.fx_check.proofs.Words.{length-done, Has, placed, allocates, puts, upd
 use Rattle.fx_order.specs.declared.access.Access.TheVariants.{Puts}
 use Rattle.fx_order.specs.Requests.{IsEntryDone, AreEntriesDone}
 use Rattle.fx_order.proofs.Placed.{close_none, has_either, placed-append, read_none}
-use Rattle.fx_check.specs.Told.{InstallsAt}
 
 module _ (s : ℕ) (f : Closed) where
   abbrev Places : List Access → Type 0
@@ -22,38 +21,24 @@ module _ (s : ℕ) (f : Closed) where
       ⊎_elim (λ (here : (slot, file) ≡ (s, f)). sym (ap (λ (p : ℕ × Closed). p.1) here)) (λ (none : ⊥). absurd none)
       (subst (λ (l : List (ℕ × Closed)). Has l s f) is has)
 
-  module _ (catalogue : List FileEntry) (size : ℕ) (place : Place) where
-    -- the request may have installed it at this place of its list
-    record Came (operation : Operation) (c : Completed) : Type 0 where
-      entry : ℕ
-      is_mark : f.mark ≡ Submitted place.submission place.chain place.member entry
-      listed : InstallsAt operation entry
-      res : ℕ
-      answer : c ≡ completed place (pos res) []
-
+  module _ (catalogue : List FileEntry) (size : ℕ) (place : Place) (request : Asked) where
+    -- the request, with this operation and this answer, installed it, if the accesses placed it
     abbrev IfPlaced : Operation → List Access → Completed → Type 0
-    IfPlaced operation accesses c = Places accesses → Came operation c
+    IfPlaced operation accesses c = Places accesses → Installed (record request { operation = operation }) c f.mark
 
-    opened : (name : List ℕ) (target : Target) (entry res : ℕ) (c : Completed) → f ≡ installed place 0 entry → c ≡ completed place (pos res) []
-        → Came (Opens name target) c
-    opened name target entry res c is answer = record {
-      entry = 0;
-      is_mark = ap (λ (x : Closed). x.mark) is;
-      listed = refl;
-      res = res;
-      answer = answer;
-    }
+    opened : (name : List ℕ) (target : Target) (entry res : ℕ) → f ≡ installed place 0 entry
+        → Installed (record request { operation = Opens name target }) (completed place (pos res) []) f.mark
+    opened name target entry res is = record { entry = 0; is_mark = ap (λ (x : Closed). x.mark) is; listed = refl; res = res; accepted = refl }
 
-    open_came : (name : List ℕ) (entry : ℕ) (target : Target) (accesses : List Access) (c : Completed) → Places accesses
-        → IsOpenDone size place entry target accesses c → Came (Opens name target) c
-    open_came name entry (Slot slot) accesses c has done =
+    open_installed : (name : List ℕ) (entry : ℕ) (target : Target) (accesses : List Access) (c : Completed)
+        → IsOpenDone size place entry target accesses c → IfPlaced (Opens name target) accesses c
+    open_installed name entry (Slot slot) accesses c =
         puts size place (IfPlaced (Opens name (Slot slot))) (λ _ there. absurd there) accesses c entry slot (λ removed there.
-        opened name (Slot slot) entry 0 _ (one_placed (Puts slot (installed place 0 entry) removed ∷ []) slot (installed place 0 entry) refl there)
-        refl) done has
-    open_came name entry Any accesses c has done =
+        opened name (Slot slot) entry 0 (one_placed (Puts slot (installed place 0 entry) removed ∷ []) slot (installed place 0 entry) refl there))
+    open_installed name entry Any accesses c =
         allocates size place (IfPlaced (Opens name Any)) (λ _ there. absurd there) accesses c entry (λ slot there.
-        opened name Any entry slot _ (one_placed (Allocates slot (installed place 0 entry) ∷ []) slot (installed place 0 entry) refl there) refl)
-        (λ there. absurd there) done has
+        opened name Any entry slot (one_placed (Allocates slot (installed place 0 entry) ∷ []) slot (installed place 0 entry) refl there))
+        (λ there. absurd there)
 
     -- the place of the list's number that installed it
     record Listed (in_list : ℕ) (list : List ℤ) : Type 0 where
@@ -69,18 +54,10 @@ module _ (s : ℕ) (f : Closed) where
       file = n;
       number = refl;
       is_mark = ap (λ (y : Closed). y.mark) (one_placed accesses slot (installed place in_list n) (ap placed x.1) has)
-          ∙ ap (λ (k : ℕ). Submitted place.submission place.chain place.member k) (let e : in_list ≡ in_list + 0 = omega arith in e);
+          ∙ ap (Submitted place.submission place.chain place.member) (let e : in_list ≡ in_list + 0 = omega arith in e);
     }
     one_listed in_list slot (negsuc zero) list accesses has x = absurd (none_placed accesses _ x.1 refl has)
     one_listed in_list slot (negsuc (suc n)) list accesses has x = absurd (none_placed accesses [] x refl has)
-
-    later_listed : (in_list : ℕ) (z : ℤ) (list : List ℤ) → Listed (in_list + 1) list → Listed in_list (z ∷ list)
-    later_listed in_list z list l = record {
-      at = suc l.at;
-      file = l.file;
-      number = l.number;
-      is_mark = l.is_mark ∙ ap (λ (n : ℕ). Submitted place.submission place.chain place.member n) (let e : in_list + 1 + l.at ≡ in_list + suc l.at = omega arith in e);
-    }
 
     listed : (in_list slot : ℕ) (list : List ℤ) (accesses : List Access) → Places accesses → AreEntriesDone place in_list slot list accesses
         → Listed in_list list
@@ -88,39 +65,32 @@ module _ (s : ℕ) (f : Closed) where
     listed in_list slot (z ∷ list) accesses has x =
         ⊎_elim
         (λ here. one_listed in_list slot z list x.0 here x.3)
-        (λ later. later_listed in_list z list (listed (in_list + 1) (slot + 1) list x.1 later x.4))
+        (λ later. let l = listed (in_list + 1) (slot + 1) list x.1 later x.4 in record {
+          at = suc l.at;
+          file = l.file;
+          number = l.number;
+          is_mark = l.is_mark ∙ ap (Submitted place.submission place.chain place.member) (let e : in_list + 1 + l.at ≡ in_list + suc l.at = omega arith in e);
+        })
         (has_either (placed x.0) (placed x.1) s f (subst (λ (l : List (ℕ × Closed)). Has l s f) (ap placed x.2 ∙ placed-append x.0 x.1) has))
 
-    request_came : (operation : Operation) (accesses : List Access) (c : Completed) → Places accesses
-        → IsRequestDone catalogue size place operation accesses c → Came operation c
-    request_came (Opens name target) accesses c has =
-        either_way (has_name name catalogue) (λ _ x. open_came name x.0 target accesses c has x.2)
-        (λ _ x. absurd (none_placed accesses [] x.0 refl has))
-    request_came (Reads slot off len) accesses c has =
-        λ x. absurd (none_placed accesses accesses refl (read_none catalogue size place slot off len accesses c x) has)
-    request_came (Closes slot) accesses c has = λ x. absurd (none_placed accesses accesses refl (close_none size place slot accesses c x) has)
-    request_came (Updates off list) accesses c has =
-        λ done. updates size place (IfPlaced (Updates off list)) (λ _ there. absurd there) accesses c (length catalogue) off list (λ _ _ x there.
+    request_installed : (operation : Operation) (accesses : List Access) (c : Completed) → IsRequestDone catalogue size place operation accesses c
+        → IfPlaced operation accesses c
+    request_installed (Opens name target) accesses c =
+        either_way (has_name name catalogue) (λ _ x. open_installed name x.0 target accesses c x.2)
+        (λ _ x has. absurd (none_placed accesses [] x.0 refl has))
+    request_installed (Reads slot off len) accesses c =
+        λ x has. absurd (none_placed accesses accesses refl (read_none catalogue size place slot off len accesses c x) has)
+    request_installed (Closes slot) accesses c =
+        λ x has. absurd (none_placed accesses accesses refl (close_none size place slot accesses c x) has)
+    request_installed (Updates off list) accesses c =
+        updates size place (IfPlaced (Updates off list)) (λ _ there. absurd there) accesses c (length catalogue) off list (λ _ _ x there.
         let l = listed 0 off list accesses there x in record {
           entry = l.at;
-          is_mark = l.is_mark
-              ∙ ap (λ (k : ℕ). Submitted place.submission place.chain place.member k) (let e : 0 + l.at ≡ l.at = omega arith in e);
+          is_mark = l.is_mark ∙ ap (Submitted place.submission place.chain place.member) (let e : 0 + l.at ≡ l.at = omega arith in e);
           listed = (l.file, l.number);
           res = length list;
-          answer = refl;
-        }) done has
-
-    pub request_installed : (request : Asked) (accesses : List Access) (c : Completed) → Places accesses
-        → IsRequestDone catalogue size place request.operation accesses c → Installed request c f.mark
-    request_installed request accesses c has x =
-        let m = request_came request.operation accesses c has x in
-        record {
-          entry = m.entry;
-          is_mark = m.is_mark ∙ ap (λ (p : Place). Submitted p.submission p.chain p.member m.entry) (sym (ap (λ (d : Completed). d.place) m.answer));
-          listed = m.listed;
-          res = m.res;
-          accepted = ap (λ (d : Completed). d.res) m.answer;
-        }
+          accepted = refl;
+        })
 
   module _ (catalogue : List FileEntry) (size : ℕ) where
     chain_installed : (place : Place) (requests : List Asked) (accesses : List Access) (cs : List Completed) → Places accesses
@@ -129,7 +99,7 @@ module _ (s : ℕ) (f : Closed) where
     chain_installed place (r ∷ rs) accesses cs has x =
         subst (λ (l : List Completed). OneInstalled (r ∷ rs) l f.mark) (sym x.5)
         (⊎_elim
-        (λ here. inl (request_installed catalogue size place r x.0 x.2 here x.6))
+        (λ here. inl (request_installed catalogue size place r r.operation x.0 x.2 x.6 here))
         (λ later. inr (either_way {R = OneInstalled rs x.3 f.mark} (severs r x.2)
         (λ _ y. absurd (none_placed x.1 [] y.0 refl later))
         (λ _ y. chain_installed (next_member place) rs x.1 x.3 later y) x.7))
