@@ -1,7 +1,7 @@
 -- The places of a chain's accesses.
 use Rattle.fx_check.proofs.Words.{◌≡◌, ◌≢◌, ℕ, suc, ◌+◌, ◌<◌, ◌==◌, Bool, true, false, if◌then◌else◌, ℤ, negsuc, int_le, List, [], ◌∷◌, ◌++◌, All}
 use Rattle.fx_check.proofs.Words.{length, Some, None, refl, sym, ap, subst, ◌∙◌, arith, append-nil, append_assoc, length-append, slice_index_or, take}
-use Rattle.fx_check.proofs.Words.{MatchBool, length-take-le, take_more, All-append, FileEntry, Completed, next_member, canceled, severs, Asked}
+use Rattle.fx_check.proofs.Words.{MatchBool, length-take-le, take_more, All-append, All-nil, FileEntry, Completed, next_member, canceled, severs, Asked}
 use Rattle.fx_check.proofs.Words.{Operation, Updates, Place, IsChainDone, IsRequestDone, IsUpdateDone, Access, by_equality, IsChainListed}
 use Rattle.fx_check.proofs.Words.{entry_places, place_at, AccessPlace, updates}
 use Rattle.std.proofs.lemmas.List.{length-replicate}
@@ -31,20 +31,13 @@ one_taken place list i d inside =
     ∙ ap (λ (k : ℕ). entry_places place 0 (take i list) ++ last_place place k (slice_index_or list i d))
     (let short = length-take-le i list (omega arith) in let e : 0 + length (take i list) ≡ i = omega arith in e)
 
-pub entry_put : (place : Place) (list : List ℤ) (i : ℕ) (d : ℤ) (old mid : List AccessPlace) → i < length list → int_le (negsuc 0) (slice_index_or list i d) ≡ true
-    → mid ≡ old ++ entry_places place 0 (take i list) → mid ++ place_at place (Some i) ∷ [] ≡ old ++ entry_places place 0 (take (i + 1) list)
-entry_put place list i d old mid inside some so_far =
-    ap (λ (l : List AccessPlace). l ++ place_at place (Some i) ∷ []) so_far
-    ∙ append_assoc old (entry_places place 0 (take i list)) (place_at place (Some i) ∷ [])
-    ∙ ap (λ (b : Bool). old ++ (entry_places place 0 (take i list) ++ (if b then place_at place (Some i) ∷ [] else []))) (sym some)
-    ∙ ap (λ (l : List AccessPlace). old ++ l) (sym (one_taken place list i d inside))
-
-pub entry_skipped : (place : Place) (list : List ℤ) (i : ℕ) (d : ℤ) (old mid : List AccessPlace) → i < length list
-    → int_le (negsuc 0) (slice_index_or list i d) ≡ false → mid ≡ old ++ entry_places place 0 (take i list)
-    → mid ≡ old ++ entry_places place 0 (take (i + 1) list)
-entry_skipped place list i d old mid inside none so_far =
-    so_far ∙ ap (λ (l : List AccessPlace). old ++ l) (sym (append-nil (entry_places place 0 (take i list))))
-    ∙ ap (λ (b : Bool). old ++ (entry_places place 0 (take i list) ++ (if b then place_at place (Some i) ∷ [] else []))) (sym none)
+-- behind other places, the next entry's
+pub entries_more : (place : Place) (list : List ℤ) (i : ℕ) (d : ℤ) (b : Bool) (old mid new : List AccessPlace) → i < length list
+    → int_le (negsuc 0) (slice_index_or list i d) ≡ b → mid ≡ old ++ entry_places place 0 (take i list)
+    → new ≡ mid ++ (if b then place_at place (Some i) ∷ [] else []) → new ≡ old ++ entry_places place 0 (take (i + 1) list)
+entries_more place list i d b old mid new inside is so_far more =
+    more ∙ (λ t. so_far t ++ (if sym is t then place_at place (Some i) ∷ [] else []))
+    ∙ append_assoc old (entry_places place 0 (take i list)) (last_place place i (slice_index_or list i d))
     ∙ ap (λ (l : List AccessPlace). old ++ l) (sym (one_taken place list i d inside))
 
 -- as many places as entries that aren't skips
@@ -73,17 +66,16 @@ own_listed catalogue size place (Updates off list) own c done =
     (λ some. entries_listed place 0 list ∙ sym (update_made (length catalogue) size place off list own c some done))
 own_listed catalogue size place _ own c done = length-replicate (length own) (place_at place None)
 
--- the places of an update that made accesses
 -- they are all of the chain
 abbrev pub AreOfChain : ℕ → List AccessPlace → Type 0
 AreOfChain chain places = All (λ p. p.chain ≡ chain) places
 
+none_of_chain : (chain : ℕ) → AreOfChain chain []
+none_of_chain chain = All-nil (λ (p : AccessPlace). p.chain ≡ chain)
+
 one_of_chain : (b : Bool) (place : Place) (n : ℕ) → AreOfChain place.chain (if b then place_at place (Some n) ∷ [] else [])
 one_of_chain true place n = All-replicate (λ (p : AccessPlace). p.chain ≡ place.chain) 1 (place_at place (Some n)) refl
-one_of_chain false place n = All-replicate (λ (p : AccessPlace). p.chain ≡ place.chain) 0 (place_at place (Some n)) refl
-
-none_of_chain : (chain : ℕ) → AreOfChain chain []
-none_of_chain chain = All-replicate (λ (p : AccessPlace). p.chain ≡ chain) 0 (record { chain = chain; member = 0; entry = None }) refl
+one_of_chain false place n = none_of_chain place.chain
 
 entries_of_chain : (place : Place) (n : ℕ) (list : List ℤ) → AreOfChain place.chain (entry_places place n list)
 entries_of_chain place n [] = none_of_chain place.chain
@@ -99,28 +91,27 @@ own_of_chain place (Updates off list) own = by (length own == 0)
     by false = entries_of_chain place 0 list
 own_of_chain place _ own = All-replicate (λ (p : AccessPlace). p.chain ≡ place.chain) (length own) (place_at place None) refl
 
--- a chain has as many places as accesses
-pub chain_count : (catalogue : List FileEntry) (size : ℕ) (place : Place) (requests : List Asked) (accesses : List Access) (places : List AccessPlace)
-    (completions : List Completed) → IsChainListed catalogue size place requests accesses places completions → length places ≡ length accesses
-chain_count catalogue size place [] accesses places completions x = ap length x.1 ∙ sym (ap length x.0)
-chain_count catalogue size place (request ∷ requests) accesses places completions x =
+-- as many places as accesses, and all of the chain
+abbrev pub AreFor : ℕ → List Access → List AccessPlace → Type 0
+AreFor chain accesses places = (length places ≡ length accesses) × AreOfChain chain places
+
+none_for : (chain : ℕ) (accesses : List Access) (places : List AccessPlace) → accesses ≡ [] → places ≡ [] → AreFor chain accesses places
+none_for chain accesses places none empty = (ap length empty ∙ sym (ap length none), subst (AreOfChain chain) (sym empty) (none_of_chain chain))
+
+pub chain_listed : (catalogue : List FileEntry) (size : ℕ) (place : Place) (requests : List Asked) (accesses : List Access) (places : List AccessPlace)
+    (completions : List Completed) → IsChainListed catalogue size place requests accesses places completions → AreFor place.chain accesses places
+chain_listed catalogue size place [] accesses places completions x = none_for place.chain accesses places x.0 x.1
+chain_listed catalogue size place (request ∷ requests) accesses places completions x =
     let own = own_listed catalogue size place request.operation x.0 x.3 x.8 in
-    let behind : length x.2 ≡ length x.1 = either_case (severs request x.3) (λ y. ap length y.1 ∙ sym (ap length y.0))
-    (chain_count catalogue size (next_member place) requests x.1 x.2 x.4) x.9 in
+    let behind : AreFor place.chain x.1 x.2 = either_case (severs request x.3) (λ y. none_for place.chain x.1 x.2 y.0 y.1)
+    (chain_listed catalogue size (next_member place) requests x.1 x.2 x.4) x.9 in
     let one = ap length x.5 ∙ length-append x.0 x.1 in
     let two = ap length x.7 ∙ length-append (own_places place request.operation x.0) x.2 in
-    omega arith
-
--- and they are its own
-pub chain_same : (catalogue : List FileEntry) (size : ℕ) (place : Place) (requests : List Asked) (accesses : List Access) (places : List AccessPlace)
-    (completions : List Completed) → IsChainListed catalogue size place requests accesses places completions → AreOfChain place.chain places
-chain_same catalogue size place [] accesses places completions x = subst (AreOfChain place.chain) (sym x.1) (none_of_chain place.chain)
-chain_same catalogue size place (request ∷ requests) accesses places completions x =
-    let behind : AreOfChain place.chain x.2 = either_case (severs request x.3)
-    (λ y. subst (AreOfChain place.chain) (sym y.1) (none_of_chain place.chain))
-    (chain_same catalogue size (next_member place) requests x.1 x.2 x.4) x.9 in
-    subst (AreOfChain place.chain) (sym x.7)
-    (All-append (λ (p : AccessPlace). p.chain ≡ place.chain) (own_places place request.operation x.0) x.2 (own_of_chain place request.operation x.0) behind)
+    let more = behind.0 in (
+      omega arith,
+      subst (AreOfChain place.chain) (sym x.7) (All-append (λ (p : AccessPlace). p.chain ≡ place.chain) (own_places place request.operation x.0) x.2
+          (own_of_chain place request.operation x.0) behind.1),
+    )
 
 -- what is put behind other places, for a chain that was done
 abbrev pub IsPut : List FileEntry → ℕ → Place → List Asked → List Access → List Completed → List AccessPlace → List AccessPlace → Type 0
@@ -130,9 +121,6 @@ IsPut catalogue size place requests accesses completions old new =
 module _ (catalogue : List FileEntry) (size : ℕ) (place : Place) (request : Asked) (requests : List Asked) (c : Completed) (cs : List Completed)
     (old mid : List AccessPlace)
     (first : (own : List Access) → IsRequestDone catalogue size place request.operation own c → mid ≡ old ++ own_places place request.operation own) where
-  same_first : (d : Completed) (ds : List Completed) → ◌≡◌ {A = List Completed} (c ∷ cs) (d ∷ ds) → d ≡ c
-  same_first d ds same = sym (ap (λ (l : List Completed). slice_index_or l 0 c) same)
-
   abbrev Done : Bool → List Access → List Completed → Type 0
   Done cut others ds = MatchBool cut ((others ≡ []) × (ds ≡ canceled (next_member place) requests))
       (IsChainDone catalogue size (next_member place) requests others ds)
@@ -141,19 +129,14 @@ module _ (catalogue : List FileEntry) (size : ℕ) (place : Place) (request : As
   DoneSo cut others behind ds = MatchBool cut ((others ≡ []) × (behind ≡ []) × (ds ≡ canceled (next_member place) requests))
       (IsChainListed catalogue size (next_member place) requests others behind ds)
 
-  put : (new behind : List AccessPlace) (accesses : List Access) (x : IsChainDone catalogue size place (request ∷ requests) accesses (c ∷ cs))
-      → new ≡ mid ++ behind → DoneSo (severs request x.2) x.1 behind x.3 → IsPut catalogue size place (request ∷ requests) accesses (c ∷ cs) old new
-  put new behind accesses x is rest =
-      let own = own_places place request.operation x.0 in
-      let done = subst (λ (e : Completed). IsRequestDone catalogue size place request.operation x.0 e) (same_first x.2 x.3 x.5) x.6 in (
-        own ++ behind,
-        is ∙ ap (λ (l : List AccessPlace). l ++ behind) (first x.0 done) ∙ append_assoc old own behind,
-        (x.0, x.1, behind, x.2, x.3, x.4, x.5, refl, x.6, rest),
-      )
-
   pub severed_put : (accesses : List Access) → severs request c ≡ true → IsChainDone catalogue size place (request ∷ requests) accesses (c ∷ cs)
       → IsPut catalogue size place (request ∷ requests) accesses (c ∷ cs) old mid
   severed_put accesses cut x =
-      let severed = ap (severs request) (same_first x.2 x.3 x.5) ∙ cut in
+      let same : x.2 ≡ c = cc (x.5) in
+      let severed = ap (severs request) same ∙ cut in
       let over = subst (λ (b : Bool). Done b x.1 x.3) severed x.7 in
-      put mid [] accesses x (sym (append-nil mid)) (subst (λ (b : Bool). DoneSo b x.1 [] x.3) (sym severed) (over.0, refl, over.1))
+      let own = own_places place request.operation x.0 in (
+        own,
+        first x.0 (subst (IsRequestDone catalogue size place request.operation x.0) same x.6),
+        (x.0, x.1, [], x.2, x.3, x.4, x.5, sym (append-nil own), x.6, subst (λ (b : Bool). DoneSo b x.1 [] x.3) (sym severed) (over.0, refl, over.1)),
+      )

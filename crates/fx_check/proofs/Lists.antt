@@ -1,13 +1,12 @@
 -- The places of all chains, a list for each.
 use Rattle.fx_check.proofs.Words.{◌≡◌, ◌-◌, map, take, drop, slice_index_or, ℕ, zero, suc, ◌+◌, ◌≤◌, List, [], ◌∷◌, ◌++◌, length, Some, refl, sym, ap}
-use Rattle.fx_check.proofs.Words.{subst, ◌∙◌, arith, append_assoc, slice_get, get_or_from_slice_get, slice_get_within, drop-map, length-map}
-use Rattle.fx_check.proofs.Words.{take-append-drop, Vec, FileEntry, members_of, Completed, all_completed, completed_of, first_member, Asked}
-use Rattle.fx_check.proofs.Words.{all_asked, asked_of, Chain, Completion, Request, first_and_rest, accesses_of_chain, AreChainsDone, IsChainDone}
-use Rattle.fx_check.proofs.Words.{Access, ChainAccess, AreListsOf, IsListFor, ArePlaces, IsChainListed, places_of_chain, AccessPlace, length-done}
-use Rattle.std.proofs.lemmas.List.{take-map}
-use Rattle.fx_order.proofs.ChainFront.{front_is}
+use Rattle.fx_check.proofs.Words.{subst, ◌∙◌, arith, append_assoc, slice_get, get_or_from_slice_get, slice_get_within}
+use Rattle.fx_check.proofs.Words.{take-append-drop, Vec, FileEntry, members_of, Completed, all_completed, first_member, Asked}
+use Rattle.fx_check.proofs.Words.{all_asked, Chain, Completion, Request, accesses_of_chain, AreChainsDone, IsChainDone}
+use Rattle.fx_check.proofs.Words.{Access, ChainAccess, AreListsOf, IsListFor, ArePlaces, IsChainListed, places_of_chain, AccessPlace}
+use Rattle.fx_order.proofs.ChainsFront.{first_run, others_completed, own_completed, parts_of}
 use Rattle.fx_check.specs.Places.{AreChainsListed}
-use Rattle.fx_check.proofs.Listed.{IsPut, chain_count, chain_same}
+use Rattle.fx_check.proofs.Listed.{IsPut, chain_listed}
 
 module _ (catalogue : List FileEntry) (size submission : ℕ) (order : List ChainAccess) where
   pub as_many_lists : (chain : ℕ) (runs : List (List Asked)) (lists : List (Vec AccessPlace)) (cs : List Completed)
@@ -23,10 +22,8 @@ module _ (catalogue : List FileEntry) (size submission : ℕ) (order : List Chai
   each_list chain (run ∷ runs) lists cs x zero list got =
       let there : slice_get (x.0 ∷ x.1) 0 ≡ Some list = subst (λ (l : List (Vec AccessPlace)). slice_get l 0 ≡ Some list) x.4 got in
       let same : x.0 ≡ list = get_or_from_slice_get (x.0 ∷ x.1) 0 list list there in
-      let here : IsListFor order chain x.0.items = record {
-        as_many = chain_count catalogue size (first_member submission chain) run (accesses_of_chain chain order) x.0.items x.2 x.6;
-        same = chain_same catalogue size (first_member submission chain) run (accesses_of_chain chain order) x.0.items x.2 x.6;
-      } in
+      let (as_many, own) = chain_listed catalogue size (first_member submission chain) run (accesses_of_chain chain order) x.0.items x.2 x.6 in
+      let here : IsListFor order chain x.0.items = record { as_many = as_many; same = own } in
       subst (λ (n : ℕ). IsListFor order n list.items) (let e : chain ≡ chain + 0 = omega arith in e)
       (subst (λ (l : Vec AccessPlace). IsListFor order chain l.items) same here)
   each_list chain (run ∷ runs) lists cs x (suc k) list got =
@@ -75,66 +72,43 @@ module _ (catalogue : List FileEntry) (size submission : ℕ) (order : List Chai
   ArePut chain runs cs old new =
       (own : List (Vec AccessPlace)) × (new ≡ old ++ own) × AreListsOf catalogue size submission chain runs order own cs
 
-  pub one_more_list : (chain : ℕ) (run : List Asked) (runs : List (List Asked)) (cs own others : List Completed) (old new : List (Vec AccessPlace))
-      (places : Vec AccessPlace) → cs ≡ own ++ others
-      → IsChainListed catalogue size (first_member submission chain) run (accesses_of_chain chain order) places.items own
-      → ArePut (chain + 1) runs others (old ++ places ∷ []) new → ArePut chain (run ∷ runs) cs old new
-  one_more_list chain run runs cs own others old new places split first rest =
-      (places ∷ rest.0, rest.1 ∙ append_assoc old (places ∷ []) rest.0, (places, rest.0, own, others, refl, split, first, rest.2))
-
-  -- those of the first chain, whose completions stand in front, and of the others
-  pub lists_put : (chain : ℕ) (run : List Asked) (runs : List (List Asked)) (cs : List Completed) (old new : List (Vec AccessPlace))
-      (places : Vec AccessPlace)
-      → ((accesses : List Access) → IsChainDone catalogue size (first_member submission chain) run accesses (take (length run) cs)
-      → IsPut catalogue size (first_member submission chain) run accesses (take (length run) cs) [] places.items)
-      → (AreChainsDone catalogue size submission (chain + 1) runs order (drop (length run) cs)
-      → ArePut (chain + 1) runs (drop (length run) cs) (old ++ places ∷ []) new)
+  -- the list of the first chain, whose completions stand in front, and then those of the others
+  pub lists_put : (chain : ℕ) (run : List Asked) (runs : List (List Asked)) (cs own others : List Completed) (old mid new : List (Vec AccessPlace))
+      (blank : List AccessPlace) (places : Vec AccessPlace) → own ≡ take (length run) cs → others ≡ drop (length run) cs → blank ≡ []
+      → mid ≡ old ++ places ∷ []
+      → ((accesses : List Access) → IsChainDone catalogue size (first_member submission chain) run accesses own
+      → IsPut catalogue size (first_member submission chain) run accesses own blank places.items)
+      → (AreChainsDone catalogue size submission (chain + 1) runs order others → ArePut (chain + 1) runs others mid new)
       → AreChainsDone catalogue size submission chain (run ∷ runs) order cs → ArePut chain (run ∷ runs) cs old new
-  lists_put chain run runs cs old new places first rest x =
+  lists_put chain run runs cs own others old mid new blank places front back none pushed first rest x =
       let place = first_member submission chain in
       let accesses = accesses_of_chain chain order in
-      let n = length run in
-      let parts = front_is x.0 x.1 cs n x.2 (length-done catalogue size place run accesses x.0 x.3) in
-      let put = first accesses (subst (IsChainDone catalogue size place run accesses) (sym parts.0) x.3) in
-      one_more_list chain run runs cs (take n cs) (drop n cs) old new places (sym (take-append-drop n cs))
-      (subst (λ (l : List AccessPlace). IsChainListed catalogue size place run accesses l (take n cs)) (sym put.1) put.2)
-      (rest (subst (AreChainsDone catalogue size submission (chain + 1) runs order) (sym parts.1) x.4))
+      let (here, behind) = parts_of catalogue size submission chain run runs order cs x in
+      let put = first accesses (subst (IsChainDone catalogue size place run accesses) (sym front) here) in
+      let later = rest (subst (AreChainsDone catalogue size submission (chain + 1) runs order) (sym back) behind) in
+      let whole : cs ≡ own ++ others = sym ((λ i. front i ++ back i) ∙ take-append-drop (length run) cs) in
+      let listed : put.0 ≡ places.items = sym (put.1 ∙ ap (λ (l : List AccessPlace). l ++ put.0) none) in (
+        places ∷ later.0,
+        later.1 ∙ ap (λ (l : List (Vec AccessPlace)). l ++ later.0) pushed ∙ append_assoc old (places ∷ []) later.0,
+        (places, later.0, own, others, refl, whole, subst (λ (l : List AccessPlace). IsChainListed catalogue size place run accesses l own) listed put.2, later.2),
+      )
 
 -- the same of chains that were cut from a submission
-module _ (catalogue : List FileEntry) (size submission : ℕ) (order : List ChainAccess) (chain : ℕ) (asked : List Asked) (chains : List Chain) (d : Chain)
-    (some : 1 ≤ length chains) (members : List Request) (run : all_asked members ≡ members_of asked (slice_index_or chains 0 d))
-    (completions : List Completion) where
-  abbrev others : List Chain
-  others = take (length chains - 1) (drop 1 chains)
-
-  runs : map (members_of asked) chains ≡ all_asked members ∷ map (members_of asked) others
-  runs = ap (map (members_of asked)) (first_and_rest chains d some) ∙ ap (λ (r : List Asked). r ∷ map (members_of asked) others) (sym run)
-
-  count : length (all_asked members) ≡ length members
-  count = length-map members asked_of
-
-  own_is : (own : List Completion) → own ≡ take (length members) completions → all_completed own ≡ take (length (all_asked members)) (all_completed completions)
-  own_is own is = ap all_completed is ∙ sym (take-map completed_of (length members) completions) ∙ ap (λ (n : ℕ). take n (all_completed completions)) (sym count)
-
-  later_is : (later : List Completion) → later ≡ drop (length members) completions
-      → all_completed later ≡ drop (length (all_asked members)) (all_completed completions)
-  later_is later is = ap all_completed is ∙ sym (drop-map completed_of (length members) completions) ∙ ap (λ (n : ℕ). drop n (all_completed completions)) (sym count)
-
-  pub cut_lists_put : (own later : List Completion) (old new : List (Vec AccessPlace)) (places : Vec AccessPlace)
-      → own ≡ take (length members) completions → later ≡ drop (length members) completions
-      → ((accesses : List Access) → IsChainDone catalogue size (first_member submission chain) (all_asked members) accesses (all_completed own)
-      → IsPut catalogue size (first_member submission chain) (all_asked members) accesses (all_completed own) [] places.items)
-      → (AreChainsDone catalogue size submission (chain + 1) (map (members_of asked) others) order (all_completed later)
-      → ArePut catalogue size submission order (chain + 1) (map (members_of asked) others) (all_completed later) (old ++ places ∷ []) new)
-      → AreChainsDone catalogue size submission chain (map (members_of asked) chains) order (all_completed completions)
-      → ArePut catalogue size submission order chain (map (members_of asked) chains) (all_completed completions) old new
-  cut_lists_put own later old new places front back first rest x =
-      let place = first_member submission chain in
-      let behind = map (members_of asked) others in
-      subst (λ (rs : List (List Asked)). ArePut catalogue size submission order chain rs (all_completed completions) old new) (sym runs)
-      (lists_put catalogue size submission order chain (all_asked members) behind (all_completed completions) old new places
-      (subst (λ (cs : List Completed). (accesses : List Access) → IsChainDone catalogue size place (all_asked members) accesses cs
-      → IsPut catalogue size place (all_asked members) accesses cs [] places.items) (own_is own front) first)
-      (subst (λ (cs : List Completed). AreChainsDone catalogue size submission (chain + 1) behind order cs
-      → ArePut catalogue size submission order (chain + 1) behind cs (old ++ places ∷ []) new) (later_is later back) rest)
-      (subst (λ (rs : List (List Asked)). AreChainsDone catalogue size submission chain rs order (all_completed completions)) runs x))
+pub cut_lists_put : (catalogue : List FileEntry) (size submission : ℕ) (order : List ChainAccess) (chain : ℕ) (asked : List Asked) (chains : List Chain)
+    (d : Chain) (members : List Request) (completions own later : List Completion) (old mid new : List (Vec AccessPlace)) (blank : List AccessPlace)
+    (places : Vec AccessPlace) → 1 ≤ length chains → all_asked members ≡ members_of asked (slice_index_or chains 0 d)
+    → own ≡ take (length members) completions → later ≡ drop (length members) completions → blank ≡ [] → mid ≡ old ++ places ∷ []
+    → ((accesses : List Access) → IsChainDone catalogue size (first_member submission chain) (all_asked members) accesses (all_completed own)
+    → IsPut catalogue size (first_member submission chain) (all_asked members) accesses (all_completed own) blank places.items)
+    → (AreChainsDone catalogue size submission (chain + 1) (map (members_of asked) (take (length chains - 1) (drop 1 chains))) order (all_completed later)
+    → ArePut catalogue size submission order (chain + 1) (map (members_of asked) (take (length chains - 1) (drop 1 chains))) (all_completed later) mid new)
+    → AreChainsDone catalogue size submission chain (map (members_of asked) chains) order (all_completed completions)
+    → ArePut catalogue size submission order chain (map (members_of asked) chains) (all_completed completions) old new
+cut_lists_put catalogue size submission order chain asked chains d members completions own later old mid new blank places some run front back none pushed
+    first rest x =
+    let runs = first_run asked chains d members some run in
+    subst (λ (rs : List (List Asked)). ArePut catalogue size submission order chain rs (all_completed completions) old new) (sym runs)
+    (lists_put catalogue size submission order chain (all_asked members) (map (members_of asked) (take (length chains - 1) (drop 1 chains)))
+    (all_completed completions) (all_completed own) (all_completed later) old mid new blank places (own_completed members completions own front)
+    (others_completed members completions later back) none pushed first rest
+    (subst (λ (rs : List (List Asked)). AreChainsDone catalogue size submission chain rs order (all_completed completions)) runs x))

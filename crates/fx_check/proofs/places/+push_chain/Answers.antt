@@ -1,5 +1,6 @@
-use Rattle.fx_check.proofs.Words.{◌≡◌, ◌-◌, ◌∷◌, List, length, take, drop, sym, ap, subst, ◌∙◌, all_completed, completed_of, all_asked, asked_of}
-use Rattle.fx_check.proofs.Words.{Completion, Request, IsChainDone, first_and_rest}
+use Rattle.fx_check.proofs.Words.{◌≡◌, ◌-◌, ◌∷◌, List, length, take, drop, sym, subst, ◌∙◌, all_completed, completed_of, all_asked, asked_of}
+use Rattle.fx_check.proofs.Words.{Completion, Request, IsChainDone}
+use Rattle.fx_order.proofs.FirstAndRest.{first_is}
 use Rattle.fx_check.proofs.Listed.{IsPut, severed_put}
 use Rattle.fx_check.proofs.places.+push_chain.Goals as goal
 
@@ -11,10 +12,8 @@ returns-then-severs t c = λ catalogue accesses.
     let first : Completion = c.c-item.result in
     let others : List Request = take (length requests - 1) (drop 1 requests) in
     let later : List Completion = take (length completions - 1) (drop 1 completions) in
-    let whole_requests : requests ≡ request ∷ others =
-    first_and_rest requests request c.in-len1-up.len_at_least ∙ ap (λ (r : Request). r ∷ others) (sym c.request-item.is) in
-    let whole_completions : completions ≡ first ∷ later =
-    first_and_rest completions first c.in-len1-up-completions.len_at_least ∙ ap (λ (d : Completion). d ∷ later) (sym c.c-item.is) in
+    let whole_requests : requests ≡ request ∷ others = first_is requests request c.in-len1-up.len_at_least c.request-item.is in
+    let whole_completions : completions ≡ first ∷ later = first_is completions first c.in-len1-up-completions.len_at_least c.c-item.is in
     let old = c.args.places.now.items in
     let mid = c.push_own.new.places.items in
     subst (λ (rs : List Request). IsChainDone catalogue c.args.size c.args.place (all_asked rs) accesses (all_completed completions)
