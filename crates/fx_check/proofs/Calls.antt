@@ -1,6 +1,6 @@
 -- The calls between submissions that take memory: where a text leads that goes on with what one prints.
-use Rattle.fx_check.proofs.Words.{◌≡◌, ◌↔◌, ◌<◌, ◌^◌, ℕ, List, ◌++◌, sym, ap, subst, ◌∙◌, inl, inr, ⊎_elim, Option, Some, None, drop, FileEntry}
-use Rattle.fx_check.proofs.Words.{Errno, ENOMEM, RingContents, RingState, IsRing, ring_of, Instruction, Prints, RingSlots, IsMet, IsStep, Met, Here}
+use Rattle.fx_check.proofs.Words.{◌≡◌, ◌↔◌, ◌<◌, ◌^◌, ℕ, List, ◌++◌, sym, ap, subst, ◌∙◌, inl, inr, ⊎_elim, Option, Some, None, Result, IfOk, drop}
+use Rattle.fx_check.proofs.Words.{IfOk-weaker, FileEntry, Errno, ENOMEM, RingContents, RingState, IsRing, ring_of, Instruction, Prints, RingSlots, IsMet, IsStep, Met, Here}
 use Rattle.fx_check.proofs.Words.{Apart, ring_with_slots, result_line}
 use Rattle.std.proofs.Common.{Global, String}
 use Rattle.fx_chain.specs.Completed.{negated}
@@ -22,10 +22,10 @@ module _ (catalogue : List FileEntry) (old : RingSlots) (command : Instruction) 
       (called ring next command printed takes))
 
   -- a call that is refused, and below one that is accepted and one that finds no memory
-  pub refused : (errno : Errno) (met : Met) → call.refusal ≡ Some errno → IsMet text (result_line call.word (negated errno)) met
-      → IsStep catalogue old command text met old
+  pub refused : {E : Type 0} (errno : Errno) (met : Result Met E) → call.refusal ≡ Some errno → IfOk met (IsMet text (result_line call.word (negated errno)))
+      → IfOk met (λ m. IsStep catalogue old command text m old)
   refused errno met is = let line = result_line call.word (negated errno) in
-      goes catalogue old old command text line (exactly before command text before line (call_at (Some errno) is)) met
+      IfOk-weaker met _ _ (goes catalogue old old command text line (exactly before command text before line (call_at (Some errno) is)))
 
   module _ (is_ring : IsRing before) (none : call.refusal ≡ None) (few : call.res < 2 ^ 31) (line : List ℕ) (tells : Tells before call line) (met : Met)
       (found : IsMet text line met) where
@@ -43,14 +43,14 @@ module _ (catalogue : List FileEntry) (old : RingSlots) (command : Instruction) 
               ((call_at None none g.ring next g.line g.same).0 g.prints);
         }) (Here count) begins
 
-    pub no_memory : (wanted : String Global) (again : Met) → met ≡ Apart wanted → IsMet text (result_line call.word (negated ENOMEM)) again
-        → IsStep catalogue old command text again old
+    pub no_memory : {E : Type 0} (wanted : String Global) (again : Result Met E) → met ≡ Apart wanted
+        → IfOk again (IsMet text (result_line call.word (negated ENOMEM))) → IfOk again (λ m. IsStep catalogue old command text m old)
     no_memory wanted again is =
         let nowhere = subst (IsMet text line) is found in
-        goes catalogue old old command text (result_line call.word (negated ENOMEM)) (record {
+        IfOk-weaker again _ _ (goes catalogue old old command text (result_line call.word (negated ENOMEM)) (record {
           may = λ ring next printed same leads so. (call_at None none ring next printed same).1 (inr (leads, so));
           only = λ next others g. ⊎_elim
               (λ a. absurd (nowhere others (g.split ∙ ap (λ (l : List ℕ). l ++ others) (one_line before command g.line line is_ring a.1 tells))))
               (λ r. r)
               ((call_at None none g.ring next g.line g.same).0 g.prints);
-        }) again
+        }))

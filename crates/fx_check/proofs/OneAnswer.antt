@@ -22,11 +22,8 @@ pub submitted : (before : RingState) (asked : List Asked) (fault : Option CutFau
     → Prints ring (SubmitsAll asked) next line ↔ Submitted ring before asked fault full next line
 submitted before asked fault full is counted ring next line same =
     let now : nat_le MOST_SUBMISSIONS ring.submissions ≡ full = ap (λ (r : RingState). nat_le MOST_SUBMISSIONS r.submissions) same ∙ counted in
-    subst (λ (r : RingState). Prints ring (SubmitsAll asked) next line ↔ Submitted ring r asked fault full next line) same
-    (subst (λ (b : Bool). Prints ring (SubmitsAll asked) next line ↔ Submitted ring (ring_of ring) asked fault b next line) now
-    (subst (λ (x : Option CutFault).
-    Prints ring (SubmitsAll asked) next line ↔ Submitted ring (ring_of ring) asked x (nat_le MOST_SUBMISSIONS ring.submissions) next line) is
-    ((λ p. p), (λ p. p))))
+    subst (λ (z : RingState × Option CutFault × Bool). Prints ring (SubmitsAll asked) next line ↔ Submitted ring z.0 asked z.1 z.2 next line)
+    (λ t. (same t, is t, now t)) ((λ p. p), (λ p. p))
 
 module _ (catalogue : List FileEntry) (old : RingSlots) (text : List ℕ) (met : Met) where
   abbrev before : RingState

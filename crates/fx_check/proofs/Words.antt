@@ -47,7 +47,6 @@ pub use Rattle.fx_lines.specs.LinesView.{lines_in}
 pub use Rattle.fx_lines.specs.declared.close.ClosedLine.{ClosedLine}
 pub use Rattle.fx_lines.specs.declared.report.ReportLines.{ReportLines}
 pub use Rattle.fx_order.proofs.ChainFront.{length-done}
-pub use Rattle.fx_order.proofs.FirstAndRest.{first_and_rest}
 pub use Rattle.fx_order.proofs.Placed.{Has, placed}
 pub use Rattle.fx_order.proofs.RequestCases.{allocates, puts, updates}
 pub use Rattle.fx_order.specs.Access.{Table, accesses_of, accesses_of_chain}
@@ -73,7 +72,7 @@ pub use Rattle.fx_script.specs.Play.{IsRefused, Prints, PrintsClosed, PrintsEnd}
 pub use Rattle.fx_script.specs.Text.{report_text}
 pub use Rattle.fx_table.proofs.Members.{each_all}
 pub use Rattle.std.proofs.Common.{All, Bool, Contains, Err, IfOk, IfSome, List, None, Ok, Option, Result, Some, [], ap, append-nil, append_assoc}
-pub use Rattle.std.proofs.Common.{arith, codes, cond, drop, false, filter, if◌then◌else◌, inl, inr, int_le, length, length-append, length-drop, map}
+pub use Rattle.std.proofs.Common.{arith, codes, drop, false, filter, if◌then◌else◌, inl, inr, int_le, length, length-append, length-drop, map}
 pub use Rattle.std.proofs.Common.{nat_le, negsuc, not, of_z, option_map, pos, refl, replicate, rules, slice_get, slice_index_or, slice_set}
 pub use Rattle.std.proofs.Common.{string_bytes, subst, suc, sym, take, to_z, true, zero, ℕ, ℤ, ⊎_elim, ◌++◌, ◌+◌, ◌-◌, ◌<◌, ◌==◌, ◌^◌, ◌↔◌, ◌∙◌, ◌∷◌}
 pub use Rattle.std.proofs.Common.{◌≡◌, ◌≢◌, ◌≤◌}

@@ -1,4 +1,4 @@
-use Rattle.fx_check.proofs.Words.{◌≡◌, ap, arith, codes, length, option_map, pos, refl, sym, IfOk-weaker, MOST_ENTRIES, RegistersList, Table}
+use Rattle.fx_check.proofs.Words.{◌≡◌, ap, arith, codes, length, option_map, pos, refl, sym, MOST_ENTRIES, RegistersList, Table}
 use Rattle.fx_check.proofs.Words.{ring_with_slots, table_of_slots, registered, tags_for, result_line}
 use Rattle.fx_ring.proofs.Origins.{registered_rings}
 use Rattle.fx_check.proofs.Calls.{accepted, no_memory, refused}
@@ -9,9 +9,8 @@ use Rattle.fx_check.proofs.registration.play_register.Goals as goal
 
 pub returns-in-Some-clause-step : goal.returns-in-Some-clause-step
 returns-in-Some-clause-step c =
-    IfOk-weaker c.meet_refusal.result _ _
-    (λ met. refused c.args.catalogue.now c.args.ring.now (RegistersList c.args.given.now.list.now (option_map (λ given. given.now) c.args.given.now.tags))
-    c.args.text.now tt c.in-Some.errno met (sym c.in-Some.ensures.value))
+    refused c.args.catalogue.now c.args.ring.now (RegistersList c.args.given.now.list.now (option_map (λ given. given.now) c.args.given.now.tags))
+    c.args.text.now tt c.in-Some.errno c.meet_refusal.result (sym c.in-Some.ensures.value)
     c.meet_refusal.ensures
 
 pub apply_list-requires-clause-good : goal.apply_list-requires-clause-good
@@ -43,8 +42,7 @@ returns-in_ok-_none-in-Here-clause-kept c =
 
 pub returns-in-Apart-clause-step : goal.returns-in-Apart-clause-step
 returns-in-Apart-clause-step c =
-    IfOk-weaker c.or_no_memory.result _ _
-    (λ met. no_memory c.args.catalogue.now c.args.ring.now (RegistersList c.args.given.now.list.now (option_map (λ given. given.now) c.args.given.now.tags))
+    no_memory c.args.catalogue.now c.args.ring.now (RegistersList c.args.given.now.list.now (option_map (λ given. given.now) c.args.given.now.tags))
     c.args.text.now tt c.requires.is_ring (sym c.in_default.ensures.value) (omega arith)
-    (result_line (codes "register") (pos 0)) refl c.in_ok-met.met c.in_ok-met.ensures c.in-Apart.wanted met c.in-Apart.is)
+    (result_line (codes "register") (pos 0)) refl c.in_ok-met.met c.in_ok-met.ensures c.in-Apart.wanted c.or_no_memory.result c.in-Apart.is
     c.or_no_memory.ensures

@@ -1,4 +1,4 @@
-use Rattle.fx_check.proofs.Words.{◌∙◌, ◌++◌, List, ℕ, ap, arith, codes, pos, refl, string_bytes, subst, sym, IfOk-weaker, Closed, Unregisters, Slots}
+use Rattle.fx_check.proofs.Words.{◌∙◌, ◌++◌, List, ℕ, ap, arith, codes, pos, refl, string_bytes, subst, sym, Closed, Unregisters, Slots}
 use Rattle.fx_check.proofs.Words.{HasClosed, files_of, PrintsClosed, all_closed, all_of_ring, few_of_ring, ring_with_slots, closes_text, result_line}
 use Rattle.fx_check.proofs.Calls.{accepted, no_memory, refused}
 use Rattle.fx_check.proofs.Registrations.{emptied, none_left, with_slots}
@@ -29,8 +29,7 @@ told c = (
 
 pub returns-in-Some-clause-step : goal.returns-in-Some-clause-step
 returns-in-Some-clause-step c =
-    IfOk-weaker c.meet_refusal.result _ _
-    (λ met. refused c.args.catalogue.now c.args.ring.now Unregisters c.args.text.now tt c.in-Some.errno met (sym c.in-Some.ensures))
+    refused c.args.catalogue.now c.args.ring.now Unregisters c.args.text.now tt c.in-Some.errno c.meet_refusal.result (sym c.in-Some.ensures)
     c.meet_refusal.ensures
 
 pub returns-in-Here-clause-step : goal.returns-in-Here-clause-step
@@ -43,7 +42,6 @@ returns-in-Here-clause-step c =
 
 pub returns-clause-step : goal.returns-clause-step
 returns-clause-step c =
-    IfOk-weaker c.or_no_memory.result _ _
-    (λ met. no_memory c.args.catalogue.now c.args.ring.now Unregisters c.args.text.now tt c.requires.is_ring (sym c.in_default.ensures) (omega arith)
-    (string_bytes c.in_ok-whole.whole) (told (goal.at.returns-clause-step c).After-meet-met) c.meet-met.result c.meet-met.ensures c.in-Apart.wanted met c.in-Apart.is)
+    no_memory c.args.catalogue.now c.args.ring.now Unregisters c.args.text.now tt c.requires.is_ring (sym c.in_default.ensures) (omega arith)
+    (string_bytes c.in_ok-whole.whole) (told (goal.at.returns-clause-step c).After-meet-met) c.meet-met.result c.meet-met.ensures c.in-Apart.wanted c.or_no_memory.result c.in-Apart.is
     c.or_no_memory.ensures

@@ -1,5 +1,5 @@
 use Rattle.fx_check.proofs.Words.{◌≡◌, ◌+◌, ◌<◌, ◌^◌, ◌∙◌, ◌++◌, List, ℕ, ap, arith, codes, length, of_z, option_map, pos, rules, string_bytes, subst}
-use Rattle.fx_check.proofs.Words.{sym, to_z, IfOk-weaker, MOST_ENTRIES, Closed, Instruction, UpdatesRing, Table, ring_with_slots, table_of_slots}
+use Rattle.fx_check.proofs.Words.{sym, to_z, MOST_ENTRIES, Closed, Instruction, UpdatesRing, Table, ring_with_slots, table_of_slots}
 use Rattle.fx_check.proofs.Words.{files_after, removed_from, updated, HasClosed, tags_for, PrintsClosed, all_closed, AreInRange, closes_text}
 use Rattle.fx_check.proofs.Words.{result_line}
 use Rattle.std.proofs.Common.{w64}
@@ -66,10 +66,9 @@ module _ (c : After-meet-met) where
 
 pub returns-in-Some-clause-step : goal.returns-in-Some-clause-step
 returns-in-Some-clause-step c =
-    IfOk-weaker c.meet_refusal.result _ _
-    (λ met. refused c.args.catalogue.now c.args.ring.now
+    refused c.args.catalogue.now c.args.ring.now
     (UpdatesRing c.args.off c.args.given.now.list.now (option_map (λ given. given.now) c.args.given.now.tags))
-    c.args.text.now tt c.in-Some.errno met (sym c.in-Some.ensures.value))
+    c.args.text.now tt c.in-Some.errno c.meet_refusal.result (sym c.in-Some.ensures.value)
     c.meet_refusal.ensures
 
 pub returns-in-Here-clause-step : goal.returns-in-Here-clause-step
@@ -94,7 +93,6 @@ pub returns-in-Apart-clause-step : goal.returns-in-Apart-clause-step
 returns-in-Apart-clause-step c =
     let d = (goal.at.returns-in-Apart-clause-step c).After-deref-2 in
     let m = (goal.at.returns-in-Apart-clause-step c).After-meet-met in
-    IfOk-weaker c.or_no_memory.result _ _
-    (λ met. no_memory c.args.catalogue.now c.args.ring.now (command m) c.args.text.now tt c.requires.is_ring (sym c.in_default.ensures.value) (few m)
-    (string_bytes c.in_ok-whole.whole) (told m (removed d)) c.meet-met.result c.meet-met.ensures c.in-Apart.wanted met c.in-Apart.is)
+    no_memory c.args.catalogue.now c.args.ring.now (command m) c.args.text.now tt c.requires.is_ring (sym c.in_default.ensures.value) (few m)
+    (string_bytes c.in_ok-whole.whole) (told m (removed d)) c.meet-met.result c.meet-met.ensures c.in-Apart.wanted c.or_no_memory.result c.in-Apart.is
     c.or_no_memory.ensures

@@ -1,10 +1,6 @@
-use Rattle.fx_check.proofs.Words.{◌-◌, List, ℕ, Option, Some, None, Result, Ok, IfOk, length, option_map, subst, sym, length-map, Asked, all_asked}
-use Rattle.fx_check.proofs.Words.{asked_of, ReadsReport, lines_text, lines_in, ReportLines, Vec, ChainAccess, CameBy, Told, all_completed, runs_of}
-use Rattle.fx_check.proofs.Words.{BeginsWith, ArePlaces, AreApart, HasLines, TellsKnown, Fault, Order, ring_with_slots}
-use Rattle.std.specs.Borrow.{Bor}
-use Rattle.fx_lines.specs.LinesView.{front_of}
-use Rattle.fx_judge.specs.Verdict.{IsVerdict}
-use Rattle.fx_judge.specs.declared.verdict.Verdict.{Verdict}
+use Rattle.fx_check.proofs.Words.{◌-◌, List, ℕ, Some, None, Ok, length, subst, sym, length-map, Asked, all_asked}
+use Rattle.fx_check.proofs.Words.{asked_of, ReadsReport, lines_text, lines_in, Vec, ChainAccess, CameBy, all_completed, runs_of}
+use Rattle.fx_check.proofs.Words.{BeginsWith, ArePlaces, AreApart, HasLines, TellsKnown, Order, ring_with_slots}
 use Rattle.fx_check.proofs.OneText.{begins_with}
 use Rattle.fx_check.proofs.OnlyAccepted.{none_ordered, none_read, none_told, one_ordered}
 use Rattle.fx_check.proofs.Submissions.{IsOrdered, PlacesAt, accepted_goes, accepted_keeps, ordered_done, ordered_is, same_slots}
@@ -16,8 +12,7 @@ module _ (c : In-Some) where
   found : ReadsReport (length (all_asked c.args.requests.now)) c.args.text.now (Some (lines_in c.in-Some.front.0, c.in-Some.front.1.now))
   found =
       subst (λ (n : ℕ). ReadsReport n c.args.text.now (Some (lines_in c.in-Some.front.0, c.in-Some.front.1.now))) (sym (length-map c.args.requests.now asked_of))
-      (subst (λ (x : Option (ReportLines × Bor (List ℕ))). ReadsReport (length c.args.requests.now) c.args.text.now (option_map front_of x))
-      c.in-Some.is c.in_ok-front.ensures)
+      (rw c.in-Some.is at c.in_ok-front.ensures)
 
   begins : BeginsWith c.args.text.now (length c.args.text.now - length c.in-Some.front.1.now) (lines_text (lines_in c.in-Some.front.0))
   begins = begins_with c.args.text.now (lines_text (lines_in c.in-Some.front.0)) c.in-Some.front.1.now found.printed
@@ -25,19 +20,17 @@ module _ (c : In-Some) where
 -- and this is told by them
 module _ (c : In-Ok) where
   has : HasLines c.args.catalogue.now c.in-Some.front.0 c.in-Ok.told
-  has = subst (λ (r : Result Told Fault). IfOk r (HasLines c.args.catalogue.now c.in-Some.front.0)) c.in-Ok.is c.in_ok-told.ensures.lines
+  has = rw c.in-Ok.is at c.in_ok-told.ensures.lines
 
   tells : AreApart c.args.catalogue.now c.args.ring.now.slots
       → TellsKnown c.args.catalogue.now c.args.ring.now.slots (all_asked c.args.requests.now) c.in-Some.front.0 (Ok c.in-Ok.told)
-  tells = subst (λ (r : Result Told Fault). AreApart c.args.catalogue.now c.args.ring.now.slots
-      → TellsKnown c.args.catalogue.now c.args.ring.now.slots (all_asked c.args.requests.now) c.in-Some.front.0 r) c.in-Ok.is c.in_ok-told.ensures.only
+  tells = rw c.in-Ok.is at c.in_ok-told.ensures.only
 
 -- which comes of these accesses
 module _ (c : In-Legal) where
   came : CameBy (ring_with_slots c.args.catalogue.now c.args.ring.now) (all_asked c.args.requests.now) c.in-Ok.told c.in-Legal.accesses.items
       (ring_with_slots c.args.catalogue.now c.judge_submission.new.ring)
-  came = subst (λ (v : Verdict). IsVerdict (ring_with_slots c.args.catalogue.now c.args.ring.now) (all_asked c.args.requests.now) c.in-Ok.told v
-      (ring_with_slots c.args.catalogue.now c.judge_submission.new.ring)) c.in-Legal.is c.in_ok-accesses.ensures.verdict
+  came = rw c.in-Legal.is at c.in_ok-accesses.ensures.verdict
 
   ordered : IsOrdered c.args.catalogue.now c.args.ring.now c.judge_submission.new.ring (all_asked c.args.requests.now) c.in-Ok.told
   ordered = λ room. (came room).0
@@ -96,20 +89,17 @@ pub returns-in_default-clause-answer : goal.returns-in_default-clause-answer
 returns-in_default-clause-answer c =
     none_read c.args.catalogue.now c.args.ring.now c.requires.kept (all_asked c.args.requests.now) c.args.text.now c.requires.accepted c.requires.few c.requires.chains
     (subst (λ (n : ℕ). ReadsReport n c.args.text.now None) (sym (length-map c.args.requests.now asked_of))
-    (subst (λ (x : Option (ReportLines × Bor (List ℕ))). ReadsReport (length c.args.requests.now) c.args.text.now (option_map front_of x))
-    c.in_default.is c.in_ok-front.ensures))
+    (rw c.in_default.is at c.in_ok-front.ensures))
 
 pub returns-in-Err-clause-answer : goal.returns-in-Err-clause-answer
 returns-in-Err-clause-answer c =
     none_told c.args.catalogue.now c.args.ring.now c.requires.kept (all_asked c.args.requests.now) c.args.text.now c.requires.accepted c.requires.few c.requires.chains
     c.in-Some.front.0 c.in-Some.front.1.now (found (goal.at.returns-in-Err-clause-answer c).In-Some) c.in-Err.fault
-    (subst (λ (r : Result Told Fault). AreApart c.args.catalogue.now c.args.ring.now.slots
-    → TellsKnown c.args.catalogue.now c.args.ring.now.slots (all_asked c.args.requests.now) c.in-Some.front.0 r) c.in-Err.is c.in_ok-told.ensures.only)
+    (rw c.in-Err.is at c.in_ok-told.ensures.only)
 
 pub returns-in-NotLegal-clause-answer : goal.returns-in-NotLegal-clause-answer
 returns-in-NotLegal-clause-answer c =
     let o = (goal.at.returns-in-NotLegal-clause-answer c).In-Ok in
     none_ordered c.args.catalogue.now c.args.ring.now c.requires.kept (all_asked c.args.requests.now) c.args.text.now c.requires.accepted c.requires.few c.requires.chains
     c.in-Some.front.0 c.in-Some.front.1.now (found (goal.at.returns-in-NotLegal-clause-answer c).In-Some) c.in-Ok.told (has o) (tells o)
-    (subst (λ (v : Verdict). IsVerdict (ring_with_slots c.args.catalogue.now c.args.ring.now) (all_asked c.args.requests.now) c.in-Ok.told v
-    (ring_with_slots c.args.catalogue.now c.judge_submission.new.ring)) c.in-NotLegal.is c.in_ok-accesses.ensures.verdict).1
+    (rw c.in-NotLegal.is at c.in_ok-accesses.ensures.verdict).1

@@ -1,14 +1,11 @@
-use Rattle.fx_check.proofs.Words.{◌≡◌, ◌==◌, All, Result, IfOk, List, ℕ, filter, map, not, sym, ap, subst, ◌∙◌, Vec, Closed, close_of, ClosedLine}
-use Rattle.fx_check.proofs.Words.{Lines, named_closes, AreApart, MayClose}
-use Rattle.fx_check.specs.Told.{TellsFiles}
+use Rattle.fx_check.proofs.Words.{◌≡◌, ◌==◌, List, filter, map, not, sym, ap, ◌∙◌, Closed, close_of, ClosedLine}
+use Rattle.fx_check.proofs.Words.{Lines, named_closes}
 use Rattle.fx_check.proofs.Submissions.{tags_again, told_lines}
 use Rattle.fx_check.proofs.submission.told_by.Goals as goal
 
 pub returns-clause-lines : goal.returns-clause-lines
 returns-clause-lines c =
-    let told : named_closes c.args.catalogue.now c.in-Ok.files.items ≡ map close_of c.deref.result.now =
-    subst (λ (r : Result (Vec Closed) ℕ). IfOk r (λ files. named_closes c.args.catalogue.now files.items ≡ map close_of c.deref.result.now))
-    c.in-Ok.is c.in_ok-files.ensures.told in
+    let told : named_closes c.args.catalogue.now c.in-Ok.files.items ≡ map close_of c.deref.result.now = rw c.in-Ok.is at c.in_ok-files.ensures.told in
     told_lines c.args.catalogue.now c.args.lines c.in-Ok.files.items
     (told ∙ ap (λ (l : List ClosedLine). map close_of l) c.deref.ensures.value)
     (ap (λ (l : List Closed). map (λ file. file.tag) (filter (λ file. not (file.tag == 0)) l)) (sym c.deref-3.ensures.value)
@@ -18,10 +15,7 @@ pub returns-in-Some-wrong_tag-clause-only : goal.returns-in-Some-wrong_tag-claus
 returns-in-Some-wrong_tag-clause-only c = λ apart report may same.
     let catalogue = c.args.catalogue.now in
     let slots = c.args.ring.now.slots in
-    let only : AreApart catalogue slots → (files : List Closed) → All (MayClose catalogue slots) files
-    → named_closes catalogue files ≡ map close_of c.deref.result.now → c.in-Ok.files.items ≡ files =
-    subst (λ (r : Result (Vec Closed) ℕ). AreApart catalogue slots → (files : List Closed) → All (MayClose catalogue slots) files
-    → named_closes catalogue files ≡ map close_of c.deref.result.now → TellsFiles r files) c.in-Ok.is c.in_ok-files.ensures.only in
+    let only = rw c.in-Ok.is at c.in_ok-files.ensures.only in
     let closed : named_closes catalogue report.closes.files ≡ map close_of c.deref.result.now =
     ap (λ (l : Lines). l.closed) same ∙ ap (λ (l : List ClosedLine). map close_of l) (sym c.deref.ensures.value) in
     let files : c.deref-3.result.now ≡ report.closes.files = c.deref-3.ensures.value ∙ only apart report.closes.files may.each closed in

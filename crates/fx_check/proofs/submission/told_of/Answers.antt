@@ -1,6 +1,5 @@
-use Rattle.fx_check.proofs.Words.{◌≡◌, ◌∙◌, List, Result, IfOk, ap, subst, sym, Closed, Completed, all_completed, all_asked, Lines, Told, AreApart}
-use Rattle.fx_check.proofs.Words.{AreFrom, HasLines, Fault}
-use Rattle.fx_check.specs.Told.{TellsAll}
+use Rattle.fx_check.proofs.Words.{◌≡◌, ◌∙◌, List, ap, subst, sym, Closed, Completed, all_completed, all_asked, Lines}
+use Rattle.fx_check.proofs.Words.{AreFrom, HasLines}
 use Rattle.fx_check.proofs.submission.told_of.Goals as goal
 
 pub returns-in-Some-clause-only : goal.returns-in-Some-clause-only
@@ -8,9 +7,8 @@ returns-in-Some-clause-only c = λ apart report may from same.
     let catalogue = c.args.catalogue.now in
     let slots = c.args.ring.now.slots in
     let asked = all_asked c.args.requests.now in
-    let has : HasLines catalogue c.args.lines c.in-Ok.told =
-    subst (λ (r : Result Told Fault). IfOk r (HasLines catalogue c.args.lines)) c.in-Ok.is c.in_ok-told.ensures.lines in
-    let only = subst (λ (r : Result Told Fault). AreApart catalogue slots → TellsAll catalogue slots c.args.lines r) c.in-Ok.is c.in_ok-told.ensures.only in
+    let has : HasLines catalogue c.args.lines c.in-Ok.told = rw c.in-Ok.is at c.in_ok-told.ensures.lines in
+    let only = rw c.in-Ok.is at c.in_ok-told.ensures.only in
     let files : c.in-Ok.told.closes.items ≡ report.closes.files = only apart report may same in
     let completions : all_completed c.in-Ok.told.completions.items ≡ report.completions = ap (λ (l : Lines). l.completions) (has 0 0 ∙ sym same) in
     c.in-Some.ensures
