@@ -1,12 +1,13 @@
 -- The calls between submissions, and refused submissions: where memory is found they leave one ring, and print one line.
 use Rattle.fx_texts.proofs.Words.{◌≡◌, ℕ, suc, ◌+◌, ◌≤◌, Bool, true, false, nat_le, nat_lt, ◌==◌, List, [], ◌++◌, length, refl, sym, ◌<◌, ap, subst}
 use Rattle.fx_texts.proofs.Words.{◌∙◌, arith, inl, ⊎_elim, Option, Some, None, if◌then◌else◌, MatchBool, MatchOption, or_parts, FileEntry, Errno}
-use Rattle.fx_texts.proofs.Words.{ENOMEM, fault_of, CutFault, MOST_SLOTS, range_refusal, IsRing, RingContents, RingState, ring_of, Reported}
+use Rattle.fx_texts.proofs.Words.{ENOMEM, fault_of, Asked, CutFault, MOST_SLOTS, range_refusal, IsRing, RingContents, RingState, ring_of, Reported}
 use Rattle.fx_texts.proofs.Words.{MOST_SUBMISSIONS, Instruction, SetsRange, SubmitsAll, UpdatesRing, Answers, IsRefused, Prints, PrintsReport}
 use Rattle.fx_texts.proofs.Words.{call_of, ring_with_slots, refused_line, too_many_line, IsLineOf, Leads, MayLeadTo, Stage, after_call, count_after}
-use Rattle.fx_texts.proofs.Words.{count_behind, kept_text, stage, unless_refused, FoundMemory}
+use Rattle.fx_texts.proofs.Words.{count_behind, kept_text, unless_refused, FoundMemory, Contains, Grows, HasEachNext}
 use Rattle.std.proofs.Common.{◌↔◌, ℤ, pos, negsuc, ◌^◌}
 use Rattle.std.proofs.lemmas.Bool.{ltb-false}
+use Rattle.fx_chain.proofs.Cases.{either_way}
 use Rattle.fx_chain.specs.Completed.{negated}
 use Rattle.fx_order.specs.declared.ring_slots.RingSlots.{RingSlots}
 use Rattle.fx_lines.specs.Lines.{IsResultInRange}
@@ -15,6 +16,7 @@ use Rattle.fx_calls.proofs.Calls.{Call, Tells, not_refused, one_line}
 use Rattle.fx_calls.proofs.Shown.{shown}
 use Rattle.fx_texts.specs.Rings.{AnswersFound, IsCall}
 use Rattle.fx_texts.specs.Texts.{HasFound}
+use Rattle.fx_texts.proofs.Growth.{grows_by}
 use Rattle.fx_texts.proofs.Reasons.{none_holds, refusal_other}
 
 -- what a call leaves that found memory, and what it prints
@@ -43,6 +45,27 @@ refused_parts (Some fault) count same reports line many text is = ((λ p. p), (�
 refused_parts None count same reports line many text is =
     subst (λ (b : Bool). MatchBool b (same × (line ≡ many)) reports ↔ (same × (line ≡ many)))
     (sym (uncounted (nat_le MOST_SUBMISSIONS count) count is)) ((λ p. p), (λ p. p))
+
+-- what a submission comes to: nothing changes and it isn't counted, or it has a report and is
+cases : {R : Type 0} (x : Option CutFault) (count : ℕ) (same reports : Type 0) (line many : List ℕ) (text : CutFault → List ℕ)
+    → (same → count_behind count x ≡ count → R) → (reports → count_behind count x ≡ count + 1 → R)
+    → MatchOption x (MatchBool (nat_le MOST_SUBMISSIONS count) (same × (line ≡ many)) reports) (λ fault. same × (line ≡ text fault)) → R
+cases (Some fault) count same reports line many text stays goes = λ prints. stays prints.0 refl
+cases None count same reports line many text stays goes =
+    either_way (nat_le MOST_SUBMISSIONS count) (λ full prints. stays prints.0 (ap (λ (b : Bool). if b then count else count + 1) full))
+    (λ room prints. goes prints (ap (λ (b : Bool). if b then count else count + 1) room))
+
+pub submission_cases : {R : Type 0} (old next : RingContents) (asked : List Asked) (line : List ℕ)
+    → (ring_of next ≡ ring_of old → count_behind old.submissions (fault_of asked) ≡ old.submissions → R)
+    → (PrintsReport old asked next line → count_behind old.submissions (fault_of asked) ≡ old.submissions + 1 → R)
+    → Prints old (SubmitsAll asked) next line → R
+submission_cases old next asked line =
+    cases (fault_of asked) old.submissions (ring_of next ≡ ring_of old) (PrintsReport old asked next line) line too_many_line refused_line
+
+-- what holds of the ring of a call, whether or not it is refused
+pub unless_so : (P : RingState → Type 0) (x : Option Errno) (old left : RingState) → P old → (x ≡ None → P left) → P (unless_refused x old left)
+unless_so P (Some errno) old left so goes = so
+unless_so P None old left so goes = goes refl
 
 call_parts : (old next : RingContents) (command : Instruction) (line : List ℕ) (own : Option Reported) → IsCall old.submissions command
     → Prints old command next line → FoundMemory old command next line own
@@ -134,36 +157,47 @@ call_leads old next command line few counts is printed =
       (refl, found_line (ring_of old) call call.refusal line (refusal_other (ring_of old) command) (few_told (ring_of old) command few) printed),
     )
 
-module _ (keeps : Bool) (catalogue : List FileEntry) (old new : RingSlots) (command : Instruction) (before line : List ℕ)
-    (call : IsCall old.submissions command) (is : ring_with_slots catalogue new ≡ after_call (ring_with_slots catalogue old) command)
-    (printed : IsLineOf (ring_with_slots catalogue old) command line) where
+-- the same of a ring that is kept as slots and was copied, and is put behind others with what was printed
+module _ (keeps : Bool) (catalogue : List FileEntry) (old copy new : RingSlots) (command : Instruction) (before line text : List ℕ)
+    (call : IsCall old.submissions command) (copied : ring_with_slots catalogue copy ≡ ring_with_slots catalogue old)
+    (is : ring_with_slots catalogue new ≡ after_call (ring_with_slots catalogue copy) command)
+    (printed : IsLineOf (ring_with_slots catalogue copy) command line) (kept : text ≡ kept_text keeps (before ++ line)) (stages grown : List Stage) where
   abbrev from : Stage
   from = record { ring = ring_with_slots catalogue old; printed = before }
 
-  abbrev pub behind : Stage
-  behind = record { ring = ring_with_slots catalogue new; printed = kept_text keeps (before ++ line) }
+  abbrev behind : Stage
+  behind = record { ring = ring_with_slots catalogue new; printed = text }
 
-  -- the same of a ring that is kept as slots
-  pub call_may_lead : length old.slots.at.items ≤ MOST_SLOTS → MayLeadTo keeps from command behind
-  call_may_lead few = λ ring same.
-      let next = shown catalogue new in (
-        next.0,
+  left : ring_with_slots catalogue new ≡ after_call (ring_with_slots catalogue old) command
+  left = is ∙ ap (λ (r : RingState). after_call r command) copied
+
+  told : IsLineOf (ring_with_slots catalogue old) command line
+  told = subst (λ (r : RingState). IsLineOf r command line) copied printed
+
+  may_lead : length old.slots.at.items ≤ MOST_SLOTS → MayLeadTo keeps from command behind
+  may_lead few = λ ring same.
+      let (next, shows) = shown catalogue new in (
+        next,
         line,
-        call_leads ring next.0 command line (subst (λ (r : RingState). r.size ≤ MOST_SLOTS) (sym same) few)
+        call_leads ring next command line (subst (λ (r : RingState). r.size ≤ MOST_SLOTS) (sym same) few)
             (subst (λ (r : RingState). IsCall r.submissions command) (sym same) call)
-            (next.1 ∙ is ∙ sym (ap (λ (r : RingState). after_call r command) same))
-            (subst (λ (r : RingState). IsLineOf r command line) (sym same) printed),
-        (λ i. record { ring = next.1 i; printed = kept_text keeps (before ++ line) }),
+            (shows ∙ left ∙ sym (ap (λ (r : RingState). after_call r command) same))
+            (subst (λ (r : RingState). IsLineOf r command line) (sym same) told),
+        (λ i. record { ring = shows i; printed = sym kept i }),
       )
 
-  pub call_only : IsRing (ring_with_slots catalogue old) → (ring next : RingContents) (other : List ℕ) → ring_of ring ≡ ring_with_slots catalogue old
-      → Leads ring command next other → stage keeps next (before ++ other) ≡ behind
-  call_only is_ring ring next other same (own, prints, found) =
+  pub call_grows : length old.slots.at.items ≤ MOST_SLOTS → Grows (λ s. s ≡ behind) stages grown → Grows (MayLeadTo keeps from command) stages grown
+  call_grows few = grows_by (λ (s : Stage). s ≡ behind) (MayLeadTo keeps from command) stages grown
+      (λ s same. subst (MayLeadTo keeps from command) (sym same) (may_lead few))
+
+  pub call_only : IsRing (ring_with_slots catalogue old) → Contains grown behind → HasEachNext keeps from command grown
+  call_only is_ring there ring next other same (own, prints, found) =
       let parts = call_parts ring next command other own (subst (λ (r : RingState). IsCall r.submissions command) (sym same) call) prints found in
-      let there : ring_of next ≡ ring_with_slots catalogue new = parts.0 ∙ ap (λ (r : RingState). after_call r command) same ∙ sym is in
+      let after : ring_of next ≡ ring_with_slots catalogue new = parts.0 ∙ ap (λ (r : RingState). after_call r command) same ∙ sym left in
       let lines : other ≡ line = one_line_of (ring_with_slots catalogue old) command other line is_ring
-      (subst (λ (r : RingState). IsLineOf r command other) same parts.1) printed in
-      λ i. record { ring = there i; printed = kept_text keeps (before ++ lines i) }
+      (subst (λ (r : RingState). IsLineOf r command other) same parts.1) told in
+      let texts = kept ∙ ap (λ (l : List ℕ). kept_text keeps (before ++ l)) (sym lines) in
+      subst (λ (s : Stage). Contains grown s) (λ i. record { ring = sym after i; printed = texts i }) there
 
 -- a call counts no submission
 pub call_uncounted : (count : ℕ) (command : Instruction) → IsCall count command → count_after count command ≡ count

@@ -1,10 +1,10 @@
 -- How many submissions a ring has counted behind commands.
 use Rattle.fx_texts.proofs.Words.{◌≡◌, ℕ, ◌+◌, ◌≤◌, Bool, true, false, nat_le, if◌then◌else◌, List, [], ◌∷◌, refl, sym, ap, ◌∙◌, arith, Option, Some}
-use Rattle.fx_texts.proofs.Words.{None, MatchBool, MatchOption, Errno, fault_of, Asked, CutFault, RingContents, RingState, ring_of, Reported}
-use Rattle.fx_texts.proofs.Words.{MOST_SUBMISSIONS, Instruction, SetsRange, SubmitsAll, refused_line, too_many_line, Prints, PrintsReport, LeadsAll}
-use Rattle.fx_texts.proofs.Words.{after_call, count_after, count_after_all, count_behind, unless_refused, FoundMemory, IsReportFound, call_of}
+use Rattle.fx_texts.proofs.Words.{None, fault_of, Asked, CutFault, RingContents, RingState, ring_of, Reported}
+use Rattle.fx_texts.proofs.Words.{MOST_SUBMISSIONS, Instruction, SetsRange, SubmitsAll, Prints, LeadsAll}
+use Rattle.fx_texts.proofs.Words.{after_call, count_after, count_after_all, count_behind, FoundMemory, IsReportFound, call_of}
 use Rattle.fx_ring.specs.Submission.{IsOneHistory}
-use Rattle.fx_texts.proofs.Calls.{call_leaves}
+use Rattle.fx_texts.proofs.Calls.{call_leaves, submission_cases, unless_so}
 
 abbrev submissions_in : RingState → ℕ
 submissions_in ring = ring.submissions
@@ -14,44 +14,20 @@ pub history_counts : (old next : RingContents) (asked : List Asked) (report : Re
     → next.submissions ≡ old.submissions + 1
 history_counts old next asked report history = ap submissions_in history.after
 
-pub report_number : (old next : RingContents) (asked : List Asked) (report : Reported) → IsOneHistory old asked report next
-    → report.submission ≡ old.submissions + 1
-report_number old next asked report history = history.submission
-
-submitted_bool : (b : Bool) (count next : ℕ) (same reports : Type 0) (line many : List ℕ) → (same → next ≡ count) → (reports → next ≡ count + 1)
-    → MatchBool b (same × (line ≡ many)) reports → next ≡ (if b then count else count + 1)
-submitted_bool true count next same reports line many stays goes prints = stays prints.0
-submitted_bool false count next same reports line many stays goes prints = goes prints
-
-submitted : (x : Option CutFault) (count next : ℕ) (same reports : Type 0) (line many : List ℕ) (text : CutFault → List ℕ) → (same → next ≡ count)
-    → (reports → next ≡ count + 1)
-    → MatchOption x (MatchBool (nat_le MOST_SUBMISSIONS count) (same × (line ≡ many)) reports) (λ fault. same × (line ≡ text fault))
-    → next ≡ count_behind count x
-submitted (Some fault) count next same reports line many text stays goes prints = stays prints.0
-submitted None count next same reports line many text stays goes prints =
-    submitted_bool (nat_le MOST_SUBMISSIONS count) count next same reports line many stays goes prints
-
 pub submission_counts : (old next : RingContents) (asked : List Asked) (line : List ℕ) → Prints old (SubmitsAll asked) next line
     → next.submissions ≡ count_behind old.submissions (fault_of asked)
-submission_counts old next asked line prints =
-    submitted (fault_of asked) old.submissions next.submissions (ring_of next ≡ ring_of old) (PrintsReport old asked next line) line too_many_line refused_line
-    (λ same. ap submissions_in same) (λ p. history_counts old next asked p.0 p.1) prints
-
-kept_count : (x : Option Errno) (old done : RingState) → done.submissions ≡ old.submissions → (unless_refused x old done).submissions ≡ old.submissions
-kept_count (Some errno) old done is = refl
-kept_count None old done is = is
+submission_counts old next asked line =
+    submission_cases old next asked line (λ same is. ap submissions_in same ∙ sym is) (λ p is. history_counts old next asked p.0 p.1 ∙ sym is)
 
 call_count : (ring : RingState) (command : Instruction) → (after_call ring command).submissions ≡ ring.submissions
 call_count ring (SubmitsAll asked) = refl
-call_count ring command = let call = call_of ring command in kept_count call.refusal ring call.left refl
-
-by_call : (old next : RingContents) (command : Instruction) → ring_of next ≡ after_call (ring_of old) command → next.submissions ≡ old.submissions
-by_call old next command is = ap submissions_in is ∙ call_count (ring_of old) command
+call_count ring command =
+    let call = call_of ring command in unless_so (λ (r : RingState). r.submissions ≡ ring.submissions) call.refusal ring call.left refl (λ _. refl)
 
 pub leads_counts : (old next : RingContents) (command : Instruction) (line : List ℕ) (own : Option Reported) → Prints old command next line
     → FoundMemory old command next line own → next.submissions ≡ count_after old.submissions command
 leads_counts old next (SubmitsAll asked) line own prints found = submission_counts old next asked line prints
-leads_counts old next command line own prints found = by_call old next command (call_leaves old next command line own tt prints found)
+leads_counts old next command line own prints found = ap submissions_in (call_leaves old next command line own tt prints found) ∙ call_count (ring_of old) command
 
 pub all_counts : (ring last : RingContents) (commands : List Instruction) (text : List ℕ) → LeadsAll ring commands last text
     → last.submissions ≡ count_after_all ring.submissions commands

@@ -1,27 +1,16 @@
 -- A ring that commands lead to has what every ring has.
-use Rattle.fx_texts.proofs.Words.{◌≡◌, ℕ, Bool, true, false, nat_le, List, [], ◌∷◌, refl, sym, ap, subst, arith, Option, Some, None, MatchBool}
-use Rattle.fx_texts.proofs.Words.{MatchOption, FileEntry, Errno, IsAnswer, ring_behind, Answer, fault_of, Asked, Place, CutFault, registered_sparse}
-use Rattle.fx_texts.proofs.Words.{IsRing, RingContents, RingState, new_ring, ring_of, without_table, tags_given, MOST_SUBMISSIONS, Instruction}
+use Rattle.fx_texts.proofs.Words.{◌≡◌, ℕ, Bool, List, [], ◌∷◌, refl, sym, ap, subst, arith, None}
+use Rattle.fx_texts.proofs.Words.{FileEntry, IsAnswer, ring_behind, Answer, Asked, Place, registered_sparse}
+use Rattle.fx_texts.proofs.Words.{IsRing, RingContents, RingState, new_ring, ring_of, without_table, tags_given, Instruction}
 use Rattle.fx_texts.proofs.Words.{MakesSparse, RegistersList, SetsRange, SubmitsAll, Unregisters, UpdatesRing, ring_with_files, shows_ring}
-use Rattle.fx_texts.proofs.Words.{ring_with_slots, refused_line, too_many_line, PrintsReport, call_of, Leads, LeadsAll, MayLeadAllTo, MayLeadTo}
-use Rattle.fx_texts.proofs.Words.{Stage, stage_of, unless_refused, Reached}
+use Rattle.fx_texts.proofs.Words.{ring_with_slots, call_of, Leads, LeadsAll, MayLeadAllTo, MayLeadTo}
+use Rattle.fx_texts.proofs.Words.{Stage, stage_of, Reached}
 use Rattle.fx_ring.proofs.Origins.{registered_rings, updated_rings}
 use Rattle.fx_ring.proofs.Rings.{counted_still, none_rings}
 use Rattle.fx_ring.proofs.SubmittedRing.{submitted_rings}
-use Rattle.fx_order.proofs.Shown.{none_past}
+use Rattle.fx_calls.proofs.Shown.{shown}
 use Rattle.fx_texts.proofs.Reasons.{none_holds}
-use Rattle.fx_texts.proofs.Calls.{call_leaves}
-
-submitted_bool : (b : Bool) (old new : RingState) (reports : Type 0) (line many : List ℕ) → IsRing old → (reports → IsRing new)
-    → MatchBool b ((new ≡ old) × (line ≡ many)) reports → IsRing new
-submitted_bool true old new reports line many is goes prints = subst IsRing (sym prints.0) is
-submitted_bool false old new reports line many is goes prints = goes prints
-
-submitted : (x : Option CutFault) (full : Bool) (old new : RingState) (reports : Type 0) (line many : List ℕ) (text : CutFault → List ℕ) → IsRing old
-    → (reports → IsRing new) → MatchOption x (MatchBool full ((new ≡ old) × (line ≡ many)) reports) (λ fault. (new ≡ old) × (line ≡ text fault))
-    → IsRing new
-submitted (Some fault) full old new reports line many text is goes prints = subst IsRing (sym prints.0) is
-submitted None full old new reports line many text is goes prints = submitted_bool full old new reports line many is goes prints
+use Rattle.fx_texts.proofs.Calls.{call_leaves, submission_cases, unless_so}
 
 ranged : (ring : RingState) (range : ℕ × ℕ) → IsRing ring → IsRing (record ring { range = range })
 ranged ring range is = record {
@@ -41,18 +30,13 @@ left_ring ring (UpdatesRing off list tags) is none =
     updated_rings ring off list (tags_given list tags) is (none_holds ring (UpdatesRing off list tags) none).1.1.0
 left_ring ring (SubmitsAll asked) is none = is
 
-either_ring : (x : Option Errno) (old left : RingState) → IsRing old → (x ≡ None → IsRing left) → IsRing (unless_refused x old left)
-either_ring (Some errno) old left is goes = is
-either_ring None old left is goes = goes refl
-
 pub leads_ring : (old next : RingContents) (command : Instruction) (line : List ℕ) → IsRing (ring_of old) → Leads old command next line → IsRing (ring_of next)
 leads_ring old next (SubmitsAll asked) line is (own, prints, found) =
-    submitted (fault_of asked) (nat_le MOST_SUBMISSIONS old.submissions) (ring_of old) (ring_of next) (PrintsReport old asked next line) line too_many_line
-    refused_line is (λ p. submitted_rings old next asked p.0 is p.1) prints
+    submission_cases old next asked line (λ same _. subst IsRing (sym same) is) (λ p _. submitted_rings old next asked p.0 is p.1) prints
 leads_ring old next command line is (own, prints, found) =
     let call = call_of (ring_of old) command in
     subst IsRing (sym (call_leaves old next command line own tt prints found))
-    (either_ring call.refusal (ring_of old) call.left is (left_ring (ring_of old) command is))
+    (unless_so IsRing call.refusal (ring_of old) call.left is (left_ring (ring_of old) command is))
 
 all_ring : (ring last : RingContents) (commands : List Instruction) (text : List ℕ) → IsRing (ring_of ring) → LeadsAll ring commands last text
     → IsRing (ring_of last)
@@ -74,8 +58,7 @@ stage_ring keeps catalogue commands s leads =
 pub next_ring : (keeps : Bool) (catalogue : List FileEntry) (from : Reached) (command : Instruction) (new : Stage)
     → IsRing (ring_with_slots catalogue from.ring) → MayLeadTo keeps (stage_of catalogue from) command new → IsRing new.ring
 next_ring keeps catalogue from command new is leads =
-    let start = ring_with_files (ring_with_slots catalogue from.ring) in
-    let starts : ring_of start ≡ ring_with_slots catalogue from.ring = shows_ring (ring_with_slots catalogue from.ring) (none_past catalogue from.ring) in
+    let (start, starts) = shown catalogue from.ring in
     let (next, line, one, same) = leads start starts in
     subst IsRing (ap (λ (t : Stage). t.ring) same) (leads_ring start next command line (subst IsRing (sym starts) is) one)
 
@@ -84,7 +67,6 @@ pub answer_ring : (catalogue : List FileEntry) (from : Reached) (asked : List As
     → IsRing (ring_with_slots catalogue from.ring) → IsAnswer (ring_with_slots catalogue from.ring) asked place answer
     → IsRing (ring_behind (ring_with_slots catalogue from.ring) answer.slots)
 answer_ring catalogue from asked place answer is a =
-    let start = ring_with_files (ring_with_slots catalogue from.ring) in
-    let starts : ring_of start ≡ ring_with_slots catalogue from.ring = shows_ring (ring_with_slots catalogue from.ring) (none_past catalogue from.ring) in
+    let (start, starts) = shown catalogue from.ring in
     let (left, behind, may) = a.may start starts in
     subst IsRing behind (submitted_rings start left asked may.report (subst IsRing (sym starts) is) may.may.history)

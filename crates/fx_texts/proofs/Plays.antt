@@ -5,7 +5,7 @@ use Rattle.fx_texts.proofs.Words.{Instruction, SubmitsAll, Meaning, Prints, Prin
 use Rattle.fx_texts.proofs.Words.{IsReportFound, IsTextFound, PrintsAllFound}
 use Rattle.std.proofs.lemmas.List.Elements.{Contains-append_cases, Contains-append_right}
 use Rattle.fx_script.specs.Play.{IsText, PrintsAll}
-use Rattle.fx_texts.proofs.Counts.{after_grows, all_grows, history_counts, leads_counts, own_report, report_number}
+use Rattle.fx_texts.proofs.Counts.{after_grows, all_grows, history_counts, leads_counts, own_report}
 
 -- a text found is a text
 
@@ -36,7 +36,7 @@ module _ (old next : RingContents) (command : Instruction) (line : List ℕ) (ow
   own_number : (report.submission ≡ old.submissions + 1) × (next.submissions ≡ old.submissions + 1)
   own_number =
       let (asked, same, found) = own_report old next command line report (subst (λ (o : Option Reported). FoundMemory old command next line o) is memory) in
-      (report_number old next asked report found.may.history, history_counts old next asked report found.may.history)
+      (found.may.history.submission, history_counts old next asked report found.may.history)
 
 -- a play's reports are of the submissions that are counted on the way
 

@@ -5,7 +5,7 @@ use Rattle.fx_texts.proofs.Words.{new_ring, ring_of, Instruction, SubmitsAll, Me
 use Rattle.fx_texts.proofs.Words.{MayLeadAllTo, MayLeadTo, MaySay, EndsAs, IsTextAt, Stage, count_after_all, count_behind, stage, IsTextFound}
 use Rattle.fx_texts.proofs.Words.{MayAnswerIn, PrintsAllFound}
 use Rattle.fx_print.specs.Text.{teardown_text}
-use Rattle.fx_texts.proofs.Counts.{all_counts, report_number}
+use Rattle.fx_texts.proofs.Counts.{all_counts}
 use Rattle.fx_texts.proofs.Plays.{led_to_end, numbers_behind, play_behind, report_at}
 use Rattle.fx_texts.proofs.Sorted.{closes_for, has_closed}
 
@@ -51,7 +51,7 @@ module _ (script : Meaning) (place : Place) (front : List Instruction) (asked : 
         play = (start, starts, subst (λ (l : List Instruction). PrintsAllFound start l printed play.all) (sym split) play.prints);
         report = report;
         among = play.keeps report (0, omega arith, refl);
-        submission = report_number mid next asked report found.may.history ∙ ap (λ (n : ℕ). n + 1) count ∙ sym number;
+        submission = found.may.history.submission ∙ ap (λ (n : ℕ). n + 1) count ∙ sym number;
         inside = inside;
         there = says.there;
       }

@@ -5,10 +5,8 @@ use Rattle.fx_texts.proofs.saying.push_answer.Goals as goal
 
 pub goes_on-requires : goal.goes_on-requires
 goes_on-requires c =
-    let cat = c.args.setting.now.catalogue.now in
-    let n = c.args.from.now.ring.submissions + 1 in
-    let k = c.args.from.now.ring.registrations in
-    subst IsRing (sym (copied_ring cat c.args.answer.now.slots c.in_ok-at.at n k (c.in_ok-at.ensures.items ∙ c.deref-2.ensures.value))) c.requires.ring
+    subst IsRing (sym (copied_ring c.args.setting.now.catalogue.now c.args.answer.now.slots c.in_ok-at.at _ _
+    (c.in_ok-at.ensures.items ∙ c.deref-2.ensures.value))) c.requires.ring
 
 pub returns-clause-grows : goal.returns-clause-grows
 returns-clause-grows c =
