@@ -9,10 +9,10 @@ use Rattle.fx_table.proofs.Members.{contains_mapped, contains_none}
 pub stays : {X : Type 0} (P : X → Type 0) (xs : List X) → Grows P xs xs
 stays P xs = record { kept = λ x inside. inside; from = λ x inside. inl inside }
 
-pub grows_on : {X : Type 0} (P : X → Type 0) (xs ys zs : List X) → Grows P xs ys → Grows P ys zs → Grows P xs zs
-grows_on P xs ys zs one more = record {
+pub grows_on : {X : Type 0} (P Q : X → Type 0) (xs ys zs : List X) → ((x : X) → Q x → P x) → Grows P xs ys → Grows Q ys zs → Grows P xs zs
+grows_on P Q xs ys zs weaker one more = record {
   kept = λ x inside. more.kept x (one.kept x inside);
-  from = λ x inside. ⊎_elim (λ there. one.from x there) inr (more.from x inside);
+  from = λ x inside. ⊎_elim (λ there. one.from x there) (λ is. inr (weaker x is)) (more.from x inside);
 }
 
 pub grows_by : {X : Type 0} (P Q : X → Type 0) (xs ys : List X) → ((x : X) → P x → Q x) → Grows P xs ys → Grows Q xs ys
@@ -62,6 +62,19 @@ module _ {X Y : Type 0} (f : Y → X) (ys : List Y) (Q : X → Type 0) where
   holds_of_all n long all x inside =
       let (y, (k, low, at), is) = contains_map f ys x inside in
       subst Q (ap f at ∙ sym is) (all k y (omega (arith, low, long)))
+
+-- the values of the first elements are there, one more of which was put behind others
+pub there_more : {X Y : Type 0} (f : Y → X) (ys : List Y) (P : X → Type 0) (before now : List X) (k : ℕ) (y : Y) → k < length ys
+    → y ≡ slice_index_or ys k y → Grows P before now → HoldsBefore f ys (Contains before) k → Contains now (f y) → HoldsBefore f ys (Contains now) (k + 1)
+there_more f ys P before now k y inside is grows so_far here =
+    holds_more f ys (Contains now) k y inside is (λ i d low. grows.kept (f (slice_index_or ys i d)) (so_far i d low)) here
+
+-- what is new there comes of the next element's value
+pub from_more : {X Y Z : Type 0} (f : Y → X) (ys : List Y) (From : X → Z → Type 0) (before now : List Z) (k : ℕ) (y : Y) → k < length ys
+    → y ≡ slice_index_or ys k y → Grows (From (f y)) before now → ((z : Z) → Contains before z → (o : X) × Contains (map f ys) o × From o z)
+    → (z : Z) → Contains now z → (o : X) × Contains (map f ys) o × From o z
+from_more f ys From before now k y inside is grows each z has =
+    ⊎_elim (each z) (λ new. (f y, at_value f ys k y inside is, new)) (grows.from z has)
 
 -- an element that is read has what all have
 pub read_at : {X : Type 0} (P : X → Type 0) (xs items : List X) (k : ℕ) (x : X) → items ≡ xs → k < length items → x ≡ slice_index_or items k x

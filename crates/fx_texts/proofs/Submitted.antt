@@ -1,9 +1,9 @@
 -- What an accepted submission may come to at a ring that is kept as slots.
-use Rattle.fx_texts.proofs.Words.{slice_get, ◌≡◌, ℕ, ◌+◌, ◌<◌, Bool, true, false, nat_le, if◌then◌else◌, List, [], ◌++◌, length, refl, sym, ap, subst}
+use Rattle.fx_texts.proofs.Words.{slice_get, ◌≡◌, ℕ, ◌+◌, ◌<◌, ◌≤◌, Bool, true, false, nat_le, if◌then◌else◌, List, [], ◌++◌, length, refl, sym, ap, subst}
 use Rattle.fx_texts.proofs.Words.{◌∙◌, arith, Option, Some, None, slice_index_or, All, Contains, FileEntry, Closed, ring_of_slots, MatchBool}
 use Rattle.fx_texts.proofs.Words.{MatchOption, true≢false, completed_of, fault_of, Asked, Place, CutFault, HasEachEnd, HasEachReport, IsAnswer, IsEnd}
 use Rattle.fx_texts.proofs.Words.{IsPossible, ring_behind, End, Answer, PossibleReport, IsRing, RingContents, RingState, ring_of, Reported, reported}
-use Rattle.fx_texts.proofs.Words.{MOST_SUBMISSIONS, Instruction, SubmitsAll, Prints, PrintsReport, closes_text, refused_line, too_many_line}
+use Rattle.fx_texts.proofs.Words.{MOST_SLOTS, MOST_SUBMISSIONS, Instruction, SubmitsAll, Prints, PrintsReport, closes_text, refused_line, too_many_line}
 use Rattle.fx_texts.proofs.Words.{IsPermutation-refl, HasEachNext, Leads, MayEnd, MayLeadTo, MaySay, Stage, count_behind, kept_text, stage_left}
 use Rattle.fx_texts.proofs.Words.{stage_reported, contains_map, IsReportFound}
 use Rattle.std.specs.Global.{Vec}
@@ -45,16 +45,16 @@ kept_none : (keeps : Bool) (a b : List ℕ) → keeps ≡ false → kept_text ke
 kept_none true a b silent = absurd (true≢false silent)
 kept_none false a b silent = refl
 
-module _ (keeps : Bool) (old : Stage) (asked : List Asked) (faultless : fault_of asked ≡ None) (few : old.ring.submissions < MOST_SUBMISSIONS) where
-  few_there : (ring : RingContents) → ring_of ring ≡ old.ring → ring.submissions < MOST_SUBMISSIONS
-  few_there ring same = subst (λ (r : RingState). r.submissions < MOST_SUBMISSIONS) (sym same) few
+few_at : (old : RingState) (ring : RingContents) → old.submissions < MOST_SUBMISSIONS → ring_of ring ≡ old → ring.submissions < MOST_SUBMISSIONS
+few_at old ring few same = subst (λ (r : RingState). r.submissions < MOST_SUBMISSIONS) (sym same) few
 
+module _ (keeps : Bool) (old : Stage) (asked : List Asked) (faultless : fault_of asked ≡ None) (few : old.ring.submissions < MOST_SUBMISSIONS) where
   pub end_may_lead : (end : End) → keeps ≡ false → IsEnd old.ring asked end → MayLeadTo keeps old (SubmitsAll asked) (stage_left keeps old end.slots [])
   end_may_lead end silent is = λ ring same.
       let (left, behind, may) = is.may ring same in
       let line = report_text ring.catalogue may.report in
       let texts = kept_none keeps (old.printed ++ line) (old.printed ++ []) silent in
-      (left, line, report_leads ring left asked may.report faultless (few_there ring same) may.may, λ i. record { ring = behind i; printed = texts i })
+      (left, line, report_leads ring left asked may.report faultless (few_at old.ring ring few same) may.may, λ i. record { ring = behind i; printed = texts i })
 
   pub possible_may_lead : (possible : PossibleReport) → IsPossible old.ring asked possible
       → MayLeadTo keeps old (SubmitsAll asked) (stage_reported keeps old possible)
@@ -63,35 +63,32 @@ module _ (keeps : Bool) (old : Stage) (asked : List Asked) (faultless : fault_of
       let report = reported possible.report in (
         left,
         report_text ring.catalogue report,
-        report_leads ring left asked report faultless (few_there ring same) may,
+        report_leads ring left asked report faultless (few_at old.ring ring few same) may,
         λ i. record { ring = behind i; printed = kept_text keeps (old.printed ++ report_text (same i).catalogue report) },
       )
 
-module _ (old : RingState) (asked : List Asked) (faultless : fault_of asked ≡ None) (few : old.submissions < MOST_SUBMISSIONS) where
-  few_at : (ring : RingContents) → ring_of ring ≡ old → ring.submissions < MOST_SUBMISSIONS
-  few_at ring same = subst (λ (r : RingState). r.submissions < MOST_SUBMISSIONS) (sym same) few
-
-  pub answer_may_say : (place : Place) (answer : Answer) (commands : List Instruction) → IsAnswer old asked place answer
-      → MayEnd (ring_behind old answer.slots) commands → MaySay old asked commands place (completed_of answer.completion)
-  answer_may_say place answer commands is ends = record {
-    there = is.there;
-    says = λ ring same.
-        let (left, behind, may) = is.may ring same in
-        let line = report_text ring.catalogue may.report in (
-          left,
-          line,
-          may.report,
-          prints_report ring left asked line faultless (few_at ring same) (may.report, may.may.history, refl),
-          record { may = may.may; printed = refl },
-          may.inside,
-          ends left behind,
-        );
-  }
+pub answer_may_say : (old : RingState) (asked : List Asked) (place : Place) (answer : Answer) (commands : List Instruction) → fault_of asked ≡ None
+    → old.submissions < MOST_SUBMISSIONS → IsAnswer old asked place answer → MayEnd (ring_behind old answer.slots) commands
+    → MaySay old asked commands place (completed_of answer.completion)
+answer_may_say old asked place answer commands faultless few is ends = record {
+  there = is.there;
+  says = λ ring same.
+      let (left, behind, may) = is.may ring same in
+      let line = report_text ring.catalogue may.report in (
+        left,
+        line,
+        may.report,
+        prints_report ring left asked line faultless (few_at old ring few same) (may.report, may.may.history, refl),
+        record { may = may.may; printed = refl },
+        may.inside,
+        ends left behind,
+      );
+}
 
 -- the slots that are left are as many
-pub as_many : (old : RingState) (asked : List Asked) (order : List ChainAccess) (report : Reported) (slots : Slots) → IsReportBy old asked order report slots
-    → length slots.at.items ≡ old.size
-as_many old asked order report slots by = ap (λ (r : RingState). r.size) by.leaves
+pub few_left : (old : RingState) (asked : List Asked) (order : List ChainAccess) (report : Reported) (slots : Slots) → IsReportBy old asked order report slots
+    → old.size ≤ MOST_SLOTS → length slots.at.items ≤ MOST_SLOTS
+few_left old asked order report slots by few = subst (λ (n : ℕ). n ≤ MOST_SLOTS) (sym (ap (λ (r : RingState). r.size) by.leaves)) few
 
 -- a submission that is counted has a report
 reports_once : (old : RingState) (ring next : RingContents) (asked : List Asked) (line : List ℕ) → ring_of ring ≡ old

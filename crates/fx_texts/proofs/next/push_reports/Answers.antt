@@ -1,31 +1,23 @@
-use Rattle.fx_texts.proofs.Words.{◌≡◌, List, length, arith, sym, subst, slice_index_or, All, Contains, HasEachReport, IsPossible, PossibleReport}
-use Rattle.fx_texts.proofs.Words.{all_asked, SubmitsAll, reported, MayLeadTo, Stage, stage_of, stage_reported, stages_of}
-use Rattle.fx_texts.proofs.Growth.{grows_by, grows_on, holds_more, holds_of_each, read_at}
-use Rattle.fx_texts.proofs.Submitted.{as_many, counted_one, possible_may_lead, reports_are_all}
+use Rattle.fx_texts.proofs.Words.{◌≡◌, List, sym, subst, All, Contains, HasEachReport, IsPossible, PossibleReport, all_asked, SubmitsAll, MayLeadTo}
+use Rattle.fx_texts.proofs.Words.{Stage, stage_of, stage_reported, stages_of}
+use Rattle.fx_texts.proofs.Growth.{grows_on, holds_of_each, read_at, there_more}
+use Rattle.fx_texts.proofs.Submitted.{counted_one, few_left, possible_may_lead, reports_are_all}
+use Rattle.fx_texts.proofs.next.push_reports.Goals.{After-possible-item}
 use Rattle.fx_texts.proofs.next.push_reports.Goals as goal
+
+is_possible : (c : After-possible-item)
+    → IsPossible (stage_of c.args.setting.now.catalogue.now c.args.from.now).ring (all_asked c.args.requests.now) c.possible-item.result
+is_possible c =
+    read_at (IsPossible (stage_of c.args.setting.now.catalogue.now c.args.from.now).ring (all_asked c.args.requests.now)) c.in_ok-found.found.reports.items
+    c.deref-possible-items.result.now c.loop-possible.possible-index c.possible-item.result c.deref-possible-items.ensures.value c.loop-possible-test.true
+    c.possible-item.is (c.in_ok-found.ensures.each c.args.from.now.ring.registrations)
 
 pub push_report-requires-clause-room : goal.push_report-requires-clause-room
 push_report-requires-clause-room c =
-    let old = (stage_of c.args.setting.now.catalogue.now c.args.from.now).ring in
-    let asked = all_asked c.args.requests.now in
-    let possible = c.possible-item.result in
-    let is : IsPossible old asked possible = read_at (IsPossible old asked) c.in_ok-found.found.reports.items c.deref-possible-items.result.now
-    c.loop-possible.possible-index possible c.deref-possible-items.ensures.value c.loop-possible-test.true c.possible-item.is
-    (c.in_ok-found.ensures.each c.args.from.now.ring.registrations) in
-    let same : length possible.slots.at.items ≡ old.size =
-    as_many old asked possible.order.items (reported possible.report) possible.slots is.by in
-    let few = c.args.from.now.few_slots in
-    omega (arith, same, few)
+    few_left _ _ _ _ _ (is_possible (goal.at.push_report-requires-clause-room c).After-possible-item).by c.args.from.now.few_slots
 
 pub push_report-requires-clause-entries : goal.push_report-requires-clause-entries
-push_report-requires-clause-entries c =
-    let old = (stage_of c.args.setting.now.catalogue.now c.args.from.now).ring in
-    let asked = all_asked c.args.requests.now in
-    let possible = c.possible-item.result in
-    let is : IsPossible old asked possible = read_at (IsPossible old asked) c.in_ok-found.found.reports.items c.deref-possible-items.result.now
-    c.loop-possible.possible-index possible c.deref-possible-items.ensures.value c.loop-possible-test.true c.possible-item.is
-    (c.in_ok-found.ensures.each c.args.from.now.ring.registrations) in
-    is.entries
+push_report-requires-clause-entries c = (is_possible (goal.at.push_report-requires-clause-entries c).After-possible-item).entries
 
 pub loop-possible-preserved : goal.loop-possible-preserved
 loop-possible-preserved c =
@@ -34,20 +26,16 @@ loop-possible-preserved c =
     let old = stage_of cat c.args.from.now in
     let asked = all_asked c.args.requests.now in
     let possible = c.possible-item.result in
-    let leads = MayLeadTo keeps old (SubmitsAll asked) in
+    let is = is_possible (goal.at.loop-possible-preserved c).After-possible-item in
     let before = stages_of cat c.loop-possible.rings.items in
     let now = stages_of cat c.push_report.new.rings.items in
-    let is : IsPossible old.ring asked possible = read_at (IsPossible old.ring asked) c.in_ok-found.found.reports.items c.deref-possible-items.result.now
-    c.loop-possible.possible-index possible c.deref-possible-items.ensures.value c.loop-possible-test.true c.possible-item.is
-    (c.in_ok-found.ensures.each c.args.from.now.ring.registrations) in
     let one = c.in_ok-push_report.ensures.grows in
     record {
-      grows = grows_on leads (stages_of cat c.args.rings.now.items) before now c.loop-possible.invariant.grows
-          (grows_by (λ (s : Stage). s ≡ stage_reported keeps old possible) leads before now
-          (λ s same. subst leads (sym same) (possible_may_lead keeps old asked c.requires.faultless c.requires.few possible is)) one);
-      there = holds_more (stage_reported keeps old) c.deref-possible-items.result.now (Contains now) c.loop-possible.possible-index possible
-          c.loop-possible-test.true c.possible-item.is
-          (λ i d low. one.kept (stage_reported keeps old (slice_index_or c.deref-possible-items.result.now i d)) (c.loop-possible.invariant.there i d low))
+      grows = grows_on (MayLeadTo keeps old (SubmitsAll asked)) (λ (s : Stage). s ≡ stage_reported keeps old possible) (stages_of cat c.args.rings.now.items) before now
+          (λ s same. subst (MayLeadTo keeps old (SubmitsAll asked)) (sym same) (possible_may_lead keeps old asked c.requires.faultless c.requires.few possible is))
+          c.loop-possible.invariant.grows one;
+      there = there_more (stage_reported keeps old) c.deref-possible-items.result.now (λ (s : Stage). s ≡ stage_reported keeps old possible) before now
+          c.loop-possible.possible-index possible c.loop-possible-test.true c.possible-item.is one c.loop-possible.invariant.there
           c.in_ok-push_report.ensures.there;
     }
 
@@ -64,6 +52,5 @@ returns-clause-all c = λ all.
     reports_are_all keeps old asked items now c.requires.ring c.requires.accepted
     (subst (λ (l : List PossibleReport). All (IsPossible old.ring asked) l) (sym c.deref-possible-items.ensures.value)
     (c.in_ok-found.ensures.each c.args.from.now.ring.registrations))
-    (λ possible inside. holds_of_each (stage_reported keeps old) items (Contains now) c.loop-possible.possible-index c.loop-possible-test.false
-    c.loop-possible.invariant.there possible inside)
+    (holds_of_each (stage_reported keeps old) items (Contains now) c.loop-possible.possible-index c.loop-possible-test.false c.loop-possible.invariant.there)
     (counted_one asked c.args.from.now.ring.submissions c.requires.faultless c.requires.few) each

@@ -1,5 +1,5 @@
-use Rattle.fx_texts.proofs.Words.{◌++◌, slice_index_or, ⊎_elim, instruction_of, HasEachNext, Stage, stage, stage_of, stages_of}
-use Rattle.fx_texts.proofs.Growth.{at_value, holds_more, holds_of_all}
+use Rattle.fx_texts.proofs.Words.{◌++◌, slice_index_or, instruction_of, HasEachNext, MayLeadTo, Stage, stage, stage_of, stages_of}
+use Rattle.fx_texts.proofs.Growth.{at_value, from_more, holds_more, holds_of_all}
 use Rattle.fx_texts.proofs.rings.after.Goals as goal
 
 pub push_next-requires : goal.push_next-requires
@@ -19,12 +19,8 @@ loop-reached-preserved c =
     let now = stages_of cat c.push_next.new.rings.items in
     let grows = c.in_ok-all.ensures.grows in
     record {
-      each = λ s inside. ⊎_elim (λ there. c.loop-reached.invariant.each s there)
-          (λ leads. (
-            stage_of cat reached,
-            at_value (stage_of cat) rings c.loop-reached.reached-index reached c.loop-reached-test.true c.reached-item.is,
-            leads,
-          )) (grows.from s inside);
+      each = from_more (stage_of cat) rings (λ (o s : Stage). MayLeadTo keeps o command s) (stages_of cat c.loop-reached.next.items) now
+          c.loop-reached.reached-index reached c.loop-reached-test.true c.reached-item.is grows c.loop-reached.invariant.each;
       all = λ yes.
           let two = c.both-are_all.ensures yes in
           holds_more (stage_of cat) rings (λ (o : Stage). HasEachNext keeps o command now) c.loop-reached.reached-index reached c.loop-reached-test.true

@@ -1,5 +1,5 @@
-use Rattle.fx_texts.proofs.Words.{◌≡◌, sym, subst, ⊎_elim, fault_of, all_asked, RingState, HasEachSaid, Stage, count_behind, said_in, stage_of}
-use Rattle.fx_texts.proofs.Growth.{at_value, holds_more, holds_of_all}
+use Rattle.fx_texts.proofs.Words.{◌≡◌, sym, subst, fault_of, all_asked, instructions_of, MaySay, RingState, HasEachSaid, Stage, count_behind, said_in, stage_of}
+use Rattle.fx_texts.proofs.Growth.{at_value, from_more, holds_more, holds_of_all}
 use Rattle.fx_texts.proofs.Submitted.{no_report}
 use Rattle.fx_texts.proofs.saying.answers_at.Goals as goal
 
@@ -30,12 +30,9 @@ loop-from-preserved c =
     let now = said_in c.push_answers.new.answers.items in
     let grows = c.in_ok-all.ensures.grows in
     record {
-      each = λ it inside. ⊎_elim (λ there. c.loop-from.invariant.each it there)
-          (λ says. (
-            stage_of cat c.from-item.result,
-            at_value (stage_of cat) c.args.rings.now c.loop-from.from-index c.from-item.result c.loop-from-test.true c.from-item.is,
-            says,
-          )) (grows.from it inside);
+      each = from_more (stage_of cat) c.args.rings.now
+          (λ (o : Stage). MaySay o.ring asked (instructions_of c.args.asking.now.behind.now) c.args.asking.now.place) (said_in c.loop-from.answers.items) now
+          c.loop-from.from-index c.from-item.result c.loop-from-test.true c.from-item.is grows c.loop-from.invariant.each;
       all = λ yes.
           let two = c.both-are_all.ensures yes in
           holds_more (stage_of cat) c.args.rings.now (λ (o : Stage). HasEachSaid o.ring asked c.args.asking.now.place now) c.loop-from.from-index

@@ -1,60 +1,49 @@
-use Rattle.fx_texts.proofs.Words.{◌≡◌, List, length, arith, sym, subst, slice_index_or, Contains, IsAnswer, ring_behind, Answer, Completed}
-use Rattle.fx_texts.proofs.Words.{completed_of, all_asked, instructions_of, MayEnd, MaySay, said_in, stage_of}
+use Rattle.fx_texts.proofs.Words.{◌≡◌, List, sym, subst, Contains, IsAnswer, ring_behind, Answer, Completed, completed_of, all_asked, instructions_of}
+use Rattle.fx_texts.proofs.Words.{MayEnd, MaySay, said_in, stage_of}
 use Rattle.fx_answers.specs.Outcomes.{HasEachAnswer}
-use Rattle.fx_texts.proofs.Growth.{grows_by, grows_on, holds_more, holds_of_all, read_at}
+use Rattle.fx_texts.proofs.Growth.{grows_on, holds_of_all, read_at, there_more}
 use Rattle.fx_texts.proofs.LedRings.{answer_ring}
-use Rattle.fx_texts.proofs.Submitted.{answer_may_say, as_many}
+use Rattle.fx_texts.proofs.Submitted.{answer_may_say, few_left}
+use Rattle.fx_texts.proofs.saying.push_answers.Goals.{After-answer-item}
 use Rattle.fx_texts.proofs.saying.push_answers.Goals as goal
+
+is_answer : (c : After-answer-item) → IsAnswer (stage_of c.args.setting.now.catalogue.now c.args.from.now).ring (all_asked c.args.asking.now.requests.now)
+    c.args.asking.now.place c.answer-item.result
+is_answer c =
+    read_at (IsAnswer (stage_of c.args.setting.now.catalogue.now c.args.from.now).ring (all_asked c.args.asking.now.requests.now) c.args.asking.now.place)
+    c.in_ok-found.found.answers.items c.deref-answer-items.result.now c.loop-answer.answer-index c.answer-item.result c.deref-answer-items.ensures.value
+    c.loop-answer-test.true c.answer-item.is (c.in_ok-found.ensures.each c.args.from.now.ring.registrations)
 
 pub push_answer-requires-clause-room : goal.push_answer-requires-clause-room
 push_answer-requires-clause-room c =
-    let old = (stage_of c.args.setting.now.catalogue.now c.args.from.now).ring in
-    let asked = all_asked c.args.asking.now.requests.now in
-    let place = c.args.asking.now.place in
-    let answer = c.answer-item.result in
-    let is : IsAnswer old asked place answer = read_at (IsAnswer old asked place) c.in_ok-found.found.answers.items c.deref-answer-items.result.now
-    c.loop-answer.answer-index answer c.deref-answer-items.ensures.value c.loop-answer-test.true c.answer-item.is
-    (c.in_ok-found.ensures.each c.args.from.now.ring.registrations) in
-    let same : length answer.slots.at.items ≡ old.size = as_many old asked answer.order.items is.report answer.slots is.by in
-    let few = c.args.from.now.few_slots in
-    omega (arith, same, few)
+    few_left _ _ _ _ _ (is_answer (goal.at.push_answer-requires-clause-room c).After-answer-item).by c.args.from.now.few_slots
 
 pub push_answer-requires-clause-ring : goal.push_answer-requires-clause-ring
 push_answer-requires-clause-ring c =
-    let cat = c.args.setting.now.catalogue.now in
-    let old = (stage_of cat c.args.from.now).ring in
-    let asked = all_asked c.args.asking.now.requests.now in
-    let place = c.args.asking.now.place in
-    let answer = c.answer-item.result in
-    let is : IsAnswer old asked place answer = read_at (IsAnswer old asked place) c.in_ok-found.found.answers.items c.deref-answer-items.result.now
-    c.loop-answer.answer-index answer c.deref-answer-items.ensures.value c.loop-answer-test.true c.answer-item.is
-    (c.in_ok-found.ensures.each c.args.from.now.ring.registrations) in
-    answer_ring cat c.args.from.now asked place answer c.requires.ring is
+    answer_ring c.args.setting.now.catalogue.now c.args.from.now (all_asked c.args.asking.now.requests.now) c.args.asking.now.place c.answer-item.result
+    c.requires.ring (is_answer (goal.at.push_answer-requires-clause-ring c).After-answer-item)
 
 pub loop-answer-preserved : goal.loop-answer-preserved
 loop-answer-preserved c =
-    let cat = c.args.setting.now.catalogue.now in
-    let old = (stage_of cat c.args.from.now).ring in
+    let old = (stage_of c.args.setting.now.catalogue.now c.args.from.now).ring in
     let asked = all_asked c.args.asking.now.requests.now in
     let behind = instructions_of c.args.asking.now.behind.now in
     let place = c.args.asking.now.place in
     let answer = c.answer-item.result in
-    let says = MaySay old asked behind place in
+    let is = is_answer (goal.at.loop-answer-preserved c).After-answer-item in
     let before = said_in c.loop-answer.answers.items in
     let now = said_in c.push_answer.new.answers.items in
-    let is : IsAnswer old asked place answer = read_at (IsAnswer old asked place) c.in_ok-found.found.answers.items c.deref-answer-items.result.now
-    c.loop-answer.answer-index answer c.deref-answer-items.ensures.value c.loop-answer-test.true c.answer-item.is
-    (c.in_ok-found.ensures.each c.args.from.now.ring.registrations) in
     let one = c.in_ok-is_there.ensures.grows in
     record {
-      grows = grows_on says (said_in c.args.answers.now.items) before now c.loop-answer.invariant.grows
-          (grows_by (λ (it : Completed). (it ≡ completed_of answer.completion) × MayEnd (ring_behind old answer.slots) behind) says before now
-          (λ it given. subst says (sym given.0) (answer_may_say old asked c.args.asking.now.faultless c.requires.few place answer behind is given.1)) one);
+      grows = grows_on (MaySay old asked behind place) (λ (it : Completed). (it ≡ completed_of answer.completion) × MayEnd (ring_behind old answer.slots) behind)
+          (said_in c.args.answers.now.items) before now
+          (λ it given. subst (MaySay old asked behind place) (sym given.0)
+          (answer_may_say old asked place answer behind c.args.asking.now.faultless c.requires.few is given.1)) c.loop-answer.invariant.grows one;
       there = λ yes.
           let two = c.both-are_there.ensures yes in
-          holds_more (λ (a : Answer). completed_of a.completion) c.deref-answer-items.result.now (Contains now) c.loop-answer.answer-index answer
-          c.loop-answer-test.true c.answer-item.is
-          (λ i d low. one.kept (completed_of (slice_index_or c.deref-answer-items.result.now i d).completion) (c.loop-answer.invariant.there two.0 i d low))
+          there_more (λ (a : Answer). completed_of a.completion) c.deref-answer-items.result.now
+          (λ (it : Completed). (it ≡ completed_of answer.completion) × MayEnd (ring_behind old answer.slots) behind) before now
+          c.loop-answer.answer-index answer c.loop-answer-test.true c.answer-item.is one (c.loop-answer.invariant.there two.0)
           (c.in_ok-is_there.ensures.there two.1);
     }
 
