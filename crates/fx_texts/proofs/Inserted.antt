@@ -1,22 +1,19 @@
 -- A text that is inserted into a set is there, and nothing else is new.
-use Rattle.fx_texts.proofs.Words.{◌≡◌, suc, Bool, true, false, ◌||◌, if◌then◌else◌, List, [], ◌∷◌, ◌++◌, map, refl, sym, subst, arith, string_bytes}
-use Rattle.fx_texts.proofs.Words.{Contains, bytes_decides, list_any, true≢false, Grows}
+use Rattle.fx_texts.proofs.Words.{◌≡◌, ℕ, Bool, true, false, if◌then◌else◌, List, [], ◌∷◌, ◌++◌, map, refl, sym, subst, string_bytes}
+use Rattle.fx_texts.proofs.Words.{Contains, bytes_decides, list_any, Grows}
 use Rattle.std.proofs.Common.{Global, String}
+use Rattle.std.proofs.lemmas.List.Folds.{Any-from_list_any}
 use Rattle.std.specs.Prelude.{string_eq}
+use Rattle.fx_table.proofs.Members.{contains_mapped}
 use Rattle.indexmap.specs.IndexSet.{insert_key}
 use Rattle.fx_texts.proofs.Growth.{has_pushed, pushed, stays}
 
 -- what a text is equal to is there
-found : (b : Bool) (k x : String Global) (keys : List (String Global)) → string_eq k x ≡ b → b || list_any (string_eq k) keys ≡ true
-    → (list_any (string_eq k) keys ≡ true → Contains (map string_bytes keys) (string_bytes k)) → Contains (map string_bytes (x ∷ keys)) (string_bytes k)
-found true k x keys is some rest = (0, omega arith, sym ((bytes_decides (string_bytes k) (string_bytes x)).0 is))
-found false k x keys is some rest =
-    let later = rest some in
-    (suc later.0, let low = later.1 in omega (arith, low), later.2)
-
 there : (k : String Global) (keys : List (String Global)) → list_any (string_eq k) keys ≡ true → Contains (map string_bytes keys) (string_bytes k)
-there k [] some = absurd (true≢false (sym some))
-there k (x ∷ keys) some = found (string_eq k x) k x keys refl some (λ rest. there k keys rest)
+there k keys some =
+    let (i, x, low, at, same) = Any-from_list_any (string_eq k) keys some in
+    subst (λ (t : List ℕ). Contains (map string_bytes keys) t) (sym ((bytes_decides (string_bytes k) (string_bytes x)).0 same))
+    (contains_mapped string_bytes keys x (i, low, at))
 
 module _ (keys new : List (String Global)) (k : String Global) where
   by : (b : Bool) → list_any (string_eq k) keys ≡ b → new ≡ (if b then keys else keys ++ k ∷ [])

@@ -31,7 +31,7 @@ pub use Rattle.fx_ring.specs.Tags.{are_bad_tags, tags_given}
 pub use Rattle.fx_ring.specs.declared.ring.TheConstants.{MOST_REGISTRATIONS, MOST_SUBMISSIONS}
 pub use Rattle.fx_script.specs.Play.{Answers, IsRefused, Prints, PrintsEnd, PrintsReport}
 pub use Rattle.fx_table.proofs.Members.{contains_map}
-pub use Rattle.fx_texts.specs.Rings.{AreFrom, AreRings, EndsAs, Grows, HasEachFrom, HasEachLast, HasEachNext, HasEachSaid, HasEachSaidFrom, IsLineOf}
+pub use Rattle.fx_texts.specs.Rings.{AreFrom, EndsAs, Grows, HasEachFrom, HasEachLast, HasEachNext, HasEachSaid, HasEachSaidFrom, IsLineOf}
 pub use Rattle.fx_texts.specs.Rings.{IsTextAt, Leads, LeadsAll, MayEnd, MayLeadAllTo, MayLeadTo, MaySay, Stage, after_call, count_after}
 pub use Rattle.fx_texts.specs.Rings.{count_after_all, count_behind, kept_text, said_in, stage, stage_left, stage_of, stage_reported, stages_of}
 pub use Rattle.fx_texts.specs.Rings.{unless_refused}

@@ -1,5 +1,5 @@
-use Rattle.fx_texts.proofs.Words.{false, ◌≡◌, ◌⊎◌, ◌<◌, List, sym, subst, ◌∙◌, Contains, FileEntry, completed_of, all_asked, Place, Instruction}
-use Rattle.fx_texts.proofs.Words.{instructions_of, new_ring, AreRings, HasEachLast, HasEachSaidFrom, MayLeadAllTo, MaySay, count_after_all, said_in}
+use Rattle.fx_texts.proofs.Words.{false, List, sym, subst, ◌∙◌, FileEntry, completed_of, all_asked, Place}
+use Rattle.fx_texts.proofs.Words.{instructions_of, new_ring, HasEachLast, HasEachSaidFrom, MaySay, said_in}
 use Rattle.fx_texts.proofs.Words.{stages_of, MayAnswerIn, Reached, Said}
 use Rattle.fx_texts.specs.Rings.{IsAskedIn}
 use Rattle.fx_texts.proofs.Growth.{all_of_values}
@@ -7,14 +7,12 @@ use Rattle.fx_texts.proofs.Whole.{answer_is_said, none_answered, said_is_answere
 use Rattle.fx_texts.proofs.request.may.Goals as goal
 
 pub answers_at-requires : goal.answers_at-requires
-answers_at-requires c =
-    subst (λ (l : List Reached). AreRings (stages_of c.catalogue.result.now l)) (sym c.deref.ensures.value) c.in_ok-rings.ensures.rings
+answers_at-requires c = rw c.deref.ensures.value c.in_ok-rings.ensures.rings
 
 pub returns-in_default-clause-all : goal.returns-in_default-clause-all
 returns-in_default-clause-all c = λ _ it may.
     absurd (none_answered c.args.script.now c.args.place it
-    (subst (λ (cs : List Instruction). (c.args.place.submission ≡ 0) ⊎ (count_after_all 0 cs < c.args.place.submission)) c.commands.ensures
-    c.in_default.ensures.none) may)
+    (rw c.commands.ensures at c.in_default.ensures.none) may)
 
 pub returns-clause-each : goal.returns-clause-each
 returns-clause-each c =
@@ -29,8 +27,7 @@ returns-clause-each c =
     (λ it inside.
     let (o, there, says) = c.in_ok-found.ensures.each it inside in
     said_is_answered script place front asked behind (sym c.commands.ensures ∙ a.split) a.number false o it
-    (subst (λ (cat : List FileEntry). MayLeadAllTo false (new_ring cat) front o) c.catalogue.ensures.value (c.in_ok-rings.ensures.each o
-    (subst (λ (l : List Reached). Contains (stages_of c.catalogue.result.now l) o) c.deref.ensures.value there)))
+    (rw c.catalogue.ensures.value at (c.in_ok-rings.ensures.each o (rw c.deref.ensures.value at there)))
     (subst (λ (p : Place). MaySay o.ring asked behind p it) a.place_same says))
 
 pub returns-clause-all : goal.returns-clause-all

@@ -1,5 +1,5 @@
-use Rattle.fx_texts.proofs.Words.{List, take, sym, subst, Instruction, instruction_of, instructions_of, Command, new_ring, AreFrom, AreRings}
-use Rattle.fx_texts.proofs.Words.{HasEachFrom, HasEachLast, MayLeadAllTo, stages_of, Reached}
+use Rattle.fx_texts.proofs.Words.{List, take, sym, subst, Instruction, instruction_of, instructions_of, new_ring, AreFrom}
+use Rattle.fx_texts.proofs.Words.{HasEachLast, MayLeadAllTo, stages_of}
 use Rattle.std.proofs.lemmas.List.{take_all}
 use Rattle.fx_texts.proofs.LedRings.{stage_ring}
 use Rattle.fx_texts.proofs.Walks.{all_more, each_more, taken_one}
@@ -8,7 +8,7 @@ use Rattle.fx_texts.proofs.rings.after_all.Goals as goal
 pub after-requires : goal.after-requires
 after-requires c =
     let cat = c.args.setting.now.catalogue.now in
-    subst (λ (l : List Reached). AreRings (stages_of cat l)) (sym c.deref.ensures.value)
+    rw c.deref.ensures.value
     (λ s inside. stage_ring c.args.setting.now.keeps cat (instructions_of (take c.loop-command.command-index c.args.commands.now)) s
     (c.loop-command.invariant.each s inside))
 
@@ -22,8 +22,7 @@ loop-command-preserved c =
     let front = instructions_of (take i commands) in
     let old = stages_of cat c.loop-command.rings.items in
     let new = stages_of cat c.in_ok-next.next.rings.items in
-    let from : AreFrom keeps old (instruction_of command) new =
-    subst (λ (l : List Reached). AreFrom keeps (stages_of cat l) (instruction_of command) new) c.deref.ensures.value c.in_ok-next.ensures.each in
+    let from : AreFrom keeps old (instruction_of command) new = rw c.deref.ensures.value at c.in_ok-next.ensures.each in
     let more = sym (taken_one commands i command c.loop-command-test.true c.command-item.is) in
     record {
       each = λ s inside. subst (λ (l : List Instruction). MayLeadAllTo keeps (new_ring cat) l s) more
@@ -32,15 +31,12 @@ loop-command-preserved c =
           let two = c.both-are_all.ensures yes in
           subst (λ (l : List Instruction). HasEachLast keeps (new_ring cat) l new) more
           (all_more keeps (new_ring cat) front (instruction_of command) old new (c.loop-command.invariant.all two.0)
-          (subst (λ (l : List Reached). HasEachFrom keeps (stages_of cat l) (instruction_of command) new) c.deref.ensures.value
-          (c.in_ok-next.ensures.all two.1)));
+          (rw c.deref.ensures.value at (c.in_ok-next.ensures.all two.1)));
     }
 
 pub returns-clause-each : goal.returns-clause-each
 returns-clause-each c = λ s inside.
-    let cat = c.args.setting.now.catalogue.now in
-    subst (λ (l : List Command). MayLeadAllTo c.args.setting.now.keeps (new_ring cat) (instructions_of l) s)
-    (take_all c.loop-command.command-index c.args.commands.now c.loop-command-test.false) (c.loop-command.invariant.each s inside)
+    rw (take_all c.loop-command.command-index c.args.commands.now c.loop-command-test.false) at (c.loop-command.invariant.each s inside)
 
 pub returns-clause-rings : goal.returns-clause-rings
 returns-clause-rings c = λ s inside.
@@ -49,6 +45,4 @@ returns-clause-rings c = λ s inside.
 
 pub returns-clause-all : goal.returns-clause-all
 returns-clause-all c = λ yes.
-    let cat = c.args.setting.now.catalogue.now in
-    subst (λ (l : List Command). HasEachLast c.args.setting.now.keeps (new_ring cat) (instructions_of l) (stages_of cat c.loop-command.rings.items))
-    (take_all c.loop-command.command-index c.args.commands.now c.loop-command-test.false) (c.loop-command.invariant.all yes)
+    rw (take_all c.loop-command.command-index c.args.commands.now c.loop-command-test.false) at (c.loop-command.invariant.all yes)

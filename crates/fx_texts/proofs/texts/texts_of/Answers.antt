@@ -1,12 +1,11 @@
-use Rattle.fx_texts.proofs.Words.{true, List, sym, subst, string_bytes, Contains, FileEntry, Instruction, instructions_of, new_ring, AreRings}
-use Rattle.fx_texts.proofs.Words.{HasEachLast, MayLeadAllTo, stages_of, IsTextFound, Reached}
+use Rattle.fx_texts.proofs.Words.{true, List, sym, subst, string_bytes, FileEntry, Instruction, instructions_of, new_ring}
+use Rattle.fx_texts.proofs.Words.{HasEachLast, stages_of, IsTextFound, Reached}
 use Rattle.fx_texts.proofs.Growth.{all_of_values}
 use Rattle.fx_texts.proofs.Whole.{stage_texts, text_at_stage}
 use Rattle.fx_texts.proofs.texts.texts_of.Goals as goal
 
 pub all_at_end-requires-clause-rings : goal.all_at_end-requires-clause-rings
-all_at_end-requires-clause-rings c =
-    subst (λ (l : List Reached). AreRings (stages_of c.catalogue.result.now l)) (sym c.deref.ensures.value) c.in_ok-rings.ensures.rings
+all_at_end-requires-clause-rings c = rw c.deref.ensures.value c.in_ok-rings.ensures.rings
 
 pub returns-clause-each : goal.returns-clause-each
 returns-clause-each c =
@@ -14,9 +13,7 @@ returns-clause-each c =
     let stages = stages_of c.catalogue.result.now c.deref.result.now in
     all_of_values string_bytes c.in_ok-found.found.texts.keys (IsTextFound script)
     (λ text inside. stage_texts script text stages
-    (λ s there. subst (λ (cs : List Instruction). MayLeadAllTo true (new_ring script.catalogue) cs s) c.commands.ensures
-    (subst (λ (cat : List FileEntry). MayLeadAllTo true (new_ring cat) (instructions_of c.commands.result.now) s) c.catalogue.ensures.value
-    (c.in_ok-rings.ensures.each s (subst (λ (l : List Reached). Contains (stages_of c.catalogue.result.now l) s) c.deref.ensures.value there))))
+    (λ s there. rw (c.commands.ensures, c.catalogue.ensures.value) at (c.in_ok-rings.ensures.each s (rw c.deref.ensures.value at there)))
     (c.in_ok-found.ensures.each text inside))
 
 pub returns-clause-all : goal.returns-clause-all
