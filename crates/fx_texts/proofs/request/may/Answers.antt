@@ -1,5 +1,5 @@
 use Rattle.fx_texts.proofs.Words.{false, List, sym, subst, ◌∙◌, FileEntry, completed_of, all_asked, Place}
-use Rattle.fx_texts.proofs.Words.{instructions_of, new_ring, HasEachLast, HasEachSaidFrom, MaySay, said_in}
+use Rattle.fx_texts.proofs.Words.{instructions_of, new_ring, HasEachLast, HasEachSaidFrom, said_in}
 use Rattle.fx_texts.proofs.Words.{stages_of, MayAnswerIn, Reached, Said}
 use Rattle.fx_texts.specs.Rings.{IsAskedIn}
 use Rattle.fx_texts.proofs.Growth.{all_of_values}
@@ -19,16 +19,12 @@ returns-clause-each c =
     let script = c.args.script.now in
     let place = c.args.place in
     let a : IsAskedIn (instructions_of c.commands.result.now) place c.in-Some.asking = c.in-Some.ensures.some in
-    let asking = c.in-Some.asking in
-    let front = instructions_of asking.front.now in
-    let asked = all_asked asking.requests.now in
-    let behind = instructions_of asking.behind.now in
     all_of_values (λ (said : Said). completed_of said.completion) c.in_ok-found.found.answers.items (MayAnswerIn script place)
     (λ it inside.
     let (o, there, says) = c.in_ok-found.ensures.each it inside in
-    said_is_answered script place front asked behind (sym c.commands.ensures ∙ a.split) a.number false o it
+    said_is_answered script place _ _ _ (sym c.commands.ensures ∙ a.split) a.number false o it
     (rw c.catalogue.ensures.value at (c.in_ok-rings.ensures.each o (rw c.deref.ensures.value at there)))
-    (subst (λ (p : Place). MaySay o.ring asked behind p it) a.place_same says))
+    (rw a.place_same at says))
 
 pub returns-clause-all : goal.returns-clause-all
 returns-clause-all c = λ yes it may.
