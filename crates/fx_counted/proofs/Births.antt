@@ -12,9 +12,9 @@ use Rattle.std.proofs.Common.{length-set}
 use mathlib.Core.Option as maybe
 
 -- the file that a pass holds is open
-pub held_file : (k : Start) (phase : ℕ → Phase) (j : ℕ) (u : View) (f : File) → u.work ≡ Between (Holding f)
+pub held_file : (k : Start) (phase : ℕ → Phase) (j : ℕ) (u : View) {f : File} → u.work ≡ Between (Holding f)
     → WorkAgrees k phase j u.work → file_in (phase f.number) ≡ Some f.identity
-held_file k phase j u f is o = (subst (WorkAgrees k phase j) is o).1
+held_file k phase j u is o = (subst (WorkAgrees k phase j) is o).1
 
 module _ (turn : Turn) where
   open turn use {st, v, r, id, x, here, one}
@@ -25,26 +25,26 @@ module _ (turn : Turn) where
   abbrev pub home_now : ℕ → Home
   home_now q = get_elem? st.homes (place_of v.start q)
 
-  pub roomy : (q : ℕ) → IsNumber v.start q → place_of v.start q < length st.homes
-  roomy q its = let a = r.shape.homes in let b = (near turn).home q its in omega arith
+  pub roomy : {q : ℕ} → IsNumber v.start q → place_of v.start q < length st.homes
+  roomy {q} its = let a = r.shape.homes in let b = (near turn).home q its in omega arith
 
-  pub else_place : (q : ℕ) → IsNumber v.start q → (n : ℕ) → IsNumber v.start n → n ≢ q → place_of v.start n ≢ place_of v.start q
-  else_place q its n has other = (far turn).homes n q has its other
+  pub else_place : {q : ℕ} → IsNumber v.start q → {n : ℕ} → IsNumber v.start n → n ≢ q → place_of v.start n ≢ place_of v.start q
+  else_place {q} its {n} has other = (far turn).homes n q has its other
 
   -- nobody holds the file of a number without one
   pub unheld : (q : ℕ) → file_in (r.phase q) ≡ None → (j : ℕ) (u : View) (f : File) → get_elem? st.views j ≡ some u → u.work ≡ Between (Holding f)
       → f.number ≡ q → ⊥
-  unheld q empty j u f there holds same = let e = held_file v.start r.phase j u f holds (r.each_view j u there).work in
+  unheld q empty j u f there holds same = let e = held_file v.start r.phase j u holds (r.each_view j u there).work in
       let z : None ≡ Some f.identity = sym empty ∙ (ap (λ (m : ℕ). file_in (r.phase m)) (sym same) ∙ e) in cc z
 
   -- a number that is left to the pass is one of the table
-  pub spare_inside : (n : ℕ) → next_in v.start x ≤ n → n < end_in v.start x → IsNumber v.start n
-  spare_inside n low high = let o = its_log turn in let a = o.left_inside in let b = o.few_left in
+  pub spare_inside : {n : ℕ} → next_in v.start x ≤ n → n < end_in v.start x → IsNumber v.start n
+  spare_inside low high = let o = its_log turn in let a = o.left_inside in let b = o.few_left in
       let within : v.start.numbers * chain_in x ≤ chain_numbers v.start = mul-le-mul_left v.start.numbers o.chain in
       inr (omega arith, omega (arith, high, within))
 
   -- a step on the place of a number without a file, of which nothing is told
-  home_step : (q : ℕ) (its : IsNumber v.start q) (ph ph' : Phase) (word' : ℕ) (lies : maybe.Option (Option Closed)) (d : Work)
+  home_step : {q : ℕ} (its : IsNumber v.start q) {ph ph' : Phase} {word' : ℕ} (lies : maybe.Option (Option Closed)) {d : Work}
       → r.phase q ≡ ph → file_in ph ≡ None → MayTurn turn q ph' → ((n : ℕ) → n ≢ q → busy v.work ≢ n + 1)
       → held_in v.work ≡ held_in d → ((n : ℕ) → holding n v.work ≡ holding n d)
       → NodeAgrees (state_after_all v.start r.history) q (looks r.history q) word' (some lies) ph'
@@ -52,16 +52,16 @@ module _ (turn : Turn) where
       → ((n : ℕ) → next_in v.start x + placing d ≤ n → n < end_in v.start x → changed_at r.phase q ph' n ≡ spare x.number)
       → WorkAgrees v.start (changed_at r.phase q ph') id d
       → NodeStep turn q its word' (set st.homes (place_of v.start q) lies) r.history ph' d
-  home_step q its ph ph' word' lies d is no_file may free held holds node known next spares work = record {
+  home_step {q} its lies is no_file may free held holds node known next spares work = record {
     grows = grows_none x.number r.history;
     legal = r.legal;
     told = one_same v q r.history;
     homes = length-set st.homes (place_of v.start q) lies;
-    home_else = λ m has other. set_else st.homes (place_of v.start q) (place_of v.start m) lies (else_place q its m has other);
+    home_else = λ m has other. set_else st.homes (place_of v.start q) (place_of v.start m) lies (else_place its has other);
     may = may;
     keeps = λ j u f other there is_held same. absurd (unheld q (ap file_in is ∙ no_file) j u f there is_held same);
     free = free;
-    node = rw (set_here st.homes (place_of v.start q) lies (roomy q its)) node;
+    node = rw (set_here st.homes (place_of v.start q) lies (roomy its)) node;
     known = known;
     held = (its_log turn).held ∙ held;
     next = next;
@@ -79,14 +79,14 @@ module _ (turn : Turn) where
     end_is = let o = its_log turn in let a = o.left_inside in omega arith
 
     its_b : IsNumber v.start b
-    its_b = spare_inside b (omega arith) end_is
+    its_b = spare_inside (omega arith) end_is
 
     is_spare : r.phase b ≡ spare x.number
     is_spare = let o = its_log turn in let p = ap placing idle in o.spares b (omega arith) end_is
 
     birth : NodeStep turn b its_b born (set st.homes (place_of v.start b) none) r.history (placed id) (Placing b)
-    birth = let n = in_phase v.start st r b its_b (spare x.number) is_spare in let o = its_log turn in
-        home_step b its_b (spare x.number) (placed id) born none (Placing b) is_spare refl (inr (inr (inl is_spare)))
+    birth = let n = in_phase v.start st r its_b is_spare in let o = its_log turn in
+        home_step its_b none is_spare refl (inr (inr (inl is_spare)))
         (λ m other is. let e : busy v.work ≡ 0 = ap busy idle in omega arith) (ap held_in idle) (λ n. ap (holding n) idle)
         (assumption n) (does_now st.views id v (went turn r.history (Placing b) v.change) (Placing b) here refl) (refl, some_left)
         (λ n low high. let p = ap placing idle in changed_else r.phase b (placed id) n (λ same. omega arith) ∙ o.spares n (omega arith) high)
@@ -97,40 +97,39 @@ module _ (turn : Turn) where
         (went turn r.history (Placing b) v.change, homes)
     birth_tells carried homes = subst (λ (n : ℕ). Stepped (v, carried) [] no_use (Placing n) v.change
         (went turn r.history (Placing b) v.change, homes))
-        (λ i. next_in v.start (first_log (sym one i))) (tells_none turn carried homes (Placing b) v.change its_b)
+        (λ i. next_in v.start (first_log (sym one i))) (tells_none turn carried homes v.change its_b)
 
   -- a rest, of a number whose file is closed, or which was placed in vain
-  rest_emptied : (q : ℕ) → v.work ≡ Emptying q → (its : IsNumber v.start q) × NodeStep turn q its 0
+  rest_emptied : {q : ℕ} → v.work ≡ Emptying q → (its : IsNumber v.start q) × NodeStep turn q its 0
       (set st.homes (place_of v.start q) (some None)) r.history closed (Between Idle)
-  rest_emptied q is = let w = subst (WorkAgrees v.start r.phase id) is (its_work turn) in
-      let n = in_phase v.start st r q w.0 (emptied id) w.1 in let o = its_log turn in (
+  rest_emptied {q} is = let w = subst (WorkAgrees v.start r.phase id) is (its_work turn) in
+      let n = in_phase v.start st r w.0 w.1 in let o = its_log turn in (
         w.0,
-        home_step q w.0 (emptied id) closed 0 (some None) (Between Idle) w.1 refl (inr (inl (ap owner w.1)))
+        home_step w.0 (some None) w.1 refl (inr (inl (ap owner w.1)))
             (λ m other bad. let b = ap busy is in other (omega arith)) (ap held_in is) (λ m. ap (holding m) is)
             (assumption n) tt tt
             (λ m low high. let p = ap placing is in let s = o.spares m (omega arith) high in
             changed_else r.phase q closed m (λ same. cc (sym s ∙ (ap r.phase same ∙ w.1))) ∙ s) tt,
       )
 
-  rest_placed : (q : ℕ) → v.work ≡ Placing q → (its : IsNumber v.start q) × NodeStep turn q its 0
+  rest_placed : {q : ℕ} → v.work ≡ Placing q → (its : IsNumber v.start q) × NodeStep turn q its 0
       (set st.homes (place_of v.start q) (some None)) r.history (spare x.number) (Between Idle)
-  rest_placed q is = let w = subst (WorkAgrees v.start r.phase id) is (its_work turn) in
-      let n = in_phase v.start st r q w.0 (placed id) w.1 in let o = its_log turn in
+  rest_placed {q} is = let w = subst (WorkAgrees v.start r.phase id) is (its_work turn) in
+      let n = in_phase v.start st r w.0 w.1 in let o = its_log turn in
       let next : (q ≡ next_in v.start x) × (0 < x.numbers_left) = subst (PlacesNext v.start x) is o.next in (
         w.0,
-        home_step q w.0 (placed id) (spare x.number) 0 (some None) (Between Idle) w.1 refl (inr (inl (ap owner w.1)))
+        home_step w.0 (some None) w.1 refl (inr (inl (ap owner w.1)))
             (λ m other bad. let b = ap busy is in other (omega arith)) (ap held_in is) (λ m. ap (holding m) is)
-            (assumption n) tt tt
-            (λ m low high. let p = ap placing is in each_changed (λ m z. z ≡ spare x.number) r.phase q (spare x.number) m (λ same. refl)
+            (assumption n) tt tt (λ m low high. let p = ap placing is in each_changed (λ m z. z ≡ spare x.number) r.phase (λ same. refl)
             (λ other. o.spares m (let a = next.0 in omega arith) high)) tt,
       )
 
 pub births_keep : BirthsKeep
-births_keep k slots id i m x has idle left place = by_turn k slots id i m x (λ _. Unit {0}) (λ k. word_of k (next_in k x)) (λ _. born)
+births_keep k slots id i m x has idle left place = by_turn slots (λ _. Unit {0}) (λ k. word_of k (next_in k x)) (λ _. born)
     (λ i _. Births (step slots i born 0 none) m born) has tt place (λ st r here _ fits. let turn = turn_of m x has.1 id st r here in (
       went turn r.history (Placing (b turn idle left)) m.0.change,
       takes (place_of m.0.start (b turn idle left)) None,
-      (in_phase m.0.start st r (b turn idle left) (its_b turn idle left) (spare x.number) (is_spare turn idle left)).at_home,
+      (in_phase m.0.start st r (its_b turn idle left) (is_spare turn idle left)).at_home,
       node_agrees turn (b turn idle left) (its_b turn idle left) born (set st.homes (place_of m.0.start (b turn idle left)) none) r.history
           (placed id)
           (Placing (b turn idle left)) (birth turn idle left),
@@ -141,16 +140,15 @@ births_keep k slots id i m x has idle left place = by_turn k slots id i m x (λ 
     ))
 
 pub rests_keep : RestsKeep
-rests_keep k slots id i q m x has works carries place = by_turn k slots id i m x (λ k. m.1 ≡ (place_of k q, None) ∷ []) (λ k. word_of k q) (λ _. 0)
+rests_keep k slots id i q m x has works carries place = by_turn slots (λ k. m.1 ≡ (place_of k q, None) ∷ []) (λ k. word_of k q) (λ _. 0)
     (λ i _. Rests (step slots i 0 0 none) m 0) has carries place (λ st r here carries fits. let turn = turn_of m x has.1 id st r here in (
       went turn r.history (Between Idle) m.0.change,
       gives,
       tt,
-      rw carries (⊎_elim
-          (λ (e : m.0.work ≡ Emptying q). let s = rest_emptied turn q e in
+      rw carries (⊎_elim (λ (e : m.0.work ≡ Emptying q). let s = rest_emptied turn e in
           node_agrees turn q s.0 0 (set st.homes (place_of m.0.start q) (some None)) r.history closed (Between Idle) s.1)
-          (λ (e : m.0.work ≡ Placing q). let s = rest_placed turn q e in
+          (λ (e : m.0.work ≡ Placing q). let s = rest_placed turn e in
           node_agrees turn q s.0 0 (set st.homes (place_of m.0.start q) (some None)) r.history (spare x.number) (Between Idle) s.1)
           works),
-      record { stepped = tells_none turn m.1 (rest m.1) (Between Idle) m.0.change tt; carried = refl },
+      record { stepped = tells_none turn m.1 (rest m.1) m.0.change tt; carried = refl },
     ))

@@ -5,8 +5,8 @@ use Rattle.fx_counted.proofs.Words.{Start, CountedTable, size_of}
 use Rattle.fx_counted.proofs.Places.{few_numbers, inside, apart}
 
 -- the word of a slot is one of the table
-pub slot_inside : (t : CountedTable) (slot i : ℕ) → slot < size_of (opening_of_table t) → i ≡ slot_place slot → i < t.table.shared.table_id.words
-slot_inside t slot i l is =
+pub slot_inside : (t : CountedTable) {slot i : ℕ} → slot < size_of (opening_of_table t) → i ≡ slot_place slot → i < t.table.shared.table_id.words
+slot_inside t {slot} l is =
     let size = t.same_size in
     let near = (inside t.size (t.numbers * t.chains) t.few_slots).slot slot (omega arith) in
     let words = t.words in
@@ -20,30 +20,30 @@ its_numbers t = λ i. t.key.2 i * t.key.0 i
 pub its_number : (t : CountedTable) (n : ℕ) → IsNumber t.table.shared.key n → HasNode t.size (t.numbers * t.chains) n
 its_number t n has = subst (λ (z : ℕ × ℕ). HasNode z.0 z.1 n) (λ i. (sym t.same_size i, sym (its_numbers t) i)) has
 
-more_numbers : (size numbers n : ℕ) → numbers ≤ 65472 → HasNode size numbers n → HasNode size 65472 n
-more_numbers size numbers n few (inl l) = inl l
-more_numbers size numbers n few (inr b) = let l = b.0 in let u = b.1 in inr (l, omega arith)
+more_numbers : {size numbers n : ℕ} → numbers ≤ 65472 → HasNode size numbers n → HasNode size 65472 n
+more_numbers few (inl l) = inl l
+more_numbers few (inr b) = let l = b.0 in let u = b.1 in inr (l, omega arith)
 
-pub has_node : (t : CountedTable) (n : ℕ) → IsNumber t.table.shared.key n → HasNode t.size 65472 n
-has_node t n has = more_numbers t.size (t.numbers * t.chains) n (few_numbers t.numbers t.chains t.bounds.3 t.bounds.0) (its_number t n has)
+pub has_node : (t : CountedTable) {n : ℕ} → IsNumber t.table.shared.key n → HasNode t.size 65472 n
+has_node t {n} has = more_numbers (few_numbers t.bounds.3 t.bounds.0) (its_number t n has)
 
 -- its word is one of the table
-pub node_inside : (t : CountedTable) (n i : ℕ) → IsNumber t.table.shared.key n → i ≡ node_place t.size n → i < t.table.shared.table_id.words
-node_inside t n i has is =
+pub node_inside : (t : CountedTable) {n i : ℕ} → IsNumber t.table.shared.key n → i ≡ node_place t.size n → i < t.table.shared.table_id.words
+node_inside t {n} has is =
     let near = (inside t.size (t.numbers * t.chains) t.few_slots).node n (its_number t n has) in
     let words = t.words in
     omega arith
 
 -- where it lies, as the laws of steps say it
-pub node_is_at : (t : CountedTable) (n i : ℕ) → i ≡ node_place t.size n → i ≡ node_place (slots_of t.table.shared.key) n
-node_is_at t n i is = is ∙ ap (λ (z : ℕ). node_place z n) t.same_size
+pub node_is_at : (t : CountedTable) (n : ℕ) {i : ℕ} → i ≡ node_place t.size n → i ≡ node_place (slots_of t.table.shared.key) n
+node_is_at t n is = is ∙ ap (λ (z : ℕ). node_place z n) t.same_size
 
-pub home_is_at : (t : CountedTable) (n i : ℕ) → i ≡ home_place t.size n → i ≡ home_place (slots_of t.table.shared.key) n
-home_is_at t n i is = is ∙ ap (λ (z : ℕ). home_place z n) t.same_size
+pub home_is_at : (t : CountedTable) (n : ℕ) {i : ℕ} → i ≡ home_place t.size n → i ≡ home_place (slots_of t.table.shared.key) n
+home_is_at t n is = is ∙ ap (λ (z : ℕ). home_place z n) t.same_size
 
 -- the slot whose word lies there
-pub slot_at : (t : CountedTable) (slot i : ℕ) → i ≡ slot_place slot → slot_of i ≡ slot
-slot_at t slot i is = ap slot_of is ∙ (apart t.size (t.numbers * t.chains) t.few_slots).slot_back slot
+pub slot_at : (t : CountedTable) {slot i : ℕ} → i ≡ slot_place slot → slot_of i ≡ slot
+slot_at t {slot} is = ap slot_of is ∙ (apart t.size (t.numbers * t.chains) t.few_slots).slot_back slot
 
 -- a slot of the range is one of the table
 pub in_size : (t : CountedTable) (slot : ℕ) → InRange t.table.shared.key slot true → slot < size_of (opening_of_table t)
@@ -52,5 +52,5 @@ in_size t slot r = let few = t.range_inside in let size = t.same_size in
     let below = r.1 in omega arith
 
 -- the word that says that the range is full
-pub full_of : (t : CountedTable) (k : Start) → k ≡ t.table.shared.key → full_word_of t.range_len ≡ full_word_of (range_of (opening_of k)).1
-full_of t k is = ap (λ (z : ℕ × ℕ). full_word_of z.1) t.same_range ∙ ap (λ (z : Start). full_word_of (range_of (opening_of z)).1) (sym is)
+pub full_of : (t : CountedTable) {k : Start} → k ≡ t.table.shared.key → full_word_of t.range_len ≡ full_word_of (range_of (opening_of k)).1
+full_of t is = ap (λ (z : ℕ × ℕ). full_word_of z.1) t.same_range ∙ ap (λ (z : Start). full_word_of (range_of (opening_of z)).1) (sym is)

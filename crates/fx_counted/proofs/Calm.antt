@@ -52,8 +52,7 @@ module _ (turn : Turn) (h' : List Event) where
         no_other = λ n absent. ap (λ (z : State). z.removed n) p.quiet.state ∙ r.no_other n absent;
         stays = stays_same id x.number r.phase;
         keeps = λ j u f other there holds. refl;
-        log = log_now turn h' r.phase x.numbers_left x.looks_left v.work (omega arith) (p.quiet.held ∙ o.held)
-            (places_same v.start x y v.work refl refl o.next) o.spares;
+        log = log_now turn (omega arith) (p.quiet.held ∙ o.held) (places_same v.start x y v.work refl refl o.next) o.spares;
         work = its_work turn;
         holds = λ n. let e = ap (λ (z : State). z.holds n) p.quiet.state in omega arith;
         look_ups = let a = p.quiet.all in omega arith;

@@ -25,11 +25,11 @@ given_either lo hi p phase n = dite (dec_le lo n)
     (λ f. inr (λ _ b. f (omega arith), rw (le-ltb n lo a, le-ltb n hi (omega (arith, f))) refl)))
     (λ f. inr (λ a _. f a, rw (lt-ltb n lo (omega (arith, f))) refl))
 
-given_in : (lo hi p : ℕ) (phase : ℕ → Phase) (n : ℕ) → lo ≤ n → n < hi → given_out lo hi p phase n ≡ spare p
-given_in lo hi p phase n a b = ⊎_elim (λ t. t.2) (λ t. absurd (t.0 a b)) (given_either lo hi p phase n)
+given_in : {lo hi : ℕ} (p : ℕ) (phase : ℕ → Phase) {n : ℕ} → lo ≤ n → n < hi → given_out lo hi p phase n ≡ spare p
+given_in {lo} {hi} p phase {n} a b = ⊎_elim (λ t. t.2) (λ t. absurd (t.0 a b)) (given_either lo hi p phase n)
 
-given_else : (lo hi p : ℕ) (phase : ℕ → Phase) (n : ℕ) → ((lo ≤ n) → (n < hi) → ⊥) → given_out lo hi p phase n ≡ phase n
-given_else lo hi p phase n out = ⊎_elim (λ t. absurd (out t.0 t.1)) (λ t. t.1) (given_either lo hi p phase n)
+given_else : {lo hi : ℕ} (p : ℕ) (phase : ℕ → Phase) {n : ℕ} → ((lo ≤ n) → (n < hi) → ⊥) → given_out lo hi p phase n ≡ phase n
+given_else {lo} {hi} p phase {n} out = ⊎_elim (λ t. absurd (out t.0 t.1)) (λ t. t.1) (given_either lo hi p phase n)
 
 pub told_few : (l : List Log) → sum_by (λ y. one_if y.no_chains_left) l ≤ length l
 told_few l = count_by-le-length (λ y. y.no_chains_left) l
@@ -87,8 +87,8 @@ module _ (turn : Turn) where
     abbrev Phases : Type 0
     Phases = (n : ℕ) → (r.phase n ≡ phase' n) ⊎ ((r.phase n ≡ unborn) × (phase' n ≡ spare x.number))
 
-    either_phase : {P : Type 0} → Phases → (n : ℕ) → (r.phase n ≡ phase' n → P) → (r.phase n ≡ unborn → phase' n ≡ spare x.number → P) → P
-    either_phase phases n same new = ⊎_elim (λ e. same e) (λ t. new t.0 t.1) (phases n)
+    either_phase : {P : Type 0} → Phases → {n : ℕ} → (r.phase n ≡ phase' n → P) → (r.phase n ≡ unborn → phase' n ≡ spare x.number → P) → P
+    either_phase phases {n} same new = ⊎_elim (λ e. same e) (λ t. new t.0 t.1) (phases n)
 
     draw_step : v.work ≡ Between Idle → Phases
         → first_or 0 drawn ≤ v.start.chains → ((c : ℕ) → first_or 0 drawn < c → times c drawn ≡ 0) → left ≤ 64 → left ≤ v.start.numbers * first_or 0 drawn
@@ -102,19 +102,18 @@ module _ (turn : Turn) where
       grows = grows_none x.number r.history;
       legal = r.legal;
       slots = λ s l. slot_same (read_else (slot_place s) (apart.slot_and_draw s)) refl (omega arith)
-          (λ f there seat. (refl, either_phase phases f.number (λ e. sym e) (λ new _. absurd (cc (sym seat ∙ new))))) (r.each_slot s l);
+          (λ f there seat. (refl, either_phase phases (λ e. sym e) (λ new _. absurd (cc (sym seat ∙ new))))) (r.each_slot s l);
       nodes = λ n has. let Node = NodeIn v.start st.words st.homes r.history n in rw (read_else (word_of v.start n) (apart.node_and_draw n has))
-          (either_phase phases n (λ e. subst Node e (r.each_node n has))
-          (λ new its. subst Node (sym its) (subst Node new (r.each_node n has))));
-      owners = λ n has. either_phase phases n
+          (either_phase phases (λ e. subst Node e (r.each_node n has)) (λ new its. subst Node (sym its) (subst Node new (r.each_node n has))));
+      owners = λ n has. either_phase phases
           (λ e. subst (OwnerAgrees (set st.views id w) n) e (owner_same st.views id v w here refl n (r.phase n) (r.each_owner n has)))
           (λ _ its. subst (OwnerAgrees (set st.views id w) n) (sym its) tt);
       no_other = r.no_other;
       stays = record {
-        owned = λ n owned not_mine. either_phase phases n (λ e. sym e) (λ new _. absurd (owned (ap owner new)));
-        spared = λ n q is other. either_phase phases n (λ e. sym e ∙ is) (λ new _. absurd (cc (sym is ∙ new)));
+        owned = λ n owned not_mine. either_phase phases (λ e. sym e) (λ new _. absurd (owned (ap owner new)));
+        spared = λ n q is other. either_phase phases (λ e. sym e ∙ is) (λ new _. absurd (cc (sym is ∙ new)));
       };
-      keeps = λ j u f other there holds. either_phase phases f.number (λ e. ap file_in (sym e)) (λ new its. ap file_in its ∙ sym (ap file_in new));
+      keeps = λ j u f other there holds. either_phase phases (λ e. ap file_in (sym e)) (λ new its. ap file_in its ∙ sym (ap file_in new));
       log = let o = its_log turn in let p = ap placing idle in
           let its : (n : ℕ) → next_in v.start y + placing v.work ≤ n → n < end_in v.start y → phase' n ≡ spare x.number =
           λ n low high. spares n (omega arith) high in
@@ -199,7 +198,7 @@ module _ (turn : Turn) where
                 let more = once_more found (found + 1) c refl in omega arith;
             counts = omega arith;
             all = λ some_told. absurd (omega arith);
-            unused = λ n low high. given_else lo hi x.number r.phase n (λ a b. omega (arith, low, b))
+            unused = λ n low high. given_else x.number r.phase (λ a b. omega (arith, low, b))
                 ∙ d.unused n (omega (arith, low, given_numbers, one_more)) high;
           }
 
@@ -212,7 +211,7 @@ module _ (turn : Turn) where
           → Made turn carried draw_place (λ _. found + 1) (DrawTells (step slots draw_place 1 0 none) (v, carried))
       next_drawn carried slots = drawn_so ((found + 1) ∷ x.drawn) x.no_chains_left v.start.numbers phase'
           (draw_step _ _ _ phase' idle phases (omega arith) last_drawn r.shape.numbers (omega (arith, one_more))
-          (λ n low high. given_in lo hi x.number r.phase n (omega (arith, low, one_more)) high) counts) alone carried slots
+          (λ n low high. given_in x.number r.phase (omega (arith, low, one_more)) high) counts) alone carried slots
           (let g = given_is in let c = chain_few in rw (lt-ltb found v.start.chains more) (untold, omega arith, omega arith, refl))
 
     -- there are no more
@@ -236,7 +235,7 @@ module _ (turn : Turn) where
           (rw (le-ltb found v.start.chains done) refl)
 
 pub draws_keep : DrawsKeep
-draws_keep k slots id i m x has idle untold place = by_turn k slots id i m x (λ _. Unit {0}) (λ _. draw_place) (λ word. (word + 1) % 2 ^ 64)
+draws_keep k slots id i m x has idle untold place = by_turn slots (λ _. Unit {0}) (λ _. draw_place) (λ word. (word + 1) % 2 ^ 64)
     (λ i. DrawTells (step slots i 1 0 none) m) has tt place (λ st r here _ fits. let turn = turn_of m x has.1 id st r here in
     rw (word_is turn) (dite (dec_le (found turn + 1) m.0.start.chains)
     (λ next. next_drawn turn idle untold (omega (arith, next)) m.1 slots)

@@ -14,14 +14,14 @@ use Rattle.fx_counted.proofs.FullSlots.{full_few, full_all}
 use Rattle.fx_counted.proofs.LettingGo.{sub_wraps}
 
 -- what one of them adds to the gap between two totals
-pub total_gap : {X : Type 0} (f g : X → ℕ) (xs : List X) (i : ℕ) (v : X) → get_elem? xs i ≡ some v
+pub total_gap : {X : Type 0} {f g : X → ℕ} (xs : List X) (i : ℕ) {v : X} → get_elem? xs i ≡ some v
     → ((j : ℕ) (x : X) → get_elem? xs j ≡ some x → f x ≤ g x) → sum_by f xs + g v ≤ sum_by g xs + f v
-total_gap f g [] i v e each = absurd (some-ne-none v (sym e))
-total_gap f g (x ∷ xs) zero v e each = let p : f x ≡ f v = ap f (some-injective x v e) in
+total_gap [] i {v} e each = absurd (some-ne-none v (sym e))
+total_gap {f} {g} (x ∷ xs) zero {v} e each = let p : f x ≡ f v = ap f (some-injective x v e) in
     let q : g x ≡ g v = ap g (some-injective x v e) in let c = sum_by-cons f x xs in let d = sum_by-cons g x xs in
     let b = sum_le_at f g xs (λ j y d. each (suc j) y d) in omega arith
-total_gap f g (x ∷ xs) (suc i) v e each = let a = each 0 x refl in let c = sum_by-cons f x xs in
-    let d = sum_by-cons g x xs in let b = total_gap f g xs i v e (λ j y d. each (suc j) y d) in omega arith
+total_gap {f} {g} (x ∷ xs) (suc i) {v} e each = let a = each 0 x refl in let c = sum_by-cons f x xs in
+    let d = sum_by-cons g x xs in let b = total_gap xs i e (λ j y d. each (suc j) y d) in omega arith
 
 -- a pass has something to tell in a change alone, and one slot at most
 pub at_most_one : (c : Change) → (in_change c ≤ 1) × (added c ≤ in_change c) × (removed_by c ≤ in_change c)
@@ -68,7 +68,7 @@ module _ (turn : Turn) where
 
   -- fewer than 16 are in a change beside this pass
   pub few_others : sum_by changes_of st.views + 1 ≤ 16 + in_change v.change
-  few_others = let a = total_gap changes_of lengths st.views id v here (few_changes v.start st r) in let b = r.whole in
+  few_others = let a = total_gap st.views id here (few_changes v.start st r) in let b = r.whole in
       let c = r.shape.passes in let d = ap (length {A = Log}) one in omega arith
 
   wide : control_place < length st.words
@@ -82,9 +82,9 @@ module _ (turn : Turn) where
     read_else : (place : ℕ) → place ≢ control_place → word_at words' place ≡ word_at st.words place
     read_else place other = get_or-set_other st.words control_place place y 0 other
 
-    wrote : (h' : List Event) (c : Change) → Quiet turn h' → ControlCounts at_now range (set st.views id (went turn h' v.work c)) y
+    wrote : {h' : List Event} (c : Change) → Quiet turn h' → ControlCounts at_now range (set st.views id (went turn h' v.work c)) y
         → Agrees v.start record { words = words'; homes = st.homes; views = set st.views id (went turn h' v.work c) }
-    wrote h' c quiet control = let apart = far turn in calm_agrees turn h' c words' record {
+    wrote {h'} c quiet control = let apart = far turn in calm_agrees turn h' c words' record {
       quiet = quiet;
       words = length-set st.words control_place y;
       slots = λ s. read_else (slot_place s) (apart.slot_and_control s);
@@ -99,17 +99,17 @@ module _ (turn : Turn) where
 
   -- with the event that every slot of the range is full
   full_legal : ((slot : ℕ) → range.0 ≤ slot → slot < range.0 + range.1 → IsSome (at_now slot)) → IsHistory v.start (e ∷ r.history)
-  full_legal each = legal_more v.start r.history e r.legal
+  full_legal each = legal_more v.start r.legal
       (λ slot small in_range. let z = (same_shape v.start r.history).1 in let a = ap (λ (p : ℕ × ℕ). p.0) z in
       let b = ap (λ (p : ℕ × ℕ). p.1) z in let i = in_range.0 in let j = in_range.1 in
       each slot (omega arith) (omega arith)) tt
 
   told_full : ((slot : ℕ) → range.0 ≤ slot → slot < range.0 + range.1 → IsSome (at_now slot)) → Quiet turn (e ∷ r.history)
   told_full each = let all : all_looks (e ∷ r.history) ≡ all_looks r.history = omega arith in
-      assumption (grows_one x.number r.history e refl, full_legal each, all, held_mine x.number e r.history refl)
+      assumption (grows_one x.number r.history e refl, full_legal each, all, held_mine e r.history refl)
 
   pub goes_on : (c : Change) (carried : List (ℕ × Option Closed)) → Stepped (v, carried) [] no_use v.work c (went turn r.history v.work c, carried)
-  goes_on c carried = tells_none turn carried carried v.work c its_inside
+  goes_on c carried = tells_none turn carried carried c its_inside
 
   module _ (fits : word < 18446744073709551616) where
     begun : v.change ≡ Outside → ControlCounts at_now range (set st.views id (went turn r.history v.work Same)) ((word + one_change) % 2 ^ 64)
@@ -133,41 +133,41 @@ module _ (turn : Turn) where
         let f1 = sum_at changes_of st.views id v here in
         let x1 = at_most_one v.change in
         let big : amount ≤ word = omega arith in
-        let diff : (word + (2 ^ 64 - amount)) % 2 ^ 64 ≡ word - amount = sub_wraps word amount big fits (omega arith) in
+        let diff : (word + (2 ^ 64 - amount)) % 2 ^ 64 ≡ word - amount = sub_wraps big fits (omega arith) in
         record { upper = omega arith; lower = omega arith }
 
     -- a word that says so: this pass alone is in a change, and every slot of the range is full
     says_so : v.change ≡ Same → word ≡ full_word_of range.1 → (slot : ℕ) → range.0 ≤ slot → slot < range.0 + range.1 → IsSome (at_now slot)
-    says_so same is = let a = total_gap added_of changes_of st.views id v here (λ j u e. (at_most_one u.change).1) in
-        let b = total_gap removed_of changes_of st.views id v here (λ j u e. (at_most_one u.change).2) in
+    says_so same is = let a = total_gap st.views id here (λ j u e. (at_most_one u.change).1) in
+        let b = total_gap st.views id here (λ j u e. (at_most_one u.change).2) in
         let a' = ap in_change same in let b' = ap added same in let d' = ap removed_by same in
         let u = r.control.upper in let l = r.control.lower in let few = r.shape.range in let few' = r.shape.slots in
         let up : word / 4294967296 ≡ 1 = omega arith in let low : word % 4294967296 ≡ 65536 + range.1 = omega arith in
         full_all at_now range.0 range.1 (omega arith)
 
 pub begins_keep : BeginsKeep
-begins_keep k slots id i m x has out place = by_turn k slots id i m x (λ _. Unit {0}) (λ _. control_place) (λ word. (word + one_change) % 2 ^ 64)
+begins_keep k slots id i m x has out place = by_turn slots (λ _. Unit {0}) (λ _. control_place) (λ word. (word + one_change) % 2 ^ 64)
     (λ i. GoesOn Same (step slots i one_change 0 none) m) has tt place (λ st r here _ fits. let turn = turn_of m x has.1 id st r here in (
       went turn r.history m.0.work Same,
       keeps,
       tt,
-      wrote turn _ r.history Same (no_event turn) (begun turn fits out),
+      wrote turn _ Same (no_event turn) (begun turn fits out),
       record { stepped = goes_on turn Same m.1; carried = refl },
     ))
 
 pub ends_keep : EndsKeep
-ends_keep k slots id i amount m x has in_now amount_is place = by_turn k slots id i m x (λ _. Unit {0}) (λ _. control_place)
+ends_keep k slots id i amount m x has in_now amount_is place = by_turn slots (λ _. Unit {0}) (λ _. control_place)
     (λ word. (word + (2 ^ 64 - amount)) % 2 ^ 64) (λ i. GoesOn Outside (step slots i amount 0 none) m) has tt place
     (λ st r here _ fits. let turn = turn_of m x has.1 id st r here in (
       went turn r.history m.0.work Outside,
       keeps,
       tt,
-      wrote turn _ r.history Outside (no_event turn) (ended turn fits r.history amount in_now amount_is),
+      wrote turn _ Outside (no_event turn) (ended turn fits r.history amount in_now amount_is),
       record { stepped = goes_on turn Outside m.1; carried = refl },
     ))
 
 pub answers_keep : AnswersKeep
-answers_keep k slots id i m x has same place = by_turn k slots id i m x (λ _. Unit {0}) (λ _. control_place)
+answers_keep k slots id i m x has same place = by_turn slots (λ _. Unit {0}) (λ _. control_place)
     (λ word. (word + (2 ^ 64 - one_change)) % 2 ^ 64) (λ i. Answers (step slots i one_change 0 none) m) has tt place
     (λ st r here _ fits. let turn = turn_of m x has.1 id st r here in
     let counts = λ (h' : List Event). ended turn fits h' one_change (ap in_change same)
@@ -177,9 +177,9 @@ answers_keep k slots id i m x has same place = by_turn k slots id i m x (λ _. U
       went turn (e turn ∷ r.history) m.0.work Outside,
       keeps,
       tt,
-      wrote turn _ (e turn ∷ r.history) Outside (told_full turn each) (counts (e turn ∷ r.history)),
+      wrote turn _ Outside (told_full turn each) (counts (e turn ∷ r.history)),
       record {
-        full = λ _. tells_one turn Full (full_legal turn each) m.1 m.1 m.0.work Outside (its_inside turn);
+        full = λ _. tells_one turn (full_legal turn each) m.1 m.1 Outside (its_inside turn);
         not_full = λ not_so. absurd (not_so says);
         carried = refl;
       },
@@ -188,6 +188,6 @@ answers_keep k slots id i m x has same place = by_turn k slots id i m x (λ _. U
       went turn r.history m.0.work Outside,
       keeps,
       tt,
-      wrote turn _ r.history Outside (no_event turn) (counts r.history),
+      wrote turn _ Outside (no_event turn) (counts r.history),
       record { full = λ says. absurd (not_so says); not_full = λ _. goes_on turn Outside m.1; carried = refl },
     )))

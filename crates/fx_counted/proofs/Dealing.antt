@@ -5,12 +5,12 @@ use Rattle.fx_counted.proofs.Words.{IsNewPass}
 use Rattle.std.proofs.Common.{take, drop}
 use Rattle.fx_table.proofs.Dealing.{first_left, last_left}
 
-pub rest_is_dealt : (k : Start) (p : ℕ) → p ≤ k.passes → without_first (dealt k p) ≡ dealt k (p + 1)
-rest_is_dealt k p l = ap (λ (z : List Log). record (dealt k p) { logs = drop 1 z }) (first_left new_log p k.passes l)
+pub rest_is_dealt : {k : Start} {p : ℕ} → p ≤ k.passes → without_first (dealt k p) ≡ dealt k (p + 1)
+rest_is_dealt {k} {p} l = ap (λ (z : List Log). record (dealt k p) { logs = drop 1 z }) (first_left new_log p k.passes l)
 
 -- the last pass alone
-pub last_is_dealt : (k : Start) (p : ℕ) → p ≡ k.passes → dealt k p ≡ first_alone (dealt k p)
-last_is_dealt k p e = ap (λ (z : List Log). record (dealt k p) { logs = z }) (last_left new_log p k.passes e)
+pub last_is_dealt : {k : Start} {p : ℕ} → p ≡ k.passes → dealt k p ≡ first_alone (dealt k p)
+last_is_dealt {k} {p} e = ap (λ (z : List Log). record (dealt k p) { logs = z }) (last_left new_log p k.passes e)
 
 -- the pass of a seat that has the first of them
 module _ (id : TableId) (k : Start) (p : ℕ) (low : 1 ≤ p) (high : p ≤ k.passes) (seat : Seat (Option Closed) View) (x : CountedPass)

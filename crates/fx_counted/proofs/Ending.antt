@@ -25,8 +25,8 @@ module _ (k : Start) (s : Shared) (r : Agrees k s) (all_idle : (i : ℕ) (u : Vi
   end = state_after_all k r.history
 
   -- no pass works with a number
-  nobody : (i : ℕ) (w : Work) → Does s.views i w → w ≡ Between Idle
-  nobody i w d = sym d.2 ∙ all_idle i d.0 d.1
+  nobody : (i : ℕ) {w : Work} → Does s.views i w → w ≡ Between Idle
+  nobody i d = sym d.2 ∙ all_idle i d.0 d.1
 
   unheld : (n : ℕ) → end.holds n ≡ 0
   unheld n = r.holds n ∙ sum_zero_at (held_of n) s.views (λ i u e. ap (holding n) (all_idle i u e))
@@ -36,7 +36,7 @@ module _ (k : Start) (s : Shared) (r : Agrees k s) (all_idle : (i : ℕ) (u : Vi
 
   removed_by : (n : ℕ) (ph : Phase) → Node n ph → OwnerAgrees s.views n ph → end.removed n ≡ None
   removed_by n (seated slot file) a o = a.not_removed
-  removed_by n (leaving i takes file) a o = let bad = nobody i (Between (Retiring (numbered n file) takes)) o in absurd (cc bad)
+  removed_by n (leaving i takes file) a o = let bad = nobody i o in absurd (cc bad)
   removed_by n (retired file) a o = let w = a.counts in let h = unheld n in let p = a.some_hold in absurd (omega arith)
   removed_by n _ a o = a.not_removed
 
@@ -50,39 +50,39 @@ module _ (k : Start) (s : Shared) (r : Agrees k s) (all_idle : (i : ℕ) (u : Vi
   abbrev AtItsSlot : ℕ → Option Closed → Type 0
   AtItsSlot n x = (file : Closed) → x ≡ Some file → (slot : ℕ) × (slot < slots_of k) × (end.at slot ≡ Some (numbered n file))
 
-  home_by : (n : ℕ) (ph : Phase) → Node n ph → OwnerAgrees s.views n ph
+  home_by : {n : ℕ} (ph : Phase) → Node n ph → OwnerAgrees s.views n ph
       → (x : Option Closed) × (get_elem? s.homes (place_of k n) ≡ some (some x)) × AtItsSlot n x
-  home_by n (placed i) a o = let bad = nobody i (Placing n) o in absurd (cc bad)
-  home_by n (seated slot file) a o = let size = (same_shape k r.history).0 in let l = a.inside in (
+  home_by {n} (placed i) a o = let bad = nobody i o in absurd (cc bad)
+  home_by {n} (seated slot file) a o = let size = (same_shape k r.history).0 in let l = a.inside in (
     Some file,
     a.at_home,
     λ other e. let same : file ≡ other = cc e in
         (slot, omega arith, a.there ∙ ap (λ (z : Closed). Some (numbered n z)) same),
   )
-  home_by n (leaving i takes file) a o = let bad = nobody i (Between (Retiring (numbered n file) takes)) o in absurd (cc bad)
-  home_by n (retired file) a o = let w = a.counts in let h = unheld n in let p = a.some_hold in absurd (omega arith)
-  home_by n (emptied i) a o = let bad = nobody i (Emptying n) o in absurd (cc bad)
-  home_by n _ a o = (None, a.at_home, λ file e. absurd (cc e))
+  home_by {n} (leaving i takes file) a o = let bad = nobody i o in absurd (cc bad)
+  home_by {n} (retired file) a o = let w = a.counts in let h = unheld n in let p = a.some_hold in absurd (omega arith)
+  home_by {n} (emptied i) a o = let bad = nobody i o in absurd (cc bad)
+  home_by _ a o = (None, a.at_home, λ file e. absurd (cc e))
 
-  pub home_file : (n : ℕ) → IsNumber k n → (x : Option Closed) × (get_elem? s.homes (place_of k n) ≡ some (some x)) × AtItsSlot n x
-  home_file n has = home_by n (r.phase n) (r.each_node n has) (r.each_owner n has)
+  pub home_file : {n : ℕ} → IsNumber k n → (x : Option Closed) × (get_elem? s.homes (place_of k n) ≡ some (some x)) × AtItsSlot n x
+  home_file {n} has = home_by (r.phase n) (r.each_node n has) (r.each_owner n has)
 
   -- the file at a slot lies in the place of its number
-  pub file_home : (slot : ℕ) (f : File) → slot < slots_of k → end.at slot ≡ Some f
+  pub file_home : {slot : ℕ} {f : File} → slot < slots_of k → end.at slot ≡ Some f
       → IsNumber k f.number × (get_elem? s.homes (place_of k f.number) ≡ some (some (Some f.identity)))
-  file_home slot f l there = let sat = seat_in k s r slot l f there in (sat.0, (in_phase k s r f.number sat.0 (seated slot f.identity) sat.2).at_home)
+  file_home {slot} {f} l there = let sat = seat_in k s r l there in (sat.0, (in_phase k s r sat.0 sat.2).at_home)
 
   -- files at different slots have different numbers
-  pub one_slot : (slot other : ℕ) (f g : File) → slot < slots_of k → other < slots_of k → end.at slot ≡ Some f → end.at other ≡ Some g
+  pub one_slot : {slot other : ℕ} {f g : File} → slot < slots_of k → other < slots_of k → end.at slot ≡ Some f → end.at other ≡ Some g
       → f.number ≡ g.number → slot ≡ other
-  one_slot slot other f g l m there here same =
-      let a = seat_in k s r slot l f there in
-      let b = seat_in k s r other m g here in
+  one_slot {slot} {other} {f} {g} l m there here same =
+      let a = seat_in k s r l there in
+      let b = seat_in k s r m here in
       let e : seated slot f.identity ≡ seated other g.identity = sym a.2 ∙ (ap r.phase same ∙ b.2) in
       cc e
 
-  pub none_outside_end : (slot : ℕ) → slots_of k ≤ slot → end.at slot ≡ None
-  none_outside_end slot past = inside_behind (start_of (opening_of k)) (map action_of r.history) r.legal.leads.0
+  pub none_outside_end : {slot : ℕ} → slots_of k ≤ slot → end.at slot ≡ None
+  none_outside_end {slot} past = inside_behind (start_of (opening_of k)) (map action_of r.history) r.legal.leads.0
       (opens_inside k.plain.value (numbers_for k.chains)) slot (let size = (same_shape k r.history).0 in omega arith)
 
 -- a seat that has all passes

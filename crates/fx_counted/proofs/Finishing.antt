@@ -20,25 +20,24 @@ module _ {size : ℕ} {words : List ℕ} {numbers : ℕ} {xs : List (Option Clos
     (part : IsPartlyBack shell (file_at size words xs) slot size st) where
   file_is : {n place : ℕ} {x : Option Closed} → number_at size words slot ≡ Some n → place ≡ home_place size n → get_elem? now place ≡ some x
       → file_at size words xs slot ≡ x
-  file_is {n} {place} {x} named is there = here_at size words xs slot inside ∙ (ap (file_of size words xs) named
-      ∙ read_at xs (home_place size n) x None (sym (untouched size words numbers xs home slot slot n (omega arith) inside named)
+  file_is {n} {place} {x} named is there = here_at size words xs inside ∙ (ap (file_of size words xs) named
+      ∙ read_at xs (home_place size n) None (sym (untouched size words numbers xs home slot (omega arith) inside named)
       ∙ (ap (λ (l : List (Option Closed)). get_elem? l (home_place size n)) (sym are) ∙ (ap (get_elem? now) (sym is) ∙ there))))
 
   pub some_back : {n place : ℕ} {one : Closed} {st' : State} → number_at size words slot ≡ Some n → place ≡ home_place size n
       → get_elem? now place ≡ some (Some one) → Becomes st slot (Some one) st' → IsPartlyBack shell (file_at size words xs) (slot + 1) size st'
-  some_back {n} {place} {one} {st'} named is there gets = first_back shell (file_at size words xs) st st' slot size
+  some_back {n} {place} {one} {st'} named is there gets = first_back shell (file_at size words xs)
       (subst (λ (x : Option Closed). Becomes st slot x st') (sym (file_is named is there)) gets) part
 
   not_back : file_at size words xs slot ≡ None → IsPartlyBack shell (file_at size words xs) (slot + 1) size st
-  not_back none = first_back shell (file_at size words xs) st st slot size
-      (none_given shell (file_at size words xs) st slot slot size (omega arith) inside none part) part
+  not_back none = first_back shell (file_at size words xs) (none_given shell (file_at size words xs) (omega arith) inside none part) part
 
   pub none_back : {n place : ℕ} → number_at size words slot ≡ Some n → place ≡ home_place size n
       → get_elem? now place ≡ some None → IsPartlyBack shell (file_at size words xs) (slot + 1) size st
   none_back named is there = not_back (file_is named is there)
 
   pub none_named : number_at size words slot ≡ None → IsPartlyBack shell (file_at size words xs) (slot + 1) size st
-  none_named named = not_back (here_at size words xs slot inside ∙ ap (file_of size words xs) named)
+  none_named named = not_back (here_at size words xs inside ∙ ap (file_of size words xs) named)
 
   next : suc slot ≡ slot + 1
   next = omega arith
@@ -62,29 +61,28 @@ module _ (k : Start) (s : Shared) (r : Agrees k s) (all_idle : (i : ℕ) (u : Vi
   abbrev size : ℕ
   size = slots_of k
 
-  number_is : (slot : ℕ) → slot < size → number_at size words slot ≡ number_of (end.at slot)
-  number_is slot l = node_is (slice_index words (slot_place slot)) (end.at slot)
+  number_is : {slot : ℕ} → slot < size → number_at size words slot ≡ number_of (end.at slot)
+  number_is {slot} l = node_is (slice_index words (slot_place slot)) (end.at slot)
       (subst (λ (ws : List ℕ). Names (slice_index ws (slot_place slot)) (end.at slot)) same (r.each_slot slot l).names)
 
   named : (slot n : ℕ) → slot < size → number_at size words slot ≡ Some n → (f : File) × (end.at slot ≡ Some f) × (f.number ≡ n)
-  named slot n l is = go (end.at slot) (sym (number_is slot l) ∙ is)
+  named slot n l is = go (end.at slot) (sym (number_is l) ∙ is)
     where
       go : (found : Option File) → number_of found ≡ Some n → (f : File) × (found ≡ Some f) × (f.number ≡ n)
       go None e = absurd (cc e)
       go (Some f) e = (f, refl, cc e)
 
   pub known : (slot n : ℕ) → slot < size → number_at size words slot ≡ Some n → IsNumber k n
-  known slot n l is = let f = named slot n l is in subst (IsNumber k) f.2 (file_home k s r all_idle slot f.0 l f.1).0
+  known slot n l is = let f = named slot n l is in subst (IsNumber k) f.2 (file_home k s r all_idle l f.1).0
 
   home_is : (slot n : ℕ) (l : slot < size) (is : number_at size words slot ≡ Some n)
       → get_elem? xs (home_place size n) ≡ some (Some (named slot n l is).0.identity)
   home_is slot n l is = let f = named slot n l is in
-      subst (λ (m : ℕ). get_elem? xs (home_place size m) ≡ some (Some f.0.identity)) f.2 (at_home _ _ (file_home k s r all_idle slot f.0 l f.1).1)
+      subst (λ (m : ℕ). get_elem? xs (home_place size m) ≡ some (Some f.0.identity)) f.2 (at_home _ _ (file_home k s r all_idle l f.1).1)
 
   -- the number whose file would lie there
-  by_place : (place : ℕ) → place < homes_for size (chain_numbers k) → (n : ℕ) × IsNumber k n × (home_place size n ≡ place)
-  by_place place l = dite (dec_le (suc place) size)
-      (λ low. (place, inl (omega (arith, low)), low_home size place (omega (arith, low))))
+  by_place : {place : ℕ} → place < homes_for size (chain_numbers k) → (n : ℕ) × IsNumber k n × (home_place size n ≡ place)
+  by_place {place} l = dite (dec_le (suc place) size) (λ low. (place, inl (omega (arith, low)), low_home size (omega (arith, low))))
       (λ high. let n : ℕ = 256 + (place - size) in
       let few = r.shape.slots in
       let e = high_home size n (omega (arith, few)) in (n, inr (omega arith, omega (arith, high, l, few)), omega (arith, e, high)))
@@ -97,27 +95,26 @@ module _ (k : Start) (s : Shared) (r : Agrees k s) (all_idle : (i : ℕ) (u : Vi
         let f = named slot n l is in
         let g = named other m l' is' in
         (apart size (chain_numbers k) r.shape.slots).homes n m (known slot n l is) (known other m l' is')
-        (λ same. ne (one_slot k s r all_idle slot other f.0 g.0 l l' f.1 g.1 (f.2 ∙ (same ∙ sym g.2))));
+        (λ same. ne (one_slot k s r all_idle l l' f.1 g.1 (f.2 ∙ (same ∙ sym g.2))));
     others = λ place file there.
         let inside = (stands_at xs place (Some file) there).0 in
         let wide = r.shape.homes in
-        let b = by_place place (omega (arith, inside, long, wide)) in
-        let h = home_file k s r all_idle b.0 b.1 in
+        let b = by_place (omega (arith, inside, long, wide)) in
+        let h = home_file k s r all_idle b.1 in
         let here = at_home place h.0 (ap (get_elem? s.homes) (sym b.2) ∙ h.1) in
         let is : h.0 ≡ Some file = some-injective h.0 (Some file) (sym here ∙ there) in
         let o = h.2 file is in
-        (o.0, b.0, o.1, number_is o.0 o.1 ∙ ap number_of o.2, b.2);
+        (o.0, b.0, o.1, number_is o.1 ∙ ap number_of o.2, b.2);
   }
 
   files_are : (slot : ℕ) → file_at size words xs slot ≡ identity_of (end.at slot)
-  files_are slot = dite (dec_le (suc slot) size)
-      (λ low. let l : slot < size = omega (arith, low) in here_at size words xs slot l
-      ∙ (ap (file_of size words xs) (number_is slot l) ∙ go slot l (end.at slot) refl))
-      (λ high. none_past size words xs slot (omega (arith, high)) ∙ sym (ap identity_of (none_outside_end k s r all_idle slot (omega (arith, high)))))
+  files_are slot = dite (dec_le (suc slot) size) (λ low. let l : slot < size = omega (arith, low) in here_at size words xs l
+      ∙ (ap (file_of size words xs) (number_is l) ∙ go slot l (end.at slot) refl))
+      (λ high. none_past size words xs (omega (arith, high)) ∙ sym (ap identity_of (none_outside_end k s r all_idle (omega (arith, high)))))
     where
       go : (slot : ℕ) → slot < size → (found : Option File) → end.at slot ≡ found → file_of size words xs (number_of found) ≡ identity_of found
       go slot l None e = refl
-      go slot l (Some f) e = read_at xs (home_place size f.number) (Some f.identity) None (at_home _ _ (file_home k s r all_idle slot f l e).1)
+      go slot l (Some f) e = read_at xs (home_place size f.number) None (at_home _ _ (file_home k s r all_idle l e).1)
 
   pub leaves_files : (shell : Contents) (left : Contents) → IsShellOf (state_of k.plain.value) (state_of shell)
       → AreBack (state_of shell) (file_at size words xs) (state_of left) → HasSameFiles end (state_of left)
@@ -139,12 +136,12 @@ module _ (t : CountedTable) {id : ℕ} {v : View} {words : List ℕ} (xs : List 
   pub home_at_end : AreAtHome t.size words (t.numbers * t.chains) xs
   home_at_end = rw (t.same_size, its_numbers t) (are_at_home k final.0 final.1.0 all_idle words xs final.2 final.3 final.4)
 
-  pub known_at_end : (slot n : ℕ) → slot < t.size → number_at t.size words slot ≡ Some n → HasNode t.size 65472 n
-  known_at_end slot n l is = let size = t.same_size in
-      has_node t n (known k final.0 final.1.0 all_idle words xs final.2 final.3 final.4 slot n (omega arith) is)
+  pub known_at_end : {slot n : ℕ} → slot < t.size → number_at t.size words slot ≡ Some n → HasNode t.size 65472 n
+  known_at_end {slot} {n} l is = let size = t.same_size in
+      has_node t (known k final.0 final.1.0 all_idle words xs final.2 final.3 final.4 slot n (omega arith) is)
 
-  pub leaves_at_end : (left : Contents) → AreBack (state_of t.shell) (file_at t.size words xs) (state_of left) → Leaves k id v left
-  leaves_at_end left back = record {
+  pub leaves_at_end : {left : Contents} → AreBack (state_of t.shell) (file_at t.size words xs) (state_of left) → Leaves k id v left
+  leaves_at_end {left} back = record {
     last = final.0;
     rule = final.1.0;
     view = final.1.1;

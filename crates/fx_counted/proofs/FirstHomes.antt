@@ -14,8 +14,8 @@ prepared_or_not old new numbers (Ok x) is = prepared_again old new numbers is
 prepared_or_not old new numbers (Err e) is = tt
 
 -- what is left of a table whose files were taken out
-pub all_taken : (st : State) (same now : State) → HasSameFiles st same → IsSettled same → now ≡ record same { at = λ _. None } → IsShellOf st now
-all_taken st same now files settled is = rw is assumption
+pub all_taken : {st : State} {same now : State} → HasSameFiles st same → IsSettled same → now ≡ record same { at = λ _. None } → IsShellOf st now
+all_taken files settled is = rw is assumption
 
 length_in_order : (at : ℕ → Option File) (n : ℕ) → length (slots_in_order at n) ≡ n
 length_in_order at = length-map-range_with_len (λ slot. identity_of (at slot)) 0
@@ -30,9 +30,9 @@ pub record AreHomesUpTo (st : State) (homes : List (Option Closed)) : Type 0 whe
   pub others : (place : ℕ) → st.size ≤ place → place < length homes → get_elem? homes place ≡ some None
 
 -- the files that were taken out, one after another
-pub files_taken : (st same : State) (before homes : List (Option Closed)) → HasSameFiles st same → before ≡ []
+pub files_taken : {st same : State} {before homes : List (Option Closed)} → HasSameFiles st same → before ≡ []
     → homes ≡ before ++ slots_in_order same.at same.size → AreHomesUpTo st homes
-files_taken st same before homes files none with_files =
+files_taken {same} {homes} files none with_files =
     let are : homes ≡ slots_in_order same.at same.size =
     with_files ∙ ap (λ (xs : List (Option Closed)). xs ++ slots_in_order same.at same.size) none in
     let size = files.size in
@@ -43,8 +43,8 @@ files_taken st same before homes files none with_files =
       others = λ place g l. absurd (omega (arith, g, l, count));
     }
 
-pub none_behind : (st : State) (homes new : List (Option Closed)) → new ≡ homes ++ None ∷ [] → AreHomesUpTo st homes → AreHomesUpTo st new
-none_behind st homes new pushed h = record {
+pub none_behind : {st : State} {homes new : List (Option Closed)} → new ≡ homes ++ None ∷ [] → AreHomesUpTo st homes → AreHomesUpTo st new
+none_behind {st} {homes} pushed h = record {
   files = λ s l. ap (λ (xs : List (Option Closed)). get_elem? xs s) pushed ∙ at_longer homes (None ∷ []) s (identity_of (st.at s)) (h.files s l);
   others = λ place g l. ap (λ (xs : List (Option Closed)). get_elem? xs place) pushed ∙ dite (ℕ_discrete place (length homes))
       (λ same. at_last homes None place (sym same))

@@ -30,23 +30,23 @@ KeepsHeld id views phase phase' = (j : ℕ) (u : View) (f : File) → j ≢ id �
     → u.work ≡ Between (Holding f) → file_in (phase' f.number) ≡ file_in (phase f.number)
 
 module _ (id p j : ℕ) (other : j ≢ id) (phase phase' : ℕ → Phase) (stays : Stays id p phase phase') where
-  same_for : (n : ℕ) (ph : Phase) → phase n ≡ ph → owner ph ≡ j + 1 → phase' n ≡ ph
-  same_for n ph is own = stays.owned n (λ z. let e : owner (phase n) ≡ owner ph = ap owner is in
+  same_for : {n : ℕ} {ph : Phase} → phase n ≡ ph → owner ph ≡ j + 1 → phase' n ≡ ph
+  same_for {n} {ph} is own = stays.owned n (λ z. let e : owner (phase n) ≡ owner ph = ap owner is in
       omega arith) (λ z. other (let e : owner (phase n) ≡ owner ph = ap owner is in omega arith)) ∙ is
 
   work_stays : (k : Start) (d : Work) → ((f : File) → d ≡ Between (Holding f)
       → file_in (phase' f.number) ≡ file_in (phase f.number)) → WorkAgrees k phase j d → WorkAgrees k phase' j d
   work_stays k (Between Idle) keeps o = tt
-  work_stays k (Placing n) keeps o = (o.0, same_for n (placed j) o.1 refl)
+  work_stays k (Placing n) keeps o = (o.0, same_for o.1 refl)
   work_stays k (Between (Holding f)) keeps o = (o.0, keeps f refl ∙ o.1)
-  work_stays k (Between (Retiring f t)) keeps o = (o.0, same_for f.number (leaving j t f.identity) o.1 refl)
-  work_stays k (Emptying n) keeps o = (o.0, same_for n (emptied j) o.1 refl)
+  work_stays k (Between (Retiring f t)) keeps o = (o.0, same_for o.1 refl)
+  work_stays k (Emptying n) keeps o = (o.0, same_for o.1 refl)
 
   -- another view, after events of a pass that it doesn't have
-  pub view_stays : (k : Start) (h h' : List Event) → Grows p h h' → (u : View) → ((y : Log) → Contains u.logs y → y.number ≢ p)
+  pub view_stays : {k : Start} {h h' : List Event} → Grows p h h' → {u : View} → ((y : Log) → Contains u.logs y → y.number ≢ p)
       → ((f : File) → u.work ≡ Between (Holding f) → file_in (phase' f.number) ≡ file_in (phase f.number))
       → ViewAgrees k h phase j u → ViewAgrees k h' phase' j u
-  view_stays k h h' g u not_its keeps ok = record {
+  view_stays {k} g {u} not_its keeps ok = record {
     logs = λ y e. let o = ok.logs y e in let n : p ≢ y.number = λ same. not_its y e (sym same) in
         let spares : (m : ℕ) → next_in k y + placing u.work ≤ m → m < end_in k y → phase' m ≡ spare y.number =
         λ m a b. stays.spared m y.number (o.spares m a b) (λ same. n (sym same)) in
@@ -61,16 +61,16 @@ pub of_one : (f : Log → ℕ) {l : List Log} {x : Log} → l ≡ x ∷ [] → s
 of_one f {l} {x} one = let e : sum_by f l ≡ 0 + f x = ap (sum_by f) one in omega arith
 
 -- a total over all passes, where the one pass of a seat counts for as much as before
-pub total_same : (f : Log → ℕ) (views : List View) (id : ℕ) (v w : View) {x y : Log} → get_elem? views id ≡ some v → v.logs ≡ x ∷ [] → w.logs ≡ y ∷ []
+pub total_same : (f : Log → ℕ) (views : List View) (id : ℕ) {v : View} (w : View) {x y : Log} → get_elem? views id ≡ some v → v.logs ≡ x ∷ [] → w.logs ≡ y ∷ []
     → f y ≡ f x → sum_by (λ (u : View). sum_by f u.logs) (set views id w) ≡ sum_by (λ (u : View). sum_by f u.logs) views
-total_same f views id v w here one one' same = let t = sum_set (λ (u : View). sum_by f u.logs) views id v w here in
+total_same f views id {v} w here one one' same = let t = sum_set (λ (u : View). sum_by f u.logs) views id v w here in
     let a = of_one f one in let b = of_one f one' in omega arith
 
 -- a pass that one view has is in no other one
-pub not_there : (k : Start) (st : Shared) → Agrees k st → (id j : ℕ) (v u : View) (x : Log)
+pub not_there : {k : Start} {st : Shared} → Agrees k st → {id j : ℕ} {v u : View} {x : Log}
     → get_elem? st.views id ≡ some v → v.logs ≡ x ∷ [] → j ≢ id → get_elem? st.views j ≡ some u
     → (y : Log) → Contains u.logs y → y.number ≢ x.number
-not_there k st r id j v u x here one other there y at same =
+not_there {k} {st} r {id} {j} {v} {u} {x} here one other there y at same =
     let t = sum_two (logs_of x.number) st.views j id u v other there here in
     let a = r.passes x.number in
     let c = of_one (λ z. one_if (eqb z.number x.number)) one in
@@ -80,15 +80,15 @@ not_there k st r id j v u x here one other there y at same =
     omega (arith, once_is k.passes x.number)
 
 -- each view after a step of the view id
-pub views_after : (P : ℕ → View → Type 0) (views : List View) (id : ℕ) (w : View) → P id w
+pub views_after : (P : ℕ → View → Type 0) (views : List View) {id : ℕ} {w : View} → P id w
     → ((j : ℕ) (u : View) → j ≢ id → get_elem? views j ≡ some u → P j u)
     → (j : ℕ) (u : View) → get_elem? (set views id w) j ≡ some u → P j u
-views_after P views id w mine others j u e = ⊎_elim (λ (t : (j ≡ id) × (w ≡ u)). subst (λ (z : ℕ × View). P z.0 z.1) (λ i. (sym t.0 i, t.1 i)) mine)
+views_after P views {id} {w} mine others j u e = ⊎_elim (λ (t : (j ≡ id) × (w ≡ u)). subst (λ (z : ℕ × View). P z.0 z.1) (λ i. (sym t.0 i, t.1 i)) mine)
     (λ (t : (j ≢ id) × (get_elem? views j ≡ some u)). others j u t.0 t.1) (at_set views id j w u e)
 
 -- what is read where an element stands
-pub read_at : {A : Type 0} (xs : List A) (i : ℕ) (v d : A) → get_elem? xs i ≡ some v → slice_index_or xs i d ≡ v
-read_at xs i v d e = let at = stands_at xs i v e in get_or_default xs i d v at.0 ∙ at.1
+pub read_at : {A : Type 0} (xs : List A) (i : ℕ) {v : A} (d : A) → get_elem? xs i ≡ some v → slice_index_or xs i d ≡ v
+read_at xs i {v} d e = let at = stands_at xs i v e in get_or_default xs i d v at.0 ∙ at.1
 
 pub does_now : (views : List View) (id : ℕ) (v w : View) (d : Work) → get_elem? views id ≡ some v → w.work ≡ d → Does (set views id w) id d
 does_now views id v w d here is = (w, set_here views id w (stands_at views id v here).0, is)
@@ -103,18 +103,18 @@ owner_map views views' n f (emptied j) o = f j (Emptying n) refl o
 owner_map views views' n f _ o = tt
 
 module _ (views : List View) (id : ℕ) (v w : View) (here : get_elem? views id ≡ some v) where
-  does_else : (j : ℕ) (d : Work) → j ≢ id → Does views j d → Does (set views id w) j d
-  does_else j d other o = (o.0, set_else views id j w other ∙ o.1, o.2)
+  does_else : {j : ℕ} {d : Work} → j ≢ id → Does views j d → Does (set views id w) j d
+  does_else {j} other o = (o.0, set_else views id j w other ∙ o.1, o.2)
 
-  work_of : (j : ℕ) (d : Work) → j ≡ id → Does views j d → v.work ≡ d
-  work_of j d same o = ap (λ (u : View). u.work) (some-injective v o.0 (sym here ∙ (ap (get_elem? views) (sym same) ∙ o.1))) ∙ o.2
+  work_of : {j : ℕ} {d : Work} → j ≡ id → Does views j d → v.work ≡ d
+  work_of same o = ap (λ (u : View). u.work) (some-injective v o.0 (sym here ∙ (ap (get_elem? views) (sym same) ∙ o.1))) ∙ o.2
 
   -- a number that the pass was not busy with
   pub owner_stays : (n : ℕ) → busy v.work ≢ n + 1 → (ph : Phase) → OwnerAgrees views n ph → OwnerAgrees (set views id w) n ph
-  owner_stays n free = owner_map views (set views id w) n (λ j d is o. does_else j d (λ same. free (ap busy (work_of j d same o) ∙ is)) o)
+  owner_stays n free = owner_map views (set views id w) n (λ j d is o. does_else (λ same. free (ap busy (work_of same o) ∙ is)) o)
 
   -- any number, after a step that leaves the pass at its work
   pub owner_same : w.work ≡ v.work → (n : ℕ) (ph : Phase) → OwnerAgrees views n ph → OwnerAgrees (set views id w) n ph
   owner_same same n = owner_map views (set views id w) n (λ j d is o. dite (ℕ_discrete j id)
-      (λ (e : j ≡ id). subst (λ (i : ℕ). Does (set views id w) i d) (sym e) (does_now views id v w d here (same ∙ work_of j d e o)))
-      (λ (e : j ≢ id). does_else j d e o))
+      (λ (e : j ≡ id). subst (λ (i : ℕ). Does (set views id w) i d) (sym e) (does_now views id v w d here (same ∙ work_of e o)))
+      (λ (e : j ≢ id). does_else e o))

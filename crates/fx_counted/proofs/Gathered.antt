@@ -48,8 +48,8 @@ module _ (id : TableId) (k : Start) where
     drawn_by : (c : ℕ) → sum_by (λ p. times c (log_of p).drawn) ps ≡ once r.draws.given c
     drawn_by c = sym (sum_of_all (λ x. times c x.drawn)) ∙ drawn k s r seat v at all_logs c
 
-    author : (e : Event) → Contains r.history e → (p : CountedPass) × Contains ps p × (e.pass ≡ (log_of p).number)
-    author e h =
+    author : {e : Event} → Contains r.history e → (p : CountedPass) × Contains ps p × (e.pass ≡ (log_of p).number)
+    author {e} h =
         let known : once k.passes e.pass ≢ 0 = λ none.
         contains_none e (subst (λ (l : List Event). Contains l e) (r.authors e.pass none) (in_part e.pass r.history e h refl)) in
         let a = sum_of_all (λ x. one_if (eqb x.number e.pass)) in
@@ -85,7 +85,7 @@ module _ (id : TableId) (k : Start) where
       settled = settled_end k s r all_idle;
       seen = λ w h. let p = contains_map view_of ps w h in rw p.2 (known p.0 p.1).seen;
       own = λ w h. let p = contains_map view_of ps w h in rw p.2 (known p.0 p.1).own;
-      authors = λ e h. let p = author e h in (view_of p.0, contains_mapped view_of ps p.0 p.1, p.2);
+      authors = λ e h. let p = author h in (view_of p.0, contains_mapped view_of ps p.0 p.1, p.2);
       chains_inside = λ w h c d. let p = contains_map view_of ps w h in inside c p.0 p.1 (subst (λ (z : PassView). Contains z.drawn c) p.2 d);
       drawn_once = λ c. let m = sum_map (times_drawn c) view_of ps in omega (arith, m, drawn_by c, once_is r.draws.given c);
       all_drawn = all_drawn some_passes;

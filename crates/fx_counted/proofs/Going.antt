@@ -93,9 +93,9 @@ module _ {id : TableId} {k : Start} {p : CountedPass} (q : CountedPass) (fits : 
   }
 
 -- what a pass does between two calls
-pub work_between : (w : Work) (d : Doing) → IsBetweenCalls w → doing_in w ≡ d → w ≡ Between d
-work_between (Between _) d rests is = ap (λ (z : Doing). Between z) is
-work_between _ d rests is = absurd rests
+pub work_between : (w : Work) {d : Doing} → IsBetweenCalls w → doing_in w ≡ d → w ≡ Between d
+work_between (Between _) rests is = ap (λ (z : Doing). Between z) is
+work_between _ rests is = absurd rests
 
 -- the pass of a seat
 pub its_pass : {id : TableId} {k : Start} {p : CountedPass} (fits : IsPassOf id k p) → HasPass k p.seat.me fits.log

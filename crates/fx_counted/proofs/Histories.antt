@@ -6,22 +6,22 @@ use Rattle.fx_plain.specs.Step.{Allows}
 use Rattle.fx_plain.proofs.Leading.{same_shape as shape_of_state}
 use Rattle.fx_plain.proofs.Cells.{changed_here, changed_else, by_equality}
 
-pub part_mine : (p : ℕ) (e : Event) (h : List Event) → e.pass ≡ p → part_of_pass p (e ∷ h) ≡ e ∷ part_of_pass p h
-part_mine p e h is = rw (eq-eqb e.pass p is) refl
+pub part_mine : {p : ℕ} {e : Event} (h : List Event) → e.pass ≡ p → part_of_pass p (e ∷ h) ≡ e ∷ part_of_pass p h
+part_mine {p} {e} h is = rw (eq-eqb e.pass p is) refl
 
-pub part_other : (p : ℕ) (e : Event) (h : List Event) → e.pass ≢ p → part_of_pass p (e ∷ h) ≡ part_of_pass p h
-part_other p e h is = rw (ne_eqb e.pass p is) refl
+pub part_other : {p : ℕ} (e : Event) (h : List Event) → e.pass ≢ p → part_of_pass p (e ∷ h) ≡ part_of_pass p h
+part_other {p} e h is = rw (ne_eqb e.pass p is) refl
 
-pub held_mine : (p : ℕ) (e : Event) (h : List Event) → e.pass ≡ p → held_by (e ∷ h) p ≡ held_after (held_by h p) e.action
-held_mine p e h is = rw (eq-eqb e.pass p is) refl
+pub held_mine : {p : ℕ} (e : Event) (h : List Event) → e.pass ≡ p → held_by (e ∷ h) p ≡ held_after (held_by h p) e.action
+held_mine {p} e h is = rw (eq-eqb e.pass p is) refl
 
-pub held_other : (p : ℕ) (e : Event) (h : List Event) → e.pass ≢ p → held_by (e ∷ h) p ≡ held_by h p
-held_other p e h is = rw (ne_eqb e.pass p is) refl
+pub held_other : {p : ℕ} (e : Event) (h : List Event) → e.pass ≢ p → held_by (e ∷ h) p ≡ held_by h p
+held_other {p} e h is = rw (ne_eqb e.pass p is) refl
 
 -- what holds of the value that is changed, and of each other one as it was, holds of each
-pub each_changed : {Y : Type 0} (P : ℕ → Y → Type 0) (f : ℕ → Y) (k : ℕ) (v : Y) (n : ℕ) → (n ≡ k → P n v) → (n ≢ k → P n (f n))
+pub each_changed : {Y : Type 0} (P : ℕ → Y → Type 0) (f : ℕ → Y) {k : ℕ} {v : Y} {n : ℕ} → (n ≡ k → P n v) → (n ≢ k → P n (f n))
     → P n (changed_at f k v n)
-each_changed P f k v n here else = by_equality n k (λ b. P n (cond b v (f n))) here else
+each_changed P f {k} {v} {n} here else = by_equality n k (λ b. P n (cond b v (f n))) here else
 
 -- the history grew by events of p
 pub record Grows (p : ℕ) (h h' : List Event) : Type 0 where
@@ -32,35 +32,35 @@ pub record Grows (p : ℕ) (h h' : List Event) : Type 0 where
 pub grows_none : (p : ℕ) (h : List Event) → Grows p h h
 grows_none p h = record { seen = λ f s. s; parts = λ q n. refl; helds = λ q n. refl }
 
-pub grows_more : (p : ℕ) (h h' : List Event) (e : Event) → e.pass ≡ p → Grows p h h' → Grows p h (e ∷ h')
-grows_more p h h' e by g = record {
+pub grows_more : {p : ℕ} {h h' : List Event} {e : Event} → e.pass ≡ p → Grows p h h' → Grows p h (e ∷ h')
+grows_more {h'} {e} by g = record {
   seen = λ f s. let t = g.seen f s in (e ∷ t.0, ap (λ (l : List Event). e ∷ l) t.1);
-  parts = λ q n. part_other q e h' (λ is. n (sym by ∙ is)) ∙ g.parts q n;
-  helds = λ q n. held_other q e h' (λ is. n (sym by ∙ is)) ∙ g.helds q n;
+  parts = λ q n. part_other e h' (λ is. n (sym by ∙ is)) ∙ g.parts q n;
+  helds = λ q n. held_other e h' (λ is. n (sym by ∙ is)) ∙ g.helds q n;
 }
 
 pub grows_one : (p : ℕ) (h : List Event) (e : Event) → e.pass ≡ p → Grows p h (e ∷ h)
-grows_one p h e by = grows_more p h h e by (grows_none p h)
+grows_one p h e by = grows_more by (grows_none p h)
 
 abbrev pub IsHistory : Start → List Event → Type 0
 IsHistory k h = IsLegal (start_of (opening_of k)) h (state_after_all k h)
 
-pub legal_more : (k : Start) (h : List Event) (e : Event) → IsHistory k h → Allows (state_after_all k h) e.action
+pub legal_more : (k : Start) {h : List Event} {e : Event} → IsHistory k h → Allows (state_after_all k h) e.action
     → ReleasesItsOwn (held_by h e.pass) e.action → IsHistory k (e ∷ h)
-legal_more k h e legal may own = record { leads = ((legal.leads.0, may), refl); releases = (legal.releases, own) }
+legal_more k legal may own = record { leads = ((legal.leads.0, may), refl); releases = (legal.releases, own) }
 
 -- no history changes the size or the range
 pub same_shape : (k : Start) (h : List Event) → ((state_after_all k h).size ≡ slots_of k) × ((state_after_all k h).range ≡ range_of (opening_of k))
 same_shape k h = shape_of_state (start_of (opening_of k)) (map action_of h)
 
-looks_step : (f : ℕ → ℕ) (all : ℕ) → ((n : ℕ) → f n ≤ all) → (a : Action) (n : ℕ) → looks_after f a n ≤ all + look_in a
-looks_step f all few (Look slot None) n = let m = few n in omega arith
-looks_step f all few (Look slot (Some g)) n = dite (ℕ_discrete n g.number)
+looks_step : {f : ℕ → ℕ} {all : ℕ} → ((n : ℕ) → f n ≤ all) → (a : Action) (n : ℕ) → looks_after f a n ≤ all + look_in a
+looks_step few (Look slot None) n = let m = few n in omega arith
+looks_step {f} few (Look slot (Some g)) n = dite (ℕ_discrete n g.number)
     (λ (e : n ≡ g.number). let m = few g.number in let is = changed_here f g.number (f g.number + 1) n e in omega arith)
     (λ e. let m = few n in let is = changed_else f g.number (f g.number + 1) n e in omega arith)
-looks_step f all few _ n = let m = few n in omega arith
+looks_step few _ n = let m = few n in omega arith
 
 -- the looks of one file are at most all looks
 pub looks_few : (h : List Event) (n : ℕ) → looks h n ≤ all_looks h
 looks_few [] n = omega arith
-looks_few (e ∷ h) n = looks_step (looks h) (all_looks h) (looks_few h) e.action n
+looks_few (e ∷ h) n = looks_step (looks_few h) e.action n

@@ -37,11 +37,11 @@ module _ (size : ℕ) (words : List ℕ) where
     pub others : (place : ℕ) (file : Closed) → get_elem? xs place ≡ some (Some file)
         → (slot : ℕ) × (n : ℕ) × (slot < size) × (number_at slot ≡ Some n) × (home_place size n ≡ place)
 
-  pub here_at : (xs : List (Option Closed)) (slot : ℕ) → slot < size → file_at xs slot ≡ file_of xs (number_at slot)
-  here_at xs slot l = ap (λ (b : Bool). cond b (file_of xs (number_at slot)) None) (lt-ltb slot size l)
+  pub here_at : (xs : List (Option Closed)) {slot : ℕ} → slot < size → file_at xs slot ≡ file_of xs (number_at slot)
+  here_at xs {slot} l = ap (λ (b : Bool). cond b (file_of xs (number_at slot)) None) (lt-ltb slot size l)
 
-  pub none_past : (xs : List (Option Closed)) (slot : ℕ) → size ≤ slot → file_at xs slot ≡ None
-  none_past xs slot g = ap (λ (b : Bool). cond b (file_of xs (number_at slot)) None) (le-ltb slot size g)
+  pub none_past : (xs : List (Option Closed)) {slot : ℕ} → size ≤ slot → file_at xs slot ≡ None
+  none_past xs {slot} g = ap (λ (b : Bool). cond b (file_of xs (number_at slot)) None) (le-ltb slot size g)
 
   pub same_length : (done : ℕ) (xs : List (Option Closed)) → length (emptied done xs) ≡ length xs
   same_length zero xs = refl
@@ -65,10 +65,10 @@ module _ (size : ℕ) (words : List ℕ) where
 
   module _ (numbers : ℕ) (xs : List (Option Closed)) (home : AreAtHome numbers xs) where
     -- what lies in the place of a later slot's number is untouched
-    pub untouched : (done slot n : ℕ) → done ≤ slot → slot < size → number_at slot ≡ Some n
+    pub untouched : (done : ℕ) {slot n : ℕ} → done ≤ slot → slot < size → number_at slot ≡ Some n
         → get_elem? (emptied done xs) (home_place size n) ≡ get_elem? xs (home_place size n)
-    untouched zero slot n l inside is = refl
-    untouched (suc s) slot n l inside is = go (number_at s) refl ∙ untouched s slot n (omega arith) inside is
+    untouched zero l inside is = refl
+    untouched (suc s) {slot} {n} l inside is = go (number_at s) refl ∙ untouched s (omega arith) inside is
       where
         go : (m : Option ℕ) → number_at s ≡ m
             → get_elem? (without m (emptied s xs)) (home_place size n) ≡ get_elem? (emptied s xs) (home_place size n)
@@ -85,8 +85,8 @@ module _ (size : ℕ) (words : List ℕ) where
         (let a = same_length s xs in let b = home.inside slot n (omega arith) is in omega arith)))
         (λ ne. still_none (number_at s) (emptied s xs) (home_place size n) (gone s slot n (omega (arith, ne)) (omega arith) is))
 
-    pub all_gone : (place : ℕ) → place < length xs → get_elem? (emptied size xs) place ≡ some None
-    all_gone place l = go (get_or xs place None) (at_index xs place (get_or xs place None) l (get_or_default xs place None (get_or xs place None) l))
+    pub all_gone : {place : ℕ} → place < length xs → get_elem? (emptied size xs) place ≡ some None
+    all_gone {place} l = go (get_or xs place None) (at_index xs place (get_or xs place None) l (get_or_default xs place None (get_or xs place None) l))
       where
         go : (x : Option Closed) → get_elem? xs place ≡ some x → get_elem? (emptied size xs) place ≡ some None
         go None e = none_stays size xs place e

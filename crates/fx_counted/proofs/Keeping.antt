@@ -33,18 +33,18 @@ now v y d c = record v { logs = y ∷ []; work = d; change = c }
 abbrev pub logged : Log → List Event → ℕ → ℕ → Log
 logged x h left looks_left = record x { front = h; numbers_left = left; looks_left = looks_left; steps = x.steps + 1 }
 
-pub shape_kept : (k : Start) (s s' : Shared) → length s'.words ≡ length s.words → length s'.homes ≡ length s.homes → HasShape k s → HasShape k s'
-shape_kept k s s' words homes a = assumption (words ∙ a.words, homes ∙ a.homes)
+pub shape_kept : {k : Start} {s s' : Shared} → length s'.words ≡ length s.words → length s'.homes ≡ length s.homes → HasShape k s → HasShape k s'
+shape_kept words homes a = assumption (words ∙ a.words, homes ∙ a.homes)
 
 module _ (k : Start) (s : Shared) (r : Agrees k s) where
   -- a number in its phase
-  pub in_phase : (n : ℕ) → IsNumber k n → (ph : Phase) → r.phase n ≡ ph → NodeIn k s.words s.homes r.history n ph
-  in_phase n its ph is = subst (NodeIn k s.words s.homes r.history n) is (r.each_node n its)
+  pub in_phase : {n : ℕ} → IsNumber k n → {ph : Phase} → r.phase n ≡ ph → NodeIn k s.words s.homes r.history n ph
+  in_phase {n} its is = subst (NodeIn k s.words s.homes r.history n) is (r.each_node n its)
 
   -- the file that is at a slot
-  pub seat_in : (slot : ℕ) → slot < slots_of k → (f : File) → (state_after_all k r.history).at slot ≡ Some f
+  pub seat_in : {slot : ℕ} → slot < slots_of k → {f : File} → (state_after_all k r.history).at slot ≡ Some f
       → IsSeated k (looks r.history) r.phase slot (word_at s.words (slot_place slot)) (Some f)
-  seat_in slot l f is = subst (IsSeated k (looks r.history) r.phase slot (word_at s.words (slot_place slot))) is (r.each_slot slot l).seat
+  seat_in {slot} l is = subst (IsSeated k (looks r.history) r.phase slot (word_at s.words (slot_place slot))) is (r.each_slot slot l).seat
 
 -- a seat with one pass, which makes the next step
 pub record Turn : Type 0 where
@@ -67,13 +67,13 @@ Made turn carried i f told = (w : View) × (a : Act (Option Closed)) × Valid tu
     × told (word_at turn.st.words i) (w, carried_after carried a)
 
 -- a law whose premises are those of the seat's own beginning and of the word's own place
-pub by_turn : (k : Start) (slots id i : ℕ) (m : Sat) (x : Log) (P : Start → Type 0) (place : Start → ℕ) (f : ℕ → ℕ) (told : ℕ → ℕ → Sat → Type 0)
+pub by_turn : {k : Start} (slots : ℕ) {id i : ℕ} {m : Sat} {x : Log} (P : Start → Type 0) (place : Start → ℕ) (f : ℕ → ℕ) (told : ℕ → ℕ → Sat → Type 0)
     (has : HasPass k m x) → P k → i ≡ place k
     → ((st : Shared) (r : Agrees m.0.start st) (here : get_elem? st.views id ≡ some m.0) → P m.0.start
     → word_at st.words (place m.0.start) < 18446744073709551616
     → Made (turn_of m x has.1 id st r here) m.1 (place m.0.start) f (told (place m.0.start)))
     → Allows (Agrees k) slots id m i f (told i)
-by_turn k slots id i m x P place f told has its at does = subst (λ (k : Start). P k → i ≡ place k → Allows (Agrees k) slots id m i f (told i)) has.0
+by_turn {k} slots {id} {i} {m} P place f told has its at does = subst (λ (k : Start). P k → i ≡ place k → Allows (Agrees k) slots id m i f (told i)) has.0
     (λ its at. subst (λ (i : ℕ). Allows (Agrees m.0.start) slots id m i f (told i)) (sym at) (λ st r deep here fits. does st r here its fits)) its at
 
 module _ (turn : Turn) where
@@ -90,11 +90,11 @@ module _ (turn : Turn) where
   went h' d c = now v (logged x h' x.numbers_left x.looks_left) d c
 
   -- the pass has seen the whole history
-  pub log_now : (h' : List Event) (phase' : ℕ → Phase) (left looks_left : ℕ) (d : Work) → left ≤ x.numbers_left → held_by h' x.number ≡ held_in d
+  pub log_now : {h' : List Event} {phase' : ℕ → Phase} {left looks_left : ℕ} {d : Work} → left ≤ x.numbers_left → held_by h' x.number ≡ held_in d
       → PlacesNext v.start (logged x h' left looks_left) d
       → ((n : ℕ) → next_in v.start (logged x h' left looks_left) + placing d ≤ n → n < end_in v.start x → phase' n ≡ spare x.number)
       → LogAgrees v.start h' phase' d (logged x h' left looks_left)
-  log_now h' phase' left looks_left d fewer held next spares = let o = its_log in let a = o.few_left in let b = o.left_inside in
+  log_now {h'} {left} fewer held next spares = let o = its_log in let a = o.few_left in let b = o.left_inside in
       let seen : IsSeenBy h' h' = ([], refl) in let few_left : left ≤ 64 = omega arith in
       let left_inside : left ≤ v.start.numbers * chain_in x = omega arith in
       assumption (o, seen, few_left, left_inside)
@@ -133,7 +133,7 @@ module _ (turn : Turn) where
 
     pub step_kept : Step → Agrees v.start record { words = words'; homes = homes'; views = views' }
     step_kept s = record {
-      shape = shape_kept v.start st _ s.words s.homes r.shape;
+      shape = shape_kept s.words s.homes r.shape;
       history = h';
       phase = phase';
       legal = s.legal;
@@ -141,24 +141,23 @@ module _ (turn : Turn) where
       each_node = s.nodes;
       each_owner = s.owners;
       no_other = s.no_other;
-      each_view = views_after (ViewAgrees v.start h' phase') st.views id (now v y d c) (its_view s)
-          (λ j u other there. view_stays id x.number j other r.phase phase' s.stays v.start r.history h' s.grows u
-          (not_there v.start st r id j v u x here one other there)
+      each_view = views_after (ViewAgrees v.start h' phase') st.views (its_view s)
+          (λ j u other there. view_stays id x.number j other r.phase phase' s.stays s.grows (not_there r here one other there)
           (λ f is. s.keeps j u f other there is) (r.each_view j u there));
       holds = λ n. let t = sum_set (held_of n) st.views id v (now v y d c) here in let a = r.holds n in let b = s.holds n in omega arith;
       look_ups = let t = sum_set looks_of st.views id v (now v y d c) here in let a = r.look_ups in
           let b = s.look_ups in let e = of_one (λ z. z.looks_left) one in omega arith;
-      passes = λ p. total_same (λ z. one_if (eqb z.number p)) st.views id v (now v y d c) here one refl (ap (λ (q : ℕ). one_if (eqb q p)) s.number)
+      passes = λ p. total_same (λ z. one_if (eqb z.number p)) st.views id (now v y d c) here one refl (ap (λ (q : ℕ). one_if (eqb q p)) s.number)
           ∙ r.passes p;
       whole = let t = sum_set lengths st.views id v (now v y d c) here in let e = ap (length {A = Log}) one in let a = r.whole in omega arith;
       authors = λ p none. let t = r.passes p in let u = sum_at (logs_of p) st.views id v here in
-          s.grows.parts p (λ same. let a = its_one p same in omega arith) ∙ r.authors p none;
+          s.grows.parts p (λ same. let a = its_one same in omega arith) ∙ r.authors p none;
       control = s.control;
       draws = s.draws;
     }
       where
-        its_one : (p : ℕ) → x.number ≡ p → logs_of p v ≡ 1
-        its_one p same = of_one (λ z. one_if (eqb z.number p)) one ∙ rw (eq-eqb x.number p same) refl
+        its_one : {p : ℕ} → x.number ≡ p → logs_of p v ≡ 1
+        its_one {p} same = of_one (λ z. one_if (eqb z.number p)) one ∙ rw (eq-eqb x.number p same) refl
 
   -- what the step tells
   pub tells : (carried homes : List (ℕ × Option Closed)) (h' : List Event) (left looks_left : ℕ) (d : Work)
@@ -180,12 +179,12 @@ module _ (turn : Turn) where
   }
 
   -- a step that takes no action, and one that takes this one
-  pub tells_none : (carried homes : List (ℕ × Option Closed)) (d : Work) (c : Change) → IsInside v.start d
+  pub tells_none : (carried homes : List (ℕ × Option Closed)) {d : Work} (c : Change) → IsInside v.start d
       → Stepped (v, carried) [] no_use d c (went r.history d c, homes)
-  tells_none carried homes d c = tells carried homes r.history x.numbers_left x.looks_left d c [] no_use (grows_none x.number r.history) r.legal refl
+  tells_none carried homes {d} c = tells carried homes r.history x.numbers_left x.looks_left d c [] no_use (grows_none x.number r.history) r.legal refl
       (omega arith) (omega arith)
 
-  pub tells_one : (a : Action) → IsHistory v.start (event_of (shown x v.work) a ∷ r.history) → (carried homes : List (ℕ × Option Closed)) (d : Work)
+  pub tells_one : {a : Action} → IsHistory v.start (event_of (shown x v.work) a ∷ r.history) → (carried homes : List (ℕ × Option Closed)) {d : Work}
       (c : Change) → IsInside v.start d → Stepped (v, carried) ([] ▷ a) no_use d c (went (event_of (shown x v.work) a ∷ r.history) d c, homes)
-  tells_one a legal carried homes d c = tells carried homes (event_of (shown x v.work) a ∷ r.history) x.numbers_left x.looks_left d c ([] ▷ a) no_use
-      (grows_one x.number r.history _ refl) legal (part_mine x.number _ r.history refl) (omega arith) (omega arith)
+  tells_one {a} legal carried homes {d} c = tells carried homes (event_of (shown x v.work) a ∷ r.history) x.numbers_left x.looks_left d c ([] ▷ a) no_use
+      (grows_one x.number r.history _ refl) legal (part_mine r.history refl) (omega arith) (omega arith)

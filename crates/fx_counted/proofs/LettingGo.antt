@@ -9,15 +9,15 @@ use Rattle.fx_counted.proofs.Steps.{each_changed, looks_few, Homes, MayTurn, Tur
 use Rattle.std.proofs.Common.{length-set}
 use Rattle.fx_counted.proofs.Births.{word_now, home_now, roomy, else_place}
 
-pub sub_wraps : (n k : ℕ) → k ≤ n → n < 18446744073709551616 → 0 < k → (n + (2 ^ 64 - k)) % 2 ^ 64 ≡ n - k
-sub_wraps n k le fits more = omega arith
+pub sub_wraps : {n k : ℕ} → k ≤ n → n < 18446744073709551616 → 0 < k → (n + (2 ^ 64 - k)) % 2 ^ 64 ≡ n - k
+sub_wraps le fits more = omega arith
 
 -- the looks of a file are few
 pub few_looks : (turn : Turn) (n : ℕ) → looks turn.r.history n ≤ 16777216
 few_looks turn n = let r = turn.r in let a = looks_few r.history n in let b = r.look_ups in let c = r.shape.passes in omega arith
 
-pub holding_it : (n : ℕ) (f : File) → n ≡ f.number → holding n (Between (Holding f)) ≡ 1
-holding_it n f same = rw (eq-eqb f.number n (sym same)) refl
+pub holding_it : {n : ℕ} (f : File) → n ≡ f.number → holding n (Between (Holding f)) ≡ 1
+holding_it {n} f same = rw (eq-eqb f.number n (sym same)) refl
 
 module _ (turn : Turn) (f : File) (its : IsNumber turn.v.start f.number) (h₁ : List Event) (xs : List Action) where
   open turn use {st, v, r, id, x, here, one}
@@ -46,7 +46,7 @@ module _ (turn : Turn) (f : File) (its : IsNumber turn.v.start f.number) (h₁ :
 
     spares_stay : (ph : Phase) (n : ℕ) → next_in v.start x + 0 ≤ n → n < end_in v.start x → changed_at r.phase q ph n ≡ spare x.number
     spares_stay ph n low high = let p = g.places in let its_own = (its_log turn).spares n (omega arith) high in
-        each_changed (λ m z. z ≡ spare x.number) r.phase q ph n (λ same.
+        each_changed (λ m z. z ≡ spare x.number) r.phase (λ same.
         let bad : None ≡ Some f.identity = sym (ap file_in its_own) ∙ (ap (λ (m : ℕ). file_in (r.phase m)) same ∙ g.open_file) in absurd (cc bad))
         (λ other. its_own)
 
@@ -75,10 +75,10 @@ module _ (turn : Turn) (f : File) (its : IsNumber turn.v.start f.number) (h₁ :
       homes' = set st.homes (place_of v.start q) none
 
       grows₂ : Grows x.number r.history h₂
-      grows₂ = grows_more x.number r.history h₁ _ refl g.grows
+      grows₂ = grows_more refl g.grows
 
       legal₂ : IsHistory v.start h₂
-      legal₂ = legal_more v.start h₁ _ g.legal (removed, unheld) tt
+      legal₂ = legal_more v.start g.legal (removed, unheld) tt
 
       pub comes_out : MayTurn turn q (emptied id) → (told : ℕ → Sat → Type 0)
           → told (word_now turn q) (went turn h₂ (Emptying q) v.change, (place_of v.start q, Some f.identity) ∷ carried)
@@ -97,19 +97,19 @@ module _ (turn : Turn) (f : File) (its : IsNumber turn.v.start f.number) (h₁ :
               holds = g.told.holds;
             };
             homes = length-set st.homes (place_of v.start q) none;
-            home_else = λ m has other. set_else st.homes (place_of v.start q) (place_of v.start m) none (else_place turn q its m has other);
+            home_else = λ m has other. set_else st.homes (place_of v.start q) (place_of v.start m) none (else_place turn its has other);
             may = may;
-            keeps = λ j u e other there holds is. absurd (let a = ap (holding q) holds ∙ holding_it q e (sym is) in
+            keeps = λ j u e other there holds is. absurd (let a = ap (holding q) holds ∙ holding_it e (sym is) in
                 let b = sum_two (held_of q) st.views j id u v other there here in let c = r.holds q in let d = g.holds q in omega arith);
             free = g.free;
             node = record {
               counts = none_left;
-              at_home = set_here st.homes (place_of v.start q) none (roomy turn q its);
+              at_home = set_here st.homes (place_of v.start q) none (roomy turn its);
               no_holds = unheld;
               not_removed = changed_here now.removed q None q refl;
             };
             known = does_now st.views id v (went turn h₂ (Emptying q) v.change) (Emptying q) here refl;
-            held = held_mine x.number (event_of (shown x v.work) (Close f)) h₁ refl ∙ g.held;
+            held = held_mine (event_of (shown x v.work) (Close f)) h₁ refl ∙ g.held;
             next = tt;
             spares = spares_stay (emptied id);
             work = (its, changed_here r.phase q (emptied id) q refl);
@@ -125,6 +125,6 @@ module _ (turn : Turn) (f : File) (its : IsNumber turn.v.start f.number) (h₁ :
       pub takes_out : TakesOut (v, carried) xs f (went turn h₂ (Emptying q) v.change, (place_of v.start q, Some f.identity) ∷ carried)
       takes_out = record {
         stepped = tells turn carried _ h₂ x.numbers_left x.looks_left (Emptying q) v.change (xs ▷ Close f) no_use grows₂ legal₂
-            (part_mine x.number _ h₁ refl ∙ ap (λ (l : List Event). event_of (shown x v.work) (Close f) ∷ l) g.own) (omega arith) (omega arith) its;
+            (part_mine h₁ refl ∙ ap (λ (l : List Event). event_of (shown x v.work) (Close f) ∷ l) g.own) (omega arith) (omega arith) its;
         carried = refl;
       }

@@ -12,8 +12,8 @@ use Rattle.fx_table.proofs.Ones.{bit_else}
 use Rattle.fx_counted.specs.Agrees.{IsSeated}
 use Rattle.fx_counted.proofs.SlotSteps.{slots_now, node_now, control_now, draws_now, words_now}
 
-pub add_one : (n : ℕ) → takes_in n + 1 < 4294967296 → n < 18446744073709551616 → (n + 1) % 2 ^ 64 ≡ n + 1
-add_one n low fits = omega arith
+pub add_one : {n : ℕ} → takes_in n + 1 < 4294967296 → n < 18446744073709551616 → (n + 1) % 2 ^ 64 ≡ n + 1
+add_one low fits = omega arith
 
 module _ (turn : Turn) (idle : turn.v.work ≡ Between Idle) (some_left : 0 < turn.x.looks_left) (s : ℕ) (inside : s < slots_of turn.v.start)
     (fits : word_at turn.st.words (slot_place s) < 18446744073709551616) where
@@ -35,7 +35,7 @@ module _ (turn : Turn) (idle : turn.v.work ≡ Between Idle) (some_left : 0 < tu
   room = let a = so.takes in let b = r.look_ups in let c = r.shape.passes in omega arith
 
   word_is : word' ≡ found + 1
-  word_is = add_one found room fits
+  word_is = add_one room fits
 
   names_now : (file : Option File) → Names found file → Names word' file
   names_now None o = ap name_in word_is ∙ (name_more found room ∙ o)
@@ -60,22 +60,22 @@ module _ (turn : Turn) (idle : turn.v.work ≡ Between Idle) (some_left : 0 < tu
   does_now : (file : Option File) → old.at s ≡ file → (held_in (holds_now file) ≡ file) × (placing (holds_now file) ≡ 0)
       × ((y : Log) → PlacesNext v.start y (holds_now file)) × WorkAgrees v.start r.phase id (holds_now file) × IsInside v.start (holds_now file)
   does_now None is = (refl, refl, λ y. tt, tt, tt)
-  does_now (Some f) is = let seat = seat_in v.start st r s inside f is in (refl, refl, λ y. tt, (seat.0, ap file_in seat.2), seat.0)
+  does_now (Some f) is = let seat = seat_in v.start st r inside is in (refl, refl, λ y. tt, (seat.0, ap file_in seat.2), seat.0)
 
   seat_now : (file : Option File) → old.at s ≡ file → IsSeated v.start (looks (h' file)) r.phase s word' file
   seat_now None is = tt
-  seat_now (Some f) is = let seat = seat_in v.start st r s inside f is in (
+  seat_now (Some f) is = let seat = seat_in v.start st r inside is in (
     seat.0,
     takes_now ∙ (let a = seat.1 in let b = looks_are (Some f) f.number in let e = bit_here f.number f.number refl in omega arith),
     seat.2,
   )
 
   -- a number whose file is not at the slot was not found
-  not_found : (file : Option File) → old.at s ≡ file → (n : ℕ) (ph : Phase) → r.phase n ≡ ph → ((g : Closed) → ph ≢ seated s g)
+  not_found : (file : Option File) → old.at s ≡ file → {n : ℕ} {ph : Phase} → r.phase n ≡ ph → ((g : Closed) → ph ≢ seated s g)
       → holding n (holds_now file) ≡ 0
-  not_found None is n ph at not_seated = refl
-  not_found (Some f) is n ph at not_seated = bit_else n f.number
-      (λ same. not_seated f.identity (sym at ∙ (ap r.phase (sym same) ∙ (seat_in v.start st r s inside f is).2)))
+  not_found None is at not_seated = refl
+  not_found (Some f) is {n} at not_seated = bit_else n f.number
+      (λ same. not_seated f.identity (sym at ∙ (ap r.phase (sym same) ∙ (seat_in v.start st r inside is).2)))
 
   module _ (file : Option File) (is : old.at s ≡ file) where
     abbrev y : Log
@@ -88,10 +88,10 @@ module _ (turn : Turn) (idle : turn.v.work ≡ Between Idle) (some_left : 0 < tu
     new = state_after_all v.start (h' file)
 
     legal : IsHistory v.start (h' file)
-    legal = legal_more v.start r.history _ r.legal (let z = (same_shape v.start r.history).0 in omega arith, sym is) tt
+    legal = legal_more v.start r.legal (let z = (same_shape v.start r.history).0 in omega arith, sym is) tt
 
-    node_after : (n : ℕ) → IsNumber v.start n → (ph : Phase) → r.phase n ≡ ph → NodeIn v.start st.words st.homes (h' file) n ph
-    node_after n has (seated i g) at = let o = in_phase v.start st r n has (seated i g) at in let a = looks_are file n in
+    node_after : {n : ℕ} → IsNumber v.start n → (ph : Phase) → r.phase n ≡ ph → NodeIn v.start st.words st.homes (h' file) n ph
+    node_after {n} has (seated i g) at = let o = in_phase v.start st r has at in let a = looks_are file n in
         let b = ap (λ (z : State). z.holds n) (state_is file) in let c = o.counts in record {
           counts = omega arith;
           at_home = o.at_home;
@@ -99,12 +99,11 @@ module _ (turn : Turn) (idle : turn.v.work ≡ Between Idle) (some_left : 0 < tu
           there = ap (λ (z : State). z.at i) (state_is file) ∙ o.there;
           not_removed = ap (λ (z : State). z.removed n) (state_is file) ∙ o.not_removed;
         }
-    node_after n has ph at = let none_found = not_found file is n ph at (λ g bad. cc bad) in
+    node_after {n} has ph at = let none_found = not_found file is at (λ g bad. cc bad) in
         node_same old new n (looks r.history n) (looks (h' file) n) _ _ _ _
         (ap (λ (z : State). z.fresh n) (state_is file)) (ap (λ (z : State). z.removed n) (state_is file))
         (let a = ap (λ (z : State). z.holds n) (state_is file) in omega arith) (let a = looks_are file n in omega arith) refl refl
-        (ap (λ (z : State). z.size) (state_is file)) ph (λ i g is there. ap (λ (z : State). z.at i) (state_is file))
-        (in_phase v.start st r n has ph at)
+        (ap (λ (z : State). z.size) (state_is file)) ph (λ i g is there. ap (λ (z : State). z.at i) (state_is file)) (in_phase v.start st r has at)
 
     look_step : Step turn y (holds_now file) v.change (h' file) r.phase (words_now turn s inside word') st.homes
     look_step = let o = its_log turn in let p = ap placing idle in let now = does_now file is in record {
@@ -113,7 +112,7 @@ module _ (turn : Turn) (idle : turn.v.work ≡ Between Idle) (some_left : 0 < tu
       number = refl;
       grows = grows_one x.number r.history _ refl;
       legal = legal;
-      slots = slots_now turn s inside word' (h' file) r.phase (
+      slots = slots_now turn s inside word' (
           let at_is : new.at s ≡ file = ap (λ (z : State). z.at s) (state_is file) ∙ is in record {
             names = subst (Names word') (sym at_is) (names_now file (subst (Names found) is so.names));
             seat = subst (IsSeated v.start (looks (h' file)) r.phase s word') (sym at_is) (seat_now file is);
@@ -122,29 +121,29 @@ module _ (turn : Turn) (idle : turn.v.work ≡ Between Idle) (some_left : 0 < tu
           ) (omega arith) (λ i l other. (
             ap (λ (z : State). z.at i) (state_is file),
             λ f there seat. (
-              let a = looks_are file f.number in let b = not_found file is f.number (seated i f.identity) seat (λ g bad. other (cc bad)) in omega arith,
+              let a = looks_are file f.number in let b = not_found file is seat (λ g bad. other (cc bad)) in omega arith,
               refl,
             ),
           ));
-      nodes = λ n has. node_now turn s inside word' (h' file) st.homes (r.phase n) n has (node_after n has (r.phase n) refl);
+      nodes = λ n has. node_now turn s inside word' (h' file) st.homes (r.phase n) has (node_after has (r.phase n) refl);
       owners = λ n has. owner_stays st.views id v w here n (λ bad. let b = ap busy idle in omega arith) (r.phase n) (r.each_owner n has);
       no_other = λ n absent. ap (λ (z : State). z.removed n) (state_is file) ∙ r.no_other n absent;
       stays = stays_same id x.number r.phase;
       keeps = λ j u f other there is_held. refl;
-      log = log_now turn (h' file) r.phase x.numbers_left (x.looks_left - 1) (holds_now file) (omega arith)
-          (held_mine x.number (event_of (shown x v.work) (Look s file)) r.history refl ∙ sym now.0) (now.2 y) (λ n low high. let q = now.1 in o.spares n (omega arith) high);
+      log = log_now turn (omega arith)
+          (held_mine (event_of (shown x v.work) (Look s file)) r.history refl ∙ sym now.0) (now.2 y) (λ n low high. let q = now.1 in o.spares n (omega arith) high);
       work = now.3;
       holds = λ n. let b : held_of n v ≡ 0 = ap (holding n) idle in let c = ap (λ (z : State). z.holds n) (state_is file) in omega arith;
       look_ups = omega arith;
       control = control_now turn s inside word' (control_same st.views id v w here (ap (λ (z : State).
           full_in z.at (range_of (opening_of v.start)).0 (range_of (opening_of v.start)).1) (state_is file)) refl refl r.control);
-      draws = draws_now turn s inside word' (h' file) x.numbers_left (x.looks_left - 1) (holds_now file) v.change r.phase (λ n is_new. is_new);
+      draws = draws_now turn s inside word' (h' file) x.numbers_left (x.looks_left - 1) (holds_now file) v.change (λ n is_new. is_new);
     }
 
     told : (carried : List (ℕ × Option Closed)) → Stepped (v, carried) ([] ▷ Look s file) one_look (holds_now file) v.change (w, carried)
     told carried = tells turn carried carried (h' file) x.numbers_left (x.looks_left - 1)
         (holds_now file) v.change ([] ▷ Look s file) one_look (grows_one x.number r.history _ refl) legal
-        (part_mine x.number _ r.history refl) (omega arith) (omega (arith, some_left)) (does_now file is).4
+        (part_mine r.history refl) (omega arith) (omega (arith, some_left)) (does_now file is).4
 
   looked : (slots : ℕ) (carried : List (ℕ × Option Closed))
       → Made turn carried (slot_place s) (λ word. (word + 1) % 2 ^ 64) (Looks (step slots (slot_place s) 1 0 none) (v, carried))
@@ -162,6 +161,6 @@ module _ (turn : Turn) (idle : turn.v.work ≡ Between Idle) (some_left : 0 < tu
   )
 
 pub looks_keep : LooksKeep
-looks_keep k slots id i slot m x has idle left inside place = by_turn k slots id i m x (λ k. slot < slots_of k) (λ _. slot_place slot)
+looks_keep k slots id i slot m x has idle left inside place = by_turn slots (λ k. slot < slots_of k) (λ _. slot_place slot)
     (λ word. (word + 1) % 2 ^ 64) (λ i. Looks (step slots i 1 0 none) m) has inside place
     (λ st r here within fits. looked (turn_of m x has.1 id st r here) idle left slot within fits slots m.1)

@@ -54,8 +54,8 @@ module _ (turn : Turn) where
     wide : i < length st.words
     wide = let a = r.shape.words in let b = near.node q its in omega arith
 
-    word_else : (place : ℕ) → place ≢ i → word_at (set st.words i word') place ≡ word_at st.words place
-    word_else place other = get_or-set_other st.words i place word' 0 other
+    word_else : {place : ℕ} → place ≢ i → word_at (set st.words i word') place ≡ word_at st.words place
+    word_else {place} other = get_or-set_other st.words i place word' 0 other
 
     -- what the step on the number has to keep
     pub record NodeStep : Type 0 where
@@ -80,9 +80,9 @@ module _ (turn : Turn) where
 
     module _ (s : NodeStep) where
       -- what others rely on stays: the phase of a number that isn't the pass's, nor retired
-      stays_if : (n : ℕ) (z : Phase) → r.phase n ≡ z → (owner z ≡ id + 1 → ph ≡ z) → (z ≡ spare x.number → ph ≡ z)
+      stays_if : {n : ℕ} {z : Phase} → r.phase n ≡ z → (owner z ≡ id + 1 → ph ≡ z) → (z ≡ spare x.number → ph ≡ z)
           → ((f : Closed) → z ≡ retired f → ph ≡ z) → phase' n ≡ z
-      stays_if n z is owned spared gone = each_changed (λ m p. p ≡ z) r.phase q ph n
+      stays_if {n} {z} is owned spared gone = each_changed (λ m p. p ≡ z) r.phase
           (λ same. let at_q = ap r.phase (sym same) ∙ is in ⊎_elim (λ e. e ∙ at_q) (λ t. ⊎_elim (λ e. owned (sym (ap owner at_q) ∙ e))
           (λ t. ⊎_elim (λ e. spared (sym at_q ∙ e)) (λ e. gone e.0 (sym at_q ∙ e.1)) t) t) s.may)
           (λ other. is)
@@ -97,39 +97,35 @@ module _ (turn : Turn) where
         number = refl;
         grows = s.grows;
         legal = s.legal;
-        slots = λ slot l. slot_same (word_else (slot_place slot) (λ same. far.node_and_slot q slot l its (sym same))) (at_is slot) (omega (arith, s.told.all))
+        slots = λ slot l. slot_same (word_else (λ same. far.node_and_slot q slot l its (sym same))) (at_is slot) (omega (arith, s.told.all))
             (λ f there seat. (
               ap (λ (g : ℕ → ℕ). g f.number) s.told.looked,
-              stays_if f.number (seated slot f.identity) seat (λ o. absurd (omega (arith, o))) (λ o. absurd (cc o)) (λ g o. absurd (cc o)) ∙ sym seat,
+              stays_if seat (λ o. absurd (omega (arith, o))) (λ o. absurd (cc o)) (λ g o. absurd (cc o)) ∙ sym seat,
             ))
             (r.each_slot slot l);
-        nodes = λ n has. each_changed (NodeIn v.start (set st.words i word') homes' h') r.phase q ph n
+        nodes = λ n has. each_changed (NodeIn v.start (set st.words i word') homes' h') r.phase
             (λ same. rw (same, s.told.looked, get_or-set_same st.words i word' 0 wide) s.node)
             (λ other. node_same (state_after_all v.start r.history) (state_after_all v.start h') n _ _ _ _ _ _
             (ap (λ (g : ℕ → Bool). g n) s.told.fresh) (s.told.removed n other)
-            (s.told.holds n other) (ap (λ (g : ℕ → ℕ). g n) s.told.looked)
-            (word_else (node_place (slots_of v.start) n) (far.nodes n q has its other))
+            (s.told.holds n other) (ap (λ (g : ℕ → ℕ). g n) s.told.looked) (word_else (far.nodes n q has its other))
             (s.home_else n has other) s.told.size (r.phase n) (λ slot f is there. at_is slot) (r.each_node n has));
-        owners = λ n has. each_changed (OwnerAgrees (set st.views id w)) r.phase q ph n
+        owners = λ n has. each_changed (OwnerAgrees (set st.views id w)) r.phase
             (λ same. rw same s.known) (λ other. owner_stays st.views id v w here n (s.free n other) (r.phase n) (r.each_owner n has));
         no_other = λ n absent. s.told.removed n (λ same. absent (subst (IsNumber v.start) (sym same) its)) ∙ r.no_other n absent;
         stays = record {
-          owned = λ n some not_mine. stays_if n (r.phase n) refl (λ o. absurd (not_mine o)) (λ o. absurd (some (ap owner o)))
-              (λ g o. absurd (some (ap owner o)));
-          spared = λ n p is other. stays_if n (spare p) is (λ o. absurd (omega (arith, o))) (λ o. absurd (other (cc o))) (λ g o. absurd (cc o));
+          owned = λ n some not_mine. stays_if refl (λ o. absurd (not_mine o)) (λ o. absurd (some (ap owner o))) (λ g o. absurd (some (ap owner o)));
+          spared = λ n p is other. stays_if is (λ o. absurd (omega (arith, o))) (λ o. absurd (other (cc o))) (λ g o. absurd (cc o));
         };
-        keeps = λ j u f other there is. each_changed (λ m z. file_in z ≡ file_in (r.phase m)) r.phase q ph f.number
+        keeps = λ j u f other there is. each_changed (λ m z. file_in z ≡ file_in (r.phase m)) r.phase
             (λ same. s.keeps j u f other there is same ∙ ap (λ (m : ℕ). file_in (r.phase m)) (sym same)) (λ _. refl);
-        log = log_now turn h' phase' x.numbers_left x.looks_left d (omega arith) s.held s.next s.spares;
+        log = log_now turn (omega arith) s.held s.next s.spares;
         work = s.work;
         holds = s.holds;
         look_ups = let a = s.told.all in omega arith;
         control = control_same st.views id v w here (ap (λ (g : ℕ → Option File). full_in g (range_of (opening_of v.start)).0
-            (range_of (opening_of v.start)).1) s.told.at)
-            (word_else control_place (λ same. far.node_and_control q its (sym same))) refl r.control;
-        draws = draws_same st.views id v w here one refl refl refl
-            (word_else draw_place (λ same. far.node_and_draw q its (sym same)))
-            (λ n is. stays_if n unborn is (λ o. absurd (omega (arith, o))) (λ o. absurd (cc o)) (λ g o. absurd (cc o))) r.draws;
+            (range_of (opening_of v.start)).1) s.told.at) (word_else (λ same. far.node_and_control q its (sym same))) refl r.control;
+        draws = draws_same st.views id v w here one refl refl refl (word_else (λ same. far.node_and_draw q its (sym same)))
+            (λ n is. stays_if is (λ o. absurd (omega (arith, o))) (λ o. absurd (cc o)) (λ g o. absurd (cc o))) r.draws;
       }
 
       pub node_agrees : Agrees v.start record { words = set st.words i word'; homes = homes'; views = set st.views id w }

@@ -35,18 +35,18 @@ module _ (k : Start) (words : List ℕ) (homes : List (Option Closed)) (o : Open
   abbrev s : State
   s = state_after_all k []
 
-  low_phase : (n : ℕ) → n < slots_of k → first_phase k n ≡ phase_for n (first_file k n)
-  low_phase n l = ap (λ (b : Bool). cond b (phase_for n (first_file k n)) unborn) (lt-ltb n (slots_of k) l)
+  low_phase : {n : ℕ} → n < slots_of k → first_phase k n ≡ phase_for n (first_file k n)
+  low_phase {n} l = ap (λ (b : Bool). cond b (phase_for n (first_file k n)) unborn) (lt-ltb n (slots_of k) l)
 
-  high_phase : (n : ℕ) → slots_of k ≤ n → first_phase k n ≡ unborn
-  high_phase n g = ap (λ (b : Bool). cond b (phase_for n (first_file k n)) unborn) (le-ltb n (slots_of k) g)
+  high_phase : {n : ℕ} → slots_of k ≤ n → first_phase k n ≡ unborn
+  high_phase {n} g = ap (λ (b : Bool). cond b (phase_for n (first_file k n)) unborn) (le-ltb n (slots_of k) g)
 
   -- the file at a slot has the slot's number
   its_number : (slot : ℕ) (f : File) → first_file k slot ≡ Some f → f.number ≡ slot
   its_number slot f is = numbered_anew ((state_of (opening_of k).contents).at slot) slot f is
 
-  its_phase : (slot : ℕ) → slot < slots_of k → (f : File) → first_file k slot ≡ Some f → first_phase k f.number ≡ seated slot f.identity
-  its_phase slot l f is = ap (first_phase k) (its_number slot f is) ∙ (low_phase slot l ∙ ap (phase_for slot) is)
+  its_phase : {slot : ℕ} → slot < slots_of k → {f : File} → first_file k slot ≡ Some f → first_phase k f.number ≡ seated slot f.identity
+  its_phase {slot} l {f} is = ap (first_phase k) (its_number slot f is) ∙ (low_phase l ∙ ap (phase_for slot) is)
 
   slot_opens : (slot : ℕ) → slot < slots_of k → SlotAgrees k [] (first_phase k) slot (slice_index words (slot_place slot))
   slot_opens slot l = record {
@@ -65,7 +65,7 @@ module _ (k : Start) (words : List ℕ) (homes : List (Option Closed)) (o : Open
 
       seat : (found : Option File) → first_file k slot ≡ found → IsSeated k (λ _. 0) (first_phase k) slot (word_for found) found
       seat None is = tt
-      seat (Some f) is = (inl (let e = its_number slot f is in omega arith), takes_made f.number f.identity.entry, its_phase slot l f is)
+      seat (Some f) is = (inl (let e = its_number slot f is in omega arith), takes_made f.number f.identity.entry, its_phase l is)
 
   home_is : (n : ℕ) (x : Option Closed) → get_elem? homes (place_of k n) ≡ some x → get_elem? (map some homes) (place_of k n) ≡ some (some x)
   home_is n x e = at_map some homes (place_of k n) x e
@@ -74,14 +74,12 @@ module _ (k : Start) (words : List ℕ) (homes : List (Option Closed)) (o : Open
   Node n ph = NodeAgrees s n 0 (slice_index words (word_of k n)) (get_elem? (map some homes) (place_of k n)) ph
 
   node_opens : (n : ℕ) → IsNumber k n → Node n (first_phase k n)
-  node_opens n has = ⊎_elim
-      (λ (l : n < slots_of k). subst (Node n) (sym (low_phase n l)) (low n l (first_file k n) refl))
-      (λ (h : (256 ≤ n) × (n < 256 + chain_numbers k)). let few = o.slots in subst (Node n) (sym (high_phase n (omega arith))) record {
+  node_opens n has = ⊎_elim (λ (l : n < slots_of k). subst (Node n) (sym (low_phase l)) (low n l (first_file k n) refl))
+      (λ (h : (256 ≤ n) × (n < 256 + chain_numbers k)). let few = o.slots in subst (Node n) (sym (high_phase (omega arith))) record {
         counts = o.fresh_words n h.0 h.1;
         at_home = home_is n None (o.fresh_places n h.0 h.1);
         fresh = λ i. not (le-ltb n (slots_of k) (let f = o.slots in let a = h.0 in
-            omega arith) i) && lt-ltb n (numbers_for k.chains)
-            (let a = h.1 in let b = fewer_numbers k.numbers k.chains o.numbers in omega (arith, a, b)) i;
+            omega arith) i) && lt-ltb n (numbers_for k.chains) (let a = h.1 in let b = fewer_numbers k.chains o.numbers in omega (arith, a, b)) i;
         no_looks = refl;
         no_holds = refl;
         not_removed = refl;
@@ -99,9 +97,8 @@ module _ (k : Start) (words : List ℕ) (homes : List (Option Closed)) (o : Open
       }
 
   owner_opens : (n : ℕ) → OwnerAgrees (first_view k ∷ []) n (first_phase k n)
-  owner_opens n = dite (dec_le (suc n) (slots_of k))
-      (λ l. subst (OwnerAgrees (first_view k ∷ []) n) (sym (low_phase n l)) (low (first_file k n)))
-      (λ g. subst (OwnerAgrees (first_view k ∷ []) n) (sym (high_phase n (omega (arith, g)))) tt)
+  owner_opens n = dite (dec_le (suc n) (slots_of k)) (λ l. subst (OwnerAgrees (first_view k ∷ []) n) (sym (low_phase l)) (low (first_file k n)))
+      (λ g. subst (OwnerAgrees (first_view k ∷ []) n) (sym (high_phase (omega (arith, g)))) tt)
     where
       low : (found : Option File) → OwnerAgrees (first_view k ∷ []) n (phase_for n found)
       low None = tt
@@ -150,7 +147,7 @@ module _ (k : Start) (words : List ℕ) (homes : List (Option Closed)) (o : Open
       each = λ c. let a = none_new (λ y. count_by (λ d. eqb d c) y.drawn) (λ p. refl) k.passes in omega (arith, once_is 0 c);
       counts = let a = none_new (λ y. one_if y.no_chains_left) (λ p. refl) k.passes in let b = o.draw in omega arith;
       all = λ some_told. let a = none_new (λ y. one_if y.no_chains_left) (λ p. refl) k.passes in absurd (omega arith);
-      unused = λ n low high. high_phase n (let a = o.slots in omega arith);
+      unused = λ n low high. high_phase (let a = o.slots in omega arith);
     };
   }
 

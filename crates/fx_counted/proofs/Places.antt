@@ -3,14 +3,14 @@ use Rattle.fx_counted.proofs.Words.{◌≡◌, ℕ, ◌+◌, ◌-◌, ◌*◌, �
 use Rattle.fx_counted.proofs.Words.{home_place, HasNode, PlacesAreInside, PlacesAreApart, inl, inr, ◌⊎◌}
 
 module _ (size : ℕ) where
-  pub low_node : (n : ℕ) → n < size → node_place size n ≡ 17 + 8 * n
-  low_node n l = ap (λ (b : Bool). cond b (17 + 8 * n) (16 + 8 * size + (n - 256))) (lt-ltb n size l)
+  pub low_node : {n : ℕ} → n < size → node_place size n ≡ 17 + 8 * n
+  low_node {n} l = ap (λ (b : Bool). cond b (17 + 8 * n) (16 + 8 * size + (n - 256))) (lt-ltb n size l)
 
   pub high_node : (n : ℕ) → size ≤ n → node_place size n ≡ 16 + 8 * size + (n - 256)
   high_node n g = ap (λ (b : Bool). cond b (17 + 8 * n) (16 + 8 * size + (n - 256))) (le-ltb n size g)
 
-  pub low_home : (n : ℕ) → n < size → home_place size n ≡ n
-  low_home n l = ap (λ (b : Bool). cond b n (size + (n - 256))) (lt-ltb n size l)
+  pub low_home : {n : ℕ} → n < size → home_place size n ≡ n
+  low_home {n} l = ap (λ (b : Bool). cond b n (size + (n - 256))) (lt-ltb n size l)
 
   pub high_home : (n : ℕ) → size ≤ n → home_place size n ≡ size + (n - 256)
   high_home n g = ap (λ (b : Bool). cond b n (size + (n - 256))) (le-ltb n size g)
@@ -19,12 +19,12 @@ module _ (size : ℕ) where
     -- a number of a slot, or of a chain
     node_is : (n : ℕ) → HasNode size numbers n → ((n < size) × (node_place size n ≡ 17 + 8 * n))
         ⊎ ((256 ≤ n) × (n < 256 + numbers) × (node_place size n ≡ 16 + 8 * size + (n - 256)))
-    node_is n has = ⊎_elim (λ (l : n < size). inl (l, low_node n l))
+    node_is n has = ⊎_elim (λ (l : n < size). inl (l, low_node l))
         (λ (h : (256 ≤ n) × (n < 256 + numbers)). inr (h.0, h.1, high_node n (omega (arith, h.0)))) has
 
     home_is : (n : ℕ) → HasNode size numbers n → ((n < size) × (home_place size n ≡ n))
         ⊎ ((256 ≤ n) × (n < 256 + numbers) × (home_place size n ≡ size + (n - 256)))
-    home_is n has = ⊎_elim (λ (l : n < size). inl (l, low_home n l))
+    home_is n has = ⊎_elim (λ (l : n < size). inl (l, low_home l))
         (λ (h : (256 ≤ n) × (n < 256 + numbers)). inr (h.0, h.1, high_home n (omega (arith, h.0)))) has
 
     pub inside : PlacesAreInside size numbers
@@ -51,10 +51,10 @@ module _ (size : ℕ) where
     }
 
 -- chains that have few numbers each have fewer than they may have
-pub fewer_numbers : (numbers chains : ℕ) → numbers ≤ 64 → numbers * chains ≤ 64 * chains
-fewer_numbers numbers chains few = mul-le-mul_right chains few
+pub fewer_numbers : {numbers : ℕ} (chains : ℕ) → numbers ≤ 64 → numbers * chains ≤ 64 * chains
+fewer_numbers chains few = mul-le-mul_right chains few
 
 -- chains have few numbers together
-pub few_numbers : (numbers chains : ℕ) → numbers ≤ 64 → chains ≤ 1023 → numbers * chains ≤ 65472
-few_numbers numbers chains few count =
-    let a = fewer_numbers numbers chains few in omega (arith, a)
+pub few_numbers : {numbers chains : ℕ} → numbers ≤ 64 → chains ≤ 1023 → numbers * chains ≤ 65472
+few_numbers {numbers} {chains} few count =
+    let a = fewer_numbers chains few in omega (arith, a)

@@ -27,7 +27,7 @@ module _ (turn : Turn) (f : File) (works : turn.v.work ≡ Between (Holding f)) 
   old = state_after_all v.start r.history
 
   held_now : 0 < old.holds q
-  held_now = let a = r.holds q in let b = sum_at (held_of q) st.views id v here in let c = ap (holding q) works ∙ holding_it q f refl in omega arith
+  held_now = let a = r.holds q in let b = sum_at (held_of q) st.views id v here in let c = ap (holding q) works ∙ holding_it f refl in omega arith
 
   abbrev h₁ : List Event
   h₁ = event_of (shown x v.work) (Release f) ∷ r.history
@@ -41,10 +41,10 @@ module _ (turn : Turn) (f : File) (works : turn.v.work ≡ Between (Holding f)) 
   let_go : IsLetGo turn f mine.0 h₁ ([] ▷ Release f)
   let_go = record {
     grows = grows_one x.number r.history _ refl;
-    legal = legal_more v.start r.history _ r.legal held_now ((its_log turn).held ∙ ap held_in works);
-    own = part_mine x.number _ r.history refl;
+    legal = legal_more v.start r.legal held_now ((its_log turn).held ∙ ap held_in works);
+    own = part_mine r.history refl;
     told = record { at = refl; size = refl; fresh = refl; looked = refl; all = omega arith; removed = λ m other. refl; holds = changed_else old.holds q _ };
-    held = held_mine x.number (event_of (shown x v.work) (Release f)) r.history refl;
+    held = held_mine (event_of (shown x v.work) (Release f)) r.history refl;
     holds = λ m. let w : held_of m v ≡ one_if (eqb q m) = ap (holding m) works in let e = one_less_at old.holds q m held_now in omega arith;
     free = λ m other bad. let b = ap busy works in omega arith;
     places = ap placing works;
@@ -56,21 +56,21 @@ module _ (turn : Turn) (f : File) (works : turn.v.work ≡ Between (Holding f)) 
       → ((word ≢ 1) × NodeAgrees new q (looks r.history q) (minus word) (home_now turn q) ph)
       ⊎ ((word ≡ 1) × (minus word ≡ 0) × (r.phase q ≡ retired f.identity) × (home_now turn q ≡ some (some (Some f.identity)))
       × (old.removed q ≡ Some f) × (new.holds q ≡ 0))
-  by_phase fits (seated s g) is has = let n = in_phase v.start st r q mine.0 (seated s g) is in let a = n.counts in
+  by_phase fits (seated s g) is has = let n = in_phase v.start st r mine.0 is in let a = n.counts in
       let c = few_looks turn q in let h = held_now in let z = one_less in
-      let e : minus word ≡ word - 1 = sub_wraps word 1 (omega arith) fits (omega arith) in inl (
+      let e : minus word ≡ word - 1 = sub_wraps (omega arith) fits (omega arith) in inl (
         λ last. omega arith,
         record { counts = omega arith; at_home = n.at_home; inside = n.inside; there = n.there; not_removed = n.not_removed },
       )
-  by_phase fits (leaving j t g) is has = let n = in_phase v.start st r q mine.0 (leaving j t g) is in let a = n.counts in
+  by_phase fits (leaving j t g) is has = let n = in_phase v.start st r mine.0 is in let a = n.counts in
       let c = few_looks turn q in let h = held_now in let z = one_less in
-      let e : minus word ≡ word - 1 = sub_wraps word 1 (omega arith) fits (omega arith) in inl (
+      let e : minus word ≡ word - 1 = sub_wraps (omega arith) fits (omega arith) in inl (
         λ last. omega arith,
         record { counts = omega arith; at_home = n.at_home; all_takes = n.all_takes; removed = n.removed },
       )
-  by_phase fits (retired g) is has = let n = in_phase v.start st r q mine.0 (retired g) is in let a = n.counts in
+  by_phase fits (retired g) is has = let n = in_phase v.start st r mine.0 is in let a = n.counts in
       let b = n.some_hold in let h = held_now in let z = one_less in let same : g ≡ f.identity = cc has in
-      let e : minus word ≡ word - 1 = sub_wraps word 1 (omega arith) fits (omega arith) in
+      let e : minus word ≡ word - 1 = sub_wraps (omega arith) fits (omega arith) in
       dite (ℕ_discrete word 1)
       (λ last. inr (
         last,
@@ -83,8 +83,8 @@ module _ (turn : Turn) (f : File) (works : turn.v.work ≡ Between (Holding f)) 
       (λ more. inl (more, record { counts = omega arith; at_home = n.at_home; some_hold = omega arith; removed = n.removed }))
   by_phase fits _ is has = absurd (cc has)
 
-  holding_same : (g : File) → v.work ≡ Between (Holding g) → f ≡ g
-  holding_same g its = cc (sym works ∙ its)
+  holding_same : {g : File} → v.work ≡ Between (Holding g) → f ≡ g
+  holding_same its = cc (sym works ∙ its)
 
   releases_either : (slots : ℕ) (carried : List (ℕ × Option Closed)) → word < 18446744073709551616
       → Made turn carried (word_of v.start q) minus (Releases (step slots (word_of v.start q) 1 0 none) (v, carried))
@@ -92,18 +92,16 @@ module _ (turn : Turn) (f : File) (works : turn.v.work ≡ Between (Holding f)) 
       (λ t. stays_open turn f mine.0 h₁ ([] ▷ Release f) let_go minus carried (r.phase q) (inl refl) refl t.1
       (owner_stays st.views id v (went turn h₁ (Between Idle) v.change) here q (λ bad. let b = ap busy works in omega arith) (r.phase q)
       (r.each_owner q mine.0)) told record {
-        waits = λ g its _. rw (← holding_same g its)
-            (lets_go turn f mine.0 h₁ ([] ▷ Release f) let_go minus carried);
+        waits = λ g its _. rw (← holding_same its) (lets_go turn f mine.0 h₁ ([] ▷ Release f) let_go minus carried);
         closes = λ g _ is. absurd (t.0 is);
       })
       (λ t. comes_out turn f mine.0 h₁ ([] ▷ Release f) let_go minus carried t.3 t.4 t.5 t.1 (inr (inr (inr (f.identity, t.2)))) told record {
         waits = λ g _ not_so. absurd (not_so t.0);
-        closes = λ g its _. rw (← holding_same g its)
-            (takes_out turn f mine.0 h₁ ([] ▷ Release f) let_go minus carried t.3 t.4 t.5 t.1);
+        closes = λ g its _. rw (← holding_same its) (takes_out turn f mine.0 h₁ ([] ▷ Release f) let_go minus carried t.3 t.4 t.5 t.1);
       })
       (by_phase fits (r.phase q) refl mine.1)
 
 pub releases_keep : ReleasesKeep
-releases_keep k slots id i f m x has works place = by_turn k slots id i m x (λ _. Unit {0}) (λ k. word_of k f.number)
+releases_keep k slots id i f m x has works place = by_turn slots (λ _. Unit {0}) (λ k. word_of k f.number)
     (λ word. (word + (2 ^ 64 - 1)) % 2 ^ 64) (λ i. Releases (step slots i 1 0 none) m) has tt place
     (λ st r here _ fits. releases_either (turn_of m x has.1 id st r here) f works slots m.1 fits)

@@ -13,21 +13,21 @@ module _ (act : ℕ → Option File → Action) (t : CountedTable) (p : CountedP
   k = t.table.shared.key
 
   -- an idle pass may swap 0 into the slot's word, behind a begin if the slot is in the range
-  pub removal_requires : (slots : ℕ) (seat : Seat (Option Closed) View) (began : Bool) → IsRemoval act → IsIdle (view_of p) → slot < slots_of k
+  pub removal_requires : (slots : ℕ) {seat : Seat (Option Closed) View} (began : Bool) → IsRemoval act → IsIdle (view_of p) → slot < slots_of k
       → seat.table_id ≡ p.seat.table_id → InRange k slot began → Goes p.seat.me [] no_use p.seat.me.0.work (begun began) 1 seat.me
       → (seat.table_id ≡ t.table.shared.table_id) × (i < t.table.shared.table_id.words)
       × Allows (Agrees k) slots seat.id seat.me i (λ _. 0) (Removes act (step slots i 0 0 none) seat.me)
-  removal_requires slots seat began does idle inside table range goes = (
+  removal_requires slots {seat} began does idle inside table range goes = (
     table ∙ fits.table,
-    slot_inside t slot i inside place,
-    removes_keep act does k slots seat.id i slot seat.me goes.one.0 (goes.start ∙ fits.seated.start, goes.one.1)
-        (goes.work ∙ work_between p.seat.me.0.work _ fits.seated.work idle) inside (may_change k slot began seat.me.0.change range goes.change) place,
+    slot_inside t inside place,
+    removes_keep does k slots seat.id i slot seat.me goes.one.0 (goes.start ∙ fits.seated.start, goes.one.1)
+        (goes.work ∙ work_between p.seat.me.0.work fits.seated.work idle) inside (may_change k began range goes.change) place,
   )
 
   -- a removal between a begin and an end, if there are such
-  pub removal_adds : (takes : ℕ) (file : Option File) {m m' m'' : Sat} {c c' : Change} → Goes p.seat.me [] no_use p.seat.me.0.work c 1 m
+  pub removal_adds : (takes : ℕ) {file : Option File} {m m' m'' : Sat} {c c' : Change} → Goes p.seat.me [] no_use p.seat.me.0.work c 1 m
       → Stepped m ([] ▷ act (slot_of i) file) no_use (Between (retiring file takes)) c' m' → Goes m' [] no_use m'.0.work Outside 1 m''
       → Adds (opening_of_table t) (view_of p) ([] ▷ act slot file) (doing_in (Between (retiring file takes))) no_use (pass_of m''.0)
-  removal_adds takes file {m} {m'} {m''} began stepped ended =
+  removal_adds takes {file} {m} {m'} {m''} began stepped ended =
       subst (λ (s : ℕ). Adds (opening_of_table t) (view_of p) ([] ▷ act s file) (doing_in (Between (retiring file takes))) no_use (pass_of m''.0))
-      (slot_at t slot i place) (adds_so fits (goes_around began stepped ended))
+      (slot_at t place) (adds_so fits (goes_around began stepped ended))

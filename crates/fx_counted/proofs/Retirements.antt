@@ -16,7 +16,7 @@ module _ (turn : Turn) (f : File) (t : ℕ) (works : turn.v.work ≡ Between (Re
   mine = subst (WorkAgrees v.start r.phase id) works (its_work turn)
 
   node : NodeAgrees (state_after_all v.start r.history) q (looks r.history q) (word_now turn q) (home_now turn q) (leaving id t f.identity)
-  node = in_phase v.start st r q mine.0 (leaving id t f.identity) mine.1
+  node = in_phase v.start st r mine.0 mine.1
 
   abbrev minus : ℕ → ℕ
   minus word = (word + (2 ^ 64 - retire_amount_of t)) % 2 ^ 64
@@ -27,7 +27,7 @@ module _ (turn : Turn) (f : File) (t : ℕ) (works : turn.v.work ≡ Between (Re
 
   left_is : word_now turn q < 18446744073709551616 → minus (word_now turn q) ≡ (state_after_all v.start r.history).holds q
   left_is fits = let a = node.all_takes in let c = few_looks turn q in let n = counted in
-      let e : minus (word_now turn q) ≡ word_now turn q - (4294967296 - t) = sub_wraps (word_now turn q) (4294967296 - t) (omega arith) fits (omega arith) in
+      let e : minus (word_now turn q) ≡ word_now turn q - (4294967296 - t) = sub_wraps (omega arith) fits (omega arith) in
       omega arith
 
   -- no action is told of, where the file stays open
@@ -44,8 +44,8 @@ module _ (turn : Turn) (f : File) (t : ℕ) (works : turn.v.work ≡ Between (Re
     open_file = ap file_in mine.1;
   }
 
-  retiring_same : (g : File) (u : ℕ) → v.work ≡ Between (Retiring g u) → f ≡ g
-  retiring_same g u its = cc (sym works ∙ its)
+  retiring_same : {g : File} {u : ℕ} → v.work ≡ Between (Retiring g u) → f ≡ g
+  retiring_same its = cc (sym works ∙ its)
 
   retires_either : (slots : ℕ) (carried : List (ℕ × Option Closed)) → word_now turn q < 18446744073709551616
       → Made turn carried (word_of v.start q) minus (Retires (step slots (word_of v.start q) (retire_amount_of t) 0 none) (v, carried))
@@ -56,7 +56,7 @@ module _ (turn : Turn) (f : File) (t : ℕ) (works : turn.v.work ≡ Between (Re
       comes_out turn f mine.0 r.history [] let_go minus carried node.at_home node.removed none_hold (left ∙ none_hold)
       (inr (inl (ap owner mine.1))) told record {
         waits = λ g u _ not_so. absurd (not_so is);
-        closes = λ g u its _. rw (← retiring_same g u its)
+        closes = λ g u its _. rw (← retiring_same its)
             (takes_out turn f mine.0 r.history [] let_go minus carried node.at_home node.removed none_hold (left ∙ none_hold));
       })
       (λ more. let some_hold : 0 < (state_after_all v.start r.history).holds q = omega arith in
@@ -64,13 +64,13 @@ module _ (turn : Turn) (f : File) (t : ℕ) (works : turn.v.work ≡ Between (Re
       record { counts = left; at_home = node.at_home; some_hold = omega arith; removed = node.removed } tt told record {
         waits = λ g u its _. (
           lets_go turn f mine.0 r.history [] let_go minus carried,
-          rw (← retiring_same g u its) some_hold,
+          rw (← retiring_same its) some_hold,
         );
         closes = λ g u _ is. absurd (more is);
       })
 
 pub retires_keep : RetiresKeep
 retires_keep k slots id i amount t f m x has works place by = rw by
-    (by_turn k slots id i m x (λ _. Unit {0}) (λ k. word_of k f.number) (λ word. (word + (2 ^ 64 - retire_amount_of t)) % 2 ^ 64)
+    (by_turn slots (λ _. Unit {0}) (λ k. word_of k f.number) (λ word. (word + (2 ^ 64 - retire_amount_of t)) % 2 ^ 64)
     (λ i. Retires (step slots i (retire_amount_of t) 0 none) m) has tt place
     (λ st r here _ fits. retires_either (turn_of m x has.1 id st r here) f t works slots m.1 fits))

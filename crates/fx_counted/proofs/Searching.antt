@@ -38,24 +38,23 @@ still_placing p s = record {
 }
 
 -- whether the word was as it was loaded
-tries_by : (m m' : Sat) (n slot : ℕ) (file : Closed) (a b : ℕ) → (a ≡ b → HasAllocated n file slot More m m')
+tries_by : {m m' : Sat} {n slot : ℕ} {file : Closed} {a b : ℕ} → (a ≡ b → HasAllocated n file slot More m m')
     → (a ≢ b → StillPlaces n Same m m') → Tries n file slot m (nat_eq a b) m'
-tries_by m m' n slot file a b won lost = dite (ℕ_discrete a b)
+tries_by {m} {m'} {n} {slot} {file} {a} {b} won lost = dite (ℕ_discrete a b)
     (λ same. subst (λ (z : Bool). Tries n file slot m z m') (sym (eq-eqb a b same)) (won same))
     (λ other. subst (λ (z : Bool). Tries n file slot m z m') (sym (ne_eqb a b other)) (lost other))
 
 -- a load that finds a free slot, and an exchange
-pub exchange_tried : (k : Start) (m m' m'' : Sat) (n slot i slots found old new : ℕ) (file : Closed) → IsPlacing k n file m
+pub exchange_tried : {k : Start} {m m' m'' : Sat} {n slot i slots found old new : ℕ} {file : Closed} → IsPlacing k n file m
     → slot_of i ≡ slot → Stepped m [] no_use m.0.work Same m' → m'.1 ≡ m.1
     → Exchanges (step slots i old new none) m' found m'' → Tries n file slot m (nat_eq found old) m''
-exchange_tried k m m' m'' n slot i slots found old new file p here s same e =
+exchange_tried {m} {m'} {m''} {n} {slot} {i} {found} {old} {file} p here s same e =
     let loaded = one_still p.work s same in
     let work = s.work ∙ p.work in
     let place = same ∙ p.place in
     let start = s.start ∙ p.at.pass.0 in
     let at_home : m'.1 ≡ (place_of m'.0.start n, Some file) ∷ [] = place ∙ λ i. (place_of (sym start i) n, Some file) ∷ [] in
-    tries_by m m'' n slot file found old
-    (λ is. let w = e.wins n file work at_home is in
+    tries_by (λ is. let w = e.wins n file work at_home is in
     let put = subst (λ (z : ℕ). Stepped m' ([] ▷ Allocate z (numbered n file)) one_number (Between Idle) More m'') here w.0 in
     allocated_then loaded (proceeds_one put, w.1 ∙ ap rest place))
     (λ other. let l = e.loses other in

@@ -19,8 +19,8 @@ start v = v.start
 
 -- the rule holds where passes are in other seats that do nothing
 module _ (k : Start) (s : Shared) (r : Agrees k s) (views : List View) (a : AreReseated logs start k IsIdle s.views views) where
-  new_view : (j : ℕ) (u : View) → IsAnew logs start k IsIdle s.views u → ViewAgrees k r.history r.phase j u
-  new_view j u new = record {
+  new_view : (j : ℕ) {u : View} → IsAnew logs start k IsIdle s.views u → ViewAgrees k r.history r.phase j u
+  new_view j new = record {
     logs = λ x h. let w = new.its x h in
         subst (λ (d : Work). LogAgrees k r.history r.phase d x) (w.3.0 ∙ sym new.idle.0) ((r.each_view w.0 w.1 w.2).logs x w.4);
     work = subst (WorkAgrees k r.phase j) (sym new.idle.0) tt;
@@ -40,7 +40,7 @@ module _ (k : Start) (s : Shared) (r : Agrees k s) (views : List View) (a : AreR
 
   reseated : Agrees k record { words = s.words; homes = s.homes; views = views }
   reseated = record {
-    shape = shape_kept k s _ refl refl r.shape;
+    shape = shape_kept refl refl r.shape;
     history = r.history;
     phase = r.phase;
     legal = r.legal;
@@ -48,7 +48,7 @@ module _ (k : Start) (s : Shared) (r : Agrees k s) (views : List View) (a : AreR
     each_node = r.each_node;
     each_owner = λ n has. owner_map s.views views n (does_still n) (r.phase n) (r.each_owner n has);
     no_other = r.no_other;
-    each_view = λ j u e. ⊎_elim (λ new. new_view j u new) (λ old. r.each_view j u old) (a.each j u e);
+    each_view = λ j u e. ⊎_elim (λ new. new_view j new) (λ old. r.each_view j u old) (a.each j u e);
     holds = λ n. r.holds n ∙ sym (a.by_work (λ u. holding n u.work) (λ u idle. ap (holding n) idle.0));
     look_ups = let b = by_log (λ y. y.looks_left) in let c = r.look_ups in omega arith;
     passes = λ p. by_log (λ y. one_if (eqb y.number p)) ∙ r.passes p;

@@ -12,9 +12,9 @@ use Rattle.fx_counted.proofs.Going.{work_between}
 use Rattle.fx_counted.proofs.Gathered.{known, whole}
 
 -- any seat may look, and nothing changes
-pub may_observe : (k : Start) (slots id i : ℕ) (me : Sat) → me.0.start ≡ k
+pub may_observe : {k : Start} (slots id i : ℕ) {me : Sat} → me.0.start ≡ k
     → Allows (Agrees k) slots id me i (λ n. n) (Observes (step slots i 0 0 mathlib.Core.Option.none) me)
-may_observe k slots id i me start s r wide at small = (
+may_observe slots id i {me} start s r wide at small = (
   me.0,
   keeps,
   tt,
@@ -25,7 +25,7 @@ may_observe k slots id i me start s r wide at small = (
 module _ (id : TableId) (k : Start) (p : CountedPass) (fits : IsPassOf id k p) (idle : (view_of p).doing ≡ Idle) (alone : k.passes ≡ 1)
     (s : Shared) (r : Agrees k s) (seat : ℕ) (at : get_elem? s.views seat ≡ some p.seat.me.0) where
   work : p.seat.me.0.work ≡ Between Idle
-  work = work_between p.seat.me.0.work _ fits.seated.work idle
+  work = work_between p.seat.me.0.work fits.seated.work idle
 
   only : (q : CountedPass) → Contains (p ∷ []) q → IsPassOf id k q
   only q h = subst (IsPassOf id k) (sym (contains_only p q h)) fits

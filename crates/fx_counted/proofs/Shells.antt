@@ -6,8 +6,8 @@ use Rattle.std.proofs.Math.ListN.{get_or-eq_default}
 use Rattle.fx_plain.proofs.Cells.{changed_here, changed_else}
 
 -- a table has no file behind its slots
-pub none_outside : (c : Contents) (slot : ℕ) → (state_of c).size ≤ slot → (state_of c).at slot ≡ None
-none_outside c slot g = ap (file_at c.nodes) (get_or-eq_default c.slots None g)
+pub none_outside : (c : Contents) {slot : ℕ} → (state_of c).size ≤ slot → (state_of c).at slot ≡ None
+none_outside c g = ap (file_at c.nodes) (get_or-eq_default c.slots None g)
 
 -- the slot has this file now, or none, and the others have what they had
 pub record Becomes (old : State) (slot : ℕ) (file : Option Closed) (new : State) : Type 0 where
@@ -18,9 +18,9 @@ pub record Becomes (old : State) (slot : ℕ) (file : Option Closed) (new : Stat
   pub settled : IsSettled new
 
 -- a file came to an empty slot, under the slot's number
-pub file_put : (a b : State) (slot : ℕ) (file : Closed) → IsSettled a
+pub file_put : {a b : State} {slot : ℕ} {file : Closed} → IsSettled a
     → b ≡ record a { at = changed_at a.at slot (Some (numbered slot file)) } → Becomes a slot (Some file) b
-file_put a b slot file settled is = let new = Some (numbered slot file) in
+file_put {a} {slot} {file} settled is = let new = Some (numbered slot file) in
     rw is (assumption (ap identity_of (changed_here a.at slot new slot refl), changed_else a.at slot new))
 
 -- between these slots the files are still away
@@ -32,8 +32,8 @@ pub record IsPartlyBack (shell : State) (file : ℕ → Option Closed) (from to 
   pub settled : IsSettled st
 
 module _ (shell : State) (file : ℕ → Option Closed) where
-  pub all_back : (st : State) (from to : ℕ) → to ≤ from → IsPartlyBack shell file from to st → AreBack shell file st
-  all_back st from to done p = record {
+  pub all_back : {st : State} {from to : ℕ} → to ≤ from → IsPartlyBack shell file from to st → AreBack shell file st
+  all_back {from} done p = record {
     size = p.size;
     range = p.range;
     files = λ slot. p.back slot (dite (dec_le (slot + 1) from) (λ l. inl (omega (arith, l))) (λ g. inr (omega (arith, g, done))));
@@ -41,10 +41,10 @@ module _ (shell : State) (file : ℕ → Option Closed) where
   }
 
   -- one of them is back, or there was none
-  one_back : (st st' : State) (slot from to from' to' : ℕ) → ((s : ℕ) → from' ≤ s → s < to' → (from ≤ s) × (s < to) × (s ≢ slot))
+  one_back : {st st' : State} {slot from to from' to' : ℕ} → ((s : ℕ) → from' ≤ s → s < to' → (from ≤ s) × (s < to) × (s ≢ slot))
       → ((s : ℕ) → s ≢ slot → (s < from') ⊎ (to' ≤ s) → (s < from) ⊎ (to ≤ s)) → Becomes st slot (file slot) st'
       → IsPartlyBack shell file from to st → IsPartlyBack shell file from' to' st'
-  one_back st st' slot from to from' to' inner outer gets p = record {
+  one_back {st'} {slot} inner outer gets p = record {
     size = gets.size ∙ p.size;
     range = gets.range ∙ p.range;
     away = λ s l u. let i = inner s l u in gets.others s i.2 ∙ p.away s i.0 i.1;
@@ -55,18 +55,18 @@ module _ (shell : State) (file : ℕ → Option Closed) where
   }
 
   -- the first of them, or the last
-  pub first_back : (st st' : State) (from to : ℕ) → Becomes st from (file from) st' → IsPartlyBack shell file from to st
+  pub first_back : {st st' : State} {from to : ℕ} → Becomes st from (file from) st' → IsPartlyBack shell file from to st
       → IsPartlyBack shell file (from + 1) to st'
-  first_back st st' from to = one_back st st' from from to (from + 1) to (λ s l u. (omega arith, u, λ same. omega arith))
+  first_back {st} {st'} {from} {to} = one_back (λ s l u. (omega arith, u, λ same. omega arith))
       (λ s ne out. ⊎_elim (λ (l : s < from + 1). inl (omega (arith, ne))) (λ (g : to ≤ s). inr g) out)
 
-  pub last_back : (st st' : State) (from to : ℕ) → Becomes st to (file to) st' → IsPartlyBack shell file from (to + 1) st
+  pub last_back : {st st' : State} {from to : ℕ} → Becomes st to (file to) st' → IsPartlyBack shell file from (to + 1) st
       → IsPartlyBack shell file from to st'
-  last_back st st' from to = one_back st st' to from (to + 1) from to (λ s l u. (l, omega arith, λ same. omega arith))
+  last_back {st} {st'} {from} {to} = one_back (λ s l u. (l, omega arith, λ same. omega arith))
       (λ s ne out. ⊎_elim (λ (l : s < from). inl l) (λ (g : to ≤ s). inr (omega (arith, ne))) out)
 
   -- a place without a file gives none to its slot
-  pub none_given : (st : State) (slot from to : ℕ) → from ≤ slot → slot < to → file slot ≡ None → IsPartlyBack shell file from to st
+  pub none_given : {st : State} {slot from to : ℕ} → from ≤ slot → slot < to → file slot ≡ None → IsPartlyBack shell file from to st
       → Becomes st slot (file slot) st
-  none_given st slot from to low high none p = rw none
+  none_given {slot} low high none p = rw none
       record { size = refl; range = refl; there = ap identity_of (p.away slot low high); others = λ other ne. refl; settled = p.settled }

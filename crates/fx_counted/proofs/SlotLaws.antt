@@ -28,19 +28,18 @@ module _ (turn : Turn) (s : ℕ) (inside : s < slots_of turn.v.start) where
   Facts = Effect turn s inside old refl
 
   pub cleared : Facts (Clear s old) None (state_after_all v.start r.history).fresh
-  cleared = let legal = legal_more v.start r.history (event_of (shown x v.work) (Clear s old)) r.legal (in_size turn s inside, refl) tt in
+  cleared = let legal = legal_more v.start r.legal (in_size turn s inside, refl) tt in
       record { legal = legal; state = refl; looked = refl; all = omega arith; held = refl }
 
   pub taken : Facts (Take s old) None (state_after_all v.start r.history).fresh
-  taken = let legal = legal_more v.start r.history (event_of (shown x v.work) (Take s old)) r.legal (in_size turn s inside, refl) tt in
+  taken = let legal = legal_more v.start r.legal (in_size turn s inside, refl) tt in
       record { legal = legal; state = refl; looked = refl; all = omega arith; held = refl }
 
   put : (n : ℕ) (file : Closed) → v.work ≡ Placing n → Facts (Put s (numbered n file) old) (Some (numbered n file))
       (changed_at (state_after_all v.start r.history).fresh n false)
   put n file works = let its = subst (WorkAgrees v.start r.phase id) works (its_work turn) in
-      let o = in_phase v.start st r n its.0 (placed id) its.1 in
-      let legal = legal_more v.start r.history (event_of (shown x v.work) (Put s (numbered n file) old)) r.legal
-      (in_size turn s inside, o.fresh, refl) tt in
+      let o = in_phase v.start st r its.0 its.1 in
+      let legal = legal_more v.start r.legal (in_size turn s inside, o.fresh, refl) tt in
       record { legal = legal; state = refl; looked = refl; all = omega arith; held = refl }
 
 -- the action does to a slot what a removal does
@@ -48,10 +47,10 @@ abbrev pub IsRemoval : (ℕ → Option File → Action) → Type 0
 IsRemoval act = (turn : Turn) (s : ℕ) (inside : s < slots_of turn.v.start)
     → Facts turn s inside (act s (old turn s inside)) None (state_after_all turn.v.start turn.r.history).fresh
 
-pub removes_keep : (act : ℕ → Option File → Action) → IsRemoval act → (k : Start) (slots id i slot : ℕ) (m : Sat) (x : Log) → HasPass k m x
+pub removes_keep : {act : ℕ → Option File → Action} → IsRemoval act → (k : Start) (slots id i slot : ℕ) (m : Sat) (x : Log) → HasPass k m x
     → m.0.work ≡ Between Idle → slot < slots_of k → MayChange k slot m.0.change → i ≡ slot_place slot
     → Allows (Agrees k) slots id m i (λ _. 0) (Removes act (step slots i 0 0 none) m)
-removes_keep act does k slots id i s m x has idle inside stands place = by_turn k slots id i m x (λ k. (s < slots_of k) × MayChange k s m.0.change)
+removes_keep {act} does k slots id i s m x has idle inside stands place = by_turn slots (λ k. (s < slots_of k) × MayChange k s m.0.change)
     (λ _. slot_place s) (λ _. 0) (λ i. Removes act (step slots i 0 0 none) m) has (inside, stands) place
     (λ st r here is fits. let turn = turn_of m x has.1 id st r here in let was = old turn s is.0 in let it = does turn s is.0 in (
       removed_view turn s is.0 was refl (act s was) is.1 idle it,
@@ -67,13 +66,13 @@ removes_keep act does k slots id i s m x has idle inside stands place = by_turn 
     ))
 
 pub clears_keep : ClearsKeep
-clears_keep = removes_keep Clear cleared
+clears_keep = removes_keep cleared
 
 pub takes_keep : TakesKeep
-takes_keep = removes_keep Take taken
+takes_keep = removes_keep taken
 
 pub installs_keep : InstallsKeep
-installs_keep k slots id i s n new file m x has works carries small inside stands place made = by_turn k slots id i m x
+installs_keep k slots id i s n new file m x has works carries small inside stands place made = by_turn slots
     (λ k. (m.1 ≡ (place_of k n, Some file) ∷ []) × (s < slots_of k) × MayChange k s m.0.change) (λ _. slot_place s) (λ _. new)
     (λ i. Installs (step slots i new 0 none) m) has (carries, inside, stands) place
     (λ st r here is fits. let turn = turn_of m x has.1 id st r here in let old = old turn s is.1 in
@@ -114,7 +113,7 @@ module _ (turn : Turn) (i : ℕ) where
       })
 
 pub loads_keep : LoadsKeep
-loads_keep k slots id i m x has same = by_turn k slots id i m x (λ _. Unit {0}) (λ _. i) (λ word. word) (λ i. GoesOn Same (step slots i 0 0 none) m)
+loads_keep k slots id i m x has same = by_turn slots (λ _. Unit {0}) (λ _. i) (λ word. word) (λ i. GoesOn Same (step slots i 0 0 none) m)
     has tt refl (λ st r here _ fits. let turn = turn_of m x has.1 id st r here in (
       went turn r.history m.0.work m.0.change,
       keeps,
@@ -171,11 +170,10 @@ module _ (turn : Turn) (slots s n old_word : ℕ) (file : Closed) (carried : Lis
 
     allocated : Effect turn s within None at_none a (Some (numbered n file)) (changed_at (state_after_all v.start r.history).fresh n false)
     allocated = let its = subst (WorkAgrees v.start r.phase id) works (its_work turn) in
-        let o = in_phase v.start st r n its.0 (placed id) its.1 in
+        let o = in_phase v.start st r its.0 its.1 in
         let z = (same_shape v.start r.history).1 in let p = ap (λ (p : ℕ × ℕ). p.0) z in let q = ap (λ (p : ℕ × ℕ). p.1) z in
         let low = in_range.0 in let high = in_range.1 in
-        let legal = legal_more v.start r.history (event_of (shown x v.work) a) r.legal
-        (in_size turn s within, (omega arith, omega arith), at_none, o.fresh) tt in
+        let legal = legal_more v.start r.legal (in_size turn s within, (omega arith, omega arith), at_none, o.fresh) tt in
         record { legal = legal; state = refl; looked = refl; all = omega arith; held = refl }
 
     abbrev w : View
@@ -201,7 +199,7 @@ module _ (turn : Turn) (slots s n old_word : ℕ) (file : Closed) (carried : Lis
     )
 
 pub exchanges_keep : ExchangesKeep
-exchanges_keep k slots id i s n old new file m x has works carries small same in_range place empty made = by_turn k slots id i m x
+exchanges_keep k slots id i s n old new file m x has works carries small same in_range place empty made = by_turn slots
     (λ k. (m.1 ≡ (place_of k n, Some file) ∷ []) × IsInRange k s)
     (λ _. slot_place s) (λ word. either (eqb word old) new word) (λ i. Exchanges (step slots i old new none) m) has (carries, in_range) place
     (λ st r here is fits. let turn = turn_of m x has.1 id st r here in

@@ -25,8 +25,7 @@ module _ (k : Start) (words : List ℕ) (homes : List (Option Closed)) where
     passes = passes;
     numbers = numbers;
     entries = λ slot f there. dite (dec_le (slot + 1) st.size)
-        (λ l. w.entries slot f (omega (arith, l)) there)
-        (λ g. let none = none_outside k.plain.value slot (omega (arith, g)) in
+        (λ l. w.entries slot f (omega (arith, l)) there) (λ g. let none = none_outside k.plain.value (omega (arith, g)) in
         let bad : Some f ≡ None = sym there ∙ ap (λ (x : Option File). file_numbered x slot) none in absurd (cc bad));
     words_length = w.count;
     homes_length = h.count;
@@ -34,32 +33,31 @@ module _ (k : Start) (words : List ℕ) (homes : List (Option Closed)) where
     draw = w.draw;
     slot_words = w.slots;
     node_words = w.nodes;
-    files = λ slot l. ap (get_elem? homes) (low_home st.size slot l) ∙ (h.files slot l ∙ ap some (home_is (st.at slot) slot));
+    files = λ slot l. ap (get_elem? homes) (low_home st.size l) ∙ (h.files slot l ∙ ap some (home_is (st.at slot) slot));
     fresh_words = λ n low high. w.fresh _ (let e = high_node st.size n (omega arith) in omega arith);
     fresh_places = λ n low high. let e = high_home st.size n (omega arith) in h.others (home_place st.size n) (omega arith) (omega arith);
   }
 
 -- the files of the slots came back
-pub given_back : (c : Contents) (numbers : ℕ) (left : State) (homes : List (Option Closed)) (back : Contents) → IsShellOf (state_of c) left
+pub given_back : {c : Contents} {numbers : ℕ} {left : State} {homes : List (Option Closed)} {back : Contents} → IsShellOf (state_of c) left
     → AreFirstHomes (state_of c) numbers homes → AreBack left (file_in_place homes) (state_of back) → IsGivenBack c back
-given_back c numbers left homes back empty first b = record {
+given_back {c} {homes} {back} empty first b = record {
   files = record {
     size = b.size ∙ empty.size;
     range = b.range ∙ empty.range;
-    files = λ slot. dite (dec_le (slot + 1) (state_of c).size)
-        (λ l. b.files slot ∙ read_at homes slot _ None (first.files slot (omega (arith, l))))
-        (λ g. ap identity_of (none_outside back slot (let e = b.size in let d = empty.size in omega (arith, g, e, d)))
-        ∙ sym (ap identity_of (none_outside c slot (omega (arith, g)))));
+    files = λ slot. dite (dec_le (slot + 1) (state_of c).size) (λ l. b.files slot ∙ read_at homes slot None (first.files slot (omega (arith, l))))
+        (λ g. ap identity_of (none_outside back (let e = b.size in let d = empty.size in omega (arith, g, e, d)))
+        ∙ sym (ap identity_of (none_outside c (omega (arith, g)))));
   };
   settled = b.settled;
 }
 
 -- the other places are empty
-pub others_empty : (c : Contents) (numbers : ℕ) (left : State) (homes : List (Option Closed)) → IsShellOf (state_of c) left
-    → AreFirstHomes (state_of c) numbers homes → (place : ℕ) → left.size ≤ place → file_in_place homes place ≡ None
-others_empty c numbers left homes empty first place g =
+pub others_empty : (c : Contents) {numbers : ℕ} {left : State} {homes : List (Option Closed)} → IsShellOf (state_of c) left
+    → AreFirstHomes (state_of c) numbers homes → {place : ℕ} → left.size ≤ place → file_in_place homes place ≡ None
+others_empty c {numbers} {homes} empty first {place} g =
     let size = empty.size in
     let count = first.count in
     dite (dec_le (place + 1) (homes_for (state_of c).size numbers))
-    (λ l. read_at homes place None None (first.others place (omega (arith, g, size)) (omega (arith, l))))
+    (λ l. read_at homes place None (first.others place (omega (arith, g, size)) (omega (arith, l))))
     (λ past. get_or-eq_default homes None (omega (arith, past, count)))

@@ -25,17 +25,17 @@ abbrev pub NotOf : ℕ → Option File → Type 0
 NotOf n None = Unit {0}
 NotOf n (Some f) = n ≢ f.number
 
-out_else : (id : ℕ) (old : Option File) (takes : ℕ) (phase : ℕ → Phase) (n : ℕ) → NotOf n old → gone_out id old takes phase n ≡ phase n
-out_else id None takes phase n other = refl
-out_else id (Some f) takes phase n other = changed_else phase f.number (leaving id takes f.identity) n other
+out_else : (id : ℕ) (old : Option File) (takes : ℕ) (phase : ℕ → Phase) {n : ℕ} → NotOf n old → gone_out id old takes phase n ≡ phase n
+out_else id None takes phase other = refl
+out_else id (Some f) takes phase {n} other = changed_else phase f.number (leaving id takes f.identity) n other
 
-removed_else : (removed : ℕ → Option File) (old : Option File) (n : ℕ) → NotOf n old → with_removed removed old n ≡ removed n
-removed_else removed None n other = refl
-removed_else removed (Some f) n other = changed_else removed f.number (Some f) n other
+removed_else : (removed : ℕ → Option File) (old : Option File) {n : ℕ} → NotOf n old → with_removed removed old n ≡ removed n
+removed_else removed None other = refl
+removed_else removed (Some f) {n} other = changed_else removed f.number (Some f) n other
 
-by_old : (old : Option File) (n : ℕ) (P : Type 0) → ((f : File) → old ≡ Some f → n ≡ f.number → P) → (NotOf n old → P) → P
-by_old None n P is else = else tt
-by_old (Some f) n P is else = dite (ℕ_discrete n f.number) (λ same. is f refl same) (λ other. else other)
+by_old : (old : Option File) {n : ℕ} (P : Type 0) → ((f : File) → old ≡ Some f → n ≡ f.number → P) → (NotOf n old → P) → P
+by_old None P is else = else tt
+by_old (Some f) {n} P is else = dite (ℕ_discrete n f.number) (λ same. is f refl same) (λ other. else other)
 
 -- a pass that retires holds nothing
 retires_alone : (old : Option File) (takes : ℕ) → ((n : ℕ) → holding n (Between (retiring old takes)) ≡ 0)
@@ -60,16 +60,16 @@ module _ (turn : Turn) (s : ℕ) (inside : s < slots_of turn.v.start) where
     names_old = subst (Names found) was (r.each_slot s inside).names
 
     -- a number whose phase isn't that of a file at the slot is not the old file's
-    not_old : (n : ℕ) (ph : Phase) → r.phase n ≡ ph → ((f : Closed) → ph ≢ seated s f) → NotOf n old
-    not_old n ph is not_seated = go old was
+    not_old : {n : ℕ} {ph : Phase} → r.phase n ≡ ph → ((f : Closed) → ph ≢ seated s f) → NotOf n old
+    not_old {n} is not_seated = go old was
       where
         go : (old : Option File) → state.at s ≡ old → NotOf n old
         go None was = tt
-        go (Some f) was = λ same. not_seated f.identity (sym is ∙ (ap r.phase same ∙ (seat_in v.start st r s inside f was).2))
+        go (Some f) was = λ same. not_seated f.identity (sym is ∙ (ap r.phase same ∙ (seat_in v.start st r inside was).2))
 
     -- a seated file is elsewhere, if it is not the old one
-    elsewhere : (n i : ℕ) (g : Closed) → NotOf n old → state.at i ≡ Some (numbered n g) → i ≢ s
-    elsewhere n i g other there same = go old was other
+    elsewhere : {n i : ℕ} {g : Closed} → NotOf n old → state.at i ≡ Some (numbered n g) → i ≢ s
+    elsewhere {n} {g} other there same = go old was other
       where
         go : (old : Option File) → state.at s ≡ old → NotOf n old → ⊥
         go None was other = let z : None ≡ Some (numbered n g) = sym was ∙ (ap state.at (sym same) ∙ there) in cc z
@@ -81,7 +81,7 @@ module _ (turn : Turn) (s : ℕ) (inside : s < slots_of turn.v.start) where
 
     inside_now : (file : Option File) → old ≡ file → IsInside v.start (Between (retiring file (takes_in found)))
     inside_now None is = tt
-    inside_now (Some f) is = (seat_in v.start st r s inside f (was ∙ is)).0
+    inside_now (Some f) is = (seat_in v.start st r inside (was ∙ is)).0
 
     module _ (a : Action) where
       abbrev h' : List Event
@@ -130,9 +130,9 @@ module _ (turn : Turn) (s : ℕ) (inside : s < slots_of turn.v.start) where
           control : ControlCounts (changed_at state.at s new) (range_of (opening_of v.start)) (set st.views id w) (word_at st.words control_place)
 
         module _ (p : Swap) where
-          old_node : (f : File) → old ≡ Some f → NodeAgrees after f.number (looks r.history f.number) (word_at st.words (word_of v.start f.number))
+          old_node : {f : File} → old ≡ Some f → NodeAgrees after f.number (looks r.history f.number) (word_at st.words (word_of v.start f.number))
               (get_elem? homes' (place_of v.start f.number)) (leaving id (takes_in found) f.identity)
-          old_node f is = let its = seat_in v.start st r s inside f (was ∙ is) in let n = in_phase v.start st r f.number its.0 (seated s f.identity) its.2 in
+          old_node {f} is = let its = seat_in v.start st r inside (was ∙ is) in let n = in_phase v.start st r its.0 its.2 in
               let h = ap (λ (z : State). z.holds f.number) p.does.state in record {
                 counts = let a = n.counts in omega arith;
                 at_home = p.old_home f is ∙ n.at_home;
@@ -142,17 +142,16 @@ module _ (turn : Turn) (s : ℕ) (inside : s < slots_of turn.v.start) where
                     ∙ changed_here state.removed f.number (Some f) f.number refl);
               }
 
-          out_here : (f : File) → old ≡ Some f → phase' f.number ≡ leaving id (takes_in found) f.identity
-          out_here f is = ap (λ (o : Option File). gone_out id o (takes_in found) phase₁ f.number) is
+          out_here : {f : File} → old ≡ Some f → phase' f.number ≡ leaving id (takes_in found) f.identity
+          out_here {f} is = ap (λ (o : Option File). gone_out id o (takes_in found) phase₁ f.number) is
               ∙ changed_here phase₁ f.number (leaving id (takes_in found) f.identity) f.number refl
 
-          else_phase : (n : ℕ) → NotOf n old → phase' n ≡ phase₁ n
-          else_phase n other = out_else id old (takes_in found) phase₁ n other
+          else_phase : {n : ℕ} → NotOf n old → phase' n ≡ phase₁ n
+          else_phase {n} other = out_else id old (takes_in found) phase₁ other
 
           -- a number that is neither the old file's nor placed
-          same_phase : (n : ℕ) (ph : Phase) → r.phase n ≡ ph → NotOf n old → (ph ≡ placed id → ⊥) → phase' n ≡ ph
-          same_phase n ph is apart other = else_phase n apart
-              ∙ ⊎_elim (λ same. same ∙ is) (λ mine. absurd (other (sym is ∙ mine))) (p.kept n)
+          same_phase : {n : ℕ} {ph : Phase} → r.phase n ≡ ph → NotOf n old → (ph ≡ placed id → ⊥) → phase' n ≡ ph
+          same_phase {n} is apart other = else_phase apart ∙ ⊎_elim (λ same. same ∙ is) (λ mine. absurd (other (sym is ∙ mine))) (p.kept n)
 
           -- no look is told
           now_in : (n : ℕ) {ph : Phase} → ph ≡ phase' n → NodeAgrees after n (looks r.history n) (word_at st.words (word_of v.start n))
@@ -166,7 +165,7 @@ module _ (turn : Turn) (s : ℕ) (inside : s < slots_of turn.v.start) where
             number = refl;
             grows = grows_one x.number r.history _ refl;
             legal = p.does.legal;
-            slots = slots_now turn s inside word' h' phase' (
+            slots = slots_now turn s inside word' (
                 let at_is : after.at s ≡ new = ap (λ (z : State). z.at s) p.does.state ∙ changed_here state.at s new s refl in record {
                   names = subst (Names word') (sym at_is) p.names;
                   seat = subst (IsSeated v.start (looks h') phase' s word') (sym at_is) (seat_now new refl p.seat);
@@ -176,54 +175,49 @@ module _ (turn : Turn) (s : ℕ) (inside : s < slots_of turn.v.start) where
                   ap (λ (z : State). z.at i) p.does.state ∙ changed_else state.at s new i other,
                   λ f there its. (
                     ap (λ (g : ℕ → ℕ). g f.number) p.does.looked,
-                    same_phase f.number (seated i f.identity) its (not_old f.number (seated i f.identity) its (λ g bad. other (cc bad))) (λ bad. cc bad)
-                        ∙ sym its,
+                    same_phase its (not_old its (λ g bad. other (cc bad))) (λ bad. cc bad) ∙ sym its,
                   ),
                 ));
-            nodes = λ n has. node_now turn s inside word' h' homes' (phase' n) n has (by_old old n (NodeIn v.start st.words homes' h' n (phase' n))
-                (λ f is same. rw same (now_in f.number (sym (out_here f is)) (old_node f is)))
-                (λ other. now_in n (sym (else_phase n other)) (p.nodes n has other)));
-            owners = λ n has. by_old old n (OwnerAgrees (set st.views id w) n (phase' n))
-                (λ f is same. rw (same, out_here f is) (does_now st.views id v w (Between (Retiring f (takes_in found))) here
+            nodes = λ n has. node_now turn s inside word' h' homes' (phase' n) has (by_old old (NodeIn v.start st.words homes' h' n (phase' n))
+                (λ f is same. rw same (now_in f.number (sym (out_here is)) (old_node is)))
+                (λ other. now_in n (sym (else_phase other)) (p.nodes n has other)));
+            owners = λ n has. by_old old (OwnerAgrees (set st.views id w) n (phase' n))
+                (λ f is same. rw (same, out_here is) (does_now st.views id v w (Between (Retiring f (takes_in found))) here
                 (ap (λ (o : Option File). Between (retiring o (takes_in found))) is)))
-                (λ other. subst (OwnerAgrees (set st.views id w) n) (sym (else_phase n other)) (p.owners n has other));
+                (λ other. subst (OwnerAgrees (set st.views id w) n) (sym (else_phase other)) (p.owners n has other));
             no_other = λ n absent. ap (λ (z : State). z.removed n) p.does.state
-                ∙ (removed_else state.removed old n (absent_old n absent old refl) ∙ r.no_other n absent);
+                ∙ (removed_else state.removed old (absent_old absent old refl) ∙ r.no_other n absent);
             stays = record {
-              owned = λ n some not_mine. same_phase n (r.phase n) refl (not_old n (r.phase n) refl (λ f bad. some (ap owner bad)))
-                  (λ bad. not_mine (ap owner bad));
-              spared = λ n q is other. same_phase n (spare q) is (not_old n (spare q) is (λ f bad. cc bad)) (λ bad. cc bad);
+              owned = λ n some not_mine. same_phase refl (not_old refl (λ f bad. some (ap owner bad))) (λ bad. not_mine (ap owner bad));
+              spared = λ n q is other. same_phase is (not_old is (λ f bad. cc bad)) (λ bad. cc bad);
             };
-            keeps = λ j u f other there holds. by_old old f.number (file_in (phase' f.number) ≡ file_in (r.phase f.number))
-                (λ g is same. ap (λ (m : ℕ). file_in (phase' m)) same
-                ∙ (ap file_in (out_here g is)
-                ∙ (sym (ap file_in (seat_in v.start st r s inside g (was ∙ is)).2) ∙ ap (λ (m : ℕ). file_in (r.phase m)) (sym same))))
-                (λ apart. ap file_in (same_phase f.number (r.phase f.number) refl apart
-                (λ bad. unheld turn f.number (ap file_in bad) j u f there holds refl)));
-            log = log_now turn h' phase' left x.looks_left d p.fewer
-                (held_mine x.number (event_of (shown x v.work) a) r.history refl ∙ (p.does.held ∙ (o.held ∙ (p.none_held.0 ∙ sym alone.1))))
-                tt (λ n low high. let q = p.spares n (omega arith) high in else_phase n q.1 ∙ q.0);
+            keeps = λ j u f other there holds. by_old old (file_in (phase' f.number) ≡ file_in (r.phase f.number))
+                (λ g is same. ap (λ (m : ℕ). file_in (phase' m)) same ∙ (ap file_in (out_here is)
+                ∙ (sym (ap file_in (seat_in v.start st r inside (was ∙ is)).2) ∙ ap (λ (m : ℕ). file_in (r.phase m)) (sym same))))
+                (λ apart. ap file_in (same_phase refl apart (λ bad. unheld turn f.number (ap file_in bad) j u f there holds refl)));
+            log = log_now turn p.fewer
+                (held_mine (event_of (shown x v.work) a) r.history refl ∙ (p.does.held ∙ (o.held ∙ (p.none_held.0 ∙ sym alone.1))))
+                tt (λ n low high. let q = p.spares n (omega arith) high in else_phase q.1 ∙ q.0);
             work = works old refl;
             holds = λ n. let a = p.none_held.1 n in let b = alone.0 n in
                 let g = ap (λ (z : State). z.holds n) p.does.state in omega arith;
             look_ups = let z = p.does.all in omega arith;
             control = control_now turn s inside word' (rw p.does.state p.control);
-            draws = draws_now turn s inside word' h' left x.looks_left d c phase'
-                (λ n is. same_phase n unborn is (not_old n unborn is (λ f bad. cc bad)) (λ bad. cc bad));
+            draws = draws_now turn s inside word' h' left x.looks_left d c (λ n is. same_phase is (not_old is (λ f bad. cc bad)) (λ bad. cc bad));
           }
             where
               seat_now : (file : Option File) → new ≡ file → IsSeated v.start (looks r.history) phase₁ s word' file
                   → IsSeated v.start (looks h') phase' s word' file
               seat_now None is z = tt
-              seat_now (Some f) is z = (z.0, z.1 ∙ sym (ap (λ (g : ℕ → ℕ). g f.number) p.does.looked), else_phase f.number (p.new_apart f is) ∙ z.2)
+              seat_now (Some f) is z = (z.0, z.1 ∙ sym (ap (λ (g : ℕ → ℕ). g f.number) p.does.looked), else_phase (p.new_apart f is) ∙ z.2)
 
-              absent_old : (n : ℕ) → (IsNumber v.start n → ⊥) → (file : Option File) → old ≡ file → NotOf n file
-              absent_old n absent None is = tt
-              absent_old n absent (Some f) is = λ same. absent (subst (IsNumber v.start) (sym same) (seat_in v.start st r s inside f (was ∙ is)).0)
+              absent_old : {n : ℕ} → (IsNumber v.start n → ⊥) → (file : Option File) → old ≡ file → NotOf n file
+              absent_old absent None is = tt
+              absent_old absent (Some f) is = λ same. absent (subst (IsNumber v.start) (sym same) (seat_in v.start st r inside (was ∙ is)).0)
 
               works : (file : Option File) → old ≡ file → WorkAgrees v.start phase' id (Between (retiring file (takes_in found)))
               works None is = tt
-              works (Some f) is = ((seat_in v.start st r s inside f (was ∙ is)).0, out_here f is)
+              works (Some f) is = ((seat_in v.start st r inside (was ∙ is)).0, out_here is)
 
           swap_agrees : Agrees v.start record { words = words_now turn s inside word'; homes = homes'; views = set st.views id w }
           swap_agrees = step_kept turn y d c h' phase' (words_now turn s inside word') homes' swap_step
@@ -248,15 +242,14 @@ module _ (turn : Turn) (s : ℕ) (inside : s < slots_of turn.v.start) where
             new_apart = λ f is. absurd (cc is);
             kept = λ n. inl refl;
             nodes = λ n has other. node_same state after n (looks r.history n) (looks r.history n) _ _ _ _
-                (ap (λ (z : State). z.fresh n) does.state) (ap (λ (z : State). z.removed n) does.state ∙ removed_else state.removed old n other)
+                (ap (λ (z : State). z.fresh n) does.state) (ap (λ (z : State). z.removed n) does.state ∙ removed_else state.removed old other)
                 (ap (λ (z : State). z.holds n) does.state) refl refl refl (ap (λ (z : State). z.size) does.state) (r.phase n)
-                (λ i g is there. ap (λ (z : State). z.at i) does.state ∙ changed_else state.at s None i (elsewhere n i g other there))
-                (r.each_node n has);
+                (λ i g is there. ap (λ (z : State). z.at i) does.state ∙ changed_else state.at s None i (elsewhere other there)) (r.each_node n has);
             old_home = λ f is. refl;
             owners = λ n has other. owner_stays st.views id v removed_view here n (λ bad. let b = ap busy idle in omega arith) (r.phase n)
                 (r.each_owner n has);
             fewer = omega arith;
-            spares = λ n low high. let p = ap placing idle in let q = o.spares n (omega arith) high in (q, not_old n (spare x.number) q (λ g bad. cc bad));
+            spares = λ n low high. let p = ap placing idle in let q = o.spares n (omega arith) high in (q, not_old q (λ g bad. cc bad));
             none_held = (ap held_in idle, λ n. ap (holding n) idle);
             control = control_swap state.at (range_of (opening_of v.start)) st.views id v _ _ s old None here was stands refl r.control;
           }
@@ -265,7 +258,7 @@ module _ (turn : Turn) (s : ℕ) (inside : s < slots_of turn.v.start) where
           removal_agrees = swap_agrees 0 None st.homes r.phase x.numbers_left c₀ removal
 
           pub removal_tells : (carried : List (ℕ × Option Closed)) → Stepped (v, carried) ([] ▷ a) no_use d c₀ (removed_view, carried)
-          removal_tells carried = tells_one turn a does.legal carried carried d c₀ (inside_now old refl)
+          removal_tells carried = tells_one turn does.legal carried carried c₀ (inside_now old refl)
 
         -- an installation
         module _ (n : ℕ) (file : Closed) (works : v.work ≡ Placing n) (small : file.entry < 2 ^ 8)
@@ -277,7 +270,7 @@ module _ (turn : Turn) (s : ℕ) (inside : s < slots_of turn.v.start) where
           next = subst (PlacesNext v.start x) works (its_log turn).next
 
           apart_old : NotOf n old
-          apart_old = not_old n (placed id) its.1 (λ g bad. cc bad)
+          apart_old = not_old its.1 (λ g bad. cc bad)
 
           abbrev homes₁ : Homes
           homes₁ = set st.homes (place_of v.start n) (some (Some file))
@@ -295,23 +288,22 @@ module _ (turn : Turn) (s : ℕ) (inside : s < slots_of turn.v.start) where
           Node m ph = NodeAgrees after m (looks r.history m) (word_at st.words (word_of v.start m)) (get_elem? homes₁ (place_of v.start m)) ph
 
           node_here : Node n (seated s file)
-          node_here = let o = in_phase v.start st r n its.0 (placed id) its.1 in let h = ap (λ (z : State). z.holds n) does.state in record {
+          node_here = let o = in_phase v.start st r its.0 its.1 in let h = ap (λ (z : State). z.holds n) does.state in record {
             counts = let a = o.counts in let b = o.no_looks in let c = o.no_holds in omega arith;
-            at_home = set_here st.homes (place_of v.start n) (some (Some file)) (roomy turn n its.0);
+            at_home = set_here st.homes (place_of v.start n) (some (Some file)) (roomy turn its.0);
             inside = let z = in_size in let q = ap (λ (z : State). z.size) does.state in omega arith;
             there = ap (λ (z : State). z.at s) does.state ∙ changed_here state.at s (Some (numbered n file)) s refl;
-            not_removed = ap (λ (z : State). z.removed n) does.state ∙ (removed_else state.removed old n apart_old ∙ o.not_removed);
+            not_removed = ap (λ (z : State). z.removed n) does.state ∙ (removed_else state.removed old apart_old ∙ o.not_removed);
           }
 
-          node_else : (m : ℕ) → IsNumber v.start m → m ≢ n → NotOf m old → Node m (r.phase m)
-          node_else m has other apart = node_same state after m (looks r.history m) (looks r.history m) _ _ _ _
+          node_else : {m : ℕ} → IsNumber v.start m → m ≢ n → NotOf m old → Node m (r.phase m)
+          node_else {m} has other apart = node_same state after m (looks r.history m) (looks r.history m) _ _ _ _
               (ap (λ (z : State). z.fresh m) does.state ∙ changed_else state.fresh n false m other)
-              (ap (λ (z : State). z.removed m) does.state ∙ removed_else state.removed old m apart)
-              (ap (λ (z : State). z.holds m) does.state) refl refl
-              (set_else st.homes (place_of v.start n) (place_of v.start m) (some (Some file)) (else_place turn n its.0 m has other))
+              (ap (λ (z : State). z.removed m) does.state ∙ removed_else state.removed old apart) (ap (λ (z : State). z.holds m) does.state) refl refl
+              (set_else st.homes (place_of v.start n) (place_of v.start m) (some (Some file)) (else_place turn its.0 has other))
               (ap (λ (z : State). z.size) does.state) (r.phase m)
               (λ i g is there. ap (λ (z : State). z.at i) does.state
-              ∙ changed_else state.at s (Some (numbered n file)) i (elsewhere m i g apart there)) (r.each_node m has)
+              ∙ changed_else state.at s (Some (numbered n file)) i (elsewhere apart there)) (r.each_node m has)
 
           installation : Swap (slot_word_of n file.entry) (Some (numbered n file)) homes₁ phase₁ (x.numbers_left - 1) c₁
           installation = let o = its_log turn in record {
@@ -322,27 +314,26 @@ module _ (turn : Turn) (s : ℕ) (inside : s < slots_of turn.v.start) where
             no_takes = takes_made n file.entry;
             seat = (
               its.0,
-              takes_made n file.entry ∙ sym (in_phase v.start st r n its.0 (placed id) its.1).no_looks,
+              takes_made n file.entry ∙ sym (in_phase v.start st r its.0 its.1).no_looks,
               changed_here r.phase n (seated s file) n refl,
             );
             new_apart = λ f is. let same : n ≡ f.number = (let e : numbered n file ≡ f = cc is in
                 ap (λ (f : File). f.number) e) in subst (λ (m : ℕ). NotOf m old) same apart_old;
-            kept = λ m. each_changed (λ m ph. (ph ≡ r.phase m) ⊎ (r.phase m ≡ placed id)) r.phase n (seated s file) m
+            kept = λ m. each_changed (λ m ph. (ph ≡ r.phase m) ⊎ (r.phase m ≡ placed id)) r.phase
                 (λ same. inr (ap r.phase same ∙ its.1)) (λ other. inl refl);
-            nodes = λ m has apart. each_changed Node r.phase n (seated s file) m
-                (λ same. subst (λ (m : ℕ). Node m (seated s file)) (sym same) node_here) (λ other. node_else m has other apart);
-            old_home = λ f is. let q = seat_in v.start st r s inside f (was ∙ is) in
-                set_else st.homes (place_of v.start n) (place_of v.start f.number) (some (Some file))
-                (else_place turn n its.0 f.number q.0
+            nodes = λ m has apart. each_changed Node r.phase
+                (λ same. subst (λ (m : ℕ). Node m (seated s file)) (sym same) node_here) (λ other. node_else has other apart);
+            old_home = λ f is. let q = seat_in v.start st r inside (was ∙ is) in
+                set_else st.homes (place_of v.start n) (place_of v.start f.number) (some (Some file)) (else_place turn its.0 q.0
                 (λ same. let z : seated s f.identity ≡ placed id = sym q.2 ∙ (ap r.phase same ∙ its.1) in cc z));
-            owners = λ m has apart. each_changed (OwnerAgrees (set st.views id installed_view)) r.phase n (seated s file) m (λ same. tt)
+            owners = λ m has apart. each_changed (OwnerAgrees (set st.views id installed_view)) r.phase (λ same. tt)
                 (λ other. owner_stays st.views id v installed_view here m (λ bad. let b = ap busy works in other (omega arith)) (r.phase m)
                 (r.each_owner m has));
             fewer = omega arith;
             spares = λ m low high. let p = ap placing works in let z = next in let few = o.left_inside in let q = o.spares m (omega arith) high in (
-              each_changed (λ m ph. ph ≡ spare x.number) r.phase n (seated s file) m
+              each_changed (λ m ph. ph ≡ spare x.number) r.phase
                   (λ same. let bad : spare x.number ≡ placed id = sym q ∙ (ap r.phase same ∙ its.1) in absurd (cc bad)) (λ other. q),
-              not_old m (spare x.number) q (λ g bad. cc bad),
+              not_old q (λ g bad. cc bad),
             );
             none_held = (ap held_in works, λ m. ap (holding m) works);
             control = control_swap state.at (range_of (opening_of v.start)) st.views id v _ _ s old (Some (numbered n file)) here was stands refl r.control;
@@ -357,5 +348,5 @@ module _ (turn : Turn) (s : ℕ) (inside : s < slots_of turn.v.start) where
 
           pub installation_tells : (carried homes : List (ℕ × Option Closed)) → Stepped (v, carried) ([] ▷ a) one_number d c₁ (installed_view, homes)
           installation_tells carried homes = tells turn carried homes h' (x.numbers_left - 1) x.looks_left d c₁ ([] ▷ a) one_number
-              (grows_one x.number r.history _ refl) does.legal (part_mine x.number _ r.history refl)
+              (grows_one x.number r.history _ refl) does.legal (part_mine r.history refl)
               (let z = next in omega arith) (omega arith) (inside_now old refl)

@@ -73,11 +73,11 @@ module _ (views : List View) (id : ℕ) (v w : View) (here : get_elem? views id 
       → ((n : ℕ) → phase n ≡ unborn → phase' n ≡ unborn) → DrawsCount chains numbers phase views word → DrawsCount chains numbers phase' (set views id w) word'
   draws_same one one' drawn told same keeps ok =
       let t : sum_by told_of (set views id w) ≡ sum_by told_of views =
-      total_same (λ z. one_if z.no_chains_left) views id v w here one one' (ap one_if told) in
+      total_same (λ z. one_if z.no_chains_left) views id w here one one' (ap one_if told) in
       record {
         given = ok.given;
         few = ok.few;
-        each = λ c. total_same (λ z. times c z.drawn) views id v w here one one' (ap (times c) drawn) ∙ ok.each c;
+        each = λ c. total_same (λ z. times c z.drawn) views id w here one one' (ap (times c) drawn) ∙ ok.each c;
         counts = let c = ok.counts in omega arith;
         all = λ some. ok.all (omega arith);
         unused = λ n low high. keeps n (ok.unused n low high);

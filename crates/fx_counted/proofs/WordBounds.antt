@@ -22,21 +22,21 @@ module _ (k : Start) (s : Shared) (r : Agrees k s) where
   few_releases : (n word holds : ℕ) → word + looks r.history n ≡ 4294967296 + holds → 4294967296 ≤ word + 16777216
   few_releases n word holds is = let a = looks_few r.history n in let b = few_looks in omega arith
 
-  of_slot : (slot number : ℕ) (file : Option File) → Names (slot_word_in s slot) file
+  of_slot : (slot : ℕ) {number : ℕ} (file : Option File) → Names (slot_word_in s slot) file
       → IsSeated k (looks r.history) r.phase slot (slot_word_in s slot) file → node_in (slot_word_in s slot) ≡ Some number
       → 4294967296 ≤ node_word_in k s number + 16777216
-  of_slot slot number None names seat is = let e : None ≡ Some number = sym (node_is (slot_word_in s slot) None names) ∙ is in absurd (cc e)
-  of_slot slot number (Some f) names seat is =
+  of_slot slot {number} None names seat is = let e : None ≡ Some number = sym (node_is (slot_word_in s slot) None names) ∙ is in absurd (cc e)
+  of_slot slot {number} (Some f) names seat is =
       let e : Some f.number ≡ Some number = sym (node_is (slot_word_in s slot) (Some f) names) ∙ is in
       let same : f.number ≡ number = cc in
-      let a = in_phase k s r f.number seat.0 (seated slot f.identity) seat.2 in
+      let a = in_phase k s r seat.0 seat.2 in
       subst (λ (n : ℕ). 4294967296 ≤ node_word_in k s n + 16777216) same (few_releases f.number _ _ a.counts)
 
   each_leaving : (seat takes : ℕ) (v : View) (f : File) → get_elem? s.views seat ≡ some v → v.work ≡ Between (Retiring f takes)
       → 4294967296 ≤ node_word_in k s f.number + 16777216
   each_leaving seat takes v f there is =
       let work : WorkAgrees k r.phase seat (Between (Retiring f takes)) = subst (WorkAgrees k r.phase seat) is (r.each_view seat v there).work in
-      let a = in_phase k s r f.number work.0 (leaving seat takes f.identity) work.1 in few_releases f.number _ _ a.counts
+      let a = in_phase k s r work.0 work.1 in few_releases f.number _ _ a.counts
 
   few_draws : draw_word_in s ≤ k.chains + 16
   few_draws = let a = sum_le_at told_of lengths s.views (λ j u e. told_few u.logs) in let b = few_passes in
@@ -48,7 +48,7 @@ module _ (k : Start) (s : Shared) (r : Agrees k s) where
   pub bounded : AreBounded k s
   bounded = record {
     takes = λ slot inside. let a = (r.each_slot slot inside).takes in let b = few_looks in omega arith;
-    named = λ slot number inside is. let a = r.each_slot slot inside in of_slot slot number _ a.names a.seat is;
+    named = λ slot number inside is. let a = r.each_slot slot inside in of_slot slot _ a.names a.seat is;
     leaving = each_leaving;
     draws = few_draws;
     changes = let a = r.control.upper in let b = changes_most in omega arith;

@@ -4,8 +4,7 @@ use Rattle.fx_counted.proofs.open.first_homes.Goals as goal
 
 pub loop-init : goal.loop-init
 loop-init c = record {
-  homes = files_taken (state_of c.args.plain.now) (state_of c.make_room.new.plain) c.in_ok-homes.homes.items c.take_files.new.files.items
-      c.in-Ok.ensures.same.files c.in_ok-homes.ensures.items c.take_files.ensures.files;
+  homes = files_taken c.in-Ok.ensures.same.files c.in_ok-homes.ensures.items c.take_files.ensures.files;
   count = let len = c.len-counter.ensures in let ok = c.take_files.new.files.ok.0 in omega (arith, len, ok);
   room = let room = c.in_ok-homes.ensures.capacity in let same = c.take_files.ensures.capacity in omega (arith, room, same);
 }
@@ -16,7 +15,7 @@ loop-preserved c =
     let i = c.loop.invariant in
     let e = c.push_reserved.ensures in
     record {
-      homes = none_behind st c.loop.homes.items c.push_reserved.new.self.items e.items i.homes;
+      homes = none_behind e.items i.homes;
       count = let count = i.count in let more = ap (length {A = Option Closed}) e.items in
           omega (arith, count, more, length-append c.loop.homes.items (None ∷ []));
       room = let room = i.room in let same = e.capacity in omega (arith, room, same);
@@ -25,4 +24,4 @@ loop-preserved c =
 pub returns-clause-shell : goal.returns-clause-shell
 returns-clause-shell c =
     let same = c.in-Ok.ensures.same in
-    all_taken (state_of c.args.plain.now) _ _ same.files same.settled c.take_files.ensures.empty
+    all_taken same.files same.settled c.take_files.ensures.empty

@@ -28,8 +28,7 @@ loop-file-preserved-in-Some-file c =
     let slot_is : c.len-slot.result ≡ length now = omega (arith, c.len-slot.ensures, c.pop.new.self.ok.0) in
     let file_is = last_is all xs now c.in-Some.file split i.items ∙ c.in-Some-file.is in
     record {
-      part = last_back (state_of c.args.plain.now) (file_in_place all) (state_of c.loop-file.plain) (state_of c.put_back.new.self) 0 (length now)
-          (rw (file_is, ← slot_is) (file_put _ _ c.len-slot.result c.in-Some-file.file i.part.settled c.put_back.ensures.state))
+      part = last_back (state_of c.args.plain.now) (file_in_place all) (rw (file_is, ← slot_is) (file_put i.part.settled c.put_back.ensures.state))
           (rw (one_less all xs now c.in-Some.file split i.items) at i.part);
       prepared = c.put_back.ensures.prepared;
       items = same_before all xs now c.in-Some.file split i.items;

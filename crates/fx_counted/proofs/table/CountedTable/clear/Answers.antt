@@ -7,8 +7,7 @@ use Rattle.fx_counted.proofs.SlotLaws.{cleared}
 pub swap-found-requires : goal.swap-found-requires
 swap-found-requires c =
     let began = c.begin-began.ensures in
-    removal_requires Clear c.args.self.now c.args.pass.now c.requires.fits c.args.slot c.slot_place.result c.slot_place.ensures _
-    c.begin-began.new.seat c.begin-began.result cleared c.requires.idle c.requires.slot began.table began.range began.goes
+    removal_requires Clear c.args.self.now c.args.pass.now c.requires.fits c.args.slot c.slot_place.result c.slot_place.ensures _ c.begin-began.result cleared c.requires.idle c.requires.slot began.table began.range began.goes
 
 pub returns-clause-cleared : goal.returns-clause-cleared
 returns-clause-cleared c =
@@ -16,6 +15,5 @@ returns-clause-cleared c =
     let p = c.args.pass.now in
     let went = c.swap-found.ensures.2 in
     cleared_so (opening_of_table t) (view_of p) c.args.slot went.file (takes_in c.swap-found.result) _ (pass_of c.end.new.seat.me.0)
-    (c.removed_in-removed.ensures went.file went.names)
-    (removal_adds Clear t p c.requires.fits c.args.slot c.slot_place.result c.slot_place.ensures _ went.file
+    (c.removed_in-removed.ensures went.file went.names) (removal_adds Clear t p c.requires.fits c.args.slot c.slot_place.result c.slot_place.ensures _
     c.begin-began.ensures.goes went.stepped c.end.ensures.goes)

@@ -7,8 +7,8 @@ use Rattle.fx_counted.proofs.Gathered.{all_idle, closes}
 use Rattle.fx_counted.proofs.Going.{work_between}
 
 -- the seat of an idle pass
-idle_seat : (t : CountedTable) (p : CountedPass) → IsPassOfTable t p → IsIdle (view_of p) → IsIdleSeatOf t p.seat
-idle_seat t p fits idle = assumption (work_between p.seat.me.0.work Idle fits.seated.work idle)
+idle_seat : {t : CountedTable} {p : CountedPass} → IsPassOfTable t p → IsIdle (view_of p) → IsIdleSeatOf t p.seat
+idle_seat {p} fits idle = assumption (work_between p.seat.me.0.work fits.seated.work idle)
 
 pub gather-seat-requires-clause-passes : goal.gather-seat-requires-clause-passes
 gather-seat-requires-clause-passes c =
@@ -19,7 +19,7 @@ gather-seat-requires-clause-passes c =
     let all : Contains ps p = subst (λ (l : List CountedPass). Contains l p) (sym c.in-Some.ensures.items)
     (Contains-append_left others (c.in-Some.first ∷ []) p h) in
     let ready = All-contains (IsReady (IsPassOfTable t) view_of) ps p c.requires.ready all in
-    idle_seat t p ready.0 ready.1)
+    idle_seat ready.0 ready.1)
 
 pub finish-requires-clause-idle : goal.finish-requires-clause-idle
 finish-requires-clause-idle c s r at =

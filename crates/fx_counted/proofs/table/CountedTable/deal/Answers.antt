@@ -29,7 +29,7 @@ loop-number-preserved c =
     record {
       before = one_dealt i.before c.push_reserved.ensures.items new test;
       table = s.0 ∙ i.table;
-      me = s.2 ∙ (ap (λ (m : Sat). (without_first m.0, m.1)) i.me ∙ ap (λ (v : View). (v, [])) (rest_is_dealt t.key p high));
+      me = s.2 ∙ (ap (λ (m : Sat). (without_first m.0, m.1)) i.me ∙ ap (λ (v : View). (v, [])) (rest_is_dealt high));
       room = let a = i.room in let b = c.push_reserved.ensures.capacity in omega arith;
     }
 
@@ -41,7 +41,7 @@ returns c =
     let p = c.loop-number.number in
     let most = i.before.high in
     let last : p ≡ c.args.self.now.passes = omega (arith, c.loop-number-test.false, most) in
-    let me = i.me ∙ ap (λ (v : View). (v, [])) (last_is_dealt t.key p (last ∙ all)) in
+    let me = i.me ∙ ap (λ (v : View). (v, [])) (last_is_dealt (last ∙ all)) in
     let high : p ≤ t.key.passes = omega (arith, last, all) in
     let new = is_new_pass t.table_id t.key p i.before.low high _ _ c.new-2.ensures i.table me in
     let done = all_dealt i.before c.push_reserved-2.ensures.items new last in

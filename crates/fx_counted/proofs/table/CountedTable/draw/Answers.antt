@@ -9,7 +9,7 @@ fetch_add-given-requires c =
     let p = c.args.pass.now in
     let f = c.requires.fits in
     let words = t.words in
-    let idle = work_between p.seat.me.0.work _ f.seated.work c.requires.idle in
+    let idle = work_between p.seat.me.0.work f.seated.work c.requires.idle in
     let more = sym f.knows.no_chains_left ∙ c.if-pass.false in (
       f.table,
       omega arith,

@@ -14,6 +14,5 @@ fetch_sub-requires c =
     let at = c.requires.seated in (
       c.requires.table,
       omega arith,
-      ends_by t.table.shared.key _ seat.id _ ended.result c.args.delta seat.me at.log at.pass tells
-          (ended.ensures ∙ ap end_amount_of (to_z-of_z w32 c.args.delta c.ranges.delta)) refl,
+      ends_by _ seat.id at.pass tells (ended.ensures ∙ ap end_amount_of (to_z-of_z w32 c.args.delta c.ranges.delta)) refl,
     )

@@ -11,16 +11,14 @@ use Rattle.fx_counted.proofs.table.CountedTable.finish.Goals.{in-Some+in-Some-ta
 named_by : (size slot : ℕ) {ws now : List ℕ} {place word : ℕ} (n : Option ℕ) → now ≡ ws → place ≡ slot_place slot → get_elem? now place ≡ some word
     → n ≡ node_in word → number_at size ws slot ≡ n
 named_by size slot {ws} {now} {place} {word} n same is there named =
-    ap node_in (read_at ws (slot_place slot) word 0 (ap (get_elem? ws) (sym is) ∙ (ap (λ (l : List ℕ). get_elem? l place) (sym same) ∙ there)))
-    ∙ sym named
+    ap node_in (read_at ws (slot_place slot) 0 (ap (get_elem? ws) (sym is) ∙ (ap (λ (l : List ℕ). get_elem? l place) (sym same) ∙ there))) ∙ sym named
 
 pub home_place-requires-clause-number : goal.home_place-requires-clause-number
 home_place-requires-clause-number c =
     let t = c.args.self in
     let e = c.close_with-closed.ensures.values.2 in
     let i = c.loop-slot.invariant in
-    known_at_end t _ e c.requires.idle c.loop-slot.slot c.in-Some.number c.loop-slot-test.true
-    (named_by t.size c.loop-slot.slot (Some c.in-Some.number) (ap slots_items i.words)
+    known_at_end t _ e c.requires.idle c.loop-slot-test.true (named_by t.size c.loop-slot.slot (Some c.in-Some.number) (ap slots_items i.words)
     c.slot_place.ensures c.word.ensures c.in-Some.ensures)
 
 pub take_home-requires-clause-inside : goal.take_home-requires-clause-inside
@@ -53,7 +51,7 @@ loop-slot-preserved c =
       | in-Some+in-Some-take_home w ↦ let took = w.take_home.ensures in let is = named (Some w.in-Some.number) w.in-Some.ensures in
           rw (w.shell-is, w.closed-is) (assumption (
             some_back home c.loop-slot-test.true i.items i.part is w.home_place.ensures (took.value ∙ ap some w.in-Some-take_home.is)
-                (file_put _ _ slot w.in-Some-take_home.file i.part.settled w.put_back.ensures.state),
+                (file_put i.part.settled w.put_back.ensures.state),
             place_emptied home c.loop-slot-test.true i.items i.part is w.home_place.ensures took.items,
             took.count ∙ i.count,
             took.words ∙ i.words,
@@ -87,7 +85,7 @@ unreachable-requires c =
     let count = home.count in
     let all = c.homes_for-place-end.ensures in
     let test = c.loop-place-test.true in
-    let none = all_gone t.size ws (t.numbers * t.chains) xs home c.loop-place.place (omega (arith, count, all, test)) in
+    let none = all_gone t.size ws (t.numbers * t.chains) xs home (omega (arith, count, all, test)) in
     let bad : None ≡ Some c.in_default-home.field-0 = some-injective None (Some c.in_default-home.field-0)
     (sym none ∙ (ap (λ (l : List (Option Closed)). get_elem? l c.loop-place.place) (sym here) ∙ c.in_default-home.ensures.value)) in
     absurd (cc bad)
@@ -97,5 +95,4 @@ returns c =
     let t = c.args.self in
     let e = c.close_with-closed.ensures.values.2 in
     let i = c.loop-slot.invariant in
-    leaves_at_end t _ e c.requires.idle c.loop-slot.shell
-    (all_back (state_of t.shell) _ (state_of c.loop-slot.shell) c.loop-slot.slot t.size c.loop-slot-test.false i.part)
+    leaves_at_end t _ e c.requires.idle (all_back (state_of t.shell) _ c.loop-slot-test.false i.part)

@@ -11,9 +11,9 @@ fetch_add-word-requires c =
     let f = c.requires.fits in
     let some_left = c.if-pass-eq0.false in
     let left = f.knows.looks_left in
-    let idle = work_between p.seat.me.0.work _ f.seated.work c.requires.idle in
+    let idle = work_between p.seat.me.0.work f.seated.work c.requires.idle in
     let place = c.slot_place.ensures in (
       f.table,
-      slot_inside t c.args.slot c.slot_place.result c.requires.slot place,
+      slot_inside t c.requires.slot place,
       looks_keep t.table.shared.key _ p.seat.id _ c.args.slot p.seat.me f.log (its_pass f) idle (omega arith) c.requires.slot place,
     )

@@ -23,23 +23,23 @@ swap-found-requires c =
     let seat = c.begin-began.new.seat in
     let small = c.entry.type_inv in
     let entry = c.entry.ensures in
-    let may = may_change k c.args.slot c.begin-began.result seat.me.0.change began.range goes.change in
+    let may = may_change k c.begin-began.result began.range goes.change in
     let i = c.slot_place.result in
     let place = c.slot_place.ensures in (
       began.table ∙ (born.table ∙ fits.table),
-      slot_inside t c.args.slot i c.requires.slot place,
+      slot_inside t c.requires.slot place,
       installs_keep k _ seat.id i c.args.slot n _ c.args.file seat.me goes.one.0 (goes.start ∙ (born.born.start ∙ its.0), goes.one.1)
           (goes.work ∙ born.born.work) (began.places ∙ born.place.place) (omega arith) c.requires.slot may place
           (c.slot_word-word.ensures ∙ ap (slot_word_of n) entry),
     )
 
 -- a pass is idle that found none
-idle_if_none : (found : Option File) (takes : ℕ) (removed : Option Retired) (b : Bool) → is_some removed ≡ not b
+idle_if_none : (found : Option File) (takes : ℕ) {removed : Option Retired} (b : Bool) → is_some removed ≡ not b
     → removed ≡ option_map (λ f. retired_of f takes) found → b ≡ is_idle (Between (retiring found takes))
-idle_if_none None takes removed true told is = refl
-idle_if_none None takes removed false told is = let bad : true ≡ false = sym told ∙ ap is_some is in absurd (cc bad)
-idle_if_none (Some f) takes removed false told is = refl
-idle_if_none (Some f) takes removed true told is = let bad : false ≡ true = sym told ∙ ap is_some is in absurd (cc bad)
+idle_if_none None takes true told is = refl
+idle_if_none None takes false told is = let bad : true ≡ false = sym told ∙ ap is_some is in absurd (cc bad)
+idle_if_none (Some f) takes false told is = refl
+idle_if_none (Some f) takes true told is = let bad : false ≡ true = sym told ∙ ap is_some is in absurd (cc bad)
 
 pub returns : goal.returns
 returns c =
@@ -62,7 +62,7 @@ returns c =
     let around = goes_around began.goes stepped c.end.ensures.goes in
     let goes = goes_then (goes_one born.born) around in
     let adds = adds_so fits goes in
-    let here = slot_at t c.args.slot c.slot_place.result c.slot_place.ensures in
+    let here = slot_at t c.slot_place.ensures in
     let left = c.requires.numbers in
     let shown = ap (λ (l : List Log). (first_log l).numbers_left) fits.seated.one in
     let known = fits.knows.numbers_left in
@@ -71,7 +71,7 @@ returns c =
           (c.end.ensures.table ∙ (c.swap-found.ensures.0 ∙ (began.table ∙ born.table)))
           (c.end.ensures.places ∙ (went.carried ∙ ap rest carried))
           tt refl refl (omega (arith, left, shown, known)) (omega arith)
-          (idle_if_none went.replaced takes _ _ c.is_none-pass.ensures (c.removed_in-replaced.ensures went.replaced went.names));
+          (idle_if_none went.replaced takes _ c.is_none-pass.ensures (c.removed_in-replaced.ensures went.replaced went.names));
       placed = placed_so o v c.args.slot went.replaced takes _ (pass_of m₄.0) (c.removed_in-replaced.ensures went.replaced went.names) n file file
           c.next_number-number.ensures.number refl
           (subst (λ (s : ℕ). Adds o v ([] ▷ Put s (numbered n file) went.replaced) (doing_in (Between (retiring went.replaced takes))) one_number

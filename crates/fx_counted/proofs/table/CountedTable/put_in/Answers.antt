@@ -13,6 +13,6 @@ store-requires c =
     let place = c.node_place.ensures in
     let i = c.node_place.result in (
       c.requires.table,
-      node_inside t n i may.known place,
-      births_keep k _ seat.id i seat.me may.log may.pass may.idle may.some_left (node_is_at t n i place ∙ ap (word_of k) may.next),
+      node_inside t may.known place,
+      births_keep k _ seat.id i seat.me may.log may.pass may.idle may.some_left (node_is_at t n place ∙ ap (word_of k) may.next),
     )

@@ -11,13 +11,13 @@ fetch_sub-found-requires c =
     let p = c.args.pass.now in
     let fits = c.requires.fits in
     let f = c.requires.held.0 in
-    let work = work_between p.seat.me.0.work _ fits.seated.work c.requires.held.1 in
+    let work = work_between p.seat.me.0.work fits.seated.work c.requires.held.1 in
     let known = subst (IsInside t.table.shared.key) work fits.seated.inside in
     let is = c.node_place-place.ensures ∙ ap (λ (h : Hold). node_place t.size h.node) c.requires.held.2 in
     let i = c.node_place-place.result in (
       fits.table,
-      node_inside t f.number i known is,
-      releases_keep t.table.shared.key _ p.seat.id i f p.seat.me fits.log (its_pass fits) work (node_is_at t f.number i is),
+      node_inside t known is,
+      releases_keep t.table.shared.key _ p.seat.id i f p.seat.me fits.log (its_pass fits) work (node_is_at t f.number is),
     )
 
 pub returns-clause-released : goal.returns-clause-released
@@ -25,7 +25,7 @@ returns-clause-released c =
     let p = c.args.pass.now in
     let fits = c.requires.fits in
     let (f, holding, value) = c.requires.held in
-    let work = work_between p.seat.me.0.work _ fits.seated.work holding in
+    let work = work_between p.seat.me.0.work fits.seated.work holding in
     let out = c.fetch_sub-found.ensures.2.closes f work (omega (arith, c.if-found-ne1.false)) in
     let place = rw (← ap (λ (h : Hold). h.node) value) at (out_place (its_pass fits) fits.places out) in
     (f, holding, value, (c.take_out.ensures.file f.identity place, adds_so fits (out_and_home out c.take_out.ensures.rests)))

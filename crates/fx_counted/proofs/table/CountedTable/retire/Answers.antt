@@ -13,13 +13,12 @@ fetch_sub-found-requires c =
     let p = c.args.pass.now in
     let fits = c.requires.fits in
     let (f, takes, doing, value) = c.requires.removed in
-    let work = work_between p.seat.me.0.work _ fits.seated.work doing in
+    let work = work_between p.seat.me.0.work fits.seated.work doing in
     let is = c.node_place-place.ensures ∙ ap (λ (r : Retired). node_place t.size r.node) value in (
       fits.table,
-      node_inside t f.number c.node_place-place.result (subst (IsInside t.table.shared.key) work fits.seated.inside) is,
+      node_inside t (subst (IsInside t.table.shared.key) work fits.seated.inside) is,
       retires_keep t.table.shared.key _ p.seat.id _ c.retire_amount-amount.result takes f p.seat.me fits.log (its_pass fits) work
-          (node_is_at t f.number c.node_place-place.result is)
-          (c.retire_amount-amount.ensures ∙ ap (λ (r : Retired). retire_amount_of r.takes) value),
+          (node_is_at t f.number is) (c.retire_amount-amount.ensures ∙ ap (λ (r : Retired). retire_amount_of r.takes) value),
     )
 
 -- what the step told, by the file that the pass removed
@@ -28,7 +27,7 @@ module _ (c : After-fetch_sub-found) where
   file = c.requires.removed.0
 
   work : c.args.pass.now.seat.me.0.work ≡ Between (Retiring file c.requires.removed.1)
-  work = work_between c.args.pass.now.seat.me.0.work _ c.requires.fits.seated.work c.requires.removed.2
+  work = work_between c.args.pass.now.seat.me.0.work c.requires.fits.seated.work c.requires.removed.2
 
   closes : c.fetch_sub-found.result ≡ c.retire_amount-amount.result → TakesOut c.args.pass.now.seat.me [] file c.fetch_sub-found.new.seat.me
   closes is = c.fetch_sub-found.ensures.2.closes file _ work is

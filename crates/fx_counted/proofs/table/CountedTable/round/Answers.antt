@@ -50,7 +50,7 @@ returns-then-says_full-clause-ends c =
     let m₂ = c.scan.new.seat.me in
     let all = still_searching (goal.at.returns-then-says_full-clause-ends c).In-None in
     let told : c.fetch_sub-word.result ≡ full_word_of t.range_len = search rules in
-    let full = told ∙ full_of t m₂.0.start (all.0.1.start ∙ c.requires.placing.at.pass.0) in
+    let full = told ∙ full_of t (all.0.1.start ∙ c.requires.placing.at.pass.0) in
     let answer = c.fetch_sub-word.ensures.2 in
     answered_full all (answer.full full) answer.carried
 
@@ -60,6 +60,6 @@ returns-else-says_full-clause-ends c =
     let m₂ = c.scan.new.seat.me in
     let all = still_searching (goal.at.returns-else-says_full-clause-ends c).In-None in
     let told : c.fetch_sub-word.result ≢ full_word_of t.range_len = search rules in
-    let full = full_of t m₂.0.start (all.0.1.start ∙ c.requires.placing.at.pass.0) in
+    let full = full_of t (all.0.1.start ∙ c.requires.placing.at.pass.0) in
     let answer = c.fetch_sub-word.ensures.2 in
     answered_not all (answer.not_full (λ e. told (e ∙ sym full))) answer.carried

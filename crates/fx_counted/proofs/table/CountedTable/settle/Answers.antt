@@ -8,7 +8,7 @@ load-requires c =
     let t = c.args.self.now in
     let words = t.words in
     let fits = c.requires.fits in
-    (fits.table, omega arith, may_observe _ _ _ _ _ fits.seated.start)
+    (fits.table, omega arith, may_observe _ _ _ fits.seated.start)
 
 pub returns-clause-settled : goal.returns-clause-settled
 returns-clause-settled c =

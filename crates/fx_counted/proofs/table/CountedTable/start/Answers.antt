@@ -21,12 +21,11 @@ new-requires c =
 pub put_all-requires-clause-others : goal.put_all-requires-clause-others
 put_all-requires-clause-others c place g =
     let first = c.in-Ok-first_homes.ensures in
-    ap (λ (xs : List (Option Closed)). file_in_place xs place) c.in-Err.ensures.err
-    ∙ others_empty c.args.plain (c.args.numbers * c.args.chains) (state_of c.first_homes.new.plain) c.in-Ok-first_homes.homes.items first.shell first.homes place g
+    ap (λ (xs : List (Option Closed)). file_in_place xs place) c.in-Err.ensures.err ∙ others_empty c.args.plain first.shell first.homes g
 
 pub returns-clause-refused : goal.returns-clause-refused
 returns-clause-refused c =
     let first = c.in-Ok-first_homes.ensures in
     let left = state_of c.first_homes.new.plain in
-    given_back c.args.plain (c.args.numbers * c.args.chains) left c.in-Ok-first_homes.homes.items c.put_all.new.plain first.shell first.homes
+    given_back first.shell first.homes
     (subst (λ (xs : List (Option Closed)). AreBack left (file_in_place xs) (state_of c.put_all.new.plain)) c.in-Err.ensures.err c.put_all.ensures)

@@ -6,7 +6,7 @@ use Rattle.fx_counted.proofs.table.CountedTable.take_out.Goals as goal
 pub exchange-requires : goal.exchange-requires
 exchange-requires c =
     let h = c.requires.place.1 in
-    let is = home_is_at c.args.self.now c.args.number c.home_place-place.result c.home_place-place.ensures in
+    let is = home_is_at c.args.self.now c.args.number c.home_place-place.ensures in
     (c.requires.table, (Some c.requires.place.0, h.place ∙ λ i. (sym is i, Some c.requires.place.0) ∷ sym (ap rest h.place) i))
 
 pub store-requires : goal.store-requires
@@ -14,15 +14,14 @@ store-requires c =
     let t = c.args.self.now in
     let n = c.args.number in
     let h = c.requires.place.1 in
-    let is = home_is_at t n c.home_place-place.result c.home_place-place.ensures in
+    let is = home_is_at t n c.home_place-place.ensures in
     let me = c.exchange.ensures.3 in
     let view = ap (λ (z : Sat). z.0) me in
     let m = c.exchange.new.seat.me in (
       c.exchange.ensures.0 ∙ c.requires.table,
-      node_inside t n c.node_place.result h.known c.node_place.ensures,
+      node_inside t h.known c.node_place.ensures,
       rests_keep t.table.shared.key _ c.exchange.new.seat.id _ n m h.log
           (subst (λ (v : View). HasPass t.table.shared.key (v, m.1) h.log) (sym view) h.pass)
           (subst (λ (v : View). (v.work ≡ Emptying n) ⊎ (v.work ≡ Placing n)) (sym view) h.work)
-          (ap (λ (z : Sat). z.1) me ∙ λ i. (is i, None) ∷ ap rest h.place i)
-          (node_is_at t n c.node_place.result c.node_place.ensures),
+          (ap (λ (z : Sat). z.1) me ∙ λ i. (is i, None) ∷ ap rest h.place i) (node_is_at t n c.node_place.ensures),
     )

@@ -12,7 +12,7 @@ load-found-requires c =
     let i = c.slot_place-place.result in
     let at = c.requires.placing.at in (
       c.requires.table,
-      slot_inside t c.args.slot i (in_size t c.args.slot c.requires.range) c.slot_place-place.ensures,
+      slot_inside t (in_size t c.args.slot c.requires.range) c.slot_place-place.ensures,
       loads_keep t.table.shared.key _ seat.id i seat.me at.log at.pass c.requires.change,
     )
 
@@ -30,7 +30,7 @@ compare_exchange-requires c =
     let small : c.args.file.entry < 2 ^ 8 = omega arith in
     let empty : node_in c.load-found.result ≡ None = search rules in (
       c.load-found.ensures.0 ∙ c.requires.table,
-      slot_inside t slot i (in_size t slot c.requires.range) place,
+      slot_inside t (in_size t slot c.requires.range) place,
       exchanges_keep k _ seat.id i slot c.args.number c.load-found.result _ c.args.file seat.me s.one.0
           (s.start ∙ p.at.pass.0, s.one.1) (s.work ∙ p.work) (loaded.carried ∙ p.place) small s.change c.requires.range
           place (no_name c.load-found.result empty) c.slot_word-word.ensures,
@@ -40,7 +40,5 @@ pub returns-clause-tries : goal.returns-clause-tries
 returns-clause-tries c =
     let t = c.args.self.now in
     let loaded = c.load-found.ensures.2 in
-    let here = slot_at t c.args.slot c.slot_place-place.result c.slot_place-place.ensures in
-    exchange_tried t.table.shared.key c.args.seat.now.me c.load-found.new.seat.me c.compare_exchange.new.seat.me c.args.number c.args.slot _
-    _ c.compare_exchange.result c.load-found.result _ c.args.file c.requires.placing here loaded.stepped loaded.carried
-    c.compare_exchange.ensures.2
+    let here = slot_at t c.slot_place-place.ensures in
+    exchange_tried c.requires.placing here loaded.stepped loaded.carried c.compare_exchange.ensures.2
