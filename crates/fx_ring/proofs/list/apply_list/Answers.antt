@@ -1,5 +1,5 @@
 use Rattle.fx_ring.proofs.Words.{ℕ, ◌+◌, subst, ◌≡◌, ◌∙◌, arith, length, state_of, tags_for}
-use Rattle.fx_ring.proofs.ListSteps.{IsApplied, none_applied, all_applied, room_next, applied_next}
+use Rattle.fx_ring.proofs.ListSteps.{IsApplied, all_applied, room_next, applied_next}
 use Rattle.fx_ring.proofs.list.apply_list.Goals as goal
 
 pub apply_number-requires : goal.apply_number-requires
@@ -18,14 +18,6 @@ apply_number-requires c =
       fresh = c.loop-i.invariant.fresh (n.first + c.loop-i.i) (omega arith) (omega (arith, inside));
       room = room_next n.k n.off n.list.now (tags_for n.list.now n.tags) (state_of c.args.table.now) c.args.closes.now c.loop-i.i
           (state_of c.loop-i.table) (state_of c.loop-i.table) c.loop-i.closes c.loop-i.closes inside done c.requires.room;
-    }
-
-pub loop-i-init : goal.loop-i-init
-loop-i-init c =
-    let n = c.args.numbers.now in
-    record {
-      applied = none_applied n.k n.off n.list.now (tags_for n.list.now n.tags) (state_of c.args.table.now) c.args.closes.now c.requires.settled;
-      fresh = λ number low high. c.requires.fresh number (omega (arith, low)) high;
     }
 
 pub loop-i-preserved : goal.loop-i-preserved

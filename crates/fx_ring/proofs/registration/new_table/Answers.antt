@@ -1,33 +1,17 @@
-use Rattle.fx_ring.proofs.Words.{◌≡◌, ◌*◌, ℕ, Option, length, ap, ◌∙◌, arith, Closed, State, state_of, files_after, removed_from, tags_for, files_at}
-use Rattle.fx_ring.proofs.Words.{settled_at_opening, None}
+use Rattle.fx_ring.proofs.Words.{◌≡◌, ◌*◌, ℕ, Option, length, ap, ◌∙◌, arith, Closed, state_of, files_after, removed_from, tags_for, files_at}
+use Rattle.fx_ring.proofs.Words.{None}
 use Rattle.fx_ring.proofs.Numbers.{good_files}
 use Rattle.fx_ring.proofs.Origins.{none_removed}
-use Rattle.fx_ring.proofs.Rings.{opening_files, opening_fresh, emptied_settled, vacant_empty, vacant_files}
+use Rattle.fx_ring.proofs.Rings.{opening_files, vacant_empty, vacant_files}
 use Rattle.fx_ring.proofs.registration.new_table.Goals.{In-Ok}
 use Rattle.fx_ring.proofs.registration.new_table.Goals as goal
-
-pub prepare-requires-clause-settled : goal.prepare-requires-clause-settled
-prepare-requires-clause-settled c = emptied_settled c.in_ok-table.ensures.state
-
-pub dismiss-requires-clause-settled : goal.dismiss-requires-clause-settled
-dismiss-requires-clause-settled c =
-    emptied_settled (ap state_of c.in_default.ensures.err ∙ c.in_ok-table.ensures.state)
 
 pub dismiss-requires-clause-empty : goal.dismiss-requires-clause-empty
 dismiss-requires-clause-empty c =
     vacant_empty (ap state_of c.in_default.ensures.err ∙ c.in_ok-table.ensures.state)
 
-pub apply_list-requires-clause-settled : goal.apply_list-requires-clause-settled
-apply_list-requires-clause-settled c =
-    settled_at_opening (state_of c.in_ok-table.table) (state_of c.prepare.new.self) (2 * length c.args.list.now) c.in-Ok.ensures.ok
-
 pub invariant_of-numbers-clause-good : goal.invariant_of-numbers-clause-good
 invariant_of-numbers-clause-good c = good_files (length c.args.catalogue.now) c.args.list.now c.requires.good
-
-pub apply_list-requires-clause-fresh : goal.apply_list-requires-clause-fresh
-apply_list-requires-clause-fresh c =
-    let size : (state_of c.in_ok-table.table).size ≡ length c.args.list.now = ap (λ (st : State). st.size) c.in_ok-table.ensures.state in
-    λ number low high. opening_fresh (state_of c.in_ok-table.table) c.in-Ok.ensures.ok number (omega arith) (omega arith)
 
 no_files : (c : In-Ok) → files_at (state_of c.prepare.new.self) ≡ (λ _. None)
 no_files c = opening_files (state_of c.in_ok-table.table) (2 * length c.args.list.now) c.in-Ok.ensures.ok ∙ vacant_files c.in_ok-table.ensures.state

@@ -39,9 +39,6 @@ close-left-requires-clause-ready g c =
     all_scattered (λ p. g.T.FileTable.fits c.args.table p × IsIdle (g.T.FileTable.view p)) _ _ _ c.scatter.ensures.passes
     (λ k d l. let is = (c.work_crew.ensures.done k d l).between in (is.fits, is.idle))
 
-pub joined-all-requires-clause-nothing_yet : goal.joined-all-requires-clause-nothing_yet
-joined-all-requires-clause-nothing_yet g c = (c.requires.room.all.no_completions, ap (λ (l : CloseListView). l.files) c.requires.room.all.closes)
-
 -- the crew has played, and its passes are back
 module _ (g : Over) (c : After-close-left g) where
   abbrev V : g.row.T-Pass.Denot → PassView

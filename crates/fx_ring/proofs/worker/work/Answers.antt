@@ -11,13 +11,6 @@ run_chain-requires-clause-looks g c κs within =
     let looks = (enough o _ _ _ _ _ _ _ _ c.loop-chain.invariant.ready.room count c.in-Some.ensures.drawn c.members_of_chain.ensures.run).0 in
     omega arith
 
-pub run_chain-requires-clause-numbers : goal.run_chain-requires-clause-numbers
-run_chain-requires-clause-numbers g c κs within =
-    let o = g.T.FileTable.opening c.args.play.now.table.now in
-    let few = c.members_of_chain.ensures.few o.numbers c.args.play.now.numbers in
-    let left = ap (λ (v : PassView). v.numbers_left) c.in-Some.ensures.drawn.3 in
-    omega arith
-
 pub run_chain-requires-clause-room : goal.run_chain-requires-clause-room
 run_chain-requires-clause-room g c κs within =
     let o = g.T.FileTable.opening c.args.play.now.table.now in
@@ -66,6 +59,3 @@ returns-clause-done g c =
       };
       all_drawn = ap (λ (v : PassView). v.no_chains_left) drawn;
     }
-
-pub returns-clause-number : goal.returns-clause-number
-returns-clause-number g c = ap (λ (v : PassView). v.number) c.in_default.ensures.drawn ∙ c.loop-chain.invariant.number

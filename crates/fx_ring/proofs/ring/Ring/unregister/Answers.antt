@@ -1,6 +1,6 @@
-use Rattle.fx_ring.proofs.Words.{ap, ◌∙◌, rules, State, identity_of, RingContents, AreEntries, HasClosed, ring_of, with_table}
-use Rattle.fx_ring.specs.Ring.{without_table, files_of}
-use Rattle.fx_ring.proofs.Rings.{contents_of, all_closed, emptied_settled, none_rings}
+use Rattle.fx_ring.proofs.Words.{ap, rules, State, identity_of, AreEntries, HasClosed, ring_of}
+use Rattle.fx_ring.specs.Ring.{files_of}
+use Rattle.fx_ring.proofs.Rings.{all_closed, emptied_settled, none_rings}
 use Rattle.fx_ring.proofs.ring.Ring.unregister.Goals.{After-sort}
 use Rattle.fx_ring.proofs.ring.Ring.unregister.Goals as goal
 
@@ -22,9 +22,3 @@ invariant_of-self c =
       few_submissions = was.few_submissions;
       few_registrations = was.few_registrations;
     }
-
-pub returns-clause-ok : goal.returns-clause-ok
-returns-clause-ok c =
-    let before = contents_of c.self.inside in
-    ap (λ (st : State). with_table (ring_of before) st) c.empty_into.ensures.empty
-    ∙ ap (λ (v : RingContents). without_table (ring_of v)) c.self.view_is

@@ -1,20 +1,10 @@
 use Rattle.fx_ring.proofs.Words.{◌≡◌, ◌+◌, ◌<◌, [], ap, subst, ◌∙◌, false, length, rules, arith, list_any, state_of, is_bad_entry, RingContents}
-use Rattle.fx_ring.proofs.Words.{AreEntries, HasClosed, ring_of, updated, removed_from, tags_for, settled_at_opening, files_at}
-use Rattle.fx_ring.proofs.Rings.{contents_of, opening_fresh}
+use Rattle.fx_ring.proofs.Words.{AreEntries, HasClosed, ring_of, updated, removed_from, tags_for, files_at}
+use Rattle.fx_ring.proofs.Rings.{contents_of}
 use Rattle.fx_ring.proofs.Origins.{few_removed}
 use Rattle.fx_ring.proofs.Updates.{IsUpdated, is_updated}
 use Rattle.fx_ring.proofs.ring.Ring.update_list.Goals.{After-sort}
 use Rattle.fx_ring.proofs.ring.Ring.update_list.Goals as goal
-
-pub apply_list-requires-clause-settled : goal.apply_list-requires-clause-settled
-apply_list-requires-clause-settled c =
-    settled_at_opening (state_of c.self.inside.table) (state_of c.prepare.new.self) (c.size-size.result + length c.args.list.now)
-    c.in-Ok-prepare.ensures.ok
-
-pub apply_list-requires-clause-fresh : goal.apply_list-requires-clause-fresh
-apply_list-requires-clause-fresh c =
-    let size = c.size-size.ensures.value in
-    λ number low high. opening_fresh (state_of c.self.inside.table) c.in-Ok-prepare.ensures.ok number (omega (arith, size)) high
 
 pub apply_list-requires-clause-room : goal.apply_list-requires-clause-room
 apply_list-requires-clause-room c =
