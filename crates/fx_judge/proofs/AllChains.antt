@@ -28,11 +28,11 @@ none_told catalogue size range closes submission runs completions = record {
 }
 
 -- no completion is left where no chain is
-pub none_left : (catalogue : List FileEntry) (size : ℕ) (range : ℕ × ℕ) (closes : List Closed) (submission : ℕ) (runs : List (List Asked))
-    (completions : List Completed) (i : ℕ) (rest : List Completed) (claims : List (Vec Claim)) → length runs ≤ i
+pub none_left : {catalogue : List FileEntry} {size : ℕ} {range : ℕ × ℕ} {closes : List Closed} {submission : ℕ} {runs : List (List Asked)}
+    {completions : List Completed} {i : ℕ} {rest : List Completed} {claims : List (Vec Claim)} → length runs ≤ i
     → Sofar catalogue size range closes submission runs completions i rest claims → (length rest ≡ 0 → ⊥)
     → (order : List ChainAccess) → AreDone catalogue size range submission runs completions order → ⊥
-none_left catalogue size range closes submission runs completions i rest claims all so some order done =
+none_left {catalogue} {size} {submission} {runs} {i} {rest} all so some order done =
     let none : rest ≡ [] = subst (λ (l : List (List Asked)). AreChainsDone catalogue size submission (1 + i) l order rest) (drop_all i runs all) (so.each order done).0 in
     some (ap length none)
 
@@ -44,15 +44,15 @@ module _ (catalogue : List FileEntry) (size : ℕ) (range : ℕ × ℕ) (closes 
   abbrev runs : List (List Asked)
   runs = map (members_of asked) chains
 
-  from_here : (order : List ChainAccess) → AreDone catalogue size range submission runs completions order
+  from_here : {order : List ChainAccess} → AreDone catalogue size range submission runs completions order
       → AreChainsDone catalogue size submission (1 + i) (all_asked members ∷ drop (suc i) runs) order (all_completed rest)
-  from_here order done = subst (λ (l : List (List Asked)). AreChainsDone catalogue size submission (1 + i) l order (all_completed rest))
+  from_here {order} done = subst (λ (l : List (List Asked)). AreChainsDone catalogue size submission (1 + i) l order (all_completed rest))
       (mapped_at (members_of asked) chains i chain within is ∙ ap (λ (run : List Asked). run ∷ drop (suc i) runs) (sym members_are)) (so.each order done).0
 
   pub few_completions : length rest < length members → (order : List ChainAccess)
       → AreDone catalogue size range submission runs completions order → ⊥
   few_completions few order done = too_few catalogue size submission (1 + i) (all_asked members) (drop (suc i) runs) order (all_completed rest)
-      (let long = length-map rest completed_of in let all = length-map members asked_of in omega arith) (from_here order done)
+      (let long = length-map rest completed_of in let all = length-map members asked_of in omega arith) (from_here done)
 
   module _ (own others : List Completion) (n : ℕ) (same : n ≡ 1 + i) (front : own ≡ take (length members) rest) (back : others ≡ drop (length members) rest) where
     -- what the chain did
@@ -62,7 +62,7 @@ module _ (catalogue : List FileEntry) (size : ℕ) (range : ℕ × ℕ) (closes 
     parts : (order : List ChainAccess) → AreDone catalogue size range submission runs completions order
         → OfChain (accesses_of_chain n order) × AreChainsDone catalogue size submission (1 + (i + 1)) (drop (i + 1) runs) order (all_completed others)
     parts order done =
-        let p = parts_of catalogue size submission (1 + i) (all_asked members) (drop (suc i) runs) order (all_completed rest) (from_here order done) in
+        let p = parts_of catalogue size submission (1 + i) (all_asked members) (drop (suc i) runs) order (all_completed rest) (from_here done) in
         let mine = own_completed members rest own front in
         let left = others_completed members rest others back in
         let next : 1 + i + 1 ≡ 1 + (i + 1) = omega arith in
@@ -87,7 +87,7 @@ module _ (catalogue : List FileEntry) (size : ℕ) (range : ℕ × ℕ) (closes 
       each = λ order done.
           let p = parts order done in (
             p.1,
-            λ k those at. elim (get_push claims told k those at) [
+            λ k those at. elim (get_push claims k at) [
               | inl old ↦ (so.each order done).1 k those old
               | inr new ↦
                   let place : n ≡ k + 1 = let a = new.0 in let b = so.long in omega arith in

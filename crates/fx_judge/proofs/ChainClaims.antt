@@ -59,7 +59,7 @@ module _ (catalogue : List FileEntry) (size : ℕ) (range : ℕ × ℕ) (closes 
   nothing_told = record {
     each = λ accesses done.
         let first : place.member ≡ place.member + 0 = omega arith in
-        parted_first closes _ accesses
+        parted_first closes _
         (done.0, subst (λ (p : Place). IsChainDone catalogue size p requests accesses cs) (λ j. record place { member = first j }) done.1);
   }
 
@@ -67,11 +67,11 @@ module _ (catalogue : List FileEntry) (size : ℕ) (range : ℕ × ℕ) (closes 
       → (accesses : List Access) → Possibly size range (λ own. IsChainDone catalogue size place requests own cs) accesses → AllZip (Fits closes) claims accesses
   all_told i cut claims all t accesses done =
       let b = t.each accesses done in
-      parted_all closes claims _ accesses b (nothing cut (member_at place i) (drop i requests) b.others (drop i cs) (drop_all i requests all) b.left.1)
+      parted_all closes claims _ accesses b (nothing cut (member_at place i) (drop i cs) (drop_all i requests all) b.left.1)
     where
-      nothing : (d : Bool) (p : Place) (l : List Asked) (others : List Access) (ds : List Completed) → l ≡ [] → IsLeftOver catalogue size p d l others ds → others ≡ []
-      nothing true p l others ds is left = left.0
-      nothing false p l others ds is left = (subst (λ (m : List Asked). IsChainDone catalogue size p m others ds) is left).0
+      nothing : (d : Bool) (p : Place) {l : List Asked} {others : List Access} (ds : List Completed) → l ≡ [] → IsLeftOver catalogue size p d l others ds → others ≡ []
+      nothing true p ds is left = left.0
+      nothing false p {others} ds is left = (subst (λ (m : List Asked). IsChainDone catalogue size p m others ds) is left).0
 
   module _ (i : ℕ) (claims : List Claim) (request : Asked) (c : Completed)
       (requests_are : drop i requests ≡ request ∷ drop (suc i) requests) (cs_are : drop i cs ≡ c ∷ drop (suc i) cs) where
@@ -91,14 +91,14 @@ module _ (catalogue : List FileEntry) (size : ℕ) (range : ℕ × ℕ) (closes 
         subst (λ (z : List Asked × List Completed). IsLeftOver catalogue size (member_at place i) cut z.0 others z.1) (λ t. (requests_are t, cs_are t)) left
 
     -- a member that was canceled
-    canceled_one : ChainTold catalogue size range closes place requests cs i true claims → (own : List Claim) → own ≡ []
+    canceled_one : ChainTold catalogue size range closes place requests cs i true claims → {own : List Claim} → own ≡ []
         → ChainTold catalogue size range closes place requests cs (i + 1) true (claims ++ own)
-    canceled_one t own none = record {
+    canceled_one t {own} none = record {
       each = λ accesses done.
           let b = t.each accesses done in
           let left = here true b.others b.left.1 in
           let tail : drop (suc i) cs ≡ canceled (next_member (member_at place i)) (drop (suc i) requests) = cc (left.1) in
-          parted_more closes claims own _ _ accesses [] b.others b refl (subst (λ (l : List Claim). AllZip (Fits closes) l []) (sym none) tt)
+          parted_more claims own _ _ accesses [] b refl (subst (λ (l : List Claim). AllZip (Fits closes) l []) (sym none) tt)
           (b.left.0, moved true b.others (left.0, tail));
     }
 
@@ -118,8 +118,7 @@ module _ (catalogue : List FileEntry) (size : ℕ) (range : ℕ × ℕ) (closes 
           let b = t.each accesses done in
           let m = members catalogue size range closes (member_at place i) request (drop (suc i) requests) c (drop (suc i) cs) b.others
           (b.left.0, here false b.others b.left.1) in
-          parted_more closes claims own.items _ _ accesses m.own m.others b m.whole (tells m.own m.first)
-          (m.possible, moved (severs request c) m.others m.behind);
+          parted_more claims own.items _ _ accesses m.own b m.whole (tells m.own m.first) (m.possible, moved (severs request c) m.others m.behind);
     }
 
     never_done : ChainTold catalogue size range closes place requests cs i false claims
@@ -137,7 +136,7 @@ module _ (catalogue : List FileEntry) (size : ℕ) (range : ℕ × ℕ) (closes 
         → ChainTold catalogue size range closes place requests cs (i + 1) told.cut (claims ++ told.claims.items)
     one_more true told t tells =
         subst (λ (d : Bool). ChainTold catalogue size range closes place requests cs (i + 1) d (claims ++ told.claims.items)) (sym tells.1)
-        (canceled_one t told.claims.items tells.0)
+        (canceled_one t tells.0)
     one_more false told t tells =
         subst (λ (d : Bool). ChainTold catalogue size range closes place requests cs (i + 1) d (claims ++ told.claims.items)) (sym tells.1)
         (done_one t told.claims tells.0)

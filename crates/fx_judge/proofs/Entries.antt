@@ -18,13 +18,13 @@ pub record Parted (closes : List Closed) (claims : List Claim) (Holds : List Acc
   pub told : AllZip (Fits closes) claims own
   pub left : Holds others
 
-pub parted_first : (closes : List Closed) (Holds : List Access → Type 0) (accesses : List Access) → Holds accesses → Parted closes [] Holds accesses
-parted_first closes Holds accesses all = record { own = []; others = accesses; whole = refl; told = tt; left = all }
+pub parted_first : (closes : List Closed) (Holds : List Access → Type 0) {accesses : List Access} → Holds accesses → Parted closes [] Holds accesses
+parted_first closes Holds {accesses} all = record { own = []; others = accesses; whole = refl; told = tt; left = all }
 
-pub parted_more : (closes : List Closed) (claims more : List Claim) (Holds Next : List Access → Type 0) (accesses own others : List Access)
+pub parted_more : {closes : List Closed} (claims more : List Claim) (Holds Next : List Access → Type 0) (accesses own : List Access) {others : List Access}
     → (p : Parted closes claims Holds accesses) → p.others ≡ own ++ others → AllZip (Fits closes) more own → Next others
     → Parted closes (claims ++ more) Next accesses
-parted_more closes claims more Holds Next accesses own others p split told next = record {
+parted_more {closes} claims more Holds Next accesses own {others} p split told next = record {
   own = p.own ++ own;
   others = others;
   whole = p.whole ∙ (ap (λ (l : List Access). p.own ++ l) split ∙ sym (append_assoc p.own own others));
@@ -44,7 +44,7 @@ pub record EntriesTold (closes : List Closed) (place : Place) (off : ℕ) (list 
 
 pub none_told : (closes : List Closed) (place : Place) (off : ℕ) (list : List ℤ) → EntriesTold closes place off list 0 []
 none_told closes place off list = record {
-  each = λ accesses done. parted_first closes _ accesses
+  each = λ accesses done. parted_first closes _
       (subst (λ (n : ℕ). AreEntriesDone place 0 n list accesses) (let e : off ≡ off + 0 = omega arith in e) done);
 }
 
@@ -58,30 +58,30 @@ one_more closes place off list i claims within t d own each = record {
       let parts = t.each accesses done in
       let next : AreEntriesDone place i (off + i) (get_or list i d ∷ drop (i + 1) list) parts.others =
       subst (λ (l : List ℤ). AreEntriesDone place i (off + i) l parts.others) (drop_more list i d within) parts.left in
-      parted_more closes claims own _ _ accesses next.0 next.1 parts next.2 (each next.0 next.3)
+      parted_more claims own _ _ accesses next.0 parts next.2 (each next.0 next.3)
       (subst (λ (n : ℕ). AreEntriesDone place (i + 1) n (drop (i + 1) list) next.1) (let e : off + i + 1 ≡ off + (i + 1) = omega arith in e) next.4);
 }
 
 -- an entry that installs a file
-pub installs_one : (closes : List Closed) (place : Place) (i slot : ℕ) (z : ℤ) (entry : ℕ) (resident : Resident) → z ≡ pos entry
+pub installs_one : {closes : List Closed} {place : Place} {i : ℕ} (slot : ℕ) {z : ℤ} {entry : ℕ} {resident : Resident} → z ≡ pos entry
     → IsResident closes (installed place i entry) resident → (accesses : List Access) → IsEntryDone place i slot z accesses
     → AllZip (Fits closes) (At slot Anything (File resident) ∷ []) accesses
-installs_one closes place i slot z entry resident is same accesses done =
+installs_one {closes} {place} {i} slot {entry} {resident} is same accesses done =
     let put : IsEntryDone place i slot (pos entry) accesses = subst (λ (y : ℤ). IsEntryDone place i slot y accesses) is done in
     subst (AllZip (Fits closes) (At slot Anything (File resident) ∷ [])) (sym put.1)
     ((refl, tt, (refl, (installed place i entry, refl, same))), tt)
 
 -- an entry that empties its slot
-pub empties_one : (closes : List Closed) (place : Place) (i slot : ℕ) (z : ℤ) → z ≡ negsuc 0 → (accesses : List Access) → IsEntryDone place i slot z accesses
+pub empties_one : (closes : List Closed) (place : Place) (i slot : ℕ) {z : ℤ} → z ≡ negsuc 0 → (accesses : List Access) → IsEntryDone place i slot z accesses
     → AllZip (Fits closes) (At slot Anything Empty ∷ []) accesses
-empties_one closes place i slot z is accesses done =
+empties_one closes place i slot is accesses done =
     let cleared : IsEntryDone place i slot (negsuc 0) accesses = subst (λ (y : ℤ). IsEntryDone place i slot y accesses) is done in
     subst (AllZip (Fits closes) (At slot Anything Empty ∷ [])) (sym cleared.1) ((refl, tt, (refl, refl)), tt)
 
 -- an entry that leaves it
-pub skips_one : (closes : List Closed) (place : Place) (i slot n : ℕ) (z : ℤ) → z ≡ negsuc (suc n) → (accesses : List Access) → IsEntryDone place i slot z accesses
+pub skips_one : (closes : List Closed) (place : Place) (i slot : ℕ) {n : ℕ} {z : ℤ} → z ≡ negsuc (suc n) → (accesses : List Access) → IsEntryDone place i slot z accesses
     → AllZip (Fits closes) [] accesses
-skips_one closes place i slot n z is accesses done =
+skips_one closes place i slot {n} is accesses done =
     let skipped : IsEntryDone place i slot (negsuc (suc n)) accesses = subst (λ (y : ℤ). IsEntryDone place i slot y accesses) is done in
     subst (AllZip (Fits closes) []) (sym skipped) tt
 

@@ -14,12 +14,12 @@ possible_of_chain size range chain (x ∷ order) all = elim (of_chain x order ch
 ]
 
 -- an access of an order is one of its chain's
-pub of_its_chain : (order : List ChainAccess) (x : ChainAccess) → Contains order x → Contains (accesses_of_chain x.chain order) x.access
-of_its_chain [] x has = absurd (contains_none x has)
-of_its_chain (y ∷ order) x has = elim (contains_cases y order x has) [
+pub of_its_chain : (order : List ChainAccess) {x : ChainAccess} → Contains order x → Contains (accesses_of_chain x.chain order) x.access
+of_its_chain [] {x} has = absurd (contains_none x has)
+of_its_chain (y ∷ order) {x} has = elim (contains_cases y order x has) [
   | inl here ↦ subst (λ (z : ChainAccess). Contains (accesses_of_chain z.chain (y ∷ order)) z.access) (sym here)
       (subst (λ (l : List Access). Contains l y.access) (sym (own_first y order)) (contains_head y.access (accesses_of_chain y.chain order)))
-  | inr later ↦ let rest = of_its_chain order x later in elim (of_chain y order x.chain) [
+  | inr later ↦ let rest = of_its_chain order later in elim (of_chain y order x.chain) [
     | inl same ↦ subst (λ (l : List Access). Contains l x.access) (sym same.1) (contains_tail y.access (accesses_of_chain x.chain order) x.access rest)
     | inr other ↦ subst (λ (l : List Access). Contains l x.access) (sym other.1) rest
   ]

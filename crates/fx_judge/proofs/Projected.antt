@@ -19,8 +19,8 @@ use Rattle.std.proofs.lemmas.Bool.{cases_Bool}
 use Rattle.fx_plain.proofs.Cells.{changed_else, each_set}
 use Rattle.fx_search.proofs.SlotsKept.{slots_after}
 
-seen_one : (cells : List Cell) (a : Access) (rest : List Access) → has_slot cells (touched a) ≡ true → seen cells (a ∷ rest) ≡ a ∷ seen cells rest
-seen_one cells a rest is = ap (λ (b : Bool). cond b (a ∷ seen cells rest) (seen cells rest)) is
+seen_one : (cells : List Cell) {a : Access} (rest : List Access) → has_slot cells (touched a) ≡ true → seen cells (a ∷ rest) ≡ a ∷ seen cells rest
+seen_one cells {a} rest is = ap (λ (b : Bool). cond b (a ∷ seen cells rest) (seen cells rest)) is
 
 unseen_one : (cells : List Cell) (a : Access) (rest : List Access) → has_slot cells (touched a) ≡ false → seen cells (a ∷ rest) ≡ seen cells rest
 unseen_one cells a rest is = ap (λ (b : Bool). cond b (a ∷ seen cells rest) (seen cells rest)) is
@@ -35,12 +35,12 @@ past_end (x ∷ claims) zero is = absurd (cc)
 past_end (x ∷ claims) (suc n) is = past_end claims n is
 
 -- the first one of the claims that are left
-first_left : (closes : List Closed) (claims : List Claim) (n : ℕ) (a : Access) (rest : List Access) → AllZip (Fits closes) (drop n claims) (a ∷ rest)
+first_left : {closes : List Closed} (claims : List Claim) (n : ℕ) {a : Access} (rest : List Access) → AllZip (Fits closes) (drop n claims) (a ∷ rest)
     → (claim : Claim) × (slice_get claims n ≡ Some claim) × Fits closes claim a × AllZip (Fits closes) (drop (suc n) claims) rest
-first_left closes [] zero a rest all = absurd all
-first_left closes [] (suc n) a rest all = absurd all
-first_left closes (x ∷ claims) zero a rest all = (x, refl, all.0, all.1)
-first_left closes (x ∷ claims) (suc n) a rest all = first_left closes claims n a rest all
+first_left [] zero rest all = absurd all
+first_left [] (suc n) rest all = absurd all
+first_left (x ∷ claims) zero rest all = (x, refl, all.0, all.1)
+first_left {closes} (x ∷ claims) (suc n) {a} rest all = first_left claims n rest all
 
 -- the strand of a chain, and where it stands
 abbrev IsAmong : List Strand → ℕ → Type 0
@@ -58,9 +58,9 @@ module _ (closes : List Closed) (strands : List Strand) (first : List Cell)
     cells : All (IsCell table closes) at.cells
 
   -- an access of another slot
-  passed : (table : Table) (at : Standing) (x : ChainAccess) (order : List ChainAccess) → has_slot first (touched x.access) ≡ false
+  passed : {table : Table} (at : Standing) (x : ChainAccess) (order : List ChainAccess) → has_slot first (touched x.access) ≡ false
       → All (IsCell (table_with table x.access) closes) at.cells → Left table at (x ∷ order) → Left (table_with table x.access) at order
-  passed table at x order out cells left = record {
+  passed at x order out cells left = record {
     fits = λ i strand is. subst (AllZip (Fits closes) (drop (slice_index at.places i) strand.claims.items)) (rest strand.chain) (left.fits i strand is);
     each = λ y has. left.each y (contains_tail x order y has);
     long = left.long;
@@ -83,9 +83,9 @@ module _ (closes : List Closed) (strands : List Strand) (first : List Cell)
     told =
         let mine : accesses_of_chain strand.chain (x ∷ order) ≡ x.access ∷ accesses_of_chain strand.chain order =
         subst (λ (chain : ℕ). accesses_of_chain chain (x ∷ order) ≡ x.access ∷ accesses_of_chain chain order) (sym own) (own_first x order) in
-        first_left closes strand.claims.items (slice_index at.places i) x.access (seen first (accesses_of_chain strand.chain order))
+        first_left strand.claims.items (slice_index at.places i) (seen first (accesses_of_chain strand.chain order))
         (subst (AllZip (Fits closes) (drop (slice_index at.places i) strand.claims.items))
-        (ap (seen first) mine ∙ seen_one first x.access (accesses_of_chain strand.chain order) inside) (left.fits i strand is))
+        (ap (seen first) mine ∙ seen_one first (accesses_of_chain strand.chain order) inside) (left.fits i strand is))
 
     seen_here : has_slot at.cells (touched x.access) ≡ true
     seen_here = left.slots (touched x.access) ∙ inside
@@ -123,9 +123,9 @@ module _ (closes : List Closed) (strands : List Strand) (first : List Cell)
     }
 
   -- cells of other slots than an access's
-  cells_passed : (table : Table) (a : Access) (cells : List Cell) → Permits table a → has_slot cells (touched a) ≡ false → All (IsCell table closes) cells
+  cells_passed : {table : Table} (a : Access) (cells : List Cell) → Permits table a → has_slot cells (touched a) ≡ false → All (IsCell table closes) cells
       → All (IsCell (table_with table a) closes) cells
-  cells_passed table a cells may out all = λ k d lt.
+  cells_passed {table} a cells may out all = λ k d lt.
       let cell = slice_index_or cells k d in
       moved table closes a cell cell.file (all k d lt) (subst (λ (x : Option Closed). ShowsFile closes x cell.file)
       (sym (stays (touched a) k d lt refl)) (all k d lt).shows)
@@ -134,8 +134,7 @@ module _ (closes : List Closed) (strands : List Strand) (first : List Cell)
           → (table_with table a).at (slice_index_or cells k d).slot ≡ table.at (slice_index_or cells k d).slot
       stays None k d lt is = ap (λ (at : ℕ → Option Closed). at (slice_index_or cells k d).slot) (untouched table a is)
       stays (Some slot) k d lt is = let here = (slice_index_or cells k d).slot in
-          ap (λ (at : ℕ → Option Closed). at here) (at_after table a slot is may)
-          ∙ changed_else table.at slot (left_by a) here
+          ap (λ (at : ℕ → Option Closed). at here) (at_after table a is may) ∙ changed_else table.at slot (left_by a) here
           (λ same. let bad : true ≡ false = sym (list_any_at (λ (cell : Cell). cell.slot == slot) cells k d lt (eq-eqb here slot same))
           ∙ ap (has_slot cells) (sym is) ∙ out in absurd (cc))
 
@@ -151,18 +150,18 @@ module _ (closes : List Closed) (strands : List Strand) (first : List Cell)
       either true is = absurd (stay f refl (shows.leaves.0 is))
       either false is = refl
 
-  all_stay : (table : Table) (l : List Cell) → All (IsCell table closes) l → ((slot : ℕ) (file : Closed) → table.at slot ≡ Some file → Contains closes file → ⊥)
+  all_stay : {table : Table} (l : List Cell) → All (IsCell table closes) l → ((slot : ℕ) (file : Closed) → table.at slot ≡ Some file → Contains closes file → ⊥)
       → list_all is_staying l ≡ true
-  all_stay table [] all stay = refl
-  all_stay table (cell ∷ l) all stay =
+  all_stay [] all stay = refl
+  all_stay {table} (cell ∷ l) all stay =
       let here = All-head (IsCell table closes) cell l all in
-      let rest = all_stay table l (All-tail (IsCell table closes) cell l all) stay in
+      let rest = all_stay l (All-tail (IsCell table closes) cell l all) stay in
       ap (λ (b : Bool). b && list_all is_staying l) (stays (table.at cell.slot) cell.file here.shows (stay cell.slot)) ∙ rest
 
   -- no claim is left where no access is, and no file that the closes have
-  ended : (table : Table) (at : Standing) → Left table at [] → ((slot : ℕ) (file : Closed) → table.at slot ≡ Some file → Contains closes file → ⊥) → IsEnd strands at
-  ended table at left stay = record {
-    stay = all_stay table at.cells left.cells stay;
+  ended : {table : Table} (at : Standing) → Left table at [] → ((slot : ℕ) (file : Closed) → table.at slot ≡ Some file → Contains closes file → ⊥) → IsEnd strands at
+  ended {table} at left stay = record {
+    stay = all_stay at.cells left.cells stay;
     over = λ c. elim (some_or_none (slice_get strands c)) [
       | inl there ↦
           ap (option_and_then (λ (s : Strand). slice_get s.claims.items (slice_index at.places c))) there.1
@@ -172,12 +171,12 @@ module _ (closes : List Closed) (strands : List Strand) (first : List Cell)
   }
 
   -- along the order
-  along : (order : List ChainAccess) (table : Table) (at : Standing) → Left table at order → PermitsAll table (accesses_of order)
+  along : (order : List ChainAccess) {table : Table} (at : Standing) → Left table at order → PermitsAll table (accesses_of order)
       → ((file : Closed) → Contains (removed_in (accesses_of order)) file → Contains closes file)
       → ((slot : ℕ) (file : Closed) → (table_after table (accesses_of order)).at slot ≡ Some file → Contains closes file → ⊥)
       → (path : List ℕ) × Ends strands at path
-  along [] table at left may removed stay = ([], ended table at left stay)
-  along (x ∷ order) table at left may removed stay =
+  along [] {table} at left may removed stay = ([], ended at left stay)
+  along (x ∷ order) {table} at left may removed stay =
       let closed : (f : Closed) → removed_by x.access ≡ Some f → Contains closes f =
       λ f is. removed f (subst (λ (o : Option Closed). Contains (option_to_list o ++ removed_in (accesses_of order)) f) (sym is) (contains_head f (removed_in (accesses_of order)))) in
       let later : (f : Closed) → Contains (removed_in (accesses_of order)) f → Contains closes f =
@@ -185,14 +184,14 @@ module _ (closes : List Closed) (strands : List Strand) (first : List Cell)
       elim (cases_Bool (has_slot first (touched x.access))) [
         | inl inside ↦ elim (left.each x (contains_head x order)) [
           | inl there ↦
-              let rest = along order (table_with table x.access) (mid table at x order inside may.0 closed left there.0 there.1 there.2 there.3)
+              let rest = along order (mid table at x order inside may.0 closed left there.0 there.1 there.2 there.3)
               (followed table at x order inside may.0 closed left there.0 there.1 there.2 there.3) may.1 later stay in
               (there.0 ∷ rest.0, (_, steps table at x order inside may.0 closed left there.0 there.1 there.2 there.3, rest.1))
           | inr out ↦ let bad : true ≡ false = sym inside ∙ out in absurd (cc)
         ]
         | inr out ↦
-            along order (table_with table x.access) at
-            (passed table at x order out (cells_passed table x.access at.cells may.0 (left.slots (touched x.access) ∙ out) left.cells) left) may.1 later stay
+            along order at
+            (passed at x order out (cells_passed x.access at.cells may.0 (left.slots (touched x.access) ∙ out) left.cells) left) may.1 later stay
       ]
 
 all_zero : (l : List Strand) (k : ℕ) → slice_index (map (λ (strand : Strand). 0) l) k ≡ 0
@@ -201,22 +200,22 @@ all_zero (x ∷ l) zero = refl
 all_zero (x ∷ l) (suc k) = all_zero l k
 
 -- where nothing is seen of accesses, each is of another slot
-unseen : (cells : List Cell) (accesses : List Access) (a : Access) → Contains accesses a → seen cells accesses ≡ [] → has_slot cells (touched a) ≡ false
-unseen cells [] a has none = absurd (contains_none a has)
-unseen cells (b ∷ accesses) a has none = elim (cases_Bool (has_slot cells (touched b))) [
-  | inl inside ↦ let bad : b ∷ seen cells accesses ≡ [] = sym (seen_one cells b accesses inside) ∙ none in absurd (cc)
+unseen : (cells : List Cell) (accesses : List Access) {a : Access} → Contains accesses a → seen cells accesses ≡ [] → has_slot cells (touched a) ≡ false
+unseen cells [] {a} has none = absurd (contains_none a has)
+unseen cells (b ∷ accesses) {a} has none = elim (cases_Bool (has_slot cells (touched b))) [
+  | inl inside ↦ let bad : b ∷ seen cells accesses ≡ [] = sym (seen_one cells accesses inside) ∙ none in absurd (cc)
   | inr out ↦ elim (contains_cases b accesses a has) [
     | inl same ↦ ap (λ (x : Access). has_slot cells (touched x)) same ∙ out
-    | inr later ↦ unseen cells accesses a later (sym (unseen_one cells b accesses out) ∙ none)
+    | inr later ↦ unseen cells accesses later (sym (unseen_one cells b accesses out) ∙ none)
   ]
 ]
 
 -- where no order of the claims at some slots leads to an end, none of the order's accesses does
-projected : (table : Table) (closes : List Closed) (chains : ℕ) (order : List ChainAccess) (strands : List Strand) (cells : List Cell)
+projected : {table : Table} {closes : List Closed} {chains : ℕ} {order : List ChainAccess} {strands : List Strand} {cells : List Cell}
     → All (IsCell table closes) cells → AreStrands closes cells chains order strands → IsPlayed table closes chains order
     → HasNoEnd strands (starting strands cells) → ⊥
 unfolding HasNoEnd
-projected table closes chains order strands cells all are played none =
+projected {table} {closes} {chains} {order} {strands} {cells} all are played none =
     let begins : Left closes strands cells are.once table (starting strands cells) order = record {
       fits = λ i strand is. subst (λ (n : ℕ). AllZip (Fits closes) (drop n strand.claims.items) (seen cells (accesses_of_chain strand.chain order)))
           (sym (all_zero strands i)) (are.fits i strand is);
@@ -224,13 +223,13 @@ projected table closes chains order strands cells all are played none =
           let within = All-contains (λ y. (1 ≤ y.chain) × (y.chain ≤ chains)) order x played.within has in
           elim (are.each x.chain within.0 within.1) [
             | inl there ↦ inl there
-            | inr none ↦ inr (unseen cells (accesses_of_chain x.chain order) x.access (of_its_chain order x has) none)
+            | inr none ↦ inr (unseen cells (accesses_of_chain x.chain order) (of_its_chain order has) none)
           ];
       long = length-map strands (λ strand. 0);
       slots = λ o. refl;
       cells = all;
     } in
-    let path = along closes strands cells are.once order table (starting strands cells) begins played.permitted played.removed played.stay in
+    let path = along closes strands cells are.once order (starting strands cells) begins played.permitted played.removed played.stay in
     none path.0 path.1
 
 -- so the claims of chains, of which these strands are, tell of no order
@@ -239,5 +238,4 @@ pub no_order : (slots : Slots) (closes : List Closed) (chains : List (Vec Claim)
     → ((closes : List Closed) (order : List ChainAccess) → AreClaims closes chains order → AreStrands closes cells (length chains) order strands)
     → same ≡ strands → HasNoEnd same (starting same cells) → HasNoOrder (table_of_slots slots) closes chains
 no_order slots closes chains cells strands same all are is none order played told =
-    projected (table_of_slots slots) closes (length chains) order strands cells all (are closes order told) played
-    (subst (λ (l : List Strand). HasNoEnd l (starting l cells)) is none)
+    projected all (are closes order told) played (subst (λ (l : List Strand). HasNoEnd l (starting l cells)) is none)

@@ -8,17 +8,17 @@ use Rattle.fx_judge.specs.declared.part.Outcome.TheVariants.{Refuted}
 use Rattle.fx_order.proofs.Placed.{same_size}
 use Rattle.fx_judge.proofs.CellSteps.{same_range}
 
-possible_one : (table : Table) (size : ℕ) (range : ℕ × ℕ) (a : Access) → table.size ≡ size → table.range ≡ range → Permits table a → IsPossible size range a
-possible_one table size range (Allocates s file) is are may =
+possible_one : (table : Table) {size : ℕ} {range : ℕ × ℕ} (a : Access) → table.size ≡ size → table.range ≡ range → Permits table a → IsPossible size range a
+possible_one table (Allocates s file) is are may =
     (subst (λ (n : ℕ). s < n) is may.0.0, subst (λ (r : ℕ × ℕ). r.0 ≤ s) are may.1.0, subst (λ (r : ℕ × ℕ). s < r.0 + r.1) are may.1.1)
-possible_one table size range a is are may = tt
+possible_one table a is are may = tt
 
 -- what a table permits is possible there
 pub possible_all : (table : Table) (size : ℕ) (range : ℕ × ℕ) (accesses : List Access) → table.size ≡ size → table.range ≡ range → PermitsAll table accesses
     → AllByRecursion (IsPossible size range) accesses
 possible_all table size range [] is are may = tt
 possible_all table size range (a ∷ accesses) is are may =
-    (possible_one table size range a is are may.0, possible_all (table_with table a) size range accesses (same_size table a ∙ is) (same_range table a ∙ are) may.1)
+    (possible_one table a is are may.0, possible_all (table_with table a) size range accesses (same_size table a ∙ is) (same_range table a ∙ are) may.1)
 
 module _ (old : RingState) (requests : List Asked) (told : Told) where
   done_so : (room : ℕ) (left : RingState) → (one : IsOneOrder old requests (told_report old told room) left)

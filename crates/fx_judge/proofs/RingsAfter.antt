@@ -2,9 +2,9 @@
 use Rattle.fx_judge.proofs.Words.{◌≡◌, ◌≤◌, List, sym, subst, IsAccepted, Asked, RingState, IsRing, ring_of}
 use Rattle.fx_judge.proofs.Words.{Reported, submitted_rings, IsOneOrder, each_order_is_a_history, NonePast, ring_with_files, shows_ring}
 
-pub order_rings : (old left : RingState) (requests : List Asked) (report : Reported) → IsRing old → NonePast old.size old.at → old.size ≤ 256
+pub order_rings : {old left : RingState} {requests : List Asked} {report : Reported} → IsRing old → NonePast old.size old.at → old.size ≤ 256
     → IsAccepted requests → IsOneOrder old requests report left → IsRing left
-order_rings old left requests report ring none few accepted one =
+order_rings {old} {left} {requests} {report} ring none few accepted one =
     let is : ring_of (ring_with_files old) ≡ old = shows_ring old none in
     let h = each_order_is_a_history (ring_with_files old) requests report left (subst (λ (r : RingState). r.size ≤ 256) (sym is) few) accepted
     (subst (λ (r : RingState). IsOneOrder r requests report left) (sym is) one) in

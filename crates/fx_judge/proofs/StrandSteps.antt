@@ -26,20 +26,20 @@ zip_kept closes cells (x ∷ claims) (a ∷ rest) all =
     both false true is more = absurd (cc)
     both false false is more = more
 
-get_old : {X : Type 0} (xs ys : List X) (k : ℕ) (x : X) → slice_get xs k ≡ Some x → slice_get (xs ++ ys) k ≡ Some x
-get_old [] ys k x is = absurd (cc)
-get_old (z ∷ xs) ys zero x is = is
-get_old (z ∷ xs) ys (suc k) x is = get_old xs ys k x is
+get_old : {X : Type 0} (xs ys : List X) (k : ℕ) {x : X} → slice_get xs k ≡ Some x → slice_get (xs ++ ys) k ≡ Some x
+get_old [] ys k is = absurd (cc)
+get_old (z ∷ xs) ys zero is = is
+get_old (z ∷ xs) ys (suc k) {x} is = get_old xs ys k is
 
 get_last : {X : Type 0} (xs : List X) (x : X) → slice_get (xs ++ x ∷ []) (length xs) ≡ Some x
 get_last [] x = refl
 get_last (z ∷ xs) x = get_last xs x
 
-pub get_push : {X : Type 0} (xs : List X) (y : X) (k : ℕ) (x : X) → slice_get (xs ++ y ∷ []) k ≡ Some x → (slice_get xs k ≡ Some x) ⊎ ((k ≡ length xs) × (y ≡ x))
-get_push [] y zero x is = inr (refl, cc)
-get_push [] y (suc k) x is = absurd (cc)
-get_push (z ∷ xs) y zero x is = inl is
-get_push (z ∷ xs) y (suc k) x is = elim (get_push xs y k x is) [
+pub get_push : {X : Type 0} (xs : List X) {y : X} (k : ℕ) {x : X} → slice_get (xs ++ y ∷ []) k ≡ Some x → (slice_get xs k ≡ Some x) ⊎ ((k ≡ length xs) × (y ≡ x))
+get_push [] zero is = inr (refl, cc)
+get_push [] (suc k) is = absurd (cc)
+get_push (z ∷ xs) zero is = inl is
+get_push (z ∷ xs) {y} (suc k) {x} is = elim (get_push xs k is) [
   | inl old ↦ inl old
   | inr new ↦ inr (ap suc new.0, new.1)
 ]
@@ -70,8 +70,8 @@ module _ (cells : List Cell) (chains : List (Vec Claim)) (i : ℕ) (strands : Li
   mine closes order told = subst (λ (l : List Claim). AllZip (Fits closes) l (seen cells (accesses_of_chain (i + 1) order))) (sym kept)
       (zip_kept closes cells claims.items (accesses_of_chain (i + 1) order) (told i claims is))
 
-  last_or_before : (chain : ℕ) → chain ≤ i + 1 → (chain ≤ i) ⊎ (chain ≡ i + 1)
-  last_or_before chain high = elim (cases_lt i chain) [
+  last_or_before : {chain : ℕ} → chain ≤ i + 1 → (chain ≤ i) ⊎ (chain ≡ i + 1)
+  last_or_before {chain} high = elim (cases_lt i chain) [
     | inl more ↦ inr (omega arith)
     | inr less ↦ inl less
   ]
@@ -81,7 +81,7 @@ module _ (cells : List Cell) (chains : List (Vec Claim)) (i : ℕ) (strands : Li
     low = λ k strand at. let old = so.low k strand at in omega arith;
     are = λ closes order told. let before = so.are closes order told in record {
       fits = before.fits;
-      each = λ chain low high. elim (last_or_before chain high) [
+      each = λ chain low high. elim (last_or_before high) [
         | inl old ↦ before.each chain low old
         | inr new ↦ inr (ap (λ (n : ℕ). seen cells (accesses_of_chain n order)) new
             ∙ none_zip closes (seen cells (accesses_of_chain (i + 1) order))
@@ -97,30 +97,30 @@ module _ (cells : List Cell) (chains : List (Vec Claim)) (i : ℕ) (strands : Li
 
   with_own : SoFar cells chains (i + 1) (strands ++ added ∷ [])
   with_own = record {
-    low = λ k strand at. elim (get_push strands added k strand at) [
+    low = λ k strand at. elim (get_push strands k at) [
       | inl old ↦ let before = so.low k strand old in omega arith
       | inr new ↦ let chain : i + 1 ≡ strand.chain = ap (λ (s : Strand). s.chain) new.1 in omega arith
     ];
     are = λ closes order told. let before = so.are closes order told in record {
-      fits = λ k strand at. elim (get_push strands added k strand at) [
+      fits = λ k strand at. elim (get_push strands k at) [
         | inl old ↦ before.fits k strand old
         | inr new ↦ subst (λ (s : Strand). AllZip (Fits closes) s.claims.items (seen cells (accesses_of_chain s.chain order))) new.1 (mine closes order told)
       ];
-      each = λ chain low high. elim (last_or_before chain high) [
+      each = λ chain low high. elim (last_or_before high) [
         | inl old ↦ elim (before.each chain low old) [
-          | inl there ↦ inl (there.0, there.1, get_old strands (added ∷ []) there.0 there.1 there.2, there.3)
+          | inl there ↦ inl (there.0, there.1, get_old strands (added ∷ []) there.0 there.2, there.3)
           | inr none ↦ inr none
         ]
         | inr new ↦ inl (length strands, added, get_last strands added, sym new)
       ];
-      once = λ k j one other at too same. elim (get_push strands added k one at) [
-        | inl old ↦ elim (get_push strands added j other too) [
+      once = λ k j one other at too same. elim (get_push strands k at) [
+        | inl old ↦ elim (get_push strands j too) [
           | inl older ↦ before.once k j one other old older same
           | inr new ↦
               let chain : i + 1 ≡ other.chain = ap (λ (s : Strand). s.chain) new.1 in
               let low = so.low k one old in absurd (omega arith)
         ]
-        | inr last ↦ elim (get_push strands added j other too) [
+        | inr last ↦ elim (get_push strands j too) [
           | inl older ↦
               let chain : i + 1 ≡ one.chain = ap (λ (s : Strand). s.chain) last.1 in
               let low = so.low j other older in absurd (omega arith)

@@ -28,14 +28,14 @@ module _ (closes : List Closed) (file : Closed) where
   finds a Full fits none = λ left. let bad : None ≡ Some file = ap left_by (sym fits) ∙ left in absurd (cc)
 
   -- each access of a chain fits one of its claims
-  fitting : (claims : List Claim) (accesses : List Access) (a : Access) → AllZip (Fits closes) claims accesses → Contains accesses a
+  fitting : (claims : List Claim) (accesses : List Access) {a : Access} → AllZip (Fits closes) claims accesses → Contains accesses a
       → (claim : Claim) × Contains claims claim × Fits closes claim a
-  fitting [] [] a all has = let lt = has.1 in absurd (omega arith)
-  fitting [] (x ∷ accesses) a all has = absurd all
-  fitting (c ∷ claims) [] a all has = absurd all
-  fitting (c ∷ claims) (x ∷ accesses) a all (zero, lt, is) = (c, contains_head c claims, subst (Fits closes c) is all.0)
-  fitting (c ∷ claims) (x ∷ accesses) a all (suc k, lt, is) =
-      let rest = fitting claims accesses a all.1 (k, omega arith, is) in
+  fitting [] [] all has = let lt = has.1 in absurd (omega arith)
+  fitting [] (x ∷ accesses) all has = absurd all
+  fitting (c ∷ claims) [] all has = absurd all
+  fitting (c ∷ claims) (x ∷ accesses) all (zero, lt, is) = (c, contains_head c claims, subst (Fits closes c) is all.0)
+  fitting (c ∷ claims) (x ∷ accesses) {a} all (suc k, lt, is) =
+      let rest = fitting claims accesses all.1 (k, omega arith, is) in
       let inside = rest.1.1 in
       (rest.0, (suc rest.1.0, omega arith, rest.1.2), rest.2)
 
@@ -46,10 +46,9 @@ module _ (closes : List Closed) (file : Closed) where
   nowhere_after : (table : Table) (a : Access) → Permits table a → FindsIt a → IsNowhere table → IsNowhere (table_with table a)
   nowhere_after table a may found none = elim (some_or_none (touched a)) [
     | inl there ↦ λ slot is.
-        let at : changed_at table.at there.0 (left_by a) slot ≡ Some file = ap (λ (f : ℕ → Option Closed). f slot) (sym (at_after table a there.0 there.1 may)) ∙ is in
+        let at : changed_at table.at there.0 (left_by a) slot ≡ Some file = ap (λ (f : ℕ → Option Closed). f slot) (sym (at_after table a there.1 may)) ∙ is in
         by_equality slot there.0 (λ b. (if b then left_by a else table.at slot) ≡ Some file → ⊥)
-        (λ _ left. none there.0 (sym (found_at table a there.0 there.1 may) ∙ found left))
-        (λ _ old. none slot old) at
+        (λ _ left. none there.0 (sym (found_at table a there.1 may) ∙ found left)) (λ _ old. none slot old) at
     | inr full ↦ subst (λ (f : ℕ → Option Closed). (slot : ℕ) → f slot ≡ Some file → ⊥) (sym (untouched table a full)) none
   ]
 
@@ -61,8 +60,8 @@ module _ (closes : List Closed) (file : Closed) where
       never_removed order (table_with table x.access) may.1 (nowhere_after table x.access may.0 (found x (contains_head x order)) none)
       (λ y inside. found y (contains_tail x order y inside)) later
 
-  pub unknown : (table : Table) (chains : List (Vec Claim)) → Contains closes file → IsNowhere table → (IsBrought chains file → ⊥) → HasNoOrder table closes chains
-  unknown table chains has none not_brought order played told =
+  pub unknown : {table : Table} (chains : List (Vec Claim)) → Contains closes file → IsNowhere table → (IsBrought chains file → ⊥) → HasNoOrder table closes chains
+  unknown {table} chains has none not_brought order played told =
       never_removed order table played.permitted none
       (λ x inside.
       let (one, few) = All-contains (λ y. (1 ≤ y.chain) × (y.chain ≤ length chains)) order x played.within inside in
@@ -70,20 +69,20 @@ module _ (closes : List Closed) (file : Closed) where
       let place : k + 1 ≡ x.chain = omega arith in
       elim (slice_get_cases chains k).1 [
         | inl own ↦
-            let fit = fitting own.0.items (accesses_of_chain x.chain order) x.access
-            (subst (λ (n : ℕ). AllZip (Fits closes) own.0.items (accesses_of_chain n order)) place (told k own.0 own.2)) (of_its_chain order x inside) in
+            let fit = fitting own.0.items (accesses_of_chain x.chain order)
+            (subst (λ (n : ℕ). AllZip (Fits closes) own.0.items (accesses_of_chain n order)) place (told k own.0 own.2)) (of_its_chain order inside) in
             finds x.access fit.0 fit.2 (λ brings. not_brought (k, own.0, own.1, own.3, (fit.1.0, fit.0, fit.1.1, fit.1.2, brings)))
         | inr past ↦ let beyond = past.0 in absurd (omega arith)
       ])
       (removes_contained (accesses_of order) file (played.all file has))
 
 -- what is read at a slot is one of the list
-at_slot : (slots : List (Option Closed)) (file : Closed) (k : ℕ) → slice_index_or slots k None ≡ Some file → Contains slots (Some file)
-at_slot [] file k is = absurd (cc)
-at_slot (x ∷ slots) file zero is = subst (λ (y : Option Closed). Contains (x ∷ slots) y) is (contains_head x slots)
-at_slot (x ∷ slots) file (suc k) is = contains_tail x slots (Some file) (at_slot slots file k is)
+at_slot : (slots : List (Option Closed)) {file : Closed} (k : ℕ) → slice_index_or slots k None ≡ Some file → Contains slots (Some file)
+at_slot [] k is = absurd (cc)
+at_slot (x ∷ slots) zero is = subst (λ (y : Option Closed). Contains (x ∷ slots) y) is (contains_head x slots)
+at_slot (x ∷ slots) {file} (suc k) is = contains_tail x slots (Some file) (at_slot slots k is)
 
-pub never_known : (closes : List Closed) (file : Closed) (slots : Slots) (chains : List (Vec Claim)) → Contains closes file
+pub never_known : {closes : List Closed} {file : Closed} (slots : Slots) (chains : List (Vec Claim)) → Contains closes file
     → (IsKnown slots.at.items chains file → ⊥) → HasNoOrder (table_of_slots slots) closes chains
-never_known closes file slots chains has not =
-    unknown closes file (table_of_slots slots) chains has (λ slot is. not (inl (at_slot slots.at.items file slot is))) (λ brought. not (inr brought))
+never_known {closes} {file} slots chains has not =
+    unknown closes file chains has (λ slot is. not (inl (at_slot slots.at.items slot is))) (λ brought. not (inr brought))

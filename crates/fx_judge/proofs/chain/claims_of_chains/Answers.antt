@@ -32,7 +32,7 @@ returns-in-Err c =
 
 pub returns-then-not-is_empty : goal.returns-then-not-is_empty
 returns-then-not-is_empty c =
-    none_left _ _ _ _ _ _ _ c.loop-i.i _ c.loop-i.claims.items
+    none_left
     (let long = length-map c.args.parts.now.chains.now (members_of (all_asked c.args.parts.now.requests.now)) in omega arith) c.loop-i.invariant
     (λ none. let long = length-map c.loop-i.rest.now completed_of in
     let zero_now : length c.loop-i.rest.now ≡ 0 = omega arith in

@@ -15,6 +15,5 @@ returns-clause-came c = λ _ room. (
 
 pub returns-clause-ring : goal.returns-clause-ring
 returns-clause-ring c =
-    order_rings (ring_with_slots c.args.case.now.catalogue.now c.args.ring.now) _ (all_asked c.args.case.now.requests.now)
-    (told_report (ring_with_slots c.args.case.now.catalogue.now c.args.ring.now) c.args.case.now.told.now 0) c.requires.ring
+    order_rings c.requires.ring
     (none_past c.args.case.now.catalogue.now c.args.ring.now) c.requires.few_slots c.args.case.now.accepted (returns-clause-came c refl 0).0

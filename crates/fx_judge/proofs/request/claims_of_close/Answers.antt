@@ -13,10 +13,10 @@ returns-then-slot-setting c =
 
 pub returns-then-is_failure : goal.returns-then-is_failure
 returns-then-is_failure c =
-    tells_so _ _ _ _ (λ own. close_missed _ _ c.args.setting.now.closes.now _ own c.args.slot c.if-setting-eq0.false c.if-slot-setting.false (c.if-is_failure.ensures.0 refl))
+    tells_so _ _ _ _ (λ own. close_missed _ _ c.args.setting.now.closes.now _ own c.if-setting-eq0.false c.if-slot-setting.false (c.if-is_failure.ensures.0 refl))
     (c.one.ensures c.args.setting.now.closes.now)
 
 pub returns : goal.returns
 returns c =
-    tells_so _ _ _ _ (λ own. close_here _ _ c.args.setting.now.closes.now _ own c.args.slot c.if-setting-eq0.false c.if-slot-setting.false (c.if-not-is_answer.ensures.0 refl))
+    tells_so _ _ _ _ (λ own. close_here _ _ c.args.setting.now.closes.now _ own c.if-setting-eq0.false c.if-slot-setting.false (c.if-not-is_answer.ensures.0 refl))
     (c.one-2.ensures c.args.setting.now.closes.now)

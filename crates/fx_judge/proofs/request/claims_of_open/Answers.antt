@@ -10,10 +10,8 @@ returns-in_default c =
 pub returns-in-Slot : goal.returns-in-Slot
 returns-in-Slot c =
     rw c.in-Slot.is
-    (tells_so _ _ _ _
-    (λ own done. named_entry c.args.setting.now.catalogue.now c.args.setting.now.size c.args.place c.args.opened.0.now (Slot c.in-Slot.slot)
-    (completed_of c.args.c.now) own c.in-Some.entry (c.if-not-is_only.ensures refl) c.in-Some.ensures.variant done.1)
-    c.claims_of_open_at.ensures)
+    (tells_so _ _ _ _ (λ own done. named_entry c.args.setting.now.catalogue.now c.args.setting.now.size c.args.place (Slot c.in-Slot.slot)
+    (completed_of c.args.c.now) own (c.if-not-is_only.ensures refl) c.in-Some.ensures.variant done.1) c.claims_of_open_at.ensures)
 
 pub returns-in-Any : goal.returns-in-Any
 returns-in-Any c =
@@ -21,7 +19,7 @@ returns-in-Any c =
     (tells_so _ _ _ _
     (λ own done. (
       done.0,
-      named_entry c.args.setting.now.catalogue.now c.args.setting.now.size c.args.place c.args.opened.0.now Any
-          (completed_of c.args.c.now) own c.in-Some.entry (c.if-not-is_only.ensures refl) c.in-Some.ensures.variant done.1,
+      named_entry c.args.setting.now.catalogue.now c.args.setting.now.size c.args.place Any
+          (completed_of c.args.c.now) own (c.if-not-is_only.ensures refl) c.in-Some.ensures.variant done.1,
     ))
     c.claims_of_open_any.ensures)

@@ -14,8 +14,7 @@ returns-then-is_failure c =
 
 pub returns : goal.returns
 returns c =
-    tells_so _ _ _ _
-    (λ own done. any_here _ _ _ _ own c.args.entry _ c.resident_for-file.result c.if-setting-eq0.false
+    tells_so _ _ _ _ (λ own done. any_here _ _ _ _ own c.if-setting-eq0.false
     (c.if-not-is_answer.ensures.0 refl ∙ ap (λ (z : ℤ). completed c.args.place z []) (not_below _ c.if-c-lt0.false))
     (subst (λ (f : Closed). IsResident c.args.setting.now.closes.now f c.resident_for-file.result) c.installed.ensures c.resident_for-file.ensures) done.1)
     (c.one-2.ensures c.args.setting.now.closes.now)

@@ -13,7 +13,6 @@ returns-then-slot-setting c =
 
 pub returns : goal.returns
 returns c =
-    tells_so _ _ _ _
-    (λ own. open_here _ _ _ _ own c.args.opened.0 c.args.opened.1 c.resident_for-file.result c.if-setting-eq0.false c.if-slot-setting.false
+    tells_so _ _ _ _ (λ own. open_here _ _ _ _ own c.if-setting-eq0.false c.if-slot-setting.false
     (subst (λ (f : Closed). IsResident c.args.setting.now.closes.now f c.resident_for-file.result) c.installed.ensures c.resident_for-file.ensures))
     (c.one.ensures c.args.setting.now.closes.now)

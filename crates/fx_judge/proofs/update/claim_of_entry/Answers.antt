@@ -11,18 +11,17 @@ below (negsuc (suc n)) low high = (n, refl)
 pub returns-then-entry-ge0 : goal.returns-then-entry-ge0
 returns-then-entry-ge0 c = λ accesses done.
     let read : to_z w32 (of_z w32 c.args.entry) ≡ c.args.entry = to_z-of_z w32 c.args.entry c.ranges.entry in
-    installs_one c.args.setting.now.closes.now c.args.place c.args.at.0 c.args.at.1 c.args.entry _ c.resident_for-file.result
-    (sym read ∙ unsigned _ c.if-entry-ge0.true)
+    installs_one c.args.at.1 (sym read ∙ unsigned _ c.if-entry-ge0.true)
     (subst (λ (f : Closed). IsResident c.args.setting.now.closes.now f c.resident_for-file.result) c.installed.ensures c.resident_for-file.ensures) accesses done
 
 pub returns-then-entry-gtminus2 : goal.returns-then-entry-gtminus2
 returns-then-entry-gtminus2 c = λ accesses done.
     let read : to_z w32 (of_z w32 c.args.entry) ≡ c.args.entry = to_z-of_z w32 c.args.entry c.ranges.entry in
-    empties_one c.args.setting.now.closes.now c.args.place c.args.at.0 c.args.at.1 c.args.entry
+    empties_one c.args.setting.now.closes.now c.args.place c.args.at.0 c.args.at.1
     (sym read ∙ minus_one _ c.if-entry-ge0.false c.if-entry-gtminus2.true) accesses done
 
 pub returns : goal.returns
 returns c = λ accesses done.
     let read : to_z w32 (of_z w32 c.args.entry) ≡ c.args.entry = to_z-of_z w32 c.args.entry c.ranges.entry in
     let kind = below _ c.if-entry-ge0.false c.if-entry-gtminus2.false in
-    skips_one c.args.setting.now.closes.now c.args.place c.args.at.0 c.args.at.1 kind.0 c.args.entry (sym read ∙ kind.1) accesses done
+    skips_one c.args.setting.now.closes.now c.args.place c.args.at.0 c.args.at.1 (sym read ∙ kind.1) accesses done

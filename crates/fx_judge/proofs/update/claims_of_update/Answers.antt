@@ -20,7 +20,7 @@ returns-then-is_empty c =
     let past : (length c.args.update.1.now == 0 || nat_lt c.args.setting.now.size (c.args.update.0 + length c.args.update.1.now)) ≡ true =
     elim c.then-is_empty.branch [
       | then-is_empty-via-then-is_empty w ↦ empty_first (length c.args.update.1.now) c.args.setting.now.size c.args.update.0 (sym c.is_empty.ensures ∙ w.if-is_empty.true)
-      | then-is_empty-via-else-is_empty+then-off-list w ↦ outside c.args.setting.now.size c.args.update.0 (length c.args.update.1.now) w.if-off-list.true
+      | then-is_empty-via-else-is_empty+then-off-list w ↦ outside c.args.update.0 (length c.args.update.1.now) w.if-off-list.true
     ] in
     tells_so _ _ _ _ (λ own done. MatchBool-at_true _ _ past (some_table _ _ _ c.if-setting-eq0.false done))
     (c.refused-then-is_empty.ensures c.args.setting.now.closes.now)
