@@ -21,8 +21,8 @@ use Rattle.fx_order.proofs.ChainFront.{both_parts}
 use Rattle.fx_order.proofs.RequestCases.{closes, reads}
 
 -- an element of a list of which each is so
-all_got : {A : Type 0} (P : A → Type 0) (xs : List A) (i : ℕ) (x : A) → All P xs → slice_get xs i ≡ Some x → P x
-all_got P xs i x all is = subst P (get_or_from_slice_get xs i x x is) (All-get_or P xs i x (slice_get_within xs i x is) all)
+all_got : {A : Type 0} (P : A → Type 0) (xs : List A) (i : ℕ) {x : A} → All P xs → slice_get xs i ≡ Some x → P x
+all_got P xs i {x} all is = subst P (get_or_from_slice_get xs i x x is) (All-get_or P xs i x (slice_get_within xs i x is) all)
 
 no_bytes : IsBytes []
 no_bytes zero = omega arith
@@ -42,24 +42,24 @@ record AreGiven (got : List ℕ) : Type 0 where
   small : length got < 2 ^ 31
   bytes : IsBytes got
 
-given : (catalogue : List FileEntry) (entry off len : ℕ) → AreFiles catalogue → AreGiven (bytes_at catalogue entry off len)
-given catalogue entry off len are = of (slice_get catalogue entry) refl
+given : {catalogue : List FileEntry} (entry off len : ℕ) → AreFiles catalogue → AreGiven (bytes_at catalogue entry off len)
+given {catalogue} entry off len are = of (slice_get catalogue entry) refl
   where
     of : (x : Option FileEntry) → slice_get catalogue entry ≡ x → AreGiven (part_of x off len)
     of None is = record { small = omega arith; bytes = no_bytes }
     of (Some file) is =
-        let small : length file.bytes ≤ LONGEST_ENTRY = all_got (λ (f : FileEntry). length f.bytes ≤ LONGEST_ENTRY) catalogue entry file are.catalogue.small is in
-        let bytes : IsBytes file.bytes = all_got (λ (f : FileEntry). IsBytes f.bytes) catalogue entry file are.bytes is in
+        let small : length file.bytes ≤ LONGEST_ENTRY = all_got (λ (f : FileEntry). length f.bytes ≤ LONGEST_ENTRY) catalogue entry are.catalogue.small is in
+        let bytes : IsBytes file.bytes = all_got (λ (f : FileEntry). IsBytes f.bytes) catalogue entry are.bytes is in
         let first = length-take len (drop off file.bytes) in
         let rest = length-drop off file.bytes in
         record { small = omega arith; bytes = taken_bytes len (drop off file.bytes) (left_bytes off file.bytes bytes) }
 
-error_in_range : (errno : Errno) (place : Place) → IsPlaceInRange place → IsCompletionInRange (refusal place errno)
-error_in_range ENOENT place is = record { place = is; res = omega arith; got = no_bytes }
-error_in_range _ place is = record { place = is; res = omega arith; got = no_bytes }
+error_in_range : (errno : Errno) {place : Place} → IsPlaceInRange place → IsCompletionInRange (refusal place errno)
+error_in_range ENOENT {place} is = record { place = is; res = omega arith; got = no_bytes }
+error_in_range _ {place} is = record { place = is; res = omega arith; got = no_bytes }
 
-number_in_range : (n : ℕ) (place : Place) → IsPlaceInRange place → n < 2 ^ 31 → IsCompletionInRange (completed place (pos n) [])
-number_in_range n place is few = record { place = is; res = few; got = no_bytes }
+number_in_range : {n : ℕ} {place : Place} → IsPlaceInRange place → n < 2 ^ 31 → IsCompletionInRange (completed place (pos n) [])
+number_in_range {place} is few = record { place = is; res = few; got = no_bytes }
 
 module _ (catalogue : List FileEntry) (are : AreFiles catalogue) (size : ℕ) (small : size ≤ 256) (range : ℕ × ℕ) where
   abbrev AreInside : List Access → Type 0
@@ -70,40 +70,40 @@ module _ (catalogue : List FileEntry) (are : AreFiles catalogue) (size : ℕ) (s
     InRange accesses c = IsCompletionInRange c
 
     error : (errno : Errno) → IsCompletionInRange (refusal place errno)
-    error errno = error_in_range errno place is
+    error errno = error_in_range errno is
 
-    open_so : (entry : ℕ) (target : Target) (accesses : List Access) (c : Completed) → AreInside accesses
+    open_so : (entry : ℕ) (target : Target) (accesses : List Access) {c : Completed} → AreInside accesses
         → IsOpenDone size place entry target accesses c → IsCompletionInRange c
-    open_so entry (Slot slot) accesses c inside done =
-        puts size place InRange error accesses c entry slot (λ _. number_in_range 0 place is (omega arith)) done
-    open_so entry Any accesses c inside done =
+    open_so entry (Slot slot) accesses {c} inside done =
+        puts size place InRange error accesses c entry slot (λ _. number_in_range is (omega arith)) done
+    open_so entry Any accesses {c} inside done =
         allocates size place (λ own d. AreInside own → IsCompletionInRange d) (λ errno _. error errno) accesses c entry
-        (λ slot within. let low = within.0.0 in number_in_range slot place is (omega arith)) (λ _. error ENFILE) done inside
+        (λ slot within. let low = within.0.0 in number_in_range is (omega arith)) (λ _. error ENFILE) done inside
 
-    request_so : (operation : Operation) (accesses : List Access) (c : Completed) → AreInside accesses
+    request_so : (operation : Operation) (accesses : List Access) {c : Completed} → AreInside accesses
         → IsRequestDone catalogue size place operation accesses c → IsCompletionInRange c
-    request_so (Opens name target) accesses c inside =
-        either_way (has_name name catalogue) (λ _ x. open_so x.0 target accesses c inside x.2)
+    request_so (Opens name target) accesses {c} inside =
+        either_way (has_name name catalogue) (λ _ x. open_so x.0 target accesses inside x.2)
         (λ _ x. subst IsCompletionInRange (sym x.1) (error ENOENT))
-    request_so (Reads slot off len) accesses c inside =
+    request_so (Reads slot off len) accesses {c} inside =
         reads size place InRange error accesses c catalogue slot off len (error EBADF) (λ file.
-        let g = given catalogue file.entry off len are in record { place = is; res = g.small; got = g.bytes })
-    request_so (Closes slot) accesses c inside =
-        closes size place InRange error accesses c slot (error EBADF) (λ _. number_in_range 0 place is (omega arith))
-    request_so (Updates off list) accesses c inside =
+        let g = given file.entry off len are in record { place = is; res = g.small; got = g.bytes })
+    request_so (Closes slot) accesses {c} inside =
+        closes size place InRange error accesses c slot (error EBADF) (λ _. number_in_range is (omega arith))
+    request_so (Updates off list) accesses {c} inside =
         updates size place InRange error accesses c (length catalogue) off list (λ fine _ _.
         let within : off + length list ≤ size = ltb-false size (off + length list) (or_parts (length list == 0) _ fine).1 in
-        number_in_range (length list) place is (omega arith))
+        number_in_range is (omega arith))
 
-  moved : (place : Place) (n : ℕ) → IsPlaceInRange place → place.member + suc n < 2 ^ 32 → IsPlaceInRange (next_member place)
-  moved place n is few = record { submission = is.submission; chain = is.chain; member = omega arith }
+  moved : {place : Place} (n : ℕ) → IsPlaceInRange place → place.member + suc n < 2 ^ 32 → IsPlaceInRange (next_member place)
+  moved n is few = record { submission = is.submission; chain = is.chain; member = omega arith }
 
   canceled_so : (place : Place) (requests : List Asked) → IsPlaceInRange place → place.member + length requests < 2 ^ 32
       → All IsCompletionInRange (canceled place requests)
   canceled_so place [] is few = All-nil IsCompletionInRange
   canceled_so place (r ∷ rs) is few =
-      All-cons IsCompletionInRange (refusal place ECANCELED) (canceled (next_member place) rs) (error_in_range ECANCELED place is)
-      (canceled_so (next_member place) rs (moved place (length rs) is few) (omega arith))
+      All-cons IsCompletionInRange (refusal place ECANCELED) (canceled (next_member place) rs) (error_in_range ECANCELED is)
+      (canceled_so (next_member place) rs (moved (length rs) is few) (omega arith))
 
   chain_so : (place : Place) (requests : List Asked) (accesses : List Access) (cs : List Completed) → IsPlaceInRange place
       → place.member + length requests < 2 ^ 32 → AreInside accesses → IsChainDone catalogue size place requests accesses cs
@@ -111,22 +111,21 @@ module _ (catalogue : List FileEntry) (are : AreFiles catalogue) (size : ℕ) (s
   chain_so place [] accesses cs is few inside x = subst (All IsCompletionInRange) (sym x.1) (All-nil IsCompletionInRange)
   chain_so place (r ∷ rs) accesses cs is few inside x =
       let (front, behind) = both_parts (IsPossible size range) x.0 x.1 (subst AreInside x.4 inside) in
-      let next : IsPlaceInRange (next_member place) = moved place (length rs) is few in
-      subst (All IsCompletionInRange) (sym x.5)
-      (All-cons IsCompletionInRange x.2 x.3 (request_so place is r.operation x.0 x.2 front x.6)
+      let next : IsPlaceInRange (next_member place) = moved (length rs) is few in
+      subst (All IsCompletionInRange) (sym x.5) (All-cons IsCompletionInRange x.2 x.3 (request_so place is r.operation x.0 front x.6)
       (either_way {R = All IsCompletionInRange x.3} (severs r x.2)
       (λ _ y. subst (All IsCompletionInRange) (sym y.1) (canceled_so (next_member place) rs next (omega arith)))
       (λ _ y. chain_so (next_member place) rs x.1 x.3 next (omega arith) behind y) x.7))
 
   -- the completions of an order
-  pub chains_so : (submission first : ℕ) (runs : List (List Asked)) (order : List ChainAccess) (cs : List Completed) → submission < 2 ^ 32
+  pub chains_so : {submission : ℕ} (first : ℕ) (runs : List (List Asked)) (order : List ChainAccess) (cs : List Completed) → submission < 2 ^ 32
       → first + length runs < 2 ^ 32 → All (λ run. length run ≤ 16) runs → AreInside (accesses_of order)
       → AreChainsDone catalogue size submission first runs order cs → All IsCompletionInRange cs
-  chains_so submission first [] order cs low few short inside x = subst (All IsCompletionInRange) (sym x) (All-nil IsCompletionInRange)
-  chains_so submission first (run ∷ runs) order cs low few short inside x =
+  chains_so first [] order cs low few short inside x = subst (All IsCompletionInRange) (sym x) (All-nil IsCompletionInRange)
+  chains_so {submission} first (run ∷ runs) order cs low few short inside x =
       let one : length run ≤ 16 = All-head (λ (r : List Asked). length r ≤ 16) run runs short in
       subst (All IsCompletionInRange) (sym x.2)
       (All-append IsCompletionInRange x.0 x.1
       (chain_so (first_member submission first) run (accesses_of_chain first order) x.0
       (record { submission = low; chain = omega arith; member = omega arith }) (omega arith) (possible_of_chain size range first order inside) x.3)
-      (chains_so submission (first + 1) runs order x.1 low (omega arith) (All-tail (λ (r : List Asked). length r ≤ 16) run runs short) inside x.4))
+      (chains_so (first + 1) runs order x.1 low (omega arith) (All-tail (λ (r : List Asked). length r ≤ 16) run runs short) inside x.4))

@@ -24,21 +24,21 @@ one_more_entry place n (x ∷ list) entry =
     ∙ ap (λ (k : ℕ). (last_place place n x ++ entry_places place (n + 1) list) ++ last_place place k entry)
     (let e : n + 1 + length list ≡ n + suc (length list) = omega arith in e)
 
-one_taken : (place : Place) (list : List ℤ) (i : ℕ) (d : ℤ) → i < length list
+one_taken : (place : Place) (list : List ℤ) {i : ℕ} (d : ℤ) → i < length list
     → entry_places place 0 (take (i + 1) list) ≡ entry_places place 0 (take i list) ++ last_place place i (slice_index_or list i d)
-one_taken place list i d inside =
+one_taken place list {i} d inside =
     ap (entry_places place 0) (take_more list i d inside) ∙ one_more_entry place 0 (take i list) (slice_index_or list i d)
     ∙ ap (λ (k : ℕ). entry_places place 0 (take i list) ++ last_place place k (slice_index_or list i d))
     (let short = length-take-le i list (omega arith) in let e : 0 + length (take i list) ≡ i = omega arith in e)
 
 -- behind other places, the next entry's
-pub entries_more : (place : Place) (list : List ℤ) (i : ℕ) (d : ℤ) (b : Bool) (old mid new : List AccessPlace) → i < length list
+pub entries_more : (place : Place) (list : List ℤ) {i : ℕ} (d : ℤ) {b : Bool} (old : List AccessPlace) {mid new : List AccessPlace} → i < length list
     → int_le (negsuc 0) (slice_index_or list i d) ≡ b → mid ≡ old ++ entry_places place 0 (take i list)
     → new ≡ mid ++ (if b then place_at place (Some i) ∷ [] else []) → new ≡ old ++ entry_places place 0 (take (i + 1) list)
-entries_more place list i d b old mid new inside is so_far more =
+entries_more place list {i} d old inside is so_far more =
     more ∙ (λ t. so_far t ++ (if sym is t then place_at place (Some i) ∷ [] else []))
     ∙ append_assoc old (entry_places place 0 (take i list)) (last_place place i (slice_index_or list i d))
-    ∙ ap (λ (l : List AccessPlace). old ++ l) (sym (one_taken place list i d inside))
+    ∙ ap (λ (l : List AccessPlace). old ++ l) (sym (one_taken place list d inside))
 
 -- as many places as entries that aren't skips
 same_count : (b : Bool) (p : AccessPlace) (entry : ℤ) (places : List AccessPlace) (list : List ℤ) → length places ≡ length list
@@ -95,15 +95,15 @@ own_of_chain place _ own = All-replicate (λ (p : AccessPlace). p.chain ≡ plac
 abbrev pub AreFor : ℕ → List Access → List AccessPlace → Type 0
 AreFor chain accesses places = (length places ≡ length accesses) × AreOfChain chain places
 
-none_for : (chain : ℕ) (accesses : List Access) (places : List AccessPlace) → accesses ≡ [] → places ≡ [] → AreFor chain accesses places
-none_for chain accesses places none empty = (ap length empty ∙ sym (ap length none), subst (AreOfChain chain) (sym empty) (none_of_chain chain))
+none_for : (chain : ℕ) {accesses : List Access} {places : List AccessPlace} → accesses ≡ [] → places ≡ [] → AreFor chain accesses places
+none_for chain none empty = (ap length empty ∙ sym (ap length none), subst (AreOfChain chain) (sym empty) (none_of_chain chain))
 
 pub chain_listed : (catalogue : List FileEntry) (size : ℕ) (place : Place) (requests : List Asked) (accesses : List Access) (places : List AccessPlace)
     (completions : List Completed) → IsChainListed catalogue size place requests accesses places completions → AreFor place.chain accesses places
-chain_listed catalogue size place [] accesses places completions x = none_for place.chain accesses places x.0 x.1
+chain_listed catalogue size place [] accesses places completions x = none_for place.chain x.0 x.1
 chain_listed catalogue size place (request ∷ requests) accesses places completions x =
     let own = own_listed catalogue size place request.operation x.0 x.3 x.8 in
-    let behind : AreFor place.chain x.1 x.2 = either_case (severs request x.3) (λ y. none_for place.chain x.1 x.2 y.0 y.1)
+    let behind : AreFor place.chain x.1 x.2 = either_case (severs request x.3) (λ y. none_for place.chain y.0 y.1)
     (chain_listed catalogue size (next_member place) requests x.1 x.2 x.4) x.9 in
     let one = ap length x.5 ∙ length-append x.0 x.1 in
     let two = ap length x.7 ∙ length-append (own_places place request.operation x.0) x.2 in
@@ -129,9 +129,9 @@ module _ (catalogue : List FileEntry) (size : ℕ) (place : Place) (request : As
   DoneSo cut others behind ds = MatchBool cut ((others ≡ []) × (behind ≡ []) × (ds ≡ canceled (next_member place) requests))
       (IsChainListed catalogue size (next_member place) requests others behind ds)
 
-  pub severed_put : (accesses : List Access) → severs request c ≡ true → IsChainDone catalogue size place (request ∷ requests) accesses (c ∷ cs)
+  pub severed_put : {accesses : List Access} → severs request c ≡ true → IsChainDone catalogue size place (request ∷ requests) accesses (c ∷ cs)
       → IsPut catalogue size place (request ∷ requests) accesses (c ∷ cs) old mid
-  severed_put accesses cut x =
+  severed_put cut x =
       let same : x.2 ≡ c = cc (x.5) in
       let severed = ap (severs request) same ∙ cut in
       let over = subst (λ (b : Bool). Done b x.1 x.3) severed x.7 in

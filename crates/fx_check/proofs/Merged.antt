@@ -40,13 +40,13 @@ pub record IsNext (lists : List (Vec AccessPlace)) (order : List ChainAccess) (i
   pub there : slice_get lists (x.chain - 1) ≡ Some list
   pub listed : IsListFor order x.chain list.items
 
-pub is_next : (lists : List (Vec AccessPlace)) (order : List ChainAccess) (i : ℕ) (e : ChainAccess) (next : List ℕ) (n : ℕ) (list : Vec AccessPlace)
+pub is_next : {lists : List (Vec AccessPlace)} {order : List ChainAccess} {i : ℕ} (e : ChainAccess) {next : List ℕ} {n : ℕ} {list : Vec AccessPlace}
     → i < length order → All (λ y. (1 ≤ y.chain) × (y.chain ≤ length lists)) order
     → ((k : ℕ) (own : Vec AccessPlace) → slice_get lists k ≡ Some own → IsListFor order (k + 1) own.items) → length next ≡ length lists
     → ((k : ℕ) → k < length lists → slice_index_or next k 0 ≡ count_of (k + 1) (take i order))
     → n ≡ slice_index_or next ((slice_index_or order i e).chain - 1) n → list ≡ slice_index_or lists ((slice_index_or order i e).chain - 1) list
     → IsNext lists order i (slice_index_or order i e) next n list
-is_next lists order i e next n list inside chains each size counts read there =
+is_next {lists} {order} {i} e {next} {n} {list} inside chains each size counts read there =
     let x = slice_index_or order i e in
     let here = All-get_or (λ (y : ChainAccess). (1 ≤ y.chain) × (y.chain ≤ length lists)) order i e inside chains in
     let some = here.0 in
@@ -67,20 +67,20 @@ is_next lists order i e next n list inside chains each size counts read there =
 
 module _ {lists : List (Vec AccessPlace)} {order : List ChainAccess} {i : ℕ} {x : ChainAccess} {next : List ℕ} {n : ℕ} {list : Vec AccessPlace}
     (r : IsNext lists order i x next n list) where
-  count_more : (chain : ℕ) → x.chain ≡ chain → count_of chain (take (i + 1) order) ≡ count_of chain (take i order) + 1
-  count_more chain same =
+  count_more : {chain : ℕ} → x.chain ≡ chain → count_of chain (take (i + 1) order) ≡ count_of chain (take i order) + 1
+  count_more {chain} same =
       ap (count_of chain) r.taken ∙ ap (λ (l : List ChainAccess). length (accesses_of l)) (one_more (λ (y : ChainAccess). y.chain) chain (take i order) x same)
       ∙ simp (map_push, length_push)
 
-  count_still : (chain : ℕ) → x.chain ≢ chain → count_of chain (take (i + 1) order) ≡ count_of chain (take i order)
-  count_still chain other =
+  count_still : {chain : ℕ} → x.chain ≢ chain → count_of chain (take (i + 1) order) ≡ count_of chain (take i order)
+  count_still {chain} other =
       ap (count_of chain) r.taken
       ∙ ap (λ (l : List ChainAccess). length (accesses_of l)) (none_more (λ (y : ChainAccess). y.chain) chain (take i order) x other)
 
   -- there is one more place in the list
   pub one_left : n < length list.items
   one_left =
-      let more = count_more x.chain refl in
+      let more = count_more refl in
       let whole = ap (count_of x.chain) (sym (take-append-drop (i + 1) order)) ∙ count-append x.chain (take (i + 1) order) (drop (i + 1) order) in
       let all = r.listed.as_many in
       let now = r.count in
@@ -91,8 +91,8 @@ module _ {lists : List (Vec AccessPlace)} {order : List ChainAccess} {i : ℕ} {
       let some = r.one in
       let place : x.chain ≡ x.chain - 1 + 1 = omega arith in
       each_set (λ (j m : ℕ). m ≡ count_of (j + 1) (take (i + 1) order)) next (x.chain - 1) (n + 1) 0 r.low
-      (ap (λ (m : ℕ). m + 1) (r.count ∙ ap (λ (chain : ℕ). count_of chain (take i order)) place) ∙ sym (count_more (x.chain - 1 + 1) place)) k
-      (λ other. r.counts k within ∙ sym (count_still (k + 1) (λ same. other (omega arith))))
+      (ap (λ (m : ℕ). m + 1) (r.count ∙ ap (λ (chain : ℕ). count_of chain (take i order)) place) ∙ sym (count_more place)) k
+      (λ other. r.counts k within ∙ sym (count_still (λ same. other (omega arith))))
 
   module _ (places : List AccessPlace) (p : AccessPlace) (read : p ≡ slice_index_or list.items n p) where
     of_chain : p.chain ≡ x.chain
@@ -105,10 +105,10 @@ module _ {lists : List (Vec AccessPlace)} {order : List ChainAccess} {i : ℕ} {
         ∙ sym (map_push (λ (y : ChainAccess). y.chain) (take i order) x) ∙ ap (map (λ (y : ChainAccess). y.chain)) (sym r.taken)
 
     -- the places of each chain so far
-    pub lists_more : (k : ℕ) (own : Vec AccessPlace) → slice_get lists k ≡ Some own
+    pub lists_more : (k : ℕ) {own : Vec AccessPlace} → slice_get lists k ≡ Some own
         → places_of_chain (k + 1) places ≡ take (count_of (k + 1) (take i order)) own.items
         → places_of_chain (k + 1) (places ++ p ∷ []) ≡ take (count_of (k + 1) (take (i + 1) order)) own.items
-    lists_more k own got so_far =
+    lists_more k {own} got so_far =
         by_equality x.chain (k + 1) (λ _. places_of_chain (k + 1) (places ++ p ∷ []) ≡ take (count_of (k + 1) (take (i + 1) order)) own.items)
         (λ same.
         let j : k ≡ x.chain - 1 = omega arith in
@@ -118,13 +118,12 @@ module _ {lists : List (Vec AccessPlace)} {order : List ChainAccess} {i : ℕ} {
         let inside : count_of (k + 1) (take i order) < length own.items =
         subst (λ (m : ℕ). m < length own.items) now (subst (λ (v : Vec AccessPlace). n < length v.items) mine one_left) in
         one_more (λ (q : AccessPlace). q.chain) (k + 1) places p (of_chain ∙ same) ∙ (λ t. so_far t ++ here t ∷ [])
-        ∙ sym (take_more own.items (count_of (k + 1) (take i order)) p inside) ∙ ap (λ (m : ℕ). take m own.items) (sym (count_more (k + 1) same)))
-        (λ other.
+        ∙ sym (take_more own.items (count_of (k + 1) (take i order)) p inside) ∙ ap (λ (m : ℕ). take m own.items) (sym (count_more same))) (λ other.
         none_more (λ (q : AccessPlace). q.chain) (k + 1) places p (λ same. other (sym of_chain ∙ same)) ∙ so_far
-        ∙ ap (λ (m : ℕ). take m own.items) (sym (count_still (k + 1) other)))
+        ∙ ap (λ (m : ℕ). take m own.items) (sym (count_still other)))
 
-pub all_taken : (order : List ChainAccess) (i : ℕ) → length order ≤ i → (chain : ℕ) (list : List AccessPlace) → length list ≡ count_of chain order
+pub all_taken : (order : List ChainAccess) {i : ℕ} → length order ≤ i → (chain : ℕ) {list : List AccessPlace} → length list ≡ count_of chain order
     → take (count_of chain (take i order)) list ≡ list
-all_taken order i past chain list as_many =
+all_taken order {i} past chain {list} as_many =
     ap (λ (l : List ChainAccess). take (count_of chain l) list) (take_all i order past)
     ∙ ap (λ (n : ℕ). take n list) (sym as_many) ∙ take-length list

@@ -17,10 +17,10 @@ Submitted ring before asked fault full next line =
     MatchOption fault (MatchBool full ((ring_of next ≡ before) × (line ≡ too_many_line)) (PrintsReport ring asked next line))
     (λ cut. (ring_of next ≡ before) × (line ≡ refused_line cut))
 
-pub submitted : (before : RingState) (asked : List Asked) (fault : Option CutFault) (full : Bool) → fault_of asked ≡ fault
+pub submitted : {before : RingState} (asked : List Asked) {fault : Option CutFault} {full : Bool} → fault_of asked ≡ fault
     → nat_le MOST_SUBMISSIONS before.submissions ≡ full → (ring next : RingContents) (line : List ℕ) → ring_of ring ≡ before
     → Prints ring (SubmitsAll asked) next line ↔ Submitted ring before asked fault full next line
-submitted before asked fault full is counted ring next line same =
+submitted asked {full} is counted ring next line same =
     let now : nat_le MOST_SUBMISSIONS ring.submissions ≡ full = ap (λ (r : RingState). nat_le MOST_SUBMISSIONS r.submissions) same ∙ counted in
     subst (λ (z : RingState × Option CutFault × Bool). Prints ring (SubmitsAll asked) next line ↔ Submitted ring z.0 asked z.1 z.2 next line)
     (λ t. (same t, is t, now t)) ((λ p. p), (λ p. p))
@@ -33,37 +33,36 @@ module _ (catalogue : List FileEntry) (old : RingSlots) (text : List ℕ) (met :
   pub refused : (asked : List Asked) (fault : CutFault) → fault_of asked ≡ Some fault → IsMet text (refused_line fault) met
       → IsStep catalogue old (SubmitsAll asked) text met old
   refused asked fault is = let line = refused_line fault in
-      goes catalogue old old (SubmitsAll asked) text line (exactly before (SubmitsAll asked) text before line
-      (submitted before asked (Some fault) (nat_le MOST_SUBMISSIONS before.submissions) is refl)) met
+      goes catalogue old old (SubmitsAll asked) text line (exactly before (SubmitsAll asked) text (submitted asked is refl)) met
 
   pub too_many : (asked : List Asked) → fault_of asked ≡ None → MOST_SUBMISSIONS ≤ old.submissions → IsMet text too_many_line met
       → IsStep catalogue old (SubmitsAll asked) text met old
   too_many asked accepted many =
-      goes catalogue old old (SubmitsAll asked) text too_many_line (exactly before (SubmitsAll asked) text before too_many_line
-      (submitted before asked None true accepted (le-leb MOST_SUBMISSIONS old.submissions many))) met
+      goes catalogue old old (SubmitsAll asked) text too_many_line (exactly before (SubmitsAll asked) text
+      (submitted asked accepted (le-leb MOST_SUBMISSIONS old.submissions many))) met
 
   module _ (off len : ℕ) where
     -- the ring with the range
     abbrev pub ranged : RingSlots
     ranged = record old { slots = record old.slots { range = (off, len) } }
 
-    range_at : (x : Option Errno) → range_refusal before off len ≡ x → (ring next : RingContents) (line : List ℕ) → ring_of ring ≡ before
+    range_at : {x : Option Errno} → range_refusal before off len ≡ x → (ring next : RingContents) (line : List ℕ) → ring_of ring ≡ before
         → Prints ring (SetsRange off len) next line
         ↔ MatchOption x ((ring_of next ≡ record before { range = (off, len) }) × (line ≡ result_line (codes "range") (pos 0)))
         (IsRefused before (ring_of next) (codes "range") line)
-    range_at x is ring next line same =
+    range_at is ring next line same =
         let At : RingState → Option Errno → Type 0 = λ r y. Prints ring (SetsRange off len) next line
         ↔ MatchOption y ((ring_of next ≡ record r { range = (off, len) }) × (line ≡ result_line (codes "range") (pos 0)))
         (IsRefused r (ring_of next) (codes "range") line) in
         subst (At before) is (subst (λ (r : RingState). At r (range_refusal r off len)) same ((λ p. p), (λ p. p)))
 
-    pub range_set : (shown : Met) → range_refusal before off len ≡ None → IsMet text (result_line (codes "range") (pos 0)) met → met ≡ shown
+    pub range_set : {shown : Met} → range_refusal before off len ≡ None → IsMet text (result_line (codes "range") (pos 0)) met → met ≡ shown
         → IsStep catalogue old (SetsRange off len) text shown ranged
-    range_set shown none found is = let line = result_line (codes "range") (pos 0) in
+    range_set {shown} none found is = let line = result_line (codes "range") (pos 0) in
         goes catalogue old ranged (SetsRange off len) text line
-        (exactly before (SetsRange off len) text (record before { range = (off, len) }) line (range_at None none)) shown (subst (IsMet text line) is found)
+        (exactly before (SetsRange off len) text (range_at none)) shown (subst (IsMet text line) is found)
 
-pub fault_told : (x : Option CutFault) (fault : CutFault) (n : ℕ) (told : Result ℕ CutFault) → told ≡ Err fault
+pub fault_told : (x : Option CutFault) {fault : CutFault} (n : ℕ) {told : Result ℕ CutFault} → told ≡ Err fault
     → IfSome x (λ other. told ≡ Err other) → IfNone x (told ≡ Ok n) → x ≡ Some fault
-fault_told None fault n told is some none = let e : ◌≡◌ {A = Result ℕ CutFault} (Ok n) (Err fault) = sym none ∙ is in cc
-fault_told (Some other) fault n told is some none = let e : ◌≡◌ {A = Result ℕ CutFault} (Err other) (Err fault) = sym some ∙ is in cc
+fault_told None {fault} n is some none = let e : ◌≡◌ {A = Result ℕ CutFault} (Ok n) (Err fault) = sym none ∙ is in cc
+fault_told (Some other) {fault} n is some none = let e : ◌≡◌ {A = Result ℕ CutFault} (Err other) (Err fault) = sym some ∙ is in cc

@@ -4,8 +4,8 @@ use Rattle.fx_check.proofs.Words.{take-append_seam, length-take-le, take-append-
 use Rattle.fx_check.proofs.Words.{Prints, RingSlots, BeginsWith, IsMet, GoesOn, IsStep, Met, Here, Apart, ring_with_slots}
 use Rattle.fx_calls.proofs.Shown.{shown}
 
-pub rest_behind : (text line others : List ℕ) (count : ℕ) → BeginsWith text count line → text ≡ line ++ others → others ≡ drop count text
-rest_behind text line others count found split =
+pub rest_behind : {text line others : List ℕ} {count : ℕ} → BeginsWith text count line → text ≡ line ++ others → others ≡ drop count text
+rest_behind {text} {line} {others} {count} found split =
     let size : length line ≡ count = ap length (sym found.is_line) ∙ length-take-le count text found.inside in
     sym (ap (λ (t : List ℕ). drop count t) split ∙ ap (λ (n : ℕ). drop n (line ++ others)) (sym size) ∙ drop-append_seam line others)
 
@@ -13,8 +13,8 @@ pub whole : (text line : List ℕ) (count : ℕ) → BeginsWith text count line 
 whole text line count found = ap (λ (l : List ℕ). l ++ drop count text) (sym found.is_line) ∙ take-append-drop count text
 
 -- where this is what is left behind the line
-pub begins_with : (text line rest : List ℕ) → text ≡ line ++ rest → BeginsWith text (length text - length rest) line
-begins_with text line rest split =
+pub begins_with : {text line : List ℕ} (rest : List ℕ) → text ≡ line ++ rest → BeginsWith text (length text - length rest) line
+begins_with {text} {line} rest split =
     let sizes = length-append line rest in
     let all = ap length split in
     let size : length text - length rest ≡ length line = omega arith in
@@ -27,11 +27,11 @@ module _ (before : RingState) (command : Instruction) (text : List ℕ) where
         → Prints ring command next printed
     pub only : (next : RingContents) (others : List ℕ) (g : GoesOn before command text next others) → (ring_of next ≡ left) × (g.line ≡ line)
 
-  pub exactly : (left : RingState) (line : List ℕ)
+  pub exactly : {left : RingState} {line : List ℕ}
       → ((ring next : RingContents) (printed : List ℕ) → ring_of ring ≡ before
       → Prints ring command next printed ↔ ((ring_of next ≡ left) × (printed ≡ line)))
       → PrintsOne left line
-  exactly left line one = record {
+  exactly one = record {
     may = λ ring next printed same leads is. (one ring next printed same).1 (leads, is);
     only = λ next others g. (one g.ring next g.line g.same).0 g.prints;
   }
@@ -45,7 +45,7 @@ module _ (catalogue : List FileEntry) (old new : RingSlots) (command : Instructi
         (λ ring same. (next.0, next.1, one.may ring next.0 (take count text) same next.1 found.is_line)),
         (λ after others g.
             let is = one.only after others g in
-            (is.0, rest_behind text line others count found (g.split ∙ ap (λ (l : List ℕ). l ++ others) is.1))),
+            (is.0, rest_behind found (g.split ∙ ap (λ (l : List ℕ). l ++ others) is.1))),
       )
   goes (Apart wanted) found = λ next others g.
       found others (g.split ∙ ap (λ (l : List ℕ). l ++ others) (one.only next others g).1)

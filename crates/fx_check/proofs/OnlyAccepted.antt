@@ -36,7 +36,7 @@ module _ (catalogue : List FileEntry) (old : RingSlots) (kept : IsKept catalogue
     played : (next : RingContents) (others : List ℕ) → GoesOn before (SubmitsAll asked) text next others → Played next others
     played next others g =
         let (report, history, printed) =
-        (submitted before asked None false accepted (lt-leb MOST_SUBMISSIONS old.submissions few) g.ring next g.line g.same).0 g.prints in
+        (submitted asked accepted (lt-leb MOST_SUBMISSIONS old.submissions few) g.ring next g.line g.same).0 g.prints in
         let order : IsOneOrder before asked report (ring_of next) =
         subst (λ (r : RingState). IsOneOrder r asked report (ring_of next)) g.same (each_history_is_an_order g.ring next asked report history) in
         record {
@@ -96,12 +96,11 @@ module _ (catalogue : List FileEntry) (old : RingSlots) (kept : IsKept catalogue
         none_ordered refuted next others g =
             let p = played next others g in refuted p.report.closes.room (ring_of next) (told_order next others p)
 
-        pub one_ordered : (new : RingState) (count : ℕ) → BeginsWith text count (lines_text (lines_in lines))
+        pub one_ordered : {new : RingState} {count : ℕ} → BeginsWith text count (lines_text (lines_in lines))
             → ((room : ℕ) → IsOneOrder before asked (told_report before told room) new) → LeadsTo before (SubmitsAll asked) text count new
-        one_ordered new count begins ordered next others g =
+        one_ordered {new} {count} begins ordered next others g =
             let p = played next others g in (
               each_report_leads_to_one_ring before asked (told_report before told p.report.closes.room) (ring_of next) new kept.files.catalogue kept.is_ring
                   (told_order next others p) (ordered p.report.closes.room),
-              ap (λ (front : Lines × List ℕ). front.1) (same_front next others p)
-                  ∙ rest_behind text (lines_text (lines_in lines)) rest count begins found.printed,
+              ap (λ (front : Lines × List ℕ). front.1) (same_front next others p) ∙ rest_behind begins found.printed,
             )

@@ -28,9 +28,9 @@ short_runs asked accepted =
     (chains_of (runs_of asked)) (accepted-chains asked accepted)))
 
 -- a file of a member whose numbers are small
-of_member : (file : Closed) (s c m e : ℕ) → file.mark ≡ Submitted s c m e → file.tag ≡ 0 → s < 2 ^ 32 → c < 2 ^ 32 → m < 2 ^ 32 → e < 2 ^ 32
+of_member : {file : Closed} {s c m e : ℕ} → file.mark ≡ Submitted s c m e → file.tag ≡ 0 → s < 2 ^ 32 → c < 2 ^ 32 → m < 2 ^ 32 → e < 2 ^ 32
     → IsInRange file
-of_member file s c m e is untagged submission chain member entry = record {
+of_member is untagged submission chain member entry = record {
   mark = subst IsMarkInRange (sym is) (record { submission = submission; chain = chain; member = member }, entry);
   tag = omega arith;
 }
@@ -44,21 +44,20 @@ module _ (catalogue : List FileEntry) (old : RingSlots) (asked : List Asked) (re
   known = each_closed_file_is_known before asked report left is accepted one
 
   -- a mark of the next submission is of no file at a slot
-  none_next : (file : Closed) → IsOfNext before asked file → HasNone old.slots file.mark
-  none_next file next slot g at same =
+  none_next : {file : Closed} → IsOfNext before asked file → HasNone old.slots file.mark
+  none_next next slot g at same =
       let counted : HasCounted before (Submitted next.place.submission next.place.chain next.place.member next.entry) =
       subst (HasCounted before) (same ∙ next.mark) (is.counted slot g at) in
       let later = next.next in
       absurd (omega arith)
 
-  may_close : (file : Closed) → IsThere before file ⊎ IsOfNext before asked file → MayClose catalogue old.slots file
-  may_close file = ⊎_elim
-      (λ there. record { inside = is.entries there.0 file there.2; from = inl (there.0, there.2) })
-      (λ next. record { inside = next.inside; from = inr (next.untagged, none_next file next) })
+  may_close : {file : Closed} → IsThere before file ⊎ IsOfNext before asked file → MayClose catalogue old.slots file
+  may_close {file} = ⊎_elim (λ there. record { inside = is.entries there.0 file there.2; from = inl (there.0, there.2) })
+      (λ next. record { inside = next.inside; from = inr (next.untagged, none_next next) })
 
   pub may_close_all : MayCloseAll catalogue old.slots report.closes.files
   may_close_all = record {
-    each = each_all (MayClose catalogue old.slots) report.closes.files (λ file has. may_close file (known.from file has));
+    each = each_all (MayClose catalogue old.slots) report.closes.files (λ file has. may_close (known.from file has));
     in_order = one.is.closed.in_order;
     distinct = known.distinct;
   }
@@ -69,7 +68,7 @@ module _ (catalogue : List FileEntry) (old : RingSlots) (asked : List Asked) (re
       let at = has_in_chain (length catalogue) AnyPlace report.submission (length (runs_of asked)) one.order one.is.chains s f has in
       let high = at.2 in
       subst (λ (l : List Asked). OneInstalled l report.completions f.mark) (are_runs asked).whole
-      (chains_installed s f catalogue (length old.slots.at.items) report.submission 1 (runs_of asked) one.order report.completions one.is.done at.0 at.1 (omega arith) at.3)
+      (chains_installed s f catalogue (length old.slots.at.items) report.submission 1 (runs_of asked) one.order report.completions one.is.done at.1 (omega arith) at.3)
 
   pub are_from : AreFrom old.slots asked report.completions report.closes.files
   are_from = each_all (λ file. IsAtSlot old.slots file ⊎ OneInstalled asked report.completions file.mark) report.closes.files (λ file has.
@@ -79,20 +78,19 @@ module _ (catalogue : List FileEntry) (old : RingSlots) (asked : List Asked) (re
       ⊎_elim (λ was. inl (w.slot, was)) (λ new. inr (placed_installed w.slot file new)) w.was)
 
   module _ (few : length (runs_of asked) ≤ 1023) (early : old.submissions < 65535) (in_range : AreInRange (table_of_slots old.slots).at) where
-    next_in_range : (file : Closed) → IsOfNext before asked file → IsInRange file
-    next_in_range file next =
+    next_in_range : {file : Closed} → IsOfNext before asked file → IsInRange file
+    next_in_range {file} next =
         let later = next.next in
         let low = next.chain in
         let members = next.member in
         let listed = next.listed in
-        of_member file next.place.submission next.place.chain next.place.member next.entry next.mark next.untagged
-        (omega arith) (omega arith) (omega arith) (omega arith)
+        of_member next.mark next.untagged (omega arith) (omega arith) (omega arith) (omega arith)
 
     pub closed_in_range : (file : Closed) → Contains report.closes.files file → IsInRange file
-    closed_in_range file has = ⊎_elim (λ there. in_range there.0 file there.2) (λ next. next_in_range file next) (known.from file has)
+    closed_in_range file has = ⊎_elim (λ there. in_range there.0 file there.2) (λ next. next_in_range next) (known.from file has)
 
-    placed_in_range : (s : ℕ) (f : Closed) → Has (placed (accesses_of one.order)) s f → IsInRange f
-    placed_in_range s f has =
+    placed_in_range : (s : ℕ) {f : Closed} → Has (placed (accesses_of one.order)) s f → IsInRange f
+    placed_in_range s {f} has =
         let at = has_in_chain (length catalogue) AnyPlace report.submission (length (runs_of asked)) one.order one.is.chains s f has in
         let high = at.2 in
         let own = chain_places catalogue (length old.slots.at.items) InLimits report.submission 1 (runs_of asked) one.order report.completions (in_limits asked accepted)
@@ -101,10 +99,10 @@ module _ (catalogue : List FileEntry) (old : RingSlots) (asked : List Asked) (re
         let members = b.0 in
         let listed = b.1 in
         let numbered = one.is.submission in
-        of_member f report.submission at.0 m j n.mark n.untagged (omega arith) (omega arith) (omega arith) (omega arith)
+        of_member n.mark n.untagged (omega arith) (omega arith) (omega arith) (omega arith)
 
     -- the files that the order leaves
     pub left_in_range : AreInRange left.at
     left_in_range slot file at =
-        ⊎_elim (λ was. in_range slot file was) (λ new. placed_in_range slot file new)
+        ⊎_elim (λ was. in_range slot file was) (λ new. placed_in_range slot new)
         (left_from (table_of before) (accesses_of one.order) slot file (sym (ap (λ (r : RingState). r.at slot) one.after) ∙ at))

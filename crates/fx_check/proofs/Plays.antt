@@ -15,9 +15,9 @@ use Rattle.fx_lines.proofs.PlaysBegin.{command_begins, plays_begin}
 use Rattle.fx_check.specs.Judged.{IsBroken, MayPrintFront, PrintsBeginning}
 use Rattle.fx_check.specs.Ordered.{IsTextBy, MayPrintAllBy, PrintsAllBy}
 
-pub next_instruction : (commands : List Command) (all : List Instruction) (done : ℕ) (command : Command) → instructions_of commands ≡ all
+pub next_instruction : (commands : List Command) {all : List Instruction} {done : ℕ} {command : Command} → instructions_of commands ≡ all
     → done < length commands → command ≡ slice_index_or commands done command → drop done all ≡ instruction_of command ∷ drop (done + 1) all
-next_instruction commands all done command same inside is =
+next_instruction commands {done} {command} same inside is =
     subst (λ (l : List Instruction). drop done l ≡ instruction_of command ∷ drop (done + 1) l) same
     (drop-map instruction_of done commands ∙ ap (λ (l : List Command). instructions_of l) (from_here commands done command inside is)
     ∙ ap (λ (l : List Instruction). instruction_of command ∷ l) (sym (drop-map instruction_of (done + 1) commands)))
@@ -52,24 +52,24 @@ pub record GoesWith (script : Meaning) (text : List ℕ) (done at : ℕ) (orders
 
 -- the first command, and those behind it
 
-parts : (aim : Aim) (ring : RingContents) (command : Instruction) (commands : List Instruction) (text : List ℕ)
+parts : (aim : Aim) (ring : RingContents) (command : Instruction) (commands : List Instruction) {text : List ℕ}
     → PrintsTo aim ring (command ∷ commands) text → (next : RingContents) × (line : List ℕ) × (others : List ℕ)
     × Prints ring command next line × (text ≡ line ++ others) × PrintsTo aim next commands others
-parts Whole ring command commands text prints = prints
-parts (Leaves left) ring command commands text prints = prints
+parts Whole ring command commands prints = prints
+parts (Leaves left) ring command commands prints = prints
 
-no_closes : (aim : Aim) (ring : RingContents) (commands : List Instruction) (text : List ℕ) → PrintsTo aim ring commands text → HasNoCloses text
-no_closes Whole ring commands text prints = plays_begin ring commands text prints
-no_closes (Leaves left) ring [] text behind = behind.0
-no_closes (Leaves left) ring (command ∷ commands) text (next, line, others, prints, is, more) =
-    subst HasNoCloses (sym is) (command_begins ring command next line others prints (no_closes (Leaves left) next commands others more))
+no_closes : (aim : Aim) (ring : RingContents) (commands : List Instruction) {text : List ℕ} → PrintsTo aim ring commands text → HasNoCloses text
+no_closes Whole ring commands {text} prints = plays_begin ring commands text prints
+no_closes (Leaves left) ring [] behind = behind.0
+no_closes (Leaves left) ring (command ∷ commands) (next, line, others, prints, is, more) =
+    subst HasNoCloses (sym is) (command_begins ring command next line others prints (no_closes (Leaves left) next commands more))
 
-one_before : (aim : Aim) (old new : RingState) (command : Instruction) (commands : List Instruction) (line text : List ℕ) (own : Option Order)
+one_before : (aim : Aim) {old new : RingState} (command : Instruction) (commands : List Instruction) (line text : List ℕ) (own : Option Order)
     (later : List Order) → MayPrintBy old command new line own → MayPrintTo aim new commands text later
     → MayPrintTo aim old (command ∷ commands) (line ++ text) (option_to_list own ++ later)
-one_before Whole old new command commands line text own later may rest = λ ring same.
+one_before Whole command commands line text own later may rest = λ ring same.
     let next = may ring same in (next.0, line, text, own, later, next.2, next.3, refl, refl, rest next.0 next.1)
-one_before (Leaves left) old new command commands line text own later may rest = λ ring same.
+one_before (Leaves left) command commands line text own later may rest = λ ring same.
     let next = may ring same in (next.0, line, text, next.2, refl, rest next.0 next.1)
 
 -- without the orders
@@ -148,7 +148,7 @@ module _ (script : Meaning) (text : List ℕ) where
       played aim more can =
           let here = so_far.along aim (suc more) can in
           let later = take more (drop (done + 1) script.commands) in
-          let (next, line, others, prints, split, rest) = parts aim here.ring command later (drop at text)
+          let (next, line, others, prints, split, rest) = parts aim here.ring command later
           (subst (λ (cs : List Instruction). PrintsTo aim here.ring (take (suc more) cs) (drop at text)) is here.prints) in (
             next,
             others,
@@ -158,7 +158,7 @@ module _ (script : Meaning) (text : List ℕ) where
               same = here.same;
               prints = prints;
               split = split;
-              behind = no_closes aim next later others rest;
+              behind = no_closes aim next later rest;
             },
             rest,
           )
@@ -173,9 +173,9 @@ module _ (script : Meaning) (text : List ℕ) where
           broken ring fault (omega arith) inside (λ is. none Whole (length script.commands) (whole (done + suc (length script.commands)) (omega arith) is))
           (λ more left. none (Leaves left) 0)
 
-      pub goes_on : (count : ℕ) (own : Option Order) (grown : List Order) (new : RingState) → MayPrintBy now command new (take count (drop at text)) own
+      pub goes_on : (count : ℕ) (own : Option Order) {grown : List Order} {new : RingState} → MayPrintBy now command new (take count (drop at text)) own
           → LeadsTo now command (drop at text) count new → grown ≡ orders ++ option_to_list own → GoesWith script text (done + 1) (at + count) grown new
-      goes_on count own grown new may leads grows = record {
+      goes_on count own {grown} {new} may leads grows = record {
         along = λ aim more can.
             let e : (done + 1) + more ≡ done + suc more = omega arith in
             let (next, others, goes, rest) = played aim more (subst (λ (n : ℕ). CanPrint aim first (take n script.commands) text) e can) in
@@ -196,5 +196,5 @@ module _ (script : Meaning) (text : List ℕ) where
             sym (append_assoc orders (option_to_list own) later) ∙ ap (λ (l : List Order). l ++ later) (sym grows) in
             subst (λ (z : List Instruction × List ℕ × List Order). MayPrintTo aim first z.0 z.1 z.2) (λ i. (cs i, t i, all i))
             (so_far.back aim (command ∷ commands) (line ++ others) (option_to_list own ++ later)
-            (one_before aim now new command commands line others own later may rest));
+            (one_before aim command commands line others own later may rest));
       }

@@ -43,12 +43,12 @@ module _ (catalogue : List FileEntry) (old : RingSlots) where
   }
 
   -- a table of empty slots
-  pub emptied : (slots : Slots) (n : ℕ) → table_of_slots slots ≡ empty_table n → ring_with_slots catalogue (with_slots old slots) ≡ registered_sparse state n
-  emptied slots n table = ap (with_so old.registrations) table
+  pub emptied : (slots : Slots) {n : ℕ} → table_of_slots slots ≡ empty_table n → ring_with_slots catalogue (with_slots old slots) ≡ registered_sparse state n
+  emptied slots table = ap (with_so old.registrations) table
 
-  pub emptied_keeps : (slots : Slots) (n : ℕ) → table_of_slots slots ≡ empty_table n → n ≤ MOST_SLOTS → IsKept catalogue old
+  pub emptied_keeps : (slots : Slots) {n : ℕ} → table_of_slots slots ≡ empty_table n → n ≤ MOST_SLOTS → IsKept catalogue old
       → IsKept catalogue (with_slots old slots)
-  emptied_keeps slots n table few kept = subst IsOfScript (sym (emptied slots n table)) (record {
+  emptied_keeps slots {n} table few kept = subst IsOfScript (sym (emptied slots table)) (record {
     few_slots = few;
     few_submissions = kept.few_submissions;
     few_registrations = kept.few_registrations;
@@ -69,9 +69,9 @@ module _ (catalogue : List FileEntry) (old : RingSlots) where
   } → ring_with_slots catalogue (counted_with old slots) ≡ updated state off list tags
   updated_now slots off list tags worked = ap (with_so (old.registrations + 1)) worked
 
-  pub counted_keeps : (slots : Slots) (left : RingState) → ring_with_slots catalogue (counted_with old slots) ≡ left → left.size ≤ MOST_SLOTS → IsRing left
+  pub counted_keeps : (slots : Slots) {left : RingState} → ring_with_slots catalogue (counted_with old slots) ≡ left → left.size ≤ MOST_SLOTS → IsRing left
       → old.registrations < MOST_REGISTRATIONS → AreInRange (table_of_slots slots).at → IsKept catalogue old → IsKept catalogue (counted_with old slots)
-  counted_keeps slots left now few is_ring counted fits kept = record {
+  counted_keeps slots now few is_ring counted fits kept = record {
     few_slots = let e = ap (λ (r : RingState). r.size) now in omega arith;
     few_submissions = kept.few_submissions;
     few_registrations = omega arith;

@@ -16,8 +16,8 @@ abbrev no_entry : FileEntry
 no_entry = record { name = []; bytes = [] }
 
 -- the name of an entry has no line end
-name_fits : (catalogue : List FileEntry) (entry : ℕ) → AreFiles catalogue → entry < length catalogue → IsTrue (is_without 10 (name_of catalogue entry))
-name_fits catalogue entry are inside =
+name_fits : {catalogue : List FileEntry} {entry : ℕ} → AreFiles catalogue → entry < length catalogue → IsTrue (is_without 10 (name_of catalogue entry))
+name_fits {catalogue} {entry} are inside =
     let name = (slice_index_or catalogue entry no_entry).name in
     let is : name ≡ name_of catalogue entry =
     sym (ap (λ x. unwrap_or (option_map (λ file. file.name) x) []) (slice_get-get_or catalogue entry no_entry inside)) in
@@ -46,10 +46,10 @@ module _ (catalogue : List FileEntry) (old : RingSlots) (asked : List Asked) (re
       let numbered = one.is.submission in
       let slots = kept.few_slots in
       record {
-        completions = chains_so catalogue kept.files (length old.slots.at.items) (omega arith) old.slots.range report.submission 1 (runs_of asked) one.order report.completions
+        completions = chains_so catalogue kept.files (length old.slots.at.items) (omega arith) old.slots.range 1 (runs_of asked) one.order report.completions
             (omega arith) (omega arith) (short_runs asked accepted)
             (possible_all (table_of (ring_with_slots catalogue old)) _ _ (accesses_of one.order) refl refl one.is.permitted) one.is.done;
         closed = All-map IsCloseInRange (named_close catalogue) report.closes.files
-            (λ k d low. record { mark = (ranges k d low).mark; name = name_fits catalogue _ kept.files (inside k d low).inside });
+            (λ k d low. record { mark = (ranges k d low).mark; name = name_fits kept.files (inside k d low).inside });
         tags = tags_fit report.closes.files (λ k d low. (ranges k d low).tag);
       }

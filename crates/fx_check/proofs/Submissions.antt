@@ -27,9 +27,9 @@ told_lines catalogue lines files closed tags number room =
     λ i. record { completions = all_completed lines.completions.items; closed = closed i; tags = all i }
 
 -- the tags of files are those that are told of them
-pub tags_again : (files others : List Closed) → files ≡ others
+pub tags_again : {files others : List Closed} → files ≡ others
     → map (λ file. file.tag) (filter (λ file. not (file.tag == 0)) files) ≡ map (λ completion. completion.user_data) (tags_of others)
-tags_again files others same =
+tags_again {others} same =
     ap (λ (l : List Closed). map (λ file. file.tag) (filter (λ file. not (file.tag == 0)) l)) same
     ∙ sym (map-map (λ (completion : TagCompletion). completion.user_data) (λ (file : Closed). tag_completion file.tag)
     (filter (λ (file : Closed). not (file.tag == 0)) others))
@@ -45,25 +45,25 @@ module _ (catalogue : List FileEntry) (old new : RingSlots) (asked : List Asked)
   IsOrdered = (room : ℕ) → IsOneOrder before asked (told_report before told room) after
 
   -- an order of the submission, at the ring behind it
-  pub ordered_is : (accesses : List ChainAccess) → CameBy before asked told accesses after → IsOrderOf accesses before asked (told_report before told 0)
-  ordered_is accesses came =
+  pub ordered_is : {accesses : List ChainAccess} → CameBy before asked told accesses after → IsOrderOf accesses before asked (told_report before told 0)
+  ordered_is came =
       let first : IsOneOrder before asked (told_report before told 0) after = (came 0).0 in
       subst (λ (l : List ChainAccess). IsOrderOf l before asked (told_report before told 0)) (came 0).1 first.is
 
-  pub ordered_done : (accesses : List ChainAccess) → CameBy before asked told accesses after
+  pub ordered_done : {accesses : List ChainAccess} → CameBy before asked told accesses after
       → AreChainsDone catalogue (length new.slots.at.items) new.submissions 1 (runs_of asked) accesses (all_completed told.completions.items)
-  ordered_done accesses came =
+  ordered_done {accesses} came =
       let first : IsOneOrder before asked (told_report before told 0) after = (came 0).0 in
       let counted : new.submissions ≡ old.submissions + 1 = ap (λ (r : RingState). r.submissions) first.after in
       let size : length new.slots.at.items ≡ length old.slots.at.items = ap (λ (r : RingState). r.size) first.after in
       subst (λ (z : ℕ × ℕ). AreChainsDone catalogue z.0 z.1 1 (runs_of asked) accesses (all_completed told.completions.items))
-      (λ t. (sym size t, sym counted t)) (ordered_is accesses came).done
+      (λ t. (sym size t, sym counted t)) (ordered_is came).done
 
   abbrev pub PlacesAt : ℕ → ℕ → Order → Type 0
   PlacesAt size submission order =
       ArePlaces catalogue size submission (runs_of asked) (all_completed told.completions.items) order.accesses.items order.places.items
 
-  pub accepted_goes : (lines : Lines) (text : List ℕ) (count : ℕ) (order : Order) → IsKept catalogue old → fault_of asked ≡ None
+  pub accepted_goes : {lines : Lines} {text : List ℕ} {count : ℕ} {order : Order} → IsKept catalogue old → fault_of asked ≡ None
       → old.submissions < MOST_SUBMISSIONS → CameBy before asked told order.accesses.items after → order.submission ≡ new.submissions
       → PlacesAt (length new.slots.at.items) new.submissions order
       → ((number room : ℕ) → lines_of catalogue (record {
@@ -73,7 +73,7 @@ module _ (catalogue : List FileEntry) (old new : RingSlots) (asked : List Asked)
       }) ≡ lines)
       → BeginsWith text count (lines_text lines)
       → (count ≤ length text) × MayPrintBy before (SubmitsAll asked) after (take count text) (Some order)
-  accepted_goes lines text count order kept accepted few came numbered listed has begins = (
+  accepted_goes {text} {count} {order} kept accepted few came numbered listed has begins = (
     begins.inside,
     λ ring same.
         let report : Reported = told_report before told 0 in
@@ -83,7 +83,7 @@ module _ (catalogue : List FileEntry) (old new : RingSlots) (asked : List Asked)
         let small : (ring_of ring).size ≤ MOST_SLOTS = subst (λ (r : RingState). r.size ≤ MOST_SLOTS) (sym same) kept.few_slots in
         let accesses : List ChainAccess = order.accesses.items in
         let first : IsOneOrder before asked report after = (came 0).0 in
-        let is : IsOrderOf accesses before asked report = ordered_is accesses came in
+        let is : IsOrderOf accesses before asked report = ordered_is came in
         let size : length new.slots.at.items ≡ length old.slots.at.items = ap (λ (r : RingState). r.size) first.after in
         let led : after ≡ ring_left accesses before = first.after ∙ ap (λ (l : List ChainAccess). ring_left l before) (came 0).1 in
         let counted : new.submissions ≡ old.submissions + 1 = ap (λ (r : RingState). r.submissions) first.after in
@@ -92,8 +92,7 @@ module _ (catalogue : List FileEntry) (old new : RingSlots) (asked : List Asked)
         let next = history.0 in (
           next,
           history.1,
-          (submitted before asked None false accepted (lt-leb MOST_SUBMISSIONS old.submissions few) ring next (take count text) same).1
-              (report, history.2, printed),
+          (submitted asked accepted (lt-leb MOST_SUBMISSIONS old.submissions few) ring next (take count text) same).1 (report, history.2, printed),
           (
             asked,
             refl,

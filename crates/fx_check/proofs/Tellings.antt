@@ -22,21 +22,20 @@ module _ (catalogue : List FileEntry) (slots : Slots) (apart : AreApart catalogu
   pub has_entry : name_at catalogue file.entry ≡ Some name
   has_entry = name_at_entry catalogue file.entry may.inside ∙ ap (λ (n : List ℕ). Some n) names
 
-  pub same_entry : (entry : ℕ) → name_at catalogue entry ≡ Some name → entry ≡ file.entry
-  same_entry entry is = apart.names.distinct entry file.entry name is has_entry
+  pub same_entry : {entry : ℕ} → name_at catalogue entry ≡ Some name → entry ≡ file.entry
+  same_entry {entry} is = apart.names.distinct entry file.entry name is has_entry
 
   -- where a file at a slot has the mark, it is that one
-  pub same_file : (other : Closed) → other.mark ≡ mark → IsAtSlot slots other → other ≡ file
-  same_file other is there = ⊎_elim
-      (λ here. apart.marks other file there here (is ∙ sym marks))
+  pub same_file : {other : Closed} → other.mark ≡ mark → IsAtSlot slots other → other ≡ file
+  same_file {other} is there = ⊎_elim (λ here. apart.marks other file there here (is ∙ sym marks))
       (λ new. absurd (new.1 there.0 other there.1 (is ∙ sym marks)))
       may.from
 
 -- the line of one of several files
-pub close_at : (catalogue : List FileEntry) (files : List Closed) (lines : List ClosedLine) (i : ℕ) (line : ClosedLine) (d : Closed)
+pub close_at : (catalogue : List FileEntry) (files : List Closed) (lines : List ClosedLine) {i : ℕ} {line : ClosedLine} (d : Closed)
     → named_closes catalogue files ≡ map close_of lines → i < length lines → line ≡ slice_index_or lines i line
     → (i < length files) × (named_close catalogue (slice_index_or files i d) ≡ close_of line)
-close_at catalogue files lines i line d same inside is =
+close_at catalogue files lines {i} {line} d same inside is =
     let many = sym (length-map files (named_close catalogue)) ∙ ap length same ∙ length-map lines close_of in (
       omega arith,
       sym (get_or-map (named_close catalogue) files i d (close_of line) (omega arith))
@@ -45,9 +44,9 @@ close_at catalogue files lines i line d same inside is =
     )
 
 -- a file in order of mark isn't at or before the one in front of it
-pub not_in_turn : (files : List Closed) (i j : ℕ) (d e : Closed) → j + 1 ≡ i → i < length files
+pub not_in_turn : (files : List Closed) {i : ℕ} (j : ℕ) (d e : Closed) → j + 1 ≡ i → i < length files
     → is_lt (ghosts.cmp (slice_index_or files j d).mark (slice_index_or files i e).mark) ≡ false → IsInOrderOfMark files → HasDistinctMarks files → ⊥
-not_in_turn files i j d e next inside is up distinct =
+not_in_turn files {i} j d e next inside is up distinct =
     let x = slice_index_or files j d in
     let y = slice_index_or files (j + 1) d in
     let at : y ≡ slice_index_or files i e = ap (λ (n : ℕ). slice_index_or files n d) next ∙ get_or_default files i d e inside in
@@ -58,12 +57,12 @@ not_in_turn files i j d e next inside is up distinct =
     absurd (omega arith)
 
 -- one of the requests from a place on, where it isn't the one there
-pub next_installed : (requests : List Request) (completions : List Completion) (mark : Mark) (i : ℕ) (r : Request) (c : Completion)
+pub next_installed : (requests : List Request) (completions : List Completion) {mark : Mark} {i : ℕ} {r : Request} {c : Completion}
     → i < length requests → i < length completions → r ≡ slice_index_or requests i r → c ≡ slice_index_or completions i c
     → (Installed (asked_of r) (completed_of c) mark → ⊥)
     → OneInstalled (all_asked (drop i requests)) (all_completed (drop i completions)) mark
     → OneInstalled (all_asked (drop (i + 1) requests)) (all_completed (drop (i + 1) completions)) mark
-next_installed requests completions mark i r c low few is are none one =
+next_installed requests completions {mark} {i} {r} {c} low few is are none one =
     ⊎_elim (λ here. absurd (none here)) (λ later. later)
     (subst (λ (both : List Request × List Completion). OneInstalled (all_asked both.0) (all_completed both.1) mark)
     (λ t. (from_here requests i r low is t, from_here completions i c few are t)) one)
@@ -73,7 +72,7 @@ none_there [] mark one = one
 none_there (r ∷ requests) mark one = one
 
 -- past the completions there is none
-pub none_installed : (requests : List Request) (completions : List Completion) (mark : Mark) (i : ℕ) → length completions ≤ i
+pub none_installed : (requests : List Request) (completions : List Completion) (mark : Mark) {i : ℕ} → length completions ≤ i
     → OneInstalled (all_asked (drop i requests)) (all_completed (drop i completions)) mark → ⊥
-none_installed requests completions mark i past one = none_there (drop i requests) mark
+none_installed requests completions mark {i} past one = none_there (drop i requests) mark
     (subst (λ (left : List Completion). OneInstalled (all_asked (drop i requests)) (all_completed left) mark) (drop_all i completions past) one)

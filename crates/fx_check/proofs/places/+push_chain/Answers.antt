@@ -21,4 +21,4 @@ returns-then-severs t c = λ catalogue accesses.
     (subst (λ (cs : List Completion). IsChainDone catalogue c.args.size c.args.place (all_asked (request ∷ others)) accesses (all_completed cs)
     → IsPut catalogue c.args.size c.args.place (all_asked (request ∷ others)) accesses (all_completed cs) old mid) (sym whole_completions)
     (severed_put catalogue c.args.size c.args.place (asked_of request) (all_asked others) (completed_of first) (all_completed later) old mid
-    (c.in_ok-push_own.ensures catalogue) accesses (sym c.severs.ensures ∙ c.if-severs.true)))
+    (c.in_ok-push_own.ensures catalogue) (sym c.severs.ensures ∙ c.if-severs.true)))

@@ -26,8 +26,7 @@ push_lists-requires t c = (
 pub returns : goal.returns
 returns t c = on_ok_weaker c.push_lists.result
     (λ told catalogue order. cut_lists_put catalogue c.args.answered.now.size c.args.answered.now.submission order c.args.chain
-    (all_asked c.args.answered.now.requests.now) c.args.chains.now none c.members-members.result.now c.args.completions.now c.split_at.result.0.now
-    c.split_at.result.1.now c.args.lists.now.items _ c.push_lists.new.lists.items _ c.push_chain.new.places c.in-len1-up.len_at_least
+    (all_asked c.args.answered.now.requests.now) c.args.chains.now none c.members-members.result.now c.args.completions.now c.args.lists.now.items c.push_chain.new.places c.in-len1-up.len_at_least
     c.members-members.ensures.members c.split_at.ensures.front c.split_at.ensures.back c.new-places.ensures.items c.in_ok-push.ensures.items
     (c.in_ok-push_chain.ensures catalogue) (told catalogue order))
     c.push_lists.ensures

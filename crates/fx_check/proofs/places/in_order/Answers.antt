@@ -10,7 +10,7 @@ first = record { chain = 0; access = Looks 0 None }
 
 next : (c : After-index-lists-chain) → IsNext c.args.lists.now c.args.order.now c.loop-x.x-index (slice_index_or c.args.order.now c.loop-x.x-index first)
     c.loop-x.next.items c.index-at.result.now c.index-lists-chain.result
-next c = is_next c.args.lists.now c.args.order.now c.loop-x.x-index first c.loop-x.next.items c.index-at.result.now c.index-lists-chain.result
+next c = is_next first
     c.loop-x-test.true c.requires.chains c.requires.lists c.loop-x.invariant.size c.loop-x.invariant.counts c.index-at.ensures c.index-lists-chain.is
 
 pub index-requires : goal.index-requires
@@ -36,12 +36,11 @@ loop-x-preserved c =
       counts = counts_more r;
       chains = ap (map (λ (q : AccessPlace). q.chain)) c.in_ok-push-2.ensures.items ∙ chains_listed r places p c.index.ensures c.loop-x.invariant.chains;
       listed = λ k own got. ap (places_of_chain (k + 1)) c.in_ok-push-2.ensures.items
-          ∙ lists_more r places p c.index.ensures k own got (c.loop-x.invariant.listed k own got);
+          ∙ lists_more r places p c.index.ensures k got (c.loop-x.invariant.listed k own got);
     }
 
 pub returns-clause-lists : goal.returns-clause-lists
 returns-clause-lists c = λ k list got.
     let past = c.loop-x-test.false in
     let long : length c.args.order.now ≤ c.loop-x.x-index = omega arith in
-    c.loop-x.invariant.listed k list got
-    ∙ all_taken c.args.order.now c.loop-x.x-index long (k + 1) list.items (c.requires.lists k list got).as_many
+    c.loop-x.invariant.listed k list got ∙ all_taken c.args.order.now long (k + 1) (c.requires.lists k list got).as_many

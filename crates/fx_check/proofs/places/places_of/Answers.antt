@@ -39,6 +39,6 @@ returns c = both c.in_order.result _ _ _
     let order : List ChainAccess = c.args.order.now in
     let put = c.in_ok-push_lists.ensures catalogue order done in
     let is : c.deref.result.now ≡ put.0 = c.deref.ensures.value ∙ put.1 ∙ ap (λ (l : List (Vec AccessPlace)). l ++ put.0) c.new-lists.ensures.items in
-    all_places catalogue size submission order runs c.deref.result.now cs places.items
+    all_places catalogue size submission order c.deref.result.now
     (subst (λ (l : List (Vec AccessPlace)). AreListsOf catalogue size submission 1 runs order l cs) (sym is) put.2) chains has)
     c.in_order.ensures.chains c.in_order.ensures.lists

@@ -27,13 +27,12 @@ loop-done-init c = record {
 module _ (c : In_ok-count) where
   next : drop c.loop-done.done c.args.script.now.commands
       ≡ instruction_of c.index-commands-done.result ∷ drop (c.loop-done.done + 1) c.args.script.now.commands
-  next = next_instruction c.commands-commands.result.now c.args.script.now.commands c.loop-done.done c.index-commands-done.result
-      c.commands-commands.ensures c.loop-done-test.true c.index-commands-done.is
+  next = next_instruction c.commands-commands.result.now c.commands-commands.ensures c.loop-done-test.true c.index-commands-done.is
 
-  answered : (a : Answer) → c.in_ok-count.field-0 ≡ a
+  answered : {a : Answer} → c.in_ok-count.field-0 ≡ a
       → IsAnswer c.catalogue-catalogue.result.now c.loop-done.ring (instruction_of c.index-commands-done.result) (drop c.loop-done.at c.args.text.now) a
       c.play_command.new.ring
-  answered a is =
+  answered is =
       subst (λ (b : Answer). IsAnswer c.catalogue-catalogue.result.now c.loop-done.ring (instruction_of c.index-commands-done.result)
       (drop c.loop-done.at c.args.text.now) b c.play_command.new.ring) is
       (subst (λ (t : List ℕ). IsAnswer c.catalogue-catalogue.result.now c.loop-done.ring (instruction_of c.index-commands-done.result) t c.in_ok-count.field-0
@@ -50,7 +49,7 @@ loop-done-preserved c =
     ] in
     let answer : IsAnswer c.catalogue-catalogue.result.now c.loop-done.ring (instruction_of c.index-commands-done.result)
     (drop c.loop-done.at c.args.text.now) (Printed c.in-Printed.count c.in-Printed.order) c.play_command.new.ring =
-    answered a (Printed c.in-Printed.count c.in-Printed.order) c.in-Printed.is in
+    answered a c.in-Printed.is in
     record {
       inside =
           let front = answer.0 in
@@ -59,8 +58,7 @@ loop-done-preserved c =
       kept = c.in_ok-count.ensures.kept;
       so_far = goes_on c.args.script.now c.args.text.now c.loop-done.done c.loop-done.at orders
           (ring_with_slots c.catalogue-catalogue.result.now c.loop-done.ring) c.loop-done.invariant.so_far (instruction_of c.index-commands-done.result) (next a)
-          c.in-Printed.count c.in-Printed.order c.match-order.orders.items (ring_with_slots c.catalogue-catalogue.result.now c.play_command.new.ring)
-          answer.1 answer.2 grown;
+          c.in-Printed.count c.in-Printed.order answer.1 answer.2 grown;
     }
 
 pub returns-in-Broken : goal.returns-in-Broken
@@ -68,7 +66,7 @@ returns-in-Broken c =
     let a = (goal.at.returns-in-Broken c).In_ok-count in
     stops c.args.script.now c.args.text.now c.loop-done.done c.loop-done.at c.loop-done.orders.items
     (ring_with_slots c.catalogue-catalogue.result.now c.loop-done.ring) c.loop-done.invariant.so_far (instruction_of c.index-commands-done.result) (next a)
-    _ c.in-Broken.fault c.loop-done.invariant.inside (answered a (Broken c.in-Broken.fault) c.in-Broken.is)
+    _ c.in-Broken.fault c.loop-done.invariant.inside (answered a c.in-Broken.is)
 
 -- all commands were
 module _ (c : In_ok-play_end) where

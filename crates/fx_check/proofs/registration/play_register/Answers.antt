@@ -32,7 +32,7 @@ returns-in_ok-_none-in-Here-clause-step c =
 
 pub returns-in_ok-_none-in-Here-clause-kept : goal.returns-in_ok-_none-in-Here-clause-kept
 returns-in_ok-_none-in-Here-clause-kept c =
-    counted_keeps c.args.catalogue.now c.args.ring.now c.apply_list.new.slots _ (now (goal.at.returns-in_ok-_none-in-Here-clause-kept c).In_ok-_none-in-Here)
+    counted_keeps c.args.catalogue.now c.args.ring.now c.apply_list.new.slots (now (goal.at.returns-in_ok-_none-in-Here-clause-kept c).In_ok-_none-in-Here)
     c.in_default.ensures.few
     (registered_rings (ring_with_slots c.args.catalogue.now c.args.ring.now) c.args.given.now.list.now
     (tags_for c.args.given.now.list.now c.args.given.now.tags) c.in_default.ensures.good)
@@ -44,5 +44,4 @@ pub returns-in-Apart-clause-step : goal.returns-in-Apart-clause-step
 returns-in-Apart-clause-step c =
     no_memory c.args.catalogue.now c.args.ring.now (RegistersList c.args.given.now.list.now (option_map (λ given. given.now) c.args.given.now.tags))
     c.args.text.now tt c.requires.is_ring (sym c.in_default.ensures.value) (omega arith)
-    (result_line (codes "register") (pos 0)) refl c.in_ok-met.met c.in_ok-met.ensures c.in-Apart.wanted c.or_no_memory.result c.in-Apart.is
-    c.or_no_memory.ensures
+    (result_line (codes "register") (pos 0)) refl c.in_ok-met.met c.in_ok-met.ensures c.or_no_memory.result c.in-Apart.is c.or_no_memory.ensures

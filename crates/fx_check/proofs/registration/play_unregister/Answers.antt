@@ -38,10 +38,10 @@ returns-in-Here-clause-step c =
     accepted c.args.catalogue.now c.args.ring.now Unregisters c.args.text.now tt c.requires.is_ring (sym c.in_default.ensures) (omega arith)
     (string_bytes c.in_ok-whole.whole) (told (goal.at.returns-in-Here-clause-step c).After-meet-met) c.meet-met.result c.meet-met.ensures
     (with_slots c.args.ring.now slots) c.in-Here.count
-    (emptied c.args.catalogue.now c.args.ring.now slots 0 (none_left slots c.new.ensures.items refl)) c.in-Here.is
+    (emptied c.args.catalogue.now c.args.ring.now slots (none_left slots c.new.ensures.items refl)) c.in-Here.is
 
 pub returns-clause-step : goal.returns-clause-step
 returns-clause-step c =
     no_memory c.args.catalogue.now c.args.ring.now Unregisters c.args.text.now tt c.requires.is_ring (sym c.in_default.ensures) (omega arith)
-    (string_bytes c.in_ok-whole.whole) (told (goal.at.returns-clause-step c).After-meet-met) c.meet-met.result c.meet-met.ensures c.in-Apart.wanted c.or_no_memory.result c.in-Apart.is
+    (string_bytes c.in_ok-whole.whole) (told (goal.at.returns-clause-step c).After-meet-met) c.meet-met.result c.meet-met.ensures c.or_no_memory.result c.in-Apart.is
     c.or_no_memory.ensures

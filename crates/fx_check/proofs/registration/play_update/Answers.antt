@@ -83,7 +83,7 @@ returns-in-Here-clause-step c =
 pub returns-in-Here-clause-kept : goal.returns-in-Here-clause-kept
 returns-in-Here-clause-kept c =
     let d = (goal.at.returns-in-Here-clause-kept c).After-deref-2 in
-    counted_keeps c.args.catalogue.now c.args.ring.now c.apply_list.new.slots _ (now d) c.requires.few_slots
+    counted_keeps c.args.catalogue.now c.args.ring.now c.apply_list.new.slots (now d) c.requires.few_slots
     (updated_rings (ring_with_slots c.args.catalogue.now c.args.ring.now) c.args.off c.args.given.now.list.now
     (tags_for c.args.given.now.list.now c.args.given.now.tags) c.requires.is_ring c.in_default.ensures.good)
     c.in_default.ensures.counted
@@ -94,5 +94,5 @@ returns-in-Apart-clause-step c =
     let d = (goal.at.returns-in-Apart-clause-step c).After-deref-2 in
     let m = (goal.at.returns-in-Apart-clause-step c).After-meet-met in
     no_memory c.args.catalogue.now c.args.ring.now (command m) c.args.text.now tt c.requires.is_ring (sym c.in_default.ensures.value) (few m)
-    (string_bytes c.in_ok-whole.whole) (told m (removed d)) c.meet-met.result c.meet-met.ensures c.in-Apart.wanted c.or_no_memory.result c.in-Apart.is
+    (string_bytes c.in_ok-whole.whole) (told m (removed d)) c.meet-met.result c.meet-met.ensures c.or_no_memory.result c.in-Apart.is
     c.or_no_memory.ensures

@@ -15,7 +15,7 @@ module _ (c : In-Some) where
       (rw c.in-Some.is at c.in_ok-front.ensures)
 
   begins : BeginsWith c.args.text.now (length c.args.text.now - length c.in-Some.front.1.now) (lines_text (lines_in c.in-Some.front.0))
-  begins = begins_with c.args.text.now (lines_text (lines_in c.in-Some.front.0)) c.in-Some.front.1.now found.printed
+  begins = begins_with c.in-Some.front.1.now found.printed
 
 -- and this is told by them
 module _ (c : In-Ok) where
@@ -42,13 +42,13 @@ order_of-requires-clause-few_slots c =
 
 pub order_of-requires-clause-chains : goal.order_of-requires-clause-chains
 order_of-requires-clause-chains c =
-    (ordered_is c.args.catalogue.now c.args.ring.now c.judge_submission.new.ring (all_asked c.args.requests.now) c.in-Ok.told c.in-Legal.accesses.items
+    (ordered_is c.args.catalogue.now c.args.ring.now c.judge_submission.new.ring (all_asked c.args.requests.now) c.in-Ok.told
     (came (goal.at.order_of-requires-clause-chains c).In-Legal)).chains
 
 pub order_of-requires-clause-done : goal.order_of-requires-clause-done
 order_of-requires-clause-done c = (
   c.args.catalogue.now,
-  ordered_done c.args.catalogue.now c.args.ring.now c.judge_submission.new.ring (all_asked c.args.requests.now) c.in-Ok.told c.in-Legal.accesses.items
+  ordered_done c.args.catalogue.now c.args.ring.now c.judge_submission.new.ring (all_asked c.args.requests.now) c.in-Ok.told
       (came (goal.at.order_of-requires-clause-done c).In-Legal),
 )
 
@@ -74,15 +74,13 @@ returns-in-Legal-clause-answer c =
     subst (λ (v : Vec ChainAccess). ArePlaces c.args.catalogue.now (length new.slots.at.items) new.submissions (runs_of asked)
     (all_completed c.in-Ok.told.completions.items) v.items order.places.items) (sym c.in_ok-order-in-Legal.ensures.accesses)
     (c.in_ok-order-in-Legal.ensures.places c.args.catalogue.now
-    (ordered_done c.args.catalogue.now c.args.ring.now new asked c.in-Ok.told c.in-Legal.accesses.items (came l))) in
-    let goes = accepted_goes c.args.catalogue.now c.args.ring.now new asked c.in-Ok.told (lines_in c.in-Some.front.0) c.args.text.now
-    (length c.args.text.now - length c.in-Some.front.1.now) order c.requires.kept c.requires.accepted c.requires.few by
+    (ordered_done c.args.catalogue.now c.args.ring.now new asked c.in-Ok.told (came l))) in
+    let goes = accepted_goes c.args.catalogue.now c.args.ring.now new asked c.in-Ok.told c.requires.kept c.requires.accepted c.requires.few by
     c.in_ok-order-in-Legal.ensures.submission listed (has o) (begins s) in (
       goes.0,
       goes.1,
       one_ordered c.args.catalogue.now c.args.ring.now c.requires.kept asked c.args.text.now c.requires.accepted c.requires.few c.requires.chains
-          c.in-Some.front.0 c.in-Some.front.1.now (found s) c.in-Ok.told (has o) (tells o) (ring_with_slots c.args.catalogue.now new)
-          (length c.args.text.now - length c.in-Some.front.1.now) (begins s) (ordered l),
+          c.in-Some.front.0 c.in-Some.front.1.now (found s) c.in-Ok.told (has o) (tells o) (begins s) (ordered l),
     )
 
 pub returns-in_default-clause-answer : goal.returns-in_default-clause-answer

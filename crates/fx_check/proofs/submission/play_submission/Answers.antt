@@ -6,7 +6,7 @@ pub returns-in-Err-clause-answer : goal.returns-in-Err-clause-answer
 returns-in-Err-clause-answer c =
     c.of.ensures c.args.catalogue.now c.args.ring.now c.args.ring.now (SubmitsAll (all_asked c.args.requests.now)) c.args.text.now
     (refused c.args.catalogue.now c.args.ring.now c.args.text.now c.meet.result (all_asked c.args.requests.now) c.in-Err.fault
-    (fault_told (fault_of (all_asked c.args.requests.now)) c.in-Err.fault (length (runs_of (all_asked c.args.requests.now))) (Err c.in-Err.fault) refl
+    (fault_told (fault_of (all_asked c.args.requests.now)) (length (runs_of (all_asked c.args.requests.now))) refl
     c.in-Err.ensures.fault c.in-Err.ensures.chains)
     (subst (λ (l : List ℕ). IsMet c.args.text.now l c.meet.result) c.in_ok-refused_line.ensures c.meet.ensures)) refl
 

@@ -19,6 +19,5 @@ returns-in-Some-wrong_tag-clause-only c = λ apart report may same.
     let closed : named_closes catalogue report.closes.files ≡ map close_of c.deref.result.now =
     ap (λ (l : Lines). l.closed) same ∙ ap (λ (l : List ClosedLine). map close_of l) (sym c.deref.ensures.value) in
     let files : c.deref-3.result.now ≡ report.closes.files = c.deref-3.ensures.value ∙ only apart report.closes.files may.each closed in
-    c.in-Some-wrong_tag.ensures.apart
-    (c.deref-4.ensures.value ∙ c.in_ok-wanted-2.ensures ∙ tags_again c.deref-3.result.now report.closes.files files
+    c.in-Some-wrong_tag.ensures.apart (c.deref-4.ensures.value ∙ c.in_ok-wanted-2.ensures ∙ tags_again files
     ∙ ap (λ (l : Lines). l.tags) same ∙ sym c.deref-5.ensures.value)

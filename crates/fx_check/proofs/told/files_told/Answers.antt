@@ -8,7 +8,7 @@ any = record { mark = Registered 0 0; entry = 0; tag = 0 }
 
 pub returns-in_default-clause-only : goal.returns-in_default-clause-only
 returns-in_default-clause-only c = λ apart others each same.
-    let at = close_at c.args.catalogue.now others c.args.lines.now c.loop-i.i c.index-lines-i.result any same c.loop-i-test.true c.index-lines-i.is in
+    let at = close_at c.args.catalogue.now others c.args.lines.now any same c.loop-i-test.true c.index-lines-i.is in
     let told = c.in_default.ensures.only apart (slice_index_or others c.loop-i.i any) (each c.loop-i.i any at.0) at.1 in
     let none = c.in_default.is in
     cc
@@ -24,7 +24,7 @@ loop-i-preserved c = record {
       ∙ ap (map close_of) (sym (take_more c.args.lines.now c.loop-i.i c.index-lines-i.result c.loop-i-test.true));
   only = λ apart others each same.
       let i = c.loop-i.i in
-      let at = close_at c.args.catalogue.now others c.args.lines.now i c.index-lines-i.result any same c.loop-i-test.true c.index-lines-i.is in
+      let at = close_at c.args.catalogue.now others c.args.lines.now any same c.loop-i-test.true c.index-lines-i.is in
       let told : ◌≡◌ {A = Option Closed} (Some c.in-Some.file) (Some (slice_index_or others i any)) =
       c.in-Some.ensures.only apart (slice_index_or others i any) (each i any at.0) at.1 in
       let file : c.in-Some.file ≡ slice_index_or others i any = cc in
