@@ -32,26 +32,26 @@ both_parts : (x : Option Errno) (old new : RingState) (call : Call) (line : List
 both_parts (Some errno) old new call line = ((λ p. p), (λ p. p))
 both_parts None old new call line = ((λ p. p), (λ p. p))
 
-uncounted : (b : Bool) (count : ℕ) → (if b then count else count + 1) ≡ count → b ≡ true
-uncounted true count is = refl
-uncounted false count is = absurd (omega arith)
+uncounted : (b : Bool) {count : ℕ} → (if b then count else count + 1) ≡ count → b ≡ true
+uncounted true is = refl
+uncounted false is = absurd (omega arith)
 
 -- the same of a submission that isn't counted
-refused_parts : (x : Option CutFault) (count : ℕ) (same reports : Type 0) (line many : List ℕ) (text : CutFault → List ℕ)
+refused_parts : (x : Option CutFault) {count : ℕ} (same reports : Type 0) (line many : List ℕ) (text : CutFault → List ℕ)
     → count_behind count x ≡ count
     → MatchOption x (MatchBool (nat_le MOST_SUBMISSIONS count) (same × (line ≡ many)) reports) (λ fault. same × (line ≡ text fault))
     ↔ (same × MatchOption x (line ≡ many) (λ fault. line ≡ text fault))
-refused_parts (Some fault) count same reports line many text is = ((λ p. p), (λ p. p))
-refused_parts None count same reports line many text is =
+refused_parts (Some fault) same reports line many text is = ((λ p. p), (λ p. p))
+refused_parts None {count} same reports line many text is =
     subst (λ (b : Bool). MatchBool b (same × (line ≡ many)) reports ↔ (same × (line ≡ many)))
-    (sym (uncounted (nat_le MOST_SUBMISSIONS count) count is)) ((λ p. p), (λ p. p))
+    (sym (uncounted (nat_le MOST_SUBMISSIONS count) is)) ((λ p. p), (λ p. p))
 
 -- what a submission comes to: nothing changes and it isn't counted, or it has a report and is
-cases : {R : Type 0} (x : Option CutFault) (count : ℕ) (same reports : Type 0) (line many : List ℕ) (text : CutFault → List ℕ)
+cases : {R : Type 0} (x : Option CutFault) {count : ℕ} {same reports : Type 0} (line many : List ℕ) (text : CutFault → List ℕ)
     → (same → count_behind count x ≡ count → R) → (reports → count_behind count x ≡ count + 1 → R)
     → MatchOption x (MatchBool (nat_le MOST_SUBMISSIONS count) (same × (line ≡ many)) reports) (λ fault. same × (line ≡ text fault)) → R
-cases (Some fault) count same reports line many text stays goes = λ prints. stays prints.0 refl
-cases None count same reports line many text stays goes =
+cases (Some fault) line many text stays goes = λ prints. stays prints.0 refl
+cases None {count} line many text stays goes =
     either_way (nat_le MOST_SUBMISSIONS count) (λ full prints. stays prints.0 (ap (λ (b : Bool). if b then count else count + 1) full))
     (λ room prints. goes prints (ap (λ (b : Bool). if b then count else count + 1) room))
 
@@ -59,13 +59,12 @@ pub submission_cases : {R : Type 0} (old next : RingContents) (asked : List Aske
     → (ring_of next ≡ ring_of old → count_behind old.submissions (fault_of asked) ≡ old.submissions → R)
     → (PrintsReport old asked next line → count_behind old.submissions (fault_of asked) ≡ old.submissions + 1 → R)
     → Prints old (SubmitsAll asked) next line → R
-submission_cases old next asked line =
-    cases (fault_of asked) old.submissions (ring_of next ≡ ring_of old) (PrintsReport old asked next line) line too_many_line refused_line
+submission_cases old next asked line = cases (fault_of asked) line too_many_line refused_line
 
 -- what holds of the ring of a call, whether or not it is refused
-pub unless_so : (P : RingState → Type 0) (x : Option Errno) (old left : RingState) → P old → (x ≡ None → P left) → P (unless_refused x old left)
-unless_so P (Some errno) old left so goes = so
-unless_so P None old left so goes = goes refl
+pub unless_so : (P : RingState → Type 0) (x : Option Errno) {old left : RingState} → P old → (x ≡ None → P left) → P (unless_refused x old left)
+unless_so P (Some errno) so goes = so
+unless_so P None so goes = goes refl
 
 call_parts : (old next : RingContents) (command : Instruction) (line : List ℕ) (own : Option Reported) → IsCall old.submissions command
     → Prints old command next line → FoundMemory old command next line own
@@ -73,8 +72,7 @@ call_parts : (old next : RingContents) (command : Instruction) (line : List ℕ)
 call_parts old next (SetsRange off len) line own counts prints found =
     (both_parts (range_refusal (ring_of old) off len) (ring_of old) (ring_of next) (call_of (ring_of old) (SetsRange off len)) line).0 prints
 call_parts old next (SubmitsAll asked) line own counts prints found =
-    (refused_parts (fault_of asked) old.submissions (ring_of next ≡ ring_of old) (PrintsReport old asked next line) line too_many_line refused_line
-    counts).0 prints
+    (refused_parts (fault_of asked) (ring_of next ≡ ring_of old) (PrintsReport old asked next line) line too_many_line refused_line counts).0 prints
 call_parts old next command line own counts prints found =
     let call = call_of (ring_of old) command in
     (both_parts call.refusal (ring_of old) (ring_of next) call line).0 (with_memory call.refusal _ _ (λ refused. found.1 refused.1) prints)
@@ -85,20 +83,20 @@ call_leaves old next command line own counts prints found = (call_parts old next
 
 -- no two lines are that of a call
 
-either_line : (x : Option Errno) (word : List ℕ) (prints : List ℕ → Type 0) (a b : List ℕ) → (prints a → prints b → a ≡ b)
+either_line : (x : Option Errno) (word : List ℕ) (prints : List ℕ → Type 0) {a b : List ℕ} → (prints a → prints b → a ≡ b)
     → AnswersFound x word prints a → AnswersFound x word prints b → a ≡ b
-either_line (Some errno) word prints a b one first second = first ∙ sym second
-either_line None word prints a b one first second = one first second
+either_line (Some errno) word prints one first second = first ∙ sym second
+either_line None word prints one first second = one first second
 
-either_refusal : (x : Option CutFault) (many : List ℕ) (text : CutFault → List ℕ) (a b : List ℕ) → MatchOption x (a ≡ many) (λ fault. a ≡ text fault)
+either_refusal : (x : Option CutFault) (many : List ℕ) (text : CutFault → List ℕ) {a b : List ℕ} → MatchOption x (a ≡ many) (λ fault. a ≡ text fault)
     → MatchOption x (b ≡ many) (λ fault. b ≡ text fault) → a ≡ b
-either_refusal (Some fault) many text a b first second = first ∙ sym second
-either_refusal None many text a b first second = first ∙ sym second
+either_refusal (Some fault) many text first second = first ∙ sym second
+either_refusal None many text first second = first ∙ sym second
 
-one_line_of : (ring : RingState) (command : Instruction) (a b : List ℕ) → IsRing ring → IsLineOf ring command a → IsLineOf ring command b → a ≡ b
-one_line_of ring (SubmitsAll asked) a b is_ring first second = either_refusal (fault_of asked) too_many_line refused_line a b first second
-one_line_of ring command a b is_ring first second =
-    let call = call_of ring command in either_line call.refusal call.word (Tells ring call) a b (one_line ring command a b is_ring) first second
+one_line_of : {ring : RingState} (command : Instruction) {a b : List ℕ} → IsRing ring → IsLineOf ring command a → IsLineOf ring command b → a ≡ b
+one_line_of (SubmitsAll asked) {a} {b} is_ring first second = either_refusal (fault_of asked) too_many_line refused_line first second
+one_line_of {ring} command {a} {b} is_ring first second =
+    let call = call_of ring command in either_line call.refusal call.word (Tells ring call) (one_line ring command a b is_ring) first second
 
 abbrev IsOther : Option Errno → Type 0
 IsOther x = x ≡ Some ENOMEM → ⊥
@@ -113,13 +111,13 @@ other_result : (errno : Errno) → IsOther (Some errno) → IsResultInRange (neg
 other_result ENOMEM other = absurd (other refl)
 other_result errno other = (omega arith, λ same. let e = ap below_0 same in absurd (omega (arith, e)))
 
-found_line : (ring : RingState) (call : Call) (x : Option Errno) (line : List ℕ) → IsOther x → (x ≡ None → call.res < 2 ^ 31)
+found_line : (ring : RingState) (call : Call) (x : Option Errno) {line : List ℕ} → IsOther x → (x ≡ None → call.res < 2 ^ 31)
     → AnswersFound x call.word (Tells ring call) line → HasFound call.word line
-found_line ring call (Some errno) line other few printed same =
+found_line ring call (Some errno) other few printed same =
     let result = other_result errno other in
     result.1 (one_result call.word (negated errno) (negated ENOMEM) [] [] result.0 (omega arith)
     (ap (λ (l : List ℕ). l ++ []) (sym printed ∙ same))).0
-found_line ring call None line other few printed same =
+found_line ring call None {line} other few printed same =
     not_refused ring call.word call.res call.closed line [] [] (few refl) printed (ap (λ (l : List ℕ). l ++ []) same)
 
 few_told : (ring : RingState) (command : Instruction) → ring.size ≤ MOST_SLOTS → (call_of ring command).refusal ≡ None
@@ -146,7 +144,7 @@ call_leads old next (SetsRange off len) line few counts is printed = (
 )
 call_leads old next (SubmitsAll asked) line few counts is printed = (
   None,
-  (refused_parts (fault_of asked) old.submissions (ring_of next ≡ ring_of old) (PrintsReport old asked next line) line too_many_line refused_line
+  (refused_parts (fault_of asked) (ring_of next ≡ ring_of old) (PrintsReport old asked next line) line too_many_line refused_line
       counts).1 (is, printed),
   ap (λ (r : RingState). r.submissions) is,
 )
@@ -154,7 +152,7 @@ call_leads old next command line few counts is printed =
     let call = call_of (ring_of old) command in (
       None,
       as_answers call.refusal _ _ ((both_parts call.refusal (ring_of old) (ring_of next) call line).1 (is, printed)),
-      (refl, found_line (ring_of old) call call.refusal line (refusal_other (ring_of old) command) (few_told (ring_of old) command few) printed),
+      (refl, found_line (ring_of old) call call.refusal (refusal_other (ring_of old) command) (few_told (ring_of old) command few) printed),
     )
 
 -- the same of a ring that is kept as slots and was copied, and is put behind others with what was printed
@@ -187,19 +185,18 @@ module _ (keeps : Bool) (catalogue : List FileEntry) (old copy new : RingSlots) 
       )
 
   pub call_grows : length old.slots.at.items ≤ MOST_SLOTS → Grows (λ s. s ≡ behind) stages grown → Grows (MayLeadTo keeps from command) stages grown
-  call_grows few = grows_by (λ (s : Stage). s ≡ behind) (MayLeadTo keeps from command) stages grown
+  call_grows few = grows_by (λ (s : Stage). s ≡ behind) (MayLeadTo keeps from command)
       (λ s same. subst (MayLeadTo keeps from command) (sym same) (may_lead few))
 
   pub call_only : IsRing (ring_with_slots catalogue old) → Contains grown behind → HasEachNext keeps from command grown
   call_only is_ring there ring next other same (own, prints, found) =
       let parts = call_parts ring next command other own (subst (λ (r : RingState). IsCall r.submissions command) (sym same) call) prints found in
       let after : ring_of next ≡ ring_with_slots catalogue new = parts.0 ∙ ap (λ (r : RingState). after_call r command) same ∙ sym left in
-      let lines : other ≡ line = one_line_of (ring_with_slots catalogue old) command other line is_ring
-      (subst (λ (r : RingState). IsLineOf r command other) same parts.1) told in
+      let lines : other ≡ line = one_line_of command is_ring (subst (λ (r : RingState). IsLineOf r command other) same parts.1) told in
       let texts = kept ∙ ap (λ (l : List ℕ). kept_text keeps (before ++ l)) (sym lines) in
       subst (λ (s : Stage). Contains grown s) (λ i. record { ring = sym after i; printed = texts i }) there
 
 -- a call counts no submission
-pub call_uncounted : (count : ℕ) (command : Instruction) → IsCall count command → count_after count command ≡ count
-call_uncounted count (SubmitsAll asked) call = call
-call_uncounted count _ call = refl
+pub call_uncounted : {count : ℕ} (command : Instruction) → IsCall count command → count_after count command ≡ count
+call_uncounted (SubmitsAll asked) call = call
+call_uncounted _ call = refl

@@ -22,7 +22,7 @@ submission_counts old next asked line =
 call_count : (ring : RingState) (command : Instruction) → (after_call ring command).submissions ≡ ring.submissions
 call_count ring (SubmitsAll asked) = refl
 call_count ring command =
-    let call = call_of ring command in unless_so (λ (r : RingState). r.submissions ≡ ring.submissions) call.refusal ring call.left refl (λ _. refl)
+    let call = call_of ring command in unless_so (λ (r : RingState). r.submissions ≡ ring.submissions) call.refusal refl (λ _. refl)
 
 pub leads_counts : (old next : RingContents) (command : Instruction) (line : List ℕ) (own : Option Reported) → Prints old command next line
     → FoundMemory old command next line own → next.submissions ≡ count_after old.submissions command
@@ -56,8 +56,8 @@ all_grows (command ∷ commands) count =
     let one = after_grows command count in let rest = all_grows commands (count_after count command) in omega (arith, one, rest)
 
 -- the report of a command is that of the next submission
-pub own_report : (old next : RingContents) (command : Instruction) (line : List ℕ) (report : Reported) → FoundMemory old command next line (Some report)
+pub own_report : {old next : RingContents} (command : Instruction) {line : List ℕ} {report : Reported} → FoundMemory old command next line (Some report)
     → (asked : List Asked) × (command ≡ SubmitsAll asked) × IsReportFound old asked next line report
-own_report old next (SubmitsAll asked) line report found = (asked, refl, found)
-own_report old next (SetsRange off len) line report found = absurd (let e : Some report ≡ None = found in cc)
-own_report old next _ line report found = absurd (let e : Some report ≡ None = found.0 in cc)
+own_report (SubmitsAll asked) found = (asked, refl, found)
+own_report (SetsRange off len) {report} found = absurd (let e : Some report ≡ None = found in cc)
+own_report _ {report} found = absurd (let e : Some report ≡ None = found.0 in cc)

@@ -9,14 +9,14 @@ use Rattle.fx_table.proofs.Members.{contains_mapped, contains_none}
 pub stays : {X : Type 0} (P : X → Type 0) (xs : List X) → Grows P xs xs
 stays P xs = record { kept = λ x inside. inside; from = λ x inside. inl inside }
 
-pub grows_on : {X : Type 0} (P Q : X → Type 0) (xs ys zs : List X) → ((x : X) → Q x → P x) → Grows P xs ys → Grows Q ys zs → Grows P xs zs
-grows_on P Q xs ys zs weaker one more = record {
+pub grows_on : {X : Type 0} (P Q : X → Type 0) {xs ys zs : List X} → ((x : X) → Q x → P x) → Grows P xs ys → Grows Q ys zs → Grows P xs zs
+grows_on P Q weaker one more = record {
   kept = λ x inside. more.kept x (one.kept x inside);
   from = λ x inside. ⊎_elim (λ there. one.from x there) (λ is. inr (weaker x is)) (more.from x inside);
 }
 
-pub grows_by : {X : Type 0} (P Q : X → Type 0) (xs ys : List X) → ((x : X) → P x → Q x) → Grows P xs ys → Grows Q xs ys
-grows_by P Q xs ys weaker grows = record {
+pub grows_by : {X : Type 0} (P Q : X → Type 0) {xs ys : List X} → ((x : X) → P x → Q x) → Grows P xs ys → Grows Q xs ys
+grows_by P Q weaker grows = record {
   kept = grows.kept;
   from = λ x inside. ⊎_elim inl (λ is. inr (weaker x is)) (grows.from x inside);
 }
@@ -36,11 +36,11 @@ module _ {X Y : Type 0} (f : Y → X) (xs ys : List Y) (y : Y) (are : ys ≡ xs 
   pub has_pushed : Contains (map f ys) (f y)
   has_pushed = subst (λ (l : List X). Contains l (f y)) (sym grown) (Contains-push (map f xs) (f y))
 
-pub at_value : {X Y : Type 0} (f : Y → X) (ys : List Y) (k : ℕ) (y : Y) → k < length ys → y ≡ slice_index_or ys k y → Contains (map f ys) (f y)
-at_value f ys k y inside is = contains_mapped f ys y (k, inside, sym is)
+pub at_value : {X Y : Type 0} (f : Y → X) (ys : List Y) {k : ℕ} {y : Y} → k < length ys → y ≡ slice_index_or ys k y → Contains (map f ys) (f y)
+at_value f ys {k} {y} inside is = contains_mapped f ys y (k, inside, sym is)
 
-by_order : {P : Type 0} (i k : ℕ) → (i < k → P) → (i ≡ k → P) → i < k + 1 → P
-by_order i k less same low = ⊎_elim less (λ le. same (omega (arith, le, low))) (cases_lt i k)
+by_order : {P : Type 0} {i k : ℕ} → (i < k → P) → (i ≡ k → P) → i < k + 1 → P
+by_order {i} {k} less same low = ⊎_elim less (λ le. same (omega (arith, le, low))) (cases_lt i k)
 
 -- what holds of the values of the first elements, one element further
 
@@ -48,38 +48,35 @@ module _ {X Y : Type 0} (f : Y → X) (ys : List Y) (Q : X → Type 0) where
   abbrev pub HoldsBefore : ℕ → Type 0
   HoldsBefore n = (i : ℕ) (d : Y) → i < n → Q (f (slice_index_or ys i d))
 
-  pub holds_more : (k : ℕ) (y : Y) → k < length ys → y ≡ slice_index_or ys k y → HoldsBefore k → Q (f y) → HoldsBefore (k + 1)
-  holds_more k y inside is before here i d low =
-      by_order i k
-      (λ lt. before i d lt)
-      (λ same.
+  pub holds_more : {k : ℕ} {y : Y} → k < length ys → y ≡ slice_index_or ys k y → HoldsBefore k → Q (f y) → HoldsBefore (k + 1)
+  holds_more {k} {y} inside is before here i d low =
+      by_order (λ lt. before i d lt) (λ same.
       let at : slice_index_or ys i d ≡ y =
       ap (λ (n : ℕ). slice_index_or ys n d) same ∙ get_or_default ys k d y inside ∙ sym is in
       subst (λ (e : Y). Q (f e)) (sym at) here)
       low
 
-  pub holds_of_all : (n : ℕ) → length ys ≤ n → HoldsBefore n → (x : X) → Contains (map f ys) x → Q x
-  holds_of_all n long all x inside =
+  pub holds_of_all : {n : ℕ} → length ys ≤ n → HoldsBefore n → (x : X) → Contains (map f ys) x → Q x
+  holds_of_all long all x inside =
       let (y, (k, low, at), is) = contains_map f ys x inside in
       subst Q (ap f at ∙ sym is) (all k y (omega (arith, low, long)))
 
 -- the values of the first elements are there, one more of which was put behind others
-pub there_more : {X Y : Type 0} (f : Y → X) (ys : List Y) (P : X → Type 0) (before now : List X) (k : ℕ) (y : Y) → k < length ys
+pub there_more : {X Y : Type 0} (f : Y → X) (ys : List Y) (P : X → Type 0) {before now : List X} {k : ℕ} {y : Y} → k < length ys
     → y ≡ slice_index_or ys k y → Grows P before now → HoldsBefore f ys (Contains before) k → Contains now (f y) → HoldsBefore f ys (Contains now) (k + 1)
-there_more f ys P before now k y inside is grows so_far here =
-    holds_more f ys (Contains now) k y inside is (λ i d low. grows.kept (f (slice_index_or ys i d)) (so_far i d low)) here
+there_more f ys P {now} {k} {y} inside is grows so_far here =
+    holds_more f ys (Contains now) inside is (λ i d low. grows.kept (f (slice_index_or ys i d)) (so_far i d low)) here
 
 -- what is new there comes of the next element's value
-pub from_more : {X Y Z : Type 0} (f : Y → X) (ys : List Y) (From : X → Z → Type 0) (before now : List Z) (k : ℕ) (y : Y) → k < length ys
+pub from_more : {X Y Z : Type 0} (f : Y → X) (ys : List Y) (From : X → Z → Type 0) {before now : List Z} {k : ℕ} {y : Y} → k < length ys
     → y ≡ slice_index_or ys k y → Grows (From (f y)) before now → ((z : Z) → Contains before z → (o : X) × Contains (map f ys) o × From o z)
     → (z : Z) → Contains now z → (o : X) × Contains (map f ys) o × From o z
-from_more f ys From before now k y inside is grows each z has =
-    ⊎_elim (each z) (λ new. (f y, at_value f ys k y inside is, new)) (grows.from z has)
+from_more f ys From {k} {y} inside is grows each z has = ⊎_elim (each z) (λ new. (f y, at_value f ys inside is, new)) (grows.from z has)
 
 -- an element that is read has what all have
-pub read_at : {X : Type 0} (P : X → Type 0) (xs items : List X) (k : ℕ) (x : X) → items ≡ xs → k < length items → x ≡ slice_index_or items k x
+pub read_at : {X : Type 0} (P : X → Type 0) {xs items : List X} {k : ℕ} {x : X} → items ≡ xs → k < length items → x ≡ slice_index_or items k x
     → All P xs → P x
-read_at P xs items k x same inside is all =
+read_at P {items} {k} {x} same inside is all =
     let each : All P items = subst (All P) (sym same) all in
     subst P (sym is) (each k x inside)
 
@@ -87,14 +84,14 @@ pub nothing : {X Y : Type 0} (f : Y → X) (ys : List Y) (x : X) → ys ≡ [] �
 nothing {Y = Y} f ys x none inside = contains_none x (subst (λ (l : List Y). Contains (map f l) x) none inside)
 
 -- the one that is taken off the end
-pub popped : {X Y : Type 0} (f : Y → X) (xs ys : List Y) (last : Option Y) (P : X → Type 0) → xs ≡ ys ++ option_to_list last
+pub popped : {X Y : Type 0} (f : Y → X) {xs : List Y} (ys : List Y) (last : Option Y) (P : X → Type 0) → xs ≡ ys ++ option_to_list last
     → ((x : X) → Contains (map f xs) x → P x) → IfSome last (λ y. P (f y))
-popped f xs ys None P are all = tt
-popped f xs ys (Some y) P are all = all (f y) (has_pushed f ys xs y are)
+popped f ys None P are all = tt
+popped f {xs} ys (Some y) P are all = all (f y) (has_pushed f ys xs y are)
 
 pub all_of_values : {X Y : Type 0} (f : Y → X) (ys : List Y) (P : X → Type 0) → ((x : X) → Contains (map f ys) x → P x) → All (λ y. P (f y)) ys
 all_of_values f ys P each = λ k d inside.
-    each (f (slice_index_or ys k d)) (at_value f ys k (slice_index_or ys k d) inside (get_or_default ys k d (slice_index_or ys k d) inside))
+    each (f (slice_index_or ys k d)) (at_value f ys inside (get_or_default ys k d (slice_index_or ys k d) inside))
 
 pub holds_of_each : {X Y : Type 0} (f : Y → X) (ys : List Y) (Q : X → Type 0) (n : ℕ) → length ys ≤ n → HoldsBefore f ys Q n
     → (y : Y) → Contains ys y → Q (f y)

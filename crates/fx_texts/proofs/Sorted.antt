@@ -15,17 +15,17 @@ abbrev put : Closed → List Closed → List Closed
 put x [] = x ∷ []
 put x (y ∷ ys) = if is_below y x then y ∷ put x ys else x ∷ y ∷ ys
 
-put_moved : (b : Bool) (x y : Closed) (ys : List Closed) → IsPermutation (x ∷ ys) (put x ys)
+put_moved : (b : Bool) {x : Closed} (y : Closed) {ys : List Closed} → IsPermutation (x ∷ ys) (put x ys)
     → IsPermutation (x ∷ y ∷ ys) (if b then y ∷ put x ys else x ∷ y ∷ ys)
-put_moved true x y ys rest =
+put_moved true {x} y {ys} rest =
     IsPermutation-trans (x ∷ y ∷ ys) (y ∷ x ∷ ys) (y ∷ put x ys)
     (IsPermutation-sym (y ∷ x ∷ ys) (x ∷ y ∷ ys) (IsPermutation-middle (y ∷ []) x ys))
     (IsPermutation-cons y (x ∷ ys) (put x ys) rest)
-put_moved false x y ys rest = IsPermutation-refl (x ∷ y ∷ ys)
+put_moved false {x} y {ys} rest = IsPermutation-refl (x ∷ y ∷ ys)
 
 put_permutes : (x : Closed) (ys : List Closed) → IsPermutation (x ∷ ys) (put x ys)
 put_permutes x [] = IsPermutation-refl (x ∷ [])
-put_permutes x (y ∷ ys) = put_moved (is_below y x) x y ys (put_permutes x ys)
+put_permutes x (y ∷ ys) = put_moved (is_below y x) y (put_permutes x ys)
 
 put_either : (b : Bool) (x y : Closed) (ys : List Closed) → is_below y x ≡ b → Rises (y ∷ ys) → Rises (put x ys)
     → Rises (if b then y ∷ put x ys else x ∷ y ∷ ys)

@@ -23,9 +23,9 @@ use Rattle.fx_texts.proofs.Counts.{history_counts, submission_counts}
 use Rattle.std.proofs.lemmas.List.Elements.{All-contains, All-contains_itself}
 
 -- a report that memory is found for is printed
-pub prints_report : (ring next : RingContents) (asked : List Asked) (line : List ℕ) → fault_of asked ≡ None → ring.submissions < MOST_SUBMISSIONS
+pub prints_report : {ring next : RingContents} {asked : List Asked} {line : List ℕ} → fault_of asked ≡ None → ring.submissions < MOST_SUBMISSIONS
     → PrintsReport ring asked next line → Prints ring (SubmitsAll asked) next line
-prints_report ring next asked line accepted few reports =
+prints_report {ring} {next} {asked} {line} accepted few reports =
     let few_yet : nat_le MOST_SUBMISSIONS ring.submissions ≡ false = lt-leb MOST_SUBMISSIONS ring.submissions few in
     subst (λ (x : Option CutFault). MatchOption x
     (MatchBool (nat_le MOST_SUBMISSIONS ring.submissions) ((ring_of next ≡ ring_of ring) × (line ≡ too_many_line)) (PrintsReport ring asked next line))
@@ -33,11 +33,11 @@ prints_report ring next asked line accepted few reports =
     (subst (λ (b : Bool). MatchBool b ((ring_of next ≡ ring_of ring) × (line ≡ too_many_line)) (PrintsReport ring asked next line)) (sym few_yet) reports)
 
 -- where a history leads and finds memory, the submission leads
-pub report_leads : (ring next : RingContents) (asked : List Asked) (report : Reported) → fault_of asked ≡ None → ring.submissions < MOST_SUBMISSIONS
+pub report_leads : {ring next : RingContents} {asked : List Asked} {report : Reported} → fault_of asked ≡ None → ring.submissions < MOST_SUBMISSIONS
     → MayReport ring asked report next → Leads ring (SubmitsAll asked) next (report_text ring.catalogue report)
-report_leads ring next asked report accepted few may = (
+report_leads {ring} {next} {asked} {report} accepted few may = (
   Some report,
-  prints_report ring next asked (report_text ring.catalogue report) accepted few (report, may.history, refl),
+  prints_report accepted few (report, may.history, refl),
   record { may = may; printed = refl },
 )
 
@@ -45,32 +45,32 @@ kept_none : (keeps : Bool) (a b : List ℕ) → keeps ≡ false → kept_text ke
 kept_none true a b silent = absurd (true≢false silent)
 kept_none false a b silent = refl
 
-few_at : (old : RingState) (ring : RingContents) → old.submissions < MOST_SUBMISSIONS → ring_of ring ≡ old → ring.submissions < MOST_SUBMISSIONS
-few_at old ring few same = subst (λ (r : RingState). r.submissions < MOST_SUBMISSIONS) (sym same) few
+few_at : {old : RingState} (ring : RingContents) → old.submissions < MOST_SUBMISSIONS → ring_of ring ≡ old → ring.submissions < MOST_SUBMISSIONS
+few_at ring few same = subst (λ (r : RingState). r.submissions < MOST_SUBMISSIONS) (sym same) few
 
 module _ (keeps : Bool) (old : Stage) (asked : List Asked) (faultless : fault_of asked ≡ None) (few : old.ring.submissions < MOST_SUBMISSIONS) where
-  pub end_may_lead : (end : End) → keeps ≡ false → IsEnd old.ring asked end → MayLeadTo keeps old (SubmitsAll asked) (stage_left keeps old end.slots [])
-  end_may_lead end silent is = λ ring same.
+  pub end_may_lead : {end : End} → keeps ≡ false → IsEnd old.ring asked end → MayLeadTo keeps old (SubmitsAll asked) (stage_left keeps old end.slots [])
+  end_may_lead silent is = λ ring same.
       let (left, behind, may) = is.may ring same in
       let line = report_text ring.catalogue may.report in
       let texts = kept_none keeps (old.printed ++ line) (old.printed ++ []) silent in
-      (left, line, report_leads ring left asked may.report faultless (few_at old.ring ring few same) may.may, λ i. record { ring = behind i; printed = texts i })
+      (left, line, report_leads faultless (few_at ring few same) may.may, λ i. record { ring = behind i; printed = texts i })
 
-  pub possible_may_lead : (possible : PossibleReport) → IsPossible old.ring asked possible
+  pub possible_may_lead : {possible : PossibleReport} → IsPossible old.ring asked possible
       → MayLeadTo keeps old (SubmitsAll asked) (stage_reported keeps old possible)
-  possible_may_lead possible is = λ ring same.
+  possible_may_lead {possible} is = λ ring same.
       let (left, behind, may) = is.may ring same in
       let report = reported possible.report in (
         left,
         report_text ring.catalogue report,
-        report_leads ring left asked report faultless (few_at old.ring ring few same) may,
+        report_leads faultless (few_at ring few same) may,
         λ i. record { ring = behind i; printed = kept_text keeps (old.printed ++ report_text (same i).catalogue report) },
       )
 
-pub answer_may_say : (old : RingState) (asked : List Asked) (place : Place) (answer : Answer) (commands : List Instruction) → fault_of asked ≡ None
+pub answer_may_say : {old : RingState} {asked : List Asked} {place : Place} {answer : Answer} {commands : List Instruction} → fault_of asked ≡ None
     → old.submissions < MOST_SUBMISSIONS → IsAnswer old asked place answer → MayEnd (ring_behind old answer.slots) commands
     → MaySay old asked commands place (completed_of answer.completion)
-answer_may_say old asked place answer commands faultless few is ends = record {
+answer_may_say {old} {asked} faultless few is ends = record {
   there = is.there;
   says = λ ring same.
       let (left, behind, may) = is.may ring same in
@@ -78,7 +78,7 @@ answer_may_say old asked place answer commands faultless few is ends = record {
         left,
         line,
         may.report,
-        prints_report ring left asked line faultless (few_at old ring few same) (may.report, may.may.history, refl),
+        prints_report faultless (few_at ring few same) (may.report, may.may.history, refl),
         record { may = may.may; printed = refl },
         may.inside,
         ends left behind,
@@ -86,15 +86,15 @@ answer_may_say old asked place answer commands faultless few is ends = record {
 }
 
 -- the slots that are left are as many
-pub few_left : (old : RingState) (asked : List Asked) (order : List ChainAccess) (report : Reported) (slots : Slots) → IsReportBy old asked order report slots
+pub few_left : {old : RingState} {asked : List Asked} {order : List ChainAccess} {report : Reported} {slots : Slots} → IsReportBy old asked order report slots
     → old.size ≤ MOST_SLOTS → length slots.at.items ≤ MOST_SLOTS
-few_left old asked order report slots by few = subst (λ (n : ℕ). n ≤ MOST_SLOTS) (sym (ap (λ (r : RingState). r.size) by.leaves)) few
+few_left by few = subst (λ (n : ℕ). n ≤ MOST_SLOTS) (sym (ap (λ (r : RingState). r.size) by.leaves)) few
 
 -- a submission that is counted has a report
-reports_once : (old : RingState) (ring next : RingContents) (asked : List Asked) (line : List ℕ) → ring_of ring ≡ old
+reports_once : {old : RingState} (ring next : RingContents) (asked : List Asked) (line : List ℕ) → ring_of ring ≡ old
     → count_behind old.submissions (fault_of asked) ≡ old.submissions + 1 → Prints ring (SubmitsAll asked) next line
     → next.submissions ≡ ring.submissions → ⊥
-reports_once old ring next asked line same counted prints stays =
+reports_once {old} ring next asked line same counted prints stays =
     let one = submission_counts ring next asked line prints in
     let here : ring.submissions ≡ old.submissions = ap (λ (r : RingState). r.submissions) same in
     let same_count : count_behind ring.submissions (fault_of asked) ≡ count_behind old.submissions (fault_of asked) =
@@ -102,13 +102,13 @@ reports_once old ring next asked line same counted prints stays =
     absurd (omega (arith, one, here, same_count, counted, stays))
 
 -- where it isn't kept what is printed, each stage that the submission leads to is that of an end
-pub ends_are_all : (keeps : Bool) (old : Stage) (asked : List Asked) (ends : List End) (stages : List Stage) → keeps ≡ false
+pub ends_are_all : {keeps : Bool} (old : Stage) {asked : List Asked} (ends : List End) (stages : List Stage) → keeps ≡ false
     → ((end : End) → Contains ends end → Contains stages (stage_left keeps old end.slots []))
     → count_behind old.ring.submissions (fault_of asked) ≡ old.ring.submissions + 1 → HasEachEnd old.ring asked ends
     → HasEachNext keeps old (SubmitsAll asked) stages
-ends_are_all keeps old asked ends stages silent inside counted all ring next line same (None, prints, stays) =
-    absurd (reports_once old.ring ring next asked line same counted prints stays)
-ends_are_all keeps old asked ends stages silent inside counted all ring next line same (Some report, prints, found) =
+ends_are_all old {asked} ends stages silent inside counted all ring next line same (None, prints, stays) =
+    absurd (reports_once ring next asked line same counted prints stays)
+ends_are_all {keeps} old ends stages silent inside counted all ring next line same (Some report, prints, found) =
     let (end, there, is) = contains_map (λ (e : End). ring_behind old.ring e.slots) ends (ring_of next)
     (all ring next same (record { report = report; may = found.may })) in
     let texts = kept_none keeps (old.printed ++ []) (old.printed ++ line) silent in
@@ -142,14 +142,14 @@ module _ (old : RingState) (asked : List Asked) (is_ring : IsRing old) (accepted
   texts_same = λ i. completion_lines (tells.completions i) ++ closes_text (same i).catalogue (sym closes_same i)
 
 -- where it is kept, each stage that the submission leads to is that of a report
-pub reports_are_all : (keeps : Bool) (old : Stage) (asked : List Asked) (reports : List PossibleReport) (stages : List Stage) → IsRing old.ring
+pub reports_are_all : (keeps : Bool) (old : Stage) {asked : List Asked} (reports : List PossibleReport) (stages : List Stage) → IsRing old.ring
     → IsAccepted asked → All (IsPossible old.ring asked) reports
     → ((possible : PossibleReport) → Contains reports possible → Contains stages (stage_reported keeps old possible))
     → count_behind old.ring.submissions (fault_of asked) ≡ old.ring.submissions + 1 → HasEachReport old.ring asked reports
     → HasEachNext keeps old (SubmitsAll asked) stages
-reports_are_all keeps old asked reports stages is_ring accepted each inside counted all ring next line same (None, prints, stays) =
-    absurd (reports_once old.ring ring next asked line same counted prints stays)
-reports_are_all keeps old asked reports stages is_ring accepted each inside counted all ring next line same (Some report, prints, found) =
+reports_are_all keeps old {asked} reports stages is_ring accepted each inside counted all ring next line same (None, prints, stays) =
+    absurd (reports_once ring next asked line same counted prints stays)
+reports_are_all keeps old {asked} reports stages is_ring accepted each inside counted all ring next line same (Some report, prints, found) =
     let (possible, there, tells) = all ring next report same found.may in
     let is : IsPossible old.ring asked possible = All-contains (IsPossible old.ring asked) reports possible each there in
     let texts : line ≡ report_text old.ring.catalogue (reported possible.report) =
@@ -157,16 +157,16 @@ reports_are_all keeps old asked reports stages is_ring accepted each inside coun
     subst (λ (s : Stage). Contains stages s)
     (λ i. record { ring = sym tells.leaves i; printed = kept_text keeps (old.printed ++ sym texts i) }) (inside possible there)
 
-pub counted_one : (requests : List Asked) (count : ℕ) → fault_of requests ≡ None → count < MOST_SUBMISSIONS
+pub counted_one : (requests : List Asked) {count : ℕ} → fault_of requests ≡ None → count < MOST_SUBMISSIONS
     → count_behind count (fault_of requests) ≡ count + 1
-counted_one requests count faultless few =
+counted_one requests {count} faultless few =
     let few_yet : nat_le MOST_SUBMISSIONS count ≡ false = lt-leb MOST_SUBMISSIONS count few in
     ap (count_behind count) faultless ∙ ap (λ (b : Bool). if b then count else count + 1) few_yet
 
 -- a submission that isn't counted has no report
-pub no_report : (ring next : RingContents) (asked : List Asked) (line : List ℕ) (report : Reported) → count_behind ring.submissions (fault_of asked) ≡ ring.submissions
+pub no_report : {ring next : RingContents} {asked : List Asked} {line : List ℕ} {report : Reported} → count_behind ring.submissions (fault_of asked) ≡ ring.submissions
     → Prints ring (SubmitsAll asked) next line → IsReportFound ring asked next line report → ⊥
-no_report ring next asked line report stays prints found =
+no_report {ring} {next} {asked} {line} {report} stays prints found =
     let one = submission_counts ring next asked line prints in
     let more = history_counts ring next asked report found.may.history in
     absurd (omega (arith, one, more, stays))

@@ -34,9 +34,9 @@ record BeforeLast (ring last : RingContents) (front : List Instruction) (command
   one : Leads mid command last line
   split : text ≡ before ++ line
 
-before_last : (ring last : RingContents) (front : List Instruction) (command : Instruction) (text : List ℕ)
+before_last : {ring last : RingContents} (front : List Instruction) {command : Instruction} {text : List ℕ}
     → LeadsAll ring (front ++ command ∷ []) last text → BeforeLast ring last front command text
-before_last ring last [] command text (next, line, others, one, split, (here, none)) = record {
+before_last {ring} [] {command} (next, line, others, one, split, (here, none)) = record {
   mid = ring;
   before = [];
   line = line;
@@ -44,8 +44,8 @@ before_last ring last [] command text (next, line, others, one, split, (here, no
   one = subst (λ (r : RingContents). Leads ring command r line) here one;
   split = split ∙ ap (λ (o : List ℕ). line ++ o) none ∙ append-nil line;
 }
-before_last ring last (first ∷ front) command text (next, line, others, one, split, rest) =
-    let b = before_last next last front command others rest in
+before_last {last} (first ∷ front) {command} (next, line, others, one, split, rest) =
+    let b = before_last front rest in
     record {
       mid = b.mid;
       before = line ++ b.before;
@@ -60,18 +60,18 @@ kept_on : (keeps : Bool) (before line : List ℕ) → kept_text keeps (before ++
 kept_on true before line = refl
 kept_on false before line = refl
 
-stage_on : (keeps : Bool) (ring : RingContents) (before line printed : List ℕ) → kept_text keeps before ≡ printed
+stage_on : (keeps : Bool) (ring : RingContents) (before line : List ℕ) {printed : List ℕ} → kept_text keeps before ≡ printed
     → stage keeps ring (before ++ line) ≡ stage keeps ring (printed ++ line)
-stage_on keeps ring before line printed is =
+stage_on keeps ring before line {printed} is =
     let texts = kept_on keeps before line ∙ ap (λ (p : List ℕ). kept_text keeps (p ++ line)) is in
     λ i. record { ring = ring_of ring; printed = texts i }
 
 -- one more command
 
-pub each_more : (keeps : Bool) (first : RingState) (front : List Instruction) (command : Instruction) (old new : List Stage)
+pub each_more : (keeps : Bool) {first : RingState} (front : List Instruction) (command : Instruction) (old new : List Stage)
     → ((s : Stage) → Contains old s → MayLeadAllTo keeps first front s) → AreFrom keeps old command new
-    → (s : Stage) → Contains new s → MayLeadAllTo keeps first (front ++ command ∷ []) s
-each_more keeps first front command old new each from s inside =
+    → {s : Stage} → Contains new s → MayLeadAllTo keeps first (front ++ command ∷ []) s
+each_more keeps front command old new each from {s} inside =
     let (o, there, leads) = from s inside in
     λ ring same.
     let (mid, before, all, mid_is) = each o there ring same in
@@ -79,29 +79,28 @@ each_more keeps first front command old new each from s inside =
       last,
       before ++ line,
       leads_behind ring mid last front command before line all one,
-      stage_on keeps last before line o.printed (ap (λ (t : Stage). t.printed) mid_is) ∙ last_is,
+      stage_on keeps last before line (ap (λ (t : Stage). t.printed) mid_is) ∙ last_is,
     )
 
-pub all_more : (keeps : Bool) (first : RingState) (front : List Instruction) (command : Instruction) (old new : List Stage)
+pub all_more : (keeps : Bool) {first : RingState} (front : List Instruction) (command : Instruction) (old new : List Stage)
     → HasEachLast keeps first front old → HasEachFrom keeps old command new → HasEachLast keeps first (front ++ command ∷ []) new
-all_more keeps first front command old new all next ring last text same leads =
-    let b = before_last ring last front command text leads in
-    subst (λ (s : Stage). Contains new s)
-    (sym (stage_on keeps last b.before b.line (kept_text keeps b.before) refl) ∙ ap (λ (t : List ℕ). stage keeps last t) (sym b.split))
+all_more keeps front command old new all next ring last text same leads =
+    let b = before_last front leads in
+    subst (λ (s : Stage). Contains new s) (sym (stage_on keeps last b.before b.line refl) ∙ ap (λ (t : List ℕ). stage keeps last t) (sym b.split))
     (next (stage keeps b.mid b.before) (all ring b.mid b.before same b.all) b.mid last b.line refl b.one)
 
-pub taken_one : (commands : List Command) (done : ℕ) (command : Command) → done < length commands
+pub taken_one : (commands : List Command) {done : ℕ} {command : Command} → done < length commands
     → command ≡ slice_index_or commands done command
     → instructions_of (take (done + 1) commands) ≡ instructions_of (take done commands) ++ instruction_of command ∷ []
-taken_one commands done command inside is =
+taken_one commands {done} {command} inside is =
     map_more instruction_of commands done command inside
     ∙ ap (λ (c : Command). instructions_of (take done commands) ++ instruction_of c ∷ []) (sym is)
 
 -- the commands around one of them
-pub around : (commands : List Command) (done : ℕ) (command : Command) → done < length commands
+pub around : (commands : List Command) {done : ℕ} {command : Command} → done < length commands
     → command ≡ slice_index_or commands done command
     → instructions_of commands ≡ instructions_of (take done commands) ++ instruction_of command ∷ instructions_of (drop (done + 1) commands)
-around commands done command inside is =
+around commands {done} {command} inside is =
     ap (λ (cs : List Command). instructions_of cs) (sym (take-append-drop done commands)
     ∙ ap (λ (cs : List Command). take done commands ++ cs) (from_here commands done command inside is))
     ∙ map-append instruction_of (take done commands) (command ∷ drop (done + 1) commands)
@@ -111,10 +110,10 @@ count_behind_all : (count : ℕ) (front : List Instruction) (command : Instructi
 count_behind_all count [] command = refl
 count_behind_all count (first ∷ front) command = count_behind_all (count_after count first) front command
 
-pub count_one : (commands : List Command) (done : ℕ) (command : Command) (count : ℕ) → done < length commands
+pub count_one : (commands : List Command) {done : ℕ} {command : Command} {count : ℕ} → done < length commands
     → command ≡ slice_index_or commands done command → count ≡ count_after_all 0 (instructions_of (take done commands))
     → count_after count (instruction_of command) ≡ count_after_all 0 (instructions_of (take (done + 1) commands))
-count_one commands done command count inside is counts =
+count_one commands {done} {command} inside is counts =
     ap (λ (n : ℕ). count_after n (instruction_of command)) counts
     ∙ sym (count_behind_all 0 (instructions_of (take done commands)) (instruction_of command))
-    ∙ ap (λ (l : List Instruction). count_after_all 0 l) (sym (taken_one commands done command inside is))
+    ∙ ap (λ (l : List Instruction). count_after_all 0 l) (sym (taken_one commands inside is))

@@ -17,9 +17,9 @@ may_end state = λ ring same. (
   ((closes_for (files_of (ring_of ring)), has_closed (files_of (ring_of ring)), refl), refl),
 )
 
-pub may_end_behind : (keeps : Bool) (old new : Stage) (command : Instruction) (commands : List Instruction) → MayLeadTo keeps old command new
+pub may_end_behind : (keeps : Bool) (old : Stage) {new : Stage} (command : Instruction) (commands : List Instruction) → MayLeadTo keeps old command new
     → MayEnd new.ring commands → MayEnd old.ring (command ∷ commands)
-may_end_behind keeps old new command commands leads ends = λ ring same.
+may_end_behind keeps old command commands leads ends = λ ring same.
     let (next, line, (own, prints, found), is) = leads ring same in
     let (text, reports, rest) = ends next (ap (λ (s : Stage). s.ring) is) in
     (line ++ text, option_to_list own ++ reports, (next, line, text, own, reports, prints, found, refl, refl, rest))
@@ -30,9 +30,9 @@ count_at_start script ring starts = ap (λ (r : RingState). r.submissions) start
 module _ (script : Meaning) (place : Place) (front : List Instruction) (asked : List Asked) (behind : List Instruction)
     (split : script.commands ≡ front ++ SubmitsAll asked ∷ behind) (number : place.submission ≡ count_after_all 0 front + 1) where
   -- what is said behind the first commands is an answer of a play
-  pub said_is_answered : (keeps : Bool) (o : Stage) (c : Completed) → MayLeadAllTo keeps (new_ring script.catalogue) front o
+  pub said_is_answered : (keeps : Bool) {o : Stage} {c : Completed} → MayLeadAllTo keeps (new_ring script.catalogue) front o
       → MaySay o.ring asked behind place c → MayAnswerIn script place c
-  said_is_answered keeps o c leads says =
+  said_is_answered keeps leads says =
       let start = ring_with_files (new_ring script.catalogue) in
       let starts : ring_of start ≡ new_ring script.catalogue = shows_ring (new_ring script.catalogue) (λ slot past. refl) in
       let (mid, before, all, mid_is) = leads start starts in
@@ -42,7 +42,7 @@ module _ (script : Meaning) (place : Place) (front : List Instruction) (asked : 
       let here : PrintsAllFound mid (SubmitsAll asked ∷ behind) (line ++ text) (report ∷ reports) =
       (next, line, text, Some report, reports, prints, found, refl, refl, whole.2) in
       let printed = before ++ (line ++ text) in
-      let play = play_behind start mid front (SubmitsAll asked ∷ behind) before (line ++ text) (report ∷ reports) all here in
+      let play = play_behind mid front (SubmitsAll asked ∷ behind) before (line ++ text) all here in
       let count : mid.submissions ≡ count_after_all 0 front =
       all_counts start mid front before all ∙ ap (λ (n : ℕ). count_after_all n front) (count_at_start script start starts) in
       record {
@@ -57,30 +57,30 @@ module _ (script : Meaning) (place : Place) (front : List Instruction) (asked : 
       }
 
   -- an answer of a play is said behind the first commands
-  pub answer_is_said : (keeps : Bool) (stages : List Stage) (said : List Completed) (c : Completed)
+  pub answer_is_said : (keeps : Bool) (stages : List Stage) (said : List Completed) {c : Completed}
       → count_behind (count_after_all 0 front) (fault_of asked) ≡ place.submission
       → HasEachLast keeps (new_ring script.catalogue) front stages → HasEachSaidFrom stages asked place said → MayAnswerIn script place c
       → Contains said c
-  answer_is_said keeps stages said c counted last each may =
+  answer_is_said keeps stages said {c} counted last each may =
       let ring = may.play.0 in
       let starts : ring_of ring ≡ new_ring script.catalogue = may.play.1 in
       let none = count_at_start script ring starts in
       let from_start : count_after_all ring.submissions front ≡ count_after_all 0 front = ap (λ (n : ℕ). count_after_all n front) none in
-      let at = report_at ring front asked behind may.text may.reports may.report
+      let at = report_at front behind may.text may.reports
       (subst (λ (l : List Instruction). PrintsAllFound ring l may.text may.reports) split may.play.2) may.among
       (may.submission ∙ number ∙ ap (λ (n : ℕ). n + 1) (sym from_start))
       (ap (λ (n : ℕ). count_behind n (fault_of asked)) from_start ∙ counted ∙ number ∙ ap (λ (n : ℕ). n + 1) (sym from_start)) in
       each (stage keeps at.mid at.before) (last ring at.mid at.before starts at.leads) at.mid at.next at.line may.report c refl at.prints at.found may.inside may.there
 
 -- no request answers in a submission that isn't there
-pub none_answered : (script : Meaning) (place : Place) (c : Completed)
+pub none_answered : {script : Meaning} {place : Place} {c : Completed}
     → (place.submission ≡ 0) ⊎ (count_after_all 0 script.commands < place.submission) → MayAnswerIn script place c → ⊥
-none_answered script place c none may =
+none_answered {script} none may =
     let ring = may.play.0 in
     let empty = count_at_start script ring may.play.1 in
     let from_start : count_after_all ring.submissions script.commands ≡ count_after_all 0 script.commands =
     ap (λ (n : ℕ). count_after_all n script.commands) empty in
-    let n = numbers_behind ring script.commands may.text may.reports may.report may.play.2 may.among in
+    let n = numbers_behind ring script.commands may.text may.reports may.play.2 may.among in
     let low = n.0 in
     let high = n.1 in
     let is = may.submission in
@@ -88,15 +88,15 @@ none_answered script place c none may =
 
 -- the texts of a script are those of the stages that it may come to
 
-pub stage_texts : (script : Meaning) (text : List ℕ) (stages : List Stage)
+pub stage_texts : (script : Meaning) {text : List ℕ} (stages : List Stage)
     → ((s : Stage) → Contains stages s → MayLeadAllTo true (new_ring script.catalogue) script.commands s) → IsTextAt stages text
     → IsTextFound script text
-stage_texts script text stages each (s, inside, (end, prints, split)) =
+stage_texts script {text} stages each (s, inside, (end, prints, split)) =
     let start = ring_with_files (new_ring script.catalogue) in
     let starts : ring_of start ≡ new_ring script.catalogue = shows_ring (new_ring script.catalogue) (λ slot past. refl) in
     let (last, before, all, is) = each s inside start starts in
     let ends : PrintsEnd (ring_of last) end = subst (λ (r : RingState). PrintsEnd r end) (sym (ap (λ (t : Stage). t.ring) is)) prints in
-    let play = play_behind start last script.commands [] before end [] all (ends, refl) in
+    let play = play_behind last script.commands [] before end all (ends, refl) in
     let printed : before ++ end ≡ text = ap (λ (p : List ℕ). p ++ end) (ap (λ (t : Stage). t.printed) is) ∙ sym split in (
       play.all,
       (
@@ -107,8 +107,8 @@ stage_texts script text stages each (s, inside, (end, prints, split)) =
       ),
     )
 
-pub text_at_stage : (script : Meaning) (text : List ℕ) (stages : List Stage) → HasEachLast true (new_ring script.catalogue) script.commands stages
+pub text_at_stage : (script : Meaning) {text : List ℕ} (stages : List Stage) → HasEachLast true (new_ring script.catalogue) script.commands stages
     → IsTextFound script text → (s : Stage) × Contains stages s × EndsAs s text
-text_at_stage script text stages all (reports, (ring, starts, prints)) =
-    let l = led_to_end ring script.commands text reports prints in
+text_at_stage script {text} stages all (reports, (ring, starts, prints)) =
+    let l = led_to_end script.commands reports prints in
     (stage true l.last l.before, all ring l.last l.before starts l.leads, (l.end, l.prints, l.split))

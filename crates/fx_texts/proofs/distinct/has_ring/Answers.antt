@@ -5,4 +5,4 @@ use Rattle.fx_texts.proofs.distinct.has_ring.Goals as goal
 pub returns-then-are_alike : goal.returns-then-are_alike
 returns-then-are_alike c = λ _ catalogue.
     subst (λ (s : Stage). Contains (stages_of catalogue c.args.rings.now) s) (c.are_alike.ensures c.if-are_alike.true catalogue)
-    (at_value (stage_of catalogue) c.args.rings.now c.loop-reached.reached-index c.reached-item.result c.loop-reached-test.true c.reached-item.is)
+    (at_value (stage_of catalogue) c.args.rings.now c.loop-reached-test.true c.reached-item.is)

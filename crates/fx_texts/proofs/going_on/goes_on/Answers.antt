@@ -16,11 +16,11 @@ loop-command-preserved c =
     let command = c.command-item.result in
     let leads : MayLeadTo keeps old (instruction_of command) new = rw c.in-Some.is at c.in_ok-next.ensures in
     record {
-      ring = next_ring keeps cat c.loop-command.reached (instruction_of command) new c.loop-command.invariant.ring leads;
+      ring = next_ring keeps c.loop-command.reached (instruction_of command) c.loop-command.invariant.ring leads;
       ends = λ ends. c.loop-command.invariant.ends
           (subst (λ (cs : List Command). MayEnd old.ring (instructions_of cs))
           (sym (from_here commands i command c.loop-command-test.true c.command-item.is))
-          (may_end_behind keeps old new (instruction_of command) (instructions_of (drop (i + 1) commands)) leads ends));
+          (may_end_behind keeps old (instruction_of command) (instructions_of (drop (i + 1) commands)) leads ends));
     }
 
 pub returns : goal.returns

@@ -6,13 +6,11 @@ use Rattle.fx_texts.proofs.next.push_ends.Goals.{After-end-item}
 use Rattle.fx_texts.proofs.next.push_ends.Goals as goal
 
 is_end : (c : After-end-item) → IsEnd (stage_of c.args.setting.now.catalogue.now c.args.from.now).ring (all_asked c.args.requests.now) c.end-item.result
-is_end c = read_at (IsEnd (stage_of c.args.setting.now.catalogue.now c.args.from.now).ring (all_asked c.args.requests.now)) c.in_ok-found.found.ends.items
-    c.deref-end-items.result.now c.loop-end.end-index c.end-item.result c.deref-end-items.ensures.value c.loop-end-test.true c.end-item.is
+is_end c = read_at (IsEnd (stage_of c.args.setting.now.catalogue.now c.args.from.now).ring (all_asked c.args.requests.now)) c.deref-end-items.ensures.value c.loop-end-test.true c.end-item.is
     (c.in_ok-found.ensures.each c.args.from.now.ring.registrations)
 
 pub push_end-requires-clause-room : goal.push_end-requires-clause-room
-push_end-requires-clause-room c =
-    few_left _ _ _ _ _ (is_end (goal.at.push_end-requires-clause-room c).After-end-item).by c.args.from.now.few_slots
+push_end-requires-clause-room c = few_left (is_end (goal.at.push_end-requires-clause-room c).After-end-item).by c.args.from.now.few_slots
 
 pub loop-end-preserved : goal.loop-end-preserved
 loop-end-preserved c =
@@ -26,11 +24,10 @@ loop-end-preserved c =
     let now = stages_of cat c.push_end.new.rings.items in
     let one = c.in_ok-push_end.ensures.grows cat in
     record {
-      grows = grows_on (MayLeadTo keeps old (SubmitsAll asked)) (λ (s : Stage). s ≡ stage_left keeps old end.slots []) (stages_of cat c.args.rings.now.items) before now
-          (λ s same. subst (MayLeadTo keeps old (SubmitsAll asked)) (sym same) (end_may_lead keeps old asked c.requires.faultless c.requires.few end c.requires.silent is))
+      grows = grows_on (MayLeadTo keeps old (SubmitsAll asked)) (λ (s : Stage). s ≡ stage_left keeps old end.slots [])
+          (λ s same. subst (MayLeadTo keeps old (SubmitsAll asked)) (sym same) (end_may_lead keeps old asked c.requires.faultless c.requires.few c.requires.silent is))
           c.loop-end.invariant.grows one;
-      there = there_more (λ (e : End). stage_left keeps old e.slots []) c.deref-end-items.result.now (λ (s : Stage). s ≡ stage_left keeps old end.slots [])
-          before now c.loop-end.end-index end c.loop-end-test.true c.end-item.is one c.loop-end.invariant.there (c.in_ok-push_end.ensures.there cat);
+      there = there_more (λ (e : End). stage_left keeps old e.slots []) c.deref-end-items.result.now (λ (s : Stage). s ≡ stage_left keeps old end.slots []) c.loop-end-test.true c.end-item.is one c.loop-end.invariant.there (c.in_ok-push_end.ensures.there cat);
     }
 
 pub returns-clause-all : goal.returns-clause-all
@@ -43,6 +40,6 @@ returns-clause-all c = λ all.
     let items = c.deref-end-items.result.now in
     let each : HasEachEnd old.ring asked items = subst (λ (l : List End). HasEachEnd old.ring asked l) (sym c.deref-end-items.ensures.value)
     (c.in_ok-found.ensures.all all c.args.from.now.ring.registrations) in
-    ends_are_all keeps old asked items now c.requires.silent
+    ends_are_all old items now c.requires.silent
     (holds_of_each (λ (e : End). stage_left keeps old e.slots []) items (Contains now) c.loop-end.end-index c.loop-end-test.false c.loop-end.invariant.there)
-    (counted_one asked c.args.from.now.ring.submissions c.requires.faultless c.requires.few) each
+    (counted_one asked c.requires.faultless c.requires.few) each

@@ -8,13 +8,12 @@ use Rattle.fx_texts.proofs.next.push_reports.Goals as goal
 is_possible : (c : After-possible-item)
     → IsPossible (stage_of c.args.setting.now.catalogue.now c.args.from.now).ring (all_asked c.args.requests.now) c.possible-item.result
 is_possible c =
-    read_at (IsPossible (stage_of c.args.setting.now.catalogue.now c.args.from.now).ring (all_asked c.args.requests.now)) c.in_ok-found.found.reports.items
-    c.deref-possible-items.result.now c.loop-possible.possible-index c.possible-item.result c.deref-possible-items.ensures.value c.loop-possible-test.true
+    read_at (IsPossible (stage_of c.args.setting.now.catalogue.now c.args.from.now).ring (all_asked c.args.requests.now)) c.deref-possible-items.ensures.value c.loop-possible-test.true
     c.possible-item.is (c.in_ok-found.ensures.each c.args.from.now.ring.registrations)
 
 pub push_report-requires-clause-room : goal.push_report-requires-clause-room
 push_report-requires-clause-room c =
-    few_left _ _ _ _ _ (is_possible (goal.at.push_report-requires-clause-room c).After-possible-item).by c.args.from.now.few_slots
+    few_left (is_possible (goal.at.push_report-requires-clause-room c).After-possible-item).by c.args.from.now.few_slots
 
 pub push_report-requires-clause-entries : goal.push_report-requires-clause-entries
 push_report-requires-clause-entries c = (is_possible (goal.at.push_report-requires-clause-entries c).After-possible-item).entries
@@ -31,11 +30,10 @@ loop-possible-preserved c =
     let now = stages_of cat c.push_report.new.rings.items in
     let one = c.in_ok-push_report.ensures.grows in
     record {
-      grows = grows_on (MayLeadTo keeps old (SubmitsAll asked)) (λ (s : Stage). s ≡ stage_reported keeps old possible) (stages_of cat c.args.rings.now.items) before now
-          (λ s same. subst (MayLeadTo keeps old (SubmitsAll asked)) (sym same) (possible_may_lead keeps old asked c.requires.faultless c.requires.few possible is))
+      grows = grows_on (MayLeadTo keeps old (SubmitsAll asked)) (λ (s : Stage). s ≡ stage_reported keeps old possible)
+          (λ s same. subst (MayLeadTo keeps old (SubmitsAll asked)) (sym same) (possible_may_lead keeps old asked c.requires.faultless c.requires.few is))
           c.loop-possible.invariant.grows one;
-      there = there_more (stage_reported keeps old) c.deref-possible-items.result.now (λ (s : Stage). s ≡ stage_reported keeps old possible) before now
-          c.loop-possible.possible-index possible c.loop-possible-test.true c.possible-item.is one c.loop-possible.invariant.there
+      there = there_more (stage_reported keeps old) c.deref-possible-items.result.now (λ (s : Stage). s ≡ stage_reported keeps old possible) c.loop-possible-test.true c.possible-item.is one c.loop-possible.invariant.there
           c.in_ok-push_report.ensures.there;
     }
 
@@ -49,8 +47,8 @@ returns-clause-all c = λ all.
     let items = c.deref-possible-items.result.now in
     let each : HasEachReport old.ring asked items = subst (λ (l : List PossibleReport). HasEachReport old.ring asked l)
     (sym c.deref-possible-items.ensures.value) (c.in_ok-found.ensures.all all c.args.from.now.ring.registrations) in
-    reports_are_all keeps old asked items now c.requires.ring c.requires.accepted
+    reports_are_all keeps old items now c.requires.ring c.requires.accepted
     (subst (λ (l : List PossibleReport). All (IsPossible old.ring asked) l) (sym c.deref-possible-items.ensures.value)
     (c.in_ok-found.ensures.each c.args.from.now.ring.registrations))
     (holds_of_each (stage_reported keeps old) items (Contains now) c.loop-possible.possible-index c.loop-possible-test.false c.loop-possible.invariant.there)
-    (counted_one asked c.args.from.now.ring.submissions c.requires.faultless c.requires.few) each
+    (counted_one asked c.requires.faultless c.requires.few) each

@@ -10,8 +10,8 @@ pub loop-i-preserved-in_default : goal.loop-i-preserved-in_default
 loop-i-preserved-in_default c =
     let command = c.index-commands-i.result in
     record {
-      count = sym (call_uncounted c.loop-i.count (instruction_of command) c.in_default.ensures.none)
-          ∙ count_one c.args.commands.now c.loop-i.i command c.loop-i.count c.loop-i-test.true c.index-commands-i.is c.loop-i.invariant.count;
+      count = sym (call_uncounted (instruction_of command) c.in_default.ensures.none)
+          ∙ count_one c.args.commands.now c.loop-i-test.true c.index-commands-i.is c.loop-i.invariant.count;
       few = c.loop-i.invariant.few;
     }
 
@@ -21,11 +21,11 @@ loop-i-preserved c =
     let count = c.loop-i.count in
     let counted : count_after count (instruction_of command) ≡ count + 1 =
     ap (count_after count) c.in-Some.ensures.requests
-    ∙ counted_one (all_asked c.in-Some.requests.now) count c.in-Some.ensures.faultless c.in-Some.ensures.few in
+    ∙ counted_one (all_asked c.in-Some.requests.now) c.in-Some.ensures.faultless c.in-Some.ensures.few in
     let few = c.loop-i.invariant.few in
     let other = c.if-count-place.false in
     record {
-      count = sym counted ∙ count_one c.args.commands.now c.loop-i.i command count c.loop-i-test.true c.index-commands-i.is c.loop-i.invariant.count;
+      count = sym counted ∙ count_one c.args.commands.now c.loop-i-test.true c.index-commands-i.is c.loop-i.invariant.count;
       few = omega (arith, few, other);
     }
 
@@ -39,10 +39,10 @@ returns-then-count-place-clause-some c =
     let count = c.loop-i.count in
     record {
       place_same = refl;
-      split = around commands i command c.loop-i-test.true c.index-commands-i.is
+      split = around commands c.loop-i-test.true c.index-commands-i.is
           ∙ ap (λ (x : Instruction). front ++ x ∷ instructions_of (drop (i + 1) commands)) c.in-Some.ensures.requests
           ∙ ap (λ (l : List Command). front ++ SubmitsAll asked ∷ instructions_of l) (sym (take_rest commands (i + 1)));
       number = sym c.if-count-place.true ∙ ap (λ (n : ℕ). n + 1) c.loop-i.invariant.count;
       counted = ap (λ (n : ℕ). count_behind n (fault_of asked)) (sym c.loop-i.invariant.count)
-          ∙ counted_one asked count c.in-Some.ensures.faultless c.in-Some.ensures.few ∙ c.if-count-place.true;
+          ∙ counted_one asked c.in-Some.ensures.faultless c.in-Some.ensures.few ∙ c.if-count-place.true;
     }

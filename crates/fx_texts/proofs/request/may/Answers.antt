@@ -10,9 +10,7 @@ pub answers_at-requires : goal.answers_at-requires
 answers_at-requires c = rw c.deref.ensures.value c.in_ok-rings.ensures.rings
 
 pub returns-in_default-clause-all : goal.returns-in_default-clause-all
-returns-in_default-clause-all c = λ _ it may.
-    absurd (none_answered c.args.script.now c.args.place it
-    (rw c.commands.ensures at c.in_default.ensures.none) may)
+returns-in_default-clause-all c = λ _ it may. absurd (none_answered (rw c.commands.ensures at c.in_default.ensures.none) may)
 
 pub returns-clause-each : goal.returns-clause-each
 returns-clause-each c =
@@ -22,7 +20,7 @@ returns-clause-each c =
     all_of_values (λ (said : Said). completed_of said.completion) c.in_ok-found.found.answers.items (MayAnswerIn script place)
     (λ it inside.
     let (o, there, says) = c.in_ok-found.ensures.each it inside in
-    said_is_answered script place _ _ _ (sym c.commands.ensures ∙ a.split) a.number false o it
+    said_is_answered script place _ _ _ (sym c.commands.ensures ∙ a.split) a.number false
     (rw c.catalogue.ensures.value at (c.in_ok-rings.ensures.each o (rw c.deref.ensures.value at there)))
     (rw a.place_same at says))
 
@@ -38,7 +36,7 @@ returns-clause-all c = λ yes it may.
     let states = stages_of c.catalogue.result.now c.deref.result.now in
     let said = said_in c.in_ok-found.found.answers.items in
     let two = c.both.ensures yes in
-    answer_is_said script place front asked behind (sym c.commands.ensures ∙ a.split) a.number false states said it a.counted
+    answer_is_said script place front asked behind (sym c.commands.ensures ∙ a.split) a.number false states said a.counted
     (subst (λ (cat : List FileEntry). HasEachLast false (new_ring cat) front states) c.catalogue.ensures.value
     (subst (λ (l : List Reached). HasEachLast false (new_ring c.catalogue.result.now) front (stages_of c.catalogue.result.now l)) (sym c.deref.ensures.value)
     (c.in_ok-rings.ensures.all two.0)))

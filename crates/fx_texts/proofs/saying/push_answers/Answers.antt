@@ -10,18 +10,15 @@ use Rattle.fx_texts.proofs.saying.push_answers.Goals as goal
 is_answer : (c : After-answer-item) → IsAnswer (stage_of c.args.setting.now.catalogue.now c.args.from.now).ring (all_asked c.args.asking.now.requests.now)
     c.args.asking.now.place c.answer-item.result
 is_answer c =
-    read_at (IsAnswer (stage_of c.args.setting.now.catalogue.now c.args.from.now).ring (all_asked c.args.asking.now.requests.now) c.args.asking.now.place)
-    c.in_ok-found.found.answers.items c.deref-answer-items.result.now c.loop-answer.answer-index c.answer-item.result c.deref-answer-items.ensures.value
+    read_at (IsAnswer (stage_of c.args.setting.now.catalogue.now c.args.from.now).ring (all_asked c.args.asking.now.requests.now) c.args.asking.now.place) c.deref-answer-items.ensures.value
     c.loop-answer-test.true c.answer-item.is (c.in_ok-found.ensures.each c.args.from.now.ring.registrations)
 
 pub push_answer-requires-clause-room : goal.push_answer-requires-clause-room
-push_answer-requires-clause-room c =
-    few_left _ _ _ _ _ (is_answer (goal.at.push_answer-requires-clause-room c).After-answer-item).by c.args.from.now.few_slots
+push_answer-requires-clause-room c = few_left (is_answer (goal.at.push_answer-requires-clause-room c).After-answer-item).by c.args.from.now.few_slots
 
 pub push_answer-requires-clause-ring : goal.push_answer-requires-clause-ring
 push_answer-requires-clause-ring c =
-    answer_ring c.args.setting.now.catalogue.now c.args.from.now (all_asked c.args.asking.now.requests.now) c.args.asking.now.place c.answer-item.result
-    c.requires.ring (is_answer (goal.at.push_answer-requires-clause-ring c).After-answer-item)
+    answer_ring c.args.from.now c.requires.ring (is_answer (goal.at.push_answer-requires-clause-ring c).After-answer-item)
 
 pub loop-answer-preserved : goal.loop-answer-preserved
 loop-answer-preserved c =
@@ -36,14 +33,12 @@ loop-answer-preserved c =
     let one = c.in_ok-is_there.ensures.grows in
     record {
       grows = grows_on (MaySay old asked behind place) (λ (it : Completed). (it ≡ completed_of answer.completion) × MayEnd (ring_behind old answer.slots) behind)
-          (said_in c.args.answers.now.items) before now
           (λ it given. subst (MaySay old asked behind place) (sym given.0)
-          (answer_may_say old asked place answer behind c.args.asking.now.faultless c.requires.few is given.1)) c.loop-answer.invariant.grows one;
+          (answer_may_say c.args.asking.now.faultless c.requires.few is given.1)) c.loop-answer.invariant.grows one;
       there = λ yes.
           let two = c.both-are_there.ensures yes in
           there_more (λ (a : Answer). completed_of a.completion) c.deref-answer-items.result.now
-          (λ (it : Completed). (it ≡ completed_of answer.completion) × MayEnd (ring_behind old answer.slots) behind) before now
-          c.loop-answer.answer-index answer c.loop-answer-test.true c.answer-item.is one (c.loop-answer.invariant.there two.0)
+          (λ (it : Completed). (it ≡ completed_of answer.completion) × MayEnd (ring_behind old answer.slots) behind) c.loop-answer-test.true c.answer-item.is one (c.loop-answer.invariant.there two.0)
           (c.in_ok-is_there.ensures.there two.1);
     }
 
@@ -58,6 +53,6 @@ returns-clause-all c = λ yes.
     let each : HasEachAnswer old asked place items = subst (λ (l : List Answer). HasEachAnswer old asked place l) (sym c.deref-answer-items.ensures.value)
     (c.in_ok-found.ensures.all two.0 c.args.from.now.ring.registrations) in
     λ ring next line report it same prints found inside there.
-    holds_of_all (λ (a : Answer). completed_of a.completion) items (Contains (said_in c.loop-answer.answers.items)) c.loop-answer.answer-index
+    holds_of_all (λ (a : Answer). completed_of a.completion) items (Contains (said_in c.loop-answer.answers.items))
     c.loop-answer-test.false (c.loop-answer.invariant.there two.1) it
     (each ring next it same (record { report = report; may = found.may; inside = inside }) there)

@@ -11,8 +11,7 @@ pub returns-clause-each : goal.returns-clause-each
 returns-clause-each c =
     let script = c.args.script.now in
     let stages = stages_of c.catalogue.result.now c.deref.result.now in
-    all_of_values string_bytes c.in_ok-found.found.texts.keys (IsTextFound script)
-    (λ text inside. stage_texts script text stages
+    all_of_values string_bytes c.in_ok-found.found.texts.keys (IsTextFound script) (λ text inside. stage_texts script stages
     (λ s there. rw (c.commands.ensures, c.catalogue.ensures.value) at (c.in_ok-rings.ensures.each s (rw c.deref.ensures.value at there)))
     (c.in_ok-found.ensures.each text inside))
 
@@ -20,7 +19,7 @@ pub returns-clause-all : goal.returns-clause-all
 returns-clause-all c = λ yes text found.
     let script = c.args.script.now in
     let stages = stages_of c.catalogue.result.now c.deref.result.now in
-    let (s, inside, ends) = text_at_stage script text stages
+    let (s, inside, ends) = text_at_stage script stages
     (subst (λ (cs : List Instruction). HasEachLast true (new_ring script.catalogue) cs stages) c.commands.ensures
     (subst (λ (cat : List FileEntry). HasEachLast true (new_ring cat) (instructions_of c.commands.result.now) stages) c.catalogue.ensures.value
     (subst (λ (l : List Reached). HasEachLast true (new_ring c.catalogue.result.now) (instructions_of c.commands.result.now)
