@@ -62,7 +62,7 @@ no_closes : (aim : Aim) (ring : RingContents) (commands : List Instruction) {tex
 no_closes Whole ring commands {text} prints = plays_begin ring commands text prints
 no_closes (Leaves left) ring [] behind = behind.0
 no_closes (Leaves left) ring (command ∷ commands) (next, line, others, prints, is, more) =
-    subst HasNoCloses (sym is) (command_begins ring command next line others prints (no_closes (Leaves left) next commands more))
+    subst HasNoCloses (sym is) (command_begins ring command next line prints (no_closes (Leaves left) next commands more))
 
 one_before : (aim : Aim) {old new : RingState} (command : Instruction) (commands : List Instruction) (line text : List ℕ) (own : Option Order)
     (later : List Order) → MayPrintBy old command new line own → MayPrintTo aim new commands text later
