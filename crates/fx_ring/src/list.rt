@@ -46,7 +46,7 @@ fn is_bad_tag(number: i32, tag: u64) -> bool
     number < 0 && tag != 0
 }
 
-// Whether a number below 0 has a tag, of as many numbers and tags as stand beside each other.
+// Whether a number below 0 has the tag of its place, as far as both lists go.
 fn has_bad_tag(list: &[i32], tags: &[u64]) -> bool
     ensures { result ≡ list_any (λ pair. is_bad_tag pair.0 pair.1) (zip list.now tags.now) }
 {

@@ -21,21 +21,21 @@ pub(crate) const EACH: Plan = Plan {
     seed: 0,
 };
 
-// How many chains go on beside each other where each slot has its own order, and how many one may come there before another that
+// How many chains are played at once where each slot has its own order, and how many one may come there before another that
 // stands in front of it, at first.
 const NEAR: [(usize, usize); 4] = [(4, 8), (8, 8), (16, 16), (4, 32)];
 
 // How often that is tried, each time with more of the slots where chains may come less in turn, and how many states each search
-// meets beside one for each claim.
+// meets besides one for each claim.
 const ROUNDS: usize = 8;
 
 const NEAR_STATES: usize = 1_000;
 
-// How many chains go on beside each other in the searches for a played order, the fewest first.
+// How many chains are played at once in the searches for a played order, the fewest first.
 const OPEN: [usize; 5] = [2, 3, 4, 8, 16];
 
-// By what these draw, and how many states each meets beside one for each claim. Draws for the places of a way don't come again by
-// another seed.
+// By what these draw, and how many states each meets besides one for each claim. Draws for the places of a way don't come again
+// by another seed.
 const PLANS: [(usize, usize); 7] = [
     (0, 20_000),
     (1_000_000, 5_000),

@@ -24,7 +24,7 @@ pub enum Found {
 /// The states that a search met, packed, in the order in which it met them.
 pub type Rows = IndexSet<Vec<u16>>;
 
-// How many bytes a state takes beside its numbers: a list with a block of memory, a place in the set and in its hash table,
+// How many bytes a state takes besides its numbers: a list with a block of memory, a place in the set and in its hash table,
 // and a place on the way. Each of these lists may just be moved to one of twice the length.
 const BESIDE: usize = 256;
 
