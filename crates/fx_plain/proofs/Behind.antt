@@ -1,6 +1,6 @@
 -- What comes behind a history, from the state there.
-use Rattle.fx_plain.proofs.Words.{◌≡◌, ℕ, ◌==◌, if◌then◌else◌, List, [], ◌∷◌, ◌++◌, map, refl, ap, subst, ◌∙◌, Option, None, State, Allows}
-use Rattle.fx_plain.proofs.Words.{after, state_after, AllowsAll, action_of, File, Event}
+use Rattle.fx_plain.proofs.Words.{◌≡◌, ℕ, ◌==◌, if◌then◌else◌, List, [], ◌∷◌, ◌++◌, map, refl, ap, subst, ◌∙◌, Option, None, State, Allows, after}
+use Rattle.fx_plain.proofs.Words.{state_after, AllowsAll, action_of, File, Event}
 use Rattle.fx_plain.specs.History.{held_after, held_by, ReleasesItsOwn, AllReleaseTheirOwn}
 use Rattle.fx_plain.specs.Reopening.{LegalBehind}
 

@@ -13,12 +13,11 @@ by_equality q k P same other =
       | false ↦ λ e. other (not_from_Decides _ (Decides-eqb q k) e)
     ] refl
 
-module _ {X Y : Type 0} (g : ℕ → X → Y) (xs : List X) (k : ℕ) (v d : X) (inside : k < length xs) where
+module _ {X Y : Type 0} (g : ℕ → X → Y) (xs : List X) {k : ℕ} (v d : X) (inside : k < length xs) where
   -- what is read is changed at the place that was written
   pub written : (λ q. g q (slice_index_or (slice_set xs k v) q d)) ≡ changed_at (λ p. g p (slice_index_or xs p d)) k (g k v)
   written = λ i q. by_equality q k (λ b. g q (slice_index_or (slice_set xs k v) q d) ≡ if b then g k v else g q (slice_index_or xs q d))
-      (λ same. rw (same, get_or-set_same xs k v d inside) refl)
-      (λ other. ap (g q) (get_or-set_other xs k q v d other)) i
+      (λ same. rw (same, get_or-set_same xs k v d inside) refl) (λ other. ap (g q) (get_or-set_other xs k q v d other)) i
 
 module _ {Y : Type 0} (f : ℕ → Y) (k : ℕ) where
   -- the place that was written, and each other one

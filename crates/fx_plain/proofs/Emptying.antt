@@ -29,8 +29,8 @@ pub record IsWorked (slots : List (Option ℕ)) (first nodes : List Node) (s : �
   pub same : (number : ℕ) → SameButPlaced (node_at first number) (node_at nodes number)
   pub opened : sum_by removed_count_of nodes ≡ sum_by removed_count_of first
 
-pub read_slot : (slots : List (Option ℕ)) (s : ℕ) (x : Option ℕ) → s < length slots → x ≡ slice_index_or slots s x → x ≡ slot_at slots s
-read_slot slots s x inside read = read ∙ sym (get_or_default slots s None x inside)
+pub read_slot : (slots : List (Option ℕ)) (s : ℕ) {x : Option ℕ} → s < length slots → x ≡ slice_index_or slots s x → x ≡ slot_at slots s
+read_slot slots s {x} inside read = read ∙ sym (get_or_default slots s None x inside)
 
 module _ (slots : List (Option ℕ)) (first nodes : List Node) (s : ℕ) (placed : AllPlaced slots first) (left : IsLeft slots first nodes s) where
   named_is : (x : Option ℕ) → slot_at slots s ≡ x → file_named first x ≡ identity_of (file_at first x)
@@ -50,7 +50,7 @@ module _ (slots : List (Option ℕ)) (first nodes : List Node) (s : ℕ) (placed
   worked_without (Some m) is w =
       let there = placed s m is in
       let here : node_at nodes m ≡ At s there.0 = left s m (omega arith) is ∙ there.1 in
-      let inside = inside_of-At nodes m s there.0 here in
+      let inside = inside_of-At nodes m here in
       let changed = sum_by-set removed_count_of nodes m Gone Gone inside in
       let was : removed_count_of (node_at nodes m) ≡ 0 = ap removed_count_of here in
       let before = w.opened in

@@ -11,9 +11,9 @@ use Rattle.std.proofs.lemmas.List.Sums.{sum_by-le}
 use Rattle.fx_plain.proofs.Writes.{IsOff, inside_of-At, inside_told, leaving_is, retired_is, state_of-holds, state_of-nodes, leaving-nodes, same_file}
 
 -- the file at a slot
-pub at_is : (c : Contents) (slot number : ℕ) (file : Closed) → slot_at c.slots slot ≡ Some number → node_at c.nodes number ≡ At slot file
+pub at_is : (c : Contents) {slot number : ℕ} {file : Closed} → slot_at c.slots slot ≡ Some number → node_at c.nodes number ≡ At slot file
     → (state_of c).at slot ≡ Some (numbered number file)
-at_is c slot number file at named = ap (file_at c.nodes) at ∙ ap (placed_at number) named
+at_is c {number} at named = ap (file_at c.nodes) at ∙ ap (placed_at number) named
 
 -- a table in which a file has one hold more
 abbrev pub held_more : Contents → ℕ → Contents
@@ -23,7 +23,7 @@ abbrev pub held_less : Contents → ℕ → Contents
 held_less c n = record c { holds = slice_set c.holds n (slice_index c.holds n - 1) }
 
 -- what other holds of a number keep
-module _ (c : Contents) (n h : ℕ) (inside : n < length c.holds) where
+module _ (c : Contents) {n : ℕ} (h : ℕ) (inside : n < length c.holds) where
   holds_keep : IsTable c → (is_retired (node_at c.nodes n) ≡ true → 0 < h) → IsTable (record c { holds = slice_set c.holds n h })
   holds_keep t some = record {
     few_slots = t.few_slots;
@@ -36,37 +36,36 @@ module _ (c : Contents) (n h : ℕ) (inside : n < length c.holds) where
     held = λ m. each_set (λ q x. is_retired (node_at c.nodes q) ≡ true → 0 < x) c.holds n h 0 inside some m (λ _. t.held m);
   }
 
-  holds_counted : (full held removed held' : ℕ) → IsCounted c full held removed → h < 2 ^ 32 → held' + slice_index c.holds n ≡ held + h
+  holds_counted : {full held removed : ℕ} (held' : ℕ) → IsCounted c full held removed → h < 2 ^ 32 → held' + slice_index c.holds n ≡ held + h
       → IsCounted (record c { holds = slice_set c.holds n h }) full held' removed
-  holds_counted full held removed held' k fits sum = let changed = sum_by-set itself c.holds n h 0 inside in let all = k.all_holds in record {
+  holds_counted held' k fits sum = let changed = sum_by-set itself c.holds n h 0 inside in let all = k.all_holds in record {
     full_slots = k.full_slots;
     all_holds = omega arith;
     small_holds = λ m. each_set (λ _ x. x < 2 ^ 32) c.holds n h 0 inside fits m (λ _. k.small_holds m);
     all_removed = k.all_removed;
   }
 
-module _ (c : Contents) (slot n : ℕ) (file : Closed) (t : IsTable c) (inside : slot < length c.slots) (at : slot_at c.slots slot ≡ Some n)
+module _ {c : Contents} {slot n : ℕ} {file : Closed} (t : IsTable c) (inside : slot < length c.slots) (at : slot_at c.slots slot ≡ Some n)
     (named : node_at c.nodes n ≡ At slot file) where
   pub look_inside : n < length c.holds
-  look_inside = let lt = inside_of-At c.nodes n slot file named in let e = t.same_numbers in omega arith
+  look_inside = let lt = inside_of-At c.nodes n named in let e = t.same_numbers in omega arith
 
   pub look_steps : Steps (state_of c) (Look slot ((state_of c).at slot)) (state_of (held_more c n))
   look_steps = (
     (inside, refl),
-    state_of-holds c n _ look_inside
-        ∙ sym (ap (λ (x : Option File). after (state_of c) (Look slot x)) (at_is c slot n file at named)),
+    state_of-holds c _ look_inside ∙ sym (ap (λ (x : Option File). after (state_of c) (Look slot x)) (at_is c at named)),
   )
 
   pub look_keeps : IsTable (held_more c n)
-  look_keeps = holds_keep c n (slice_index c.holds n + 1) look_inside t (λ _. omega arith)
+  look_keeps = holds_keep c (slice_index c.holds n + 1) look_inside t (λ _. omega arith)
 
-  pub look_counted : (full held removed : ℕ) → IsCounted c full held removed → slice_index c.holds n + 1 < 2 ^ 32
+  pub look_counted : {full held removed : ℕ} → IsCounted c full held removed → slice_index c.holds n + 1 < 2 ^ 32
       → (held + 1 < 2 ^ 64) × IsCounted (held_more c n) full (held + 1) removed
-  look_counted full held removed k fits =
+  look_counted {held} k fits =
       let all = sum_by-le itself 4294967295 c.holds
       (All-from_get_or (λ x. itself x ≤ 4294967295) c.holds 0 (λ i lt. let one = k.small_holds i in omega arith)) in
       let len = t.same_numbers in let few = t.few_nodes in let h = k.all_holds in
-      (omega arith, holds_counted c n _ look_inside full held removed (held + 1) k fits (omega arith))
+      (omega arith, holds_counted c _ look_inside (held + 1) k fits (omega arith))
 
 -- a node that tells of a removed file is at no slot
 off_told : (told : Node → Bool) (node : Node) → ((slot : ℕ) (file : Closed) → told (At slot file) ≡ false) → told node ≡ true → IsOff node
@@ -80,9 +79,9 @@ abbrev pub closed_at : Contents → ℕ → Contents
 closed_at c n = with_node c n Gone
 
 -- what a write at a node keeps, where no slot names the node
-keeps_node : (c : Contents) (n : ℕ) (v : Node) → IsTable c → IsOff (node_at c.nodes n) → n < length c.nodes
+keeps_node : {c : Contents} {n : ℕ} (v : Node) → IsTable c → IsOff (node_at c.nodes n) → n < length c.nodes
     → (is_retired v ≡ true → 0 < slice_index c.holds n) → is_fresh v ≡ false → IsTable (with_node c n v)
-keeps_node c n v t off inside still unfresh = record {
+keeps_node {c} {n} v t off inside still unfresh = record {
   own = t.own;
   used = λ m lt. each_set (λ _ x. is_fresh x ≡ false) c.nodes n v Gone inside unfresh m (λ _. t.used m lt);
   few_slots = t.few_slots;
@@ -95,14 +94,14 @@ keeps_node c n v t off inside still unfresh = record {
 }
 
 -- the counts, where a node's file is gone
-closed_counted : (c : Contents) (n full held removed : ℕ) → IsCounted c full held removed → n < length c.nodes
+closed_counted : {c : Contents} {n full held removed : ℕ} → IsCounted c full held removed → n < length c.nodes
     → removed_count_of (node_at c.nodes n) ≡ 1 → (1 ≤ removed) × IsCounted (closed_at c n) full held (removed - 1)
-closed_counted c n full held removed k inside one =
+closed_counted {c} {n} k inside one =
     let changed = sum_by-set removed_count_of c.nodes n Gone Gone inside in
     let r = k.all_removed in
     (omega arith, record { full_slots = k.full_slots; all_holds = k.all_holds; small_holds = k.small_holds; all_removed = omega arith })
 
-module _ (c : Contents) (n : ℕ) (t : IsTable c) (going : leaving c n ≡ true) where
+module _ {c : Contents} (n : ℕ) (t : IsTable c) (going : leaving c n ≡ true) where
   pub was_leaving : (file : Closed) × (node_at c.nodes n ≡ Leaving file)
   was_leaving = leaving_is (node_at c.nodes n) going
 
@@ -120,7 +119,7 @@ module _ (c : Contents) (n : ℕ) (t : IsTable c) (going : leaving c n ≡ true)
       ∙ removed in
       subst (λ (x : Option File). Leads (state_of c) (close_of x) (state_of (closed_at c n))) (sym closed) (
         (tt, (removed, unheld)),
-        state_of-nodes c n Gone t node_inside off
+        state_of-nodes Gone t node_inside off
             ∙ ap (λ (f : ℕ → Bool). record (state_of c) { removed = changed_at (state_of c).removed n None; fresh = f })
             (unchanged (state_of c).fresh n false (ap is_fresh (sym was_leaving.1))),
       )
@@ -129,42 +128,42 @@ module _ (c : Contents) (n : ℕ) (t : IsTable c) (going : leaving c n ≡ true)
   abbrev pub retired_at : Contents
   retired_at = with_node c n (Retired was_leaving.0)
 
-  pub as_retired : (nodes : List Node) → nodes ≡ slice_set c.nodes n (node_after_retirement (node_at c.nodes n))
+  pub as_retired : {nodes : List Node} → nodes ≡ slice_set c.nodes n (node_after_retirement (node_at c.nodes n))
       → record c { nodes = nodes } ≡ retired_at
-  as_retired nodes is = λ i. record c { nodes = (is ∙ ap (λ (x : Node). slice_set c.nodes n (node_after_retirement x)) was_leaving.1) i }
+  as_retired is = λ i. record c { nodes = (is ∙ ap (λ (x : Node). slice_set c.nodes n (node_after_retirement x)) was_leaving.1) i }
 
   pub retire_waits : slice_index c.holds n ≢ 0 → Leads (state_of c) (close_of (closed_by_retirement c n)) (state_of retired_at)
   retire_waits held =
       let none : closed_by_retirement c n ≡ None = grind arith in
       subst (λ (x : Option File). Leads (state_of c) (close_of x) (state_of retired_at)) (sym none) (
         tt,
-        state_of-nodes c n (Retired was_leaving.0) t node_inside off ∙ λ i. record (state_of c) {
+        state_of-nodes (Retired was_leaving.0) t node_inside off ∙ λ i. record (state_of c) {
           removed = unchanged (state_of c).removed n (Some (numbered n was_leaving.0)) (sym (ap (removed_at n) was_leaving.1)) i;
           fresh = unchanged (state_of c).fresh n false (sym (ap is_fresh was_leaving.1)) i;
         },
       )
 
-  pub retire_close_keeps : (full held removed : ℕ) → IsCounted c full held removed
+  pub retire_close_keeps : {full held removed : ℕ} → IsCounted c full held removed
       → (1 ≤ removed) × IsTable (closed_at c n) × IsCounted (closed_at c n) full held (removed - 1)
-  retire_close_keeps full held removed k =
-      let counted = closed_counted c n full held removed k node_inside (ap removed_count_of was_leaving.1) in
-      (counted.0, keeps_node c n Gone t off node_inside (λ (is : false ≡ true). cc) refl, counted.1)
+  retire_close_keeps k =
+      let counted = closed_counted k node_inside (ap removed_count_of was_leaving.1) in
+      (counted.0, keeps_node Gone t off node_inside (λ (is : false ≡ true). cc) refl, counted.1)
 
-  pub retire_wait_keeps : (full held removed : ℕ) → IsCounted c full held removed → slice_index c.holds n ≢ 0
+  pub retire_wait_keeps : {full held removed : ℕ} → IsCounted c full held removed → slice_index c.holds n ≢ 0
       → IsTable retired_at × IsCounted retired_at full held removed
-  retire_wait_keeps full held removed k some_hold =
+  retire_wait_keeps k some_hold =
       let changed = sum_by-set removed_count_of c.nodes n (Retired was_leaving.0) Gone node_inside in
       let was : removed_count_of (node_at c.nodes n) ≡ 1 = ap removed_count_of was_leaving.1 in
       let r = k.all_removed in (
-        keeps_node c n (Retired was_leaving.0) t off node_inside (λ _. omega arith) refl,
+        keeps_node (Retired was_leaving.0) t off node_inside (λ _. omega arith) refl,
         record { full_slots = k.full_slots; all_holds = k.all_holds; small_holds = k.small_holds; all_removed = omega arith },
       )
 
-pub with_holds : (c : Contents) (holds now : List ℕ) → holds ≡ now → record c { holds = holds } ≡ record c { holds = now }
-with_holds c holds now is = λ i. record c { holds = is i }
+pub with_holds : (c : Contents) {holds now : List ℕ} → holds ≡ now → record c { holds = holds } ≡ record c { holds = now }
+with_holds c is = λ i. record c { holds = is i }
 
-pub with_nodes : (c : Contents) (nodes now : List Node) → nodes ≡ now → record c { nodes = nodes } ≡ record c { nodes = now }
-with_nodes c nodes now is = λ i. record c { nodes = is i }
+pub with_nodes : (c : Contents) {nodes now : List Node} → nodes ≡ now → record c { nodes = nodes } ≡ record c { nodes = now }
+with_nodes c is = λ i. record c { nodes = is i }
 
 none_by_release : (n : ℕ) (last : Bool) (node : Node) → is_retired node ≡ false
     → (if last && not (is_leaving node) then removed_at n node else None) ≡ None
@@ -174,22 +173,22 @@ none_by_release n false _ unretired = refl
 none_by_release n true _ unretired = refl
 
 -- a hold is given up
-module _ (c : Contents) (n : ℕ) (t : IsTable c) (some_hold : 0 < slice_index c.holds n) where
+module _ {c : Contents} (n : ℕ) (t : IsTable c) (some_hold : 0 < slice_index c.holds n) where
   pub less_inside : n < length c.holds
   less_inside = inside_of c.holds n 0 (λ (zero_is : slice_index_or c.holds n 0 ≡ 0). omega arith)
 
   state_of-less : (f : File) → f.number ≡ n → state_of (held_less c n) ≡ after (state_of c) (Release f)
-  state_of-less f same = state_of-holds c n (slice_index c.holds n - 1) less_inside
+  state_of-less f same = state_of-holds c (slice_index c.holds n - 1) less_inside
       ∙ ap (λ (k : ℕ). record (state_of c) { holds = changed_at (state_of c).holds k ((state_of c).holds k - 1) }) (sym same)
 
-  pub less_counted : (full held removed : ℕ) → IsCounted c full held removed → (1 ≤ held) × IsCounted (held_less c n) full (held - 1) removed
-  less_counted full held removed k =
+  pub less_counted : {full held removed : ℕ} → IsCounted c full held removed → (1 ≤ held) × IsCounted (held_less c n) full (held - 1) removed
+  less_counted {held} k =
       let h = k.all_holds in let small = k.small_holds n in let one = get_or-le-sum_by itself c.holds n 0 less_inside in
-      (omega arith, holds_counted c n _ less_inside full held removed (held - 1) k (omega arith) (omega arith))
+      (omega arith, holds_counted c _ less_inside (held - 1) k (omega arith) (omega arith))
 
   -- a file that isn't retired, or has another hold, stays open
   less_keeps : (is_retired (node_at c.nodes n) ≡ true → 1 < slice_index c.holds n) → IsTable (held_less c n)
-  less_keeps others = holds_keep c n (slice_index c.holds n - 1) less_inside t (λ is. let more = others is in omega arith)
+  less_keeps others = holds_keep c (slice_index c.holds n - 1) less_inside t (λ is. let more = others is in omega arith)
 
   -- nothing comes out
   stays : closed_by_release c n ≡ None → IsTable (held_less c n) → EndsHold c (held_less c n) n None
@@ -202,11 +201,10 @@ module _ (c : Contents) (n : ℕ) (t : IsTable c) (some_hold : 0 < slice_index c
     leaving = refl;
   }
 
-  pub more_releases : (left : ℕ) → left + 1 ≡ slice_index c.holds n → left ≢ 0 → EndsHold c (held_less c n) n None
-  more_releases left was some_left =
+  pub more_releases : {left : ℕ} → left + 1 ≡ slice_index c.holds n → left ≢ 0 → EndsHold c (held_less c n) n None
+  more_releases was some_left =
       stays (by_equality (slice_index c.holds n) 1 (λ b. (if b && not (leaving c n) then (state_of c).removed n else None) ≡ None)
-      (λ one. absurd (omega arith)) (λ other. refl))
-      (less_keeps (λ _. omega arith))
+      (λ one. absurd (omega arith)) (λ other. refl)) (less_keeps (λ _. omega arith))
 
   pub open_releases : is_retired (node_at c.nodes n) ≡ false → EndsHold c (held_less c n) n None
   open_releases unretired =
@@ -243,34 +241,34 @@ module _ (c : Contents) (n : ℕ) (t : IsTable c) (some_hold : 0 < slice_index c
         subst (λ (x : Option File). Leads (state_of c) ([] ▷ Release f ▷▷ close_of x) (state_of let_go)) (sym closing) (
           ((tt, held), (removed_is, unheld)),
           λ i. record (state_of c) {
-            at = λ slot. same_file c n Gone t (off_told is_retired (node_at c.nodes n) (λ _ _. refl) closed) slot i;
-            removed = written removed_at c.nodes n Gone Gone retired_inside i;
-            holds = (written (λ q x. x) c.holds n (slice_index c.holds n - 1) 0 less_inside
+            at = λ slot. same_file n Gone t (off_told is_retired (node_at c.nodes n) (λ _ _. refl) closed) slot i;
+            removed = written removed_at c.nodes Gone Gone retired_inside i;
+            holds = (written (λ q x. x) c.holds (slice_index c.holds n - 1) 0 less_inside
                 ∙ ap (λ (k : ℕ). changed_at (state_of c).holds k ((state_of c).holds k - 1)) (sym same)) i;
-            fresh = (written (λ q node. is_fresh node) c.nodes n Gone Gone retired_inside
+            fresh = (written (λ q node. is_fresh node) c.nodes Gone Gone retired_inside
                 ∙ unchanged (state_of c).fresh n false (ap is_fresh (sym was_retired.1))) i;
           },
         )
 
     pub let_go_keeps : IsTable let_go
-    let_go_keeps = Rattle.fx_plain.proofs.Holding.less_keeps (closed_at c n) n (keeps_node c n Gone t
+    let_go_keeps = Rattle.fx_plain.proofs.Holding.less_keeps n (keeps_node Gone t
         (off_told is_retired (node_at c.nodes n) (λ _ _. refl) closed) retired_inside (λ (is : false ≡ true). cc) refl) some_hold
         (λ is. let e : false ≡ true = ap is_retired (sym (get_or-set_same c.nodes n Gone Gone retired_inside)) ∙ is in cc)
 
-    pub let_go_releases : (out : Option Closed) → out ≡ file_in (node_at c.nodes n) → EndsHold c let_go n out
-    let_go_releases out is =
+    pub let_go_releases : {out : Option Closed} → out ≡ file_in (node_at c.nodes n) → EndsHold c let_go n out
+    let_go_releases is =
         record {
           answer = is ∙ ap file_in was_retired.1 ∙ sym (ap identity_of closing);
           steps = let_go_steps;
           numbers = refl;
           sound = let_go_keeps;
-          leaving = leaving-nodes c n Gone retired_inside ∙ unchanged (leaving c) n false (sym not_leaving);
+          leaving = leaving-nodes c Gone retired_inside ∙ unchanged (leaving c) n false (sym not_leaving);
         }
 
-    pub let_go_counted : (full held removed : ℕ) → IsCounted c full held removed → (1 ≤ removed) × IsCounted let_go full (held - 1) (removed - 1)
-    let_go_counted full held removed k =
-        let less = (less_counted full held removed k).1 in
-        let gone = closed_counted c n full held removed k retired_inside (ap removed_count_of was_retired.1) in (
+    pub let_go_counted : {full held removed : ℕ} → IsCounted c full held removed → (1 ≤ removed) × IsCounted let_go full (held - 1) (removed - 1)
+    let_go_counted k =
+        let less = (less_counted k).1 in
+        let gone = closed_counted k retired_inside (ap removed_count_of was_retired.1) in (
           gone.0,
           record { full_slots = less.full_slots; all_holds = less.all_holds; small_holds = less.small_holds; all_removed = gone.1.all_removed },
         )

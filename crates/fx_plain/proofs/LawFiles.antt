@@ -19,13 +19,13 @@ abbrev IsOnly : File → State → Type 0
 IsOnly f st = HoldsOfFiles (Same f) (SameAt f) (λ _ p. p) st
 
 -- a file that is installed has a fresh number, which is then used, and closes nothing
-pub installed_now : (f : File) (st : State) (a : Action) → Allows st a → installed_by a ≡ Some f
+pub installed_now : {f : File} (st : State) (a : Action) → Allows st a → installed_by a ≡ Some f
     → (st.fresh f.number ≡ true) × ((after st a).fresh f.number ≡ false) × (closed_of f.number a ≡ [])
-installed_now f st (Put slot new replaced) may is = let e : new ≡ f = cc in let was = may.1 in
+installed_now {f} st (Put slot new replaced) may is = let e : new ≡ f = cc in let was = may.1 in
     (ap (λ (x : File). st.fresh x.number) (sym e) ∙ was, grind arith, refl)
-installed_now f st (Allocate slot new) may is = let e : new ≡ f = cc in let was = may.3 in
+installed_now {f} st (Allocate slot new) may is = let e : new ≡ f = cc in let was = may.3 in
     (ap (λ (x : File). st.fresh x.number) (sym e) ∙ was, grind arith, refl)
-installed_now f st _ may is = cc
+installed_now st _ may is = cc
 
 pub used_after : (st : State) (a : Action) (n : ℕ) → st.fresh n ≡ false → (after st a).fresh n ≡ false
 used_after st (Look slot None) n used = used
@@ -48,28 +48,28 @@ record IsFollowed (f : File) (st : State) (closed : List File) : Type 0 where
   only : IsOnly f st
   one_of : IsOneOf f (tally f.number st) closed
 
-moved_on : (f : File) (there left : ℕ) (closed now : List File) → IsOneOf f there closed → left + length now ≡ there → (now ≡ []) ⊎ (now ≡ f ∷ [])
+moved_on : {f : File} {there : ℕ} (left : ℕ) {closed now : List File} → IsOneOf f there closed → left + length now ≡ there → (now ≡ []) ⊎ (now ≡ f ∷ [])
     → IsOneOf f left (closed ++ now)
-moved_on f there left closed now (inl open_still) count (inl none_now) = let e = ap length none_now in
+moved_on left (inl open_still) count (inl none_now) = let e = ap length none_now in
     inl (omega (arith, open_still.0), rw (open_still.1, none_now) refl)
-moved_on f there left closed now (inl open_still) count (inr one_now) = let e = ap length one_now in
+moved_on left (inl open_still) count (inr one_now) = let e = ap length one_now in
     inr (omega (arith, open_still.0), rw (open_still.1, one_now) refl)
-moved_on f there left closed now (inr gone) count (inl none_now) = let e = ap length none_now in
+moved_on left (inr gone) count (inl none_now) = let e = ap length none_now in
     inr (omega (arith, gone.0), rw (gone.1, none_now) refl)
-moved_on f there left closed now (inr gone) count (inr one_now) = let e = ap length one_now in absurd (omega (arith, gone.0))
+moved_on left (inr gone) count (inr one_now) = let e = ap length one_now in absurd (omega (arith, gone.0))
 
-followed_after : (f : File) (st : State) (closed : List File) (a : Action) → IsFollowed f st closed → Allows st a
+followed_after : {f : File} {st : State} {closed : List File} (a : Action) → IsFollowed f st closed → Allows st a
     → IsFollowed f (after st a) (closed ++ closed_of f.number a)
-followed_after f st closed a before may = record {
+followed_after {f} {st} a before may = record {
   used = used_after st a f.number before.used;
-  only = holds_after (Same f) (SameAt f) (λ _ p. p) st before.only a may (λ new is same.
-      let clash : false ≡ true = sym before.used ∙ ap st.fresh (sym same) ∙ (installed_now new st a may is).0 in cc);
-  one_of = moved_on f (tally f.number st) (tally f.number (after st a)) closed (closed_of f.number a) before.one_of
+  only = holds_after (Same f) (SameAt f) (λ _ p. p) before.only a may (λ new is same.
+      let clash : false ≡ true = sym before.used ∙ ap st.fresh (sym same) ∙ (installed_now st a may is).0 in cc);
+  one_of = moved_on (tally f.number (after st a)) before.one_of
       (tally_after st a f.number may (omega (arith, before.one_of))) (only_close f st a before.only may);
 }
 
-followed_from_start : (f : File) (st : State) → IsStart st → IsAtSlot st f → IsFollowed f st []
-followed_from_start f st start (slot, lt, is) =
+followed_from_start : (f : File) {st : State} → IsStart st → IsAtSlot st f → IsFollowed f st []
+followed_from_start f {st} start (slot, lt, is) =
     let few = tally_start st f.number start in
     let at_least = placed_one f.number st.at slot st.size lt in
     let there : named f.number (st.at slot) ≡ 1 = ap (named f.number) is ∙ named_same f f.number refl in
@@ -84,10 +84,10 @@ followed_from_start f st start (slot, lt, is) =
     }
 
 -- a file that is installed is the only one of its number
-followed_from_new : (f : File) (st : State) (closed : List File) → tally f.number st + length closed ≤ 1 → (a : Action) → Allows st a
+followed_from_new : {f : File} (st : State) (closed : List File) → tally f.number st + length closed ≤ 1 → (a : Action) → Allows st a
     → installed_by a ≡ Some f → IsFollowed f (after st a) (closed ++ closed_of f.number a)
-followed_from_new f st closed few a may is =
-    let (fresh, used, none_closed) = installed_now f st a may is in
+followed_from_new {f} st closed few a may is =
+    let (fresh, used, none_closed) = installed_now st a may is in
     let one : bit (st.fresh f.number) ≡ 1 = ap bit fresh in
     let only : IsOnly f st = record {
       at_slots = λ slot lt g is same. let there : named f.number (st.at slot) ≡ 1 = ap (named f.number) is ∙ named_same g f.number same in
@@ -98,24 +98,22 @@ followed_from_new f st closed few a may is =
     let no_more = ap length none_closed in
     record {
       used = used;
-      only = holds_after (Same f) (SameAt f) (λ _ p. p) st only a may (λ g is_g _. let e : Some g ≡ Some f = sym is_g ∙ is in cc);
+      only = holds_after (Same f) (SameAt f) (λ _ p. p) only a may (λ g is_g _. let e : Some g ≡ Some f = sym is_g ∙ is in cc);
       one_of = inl (omega arith, rw (nil_from_length closed (omega arith), none_closed) refl);
     }
 
-followed : (start : State) (h : List Event) (f : File) → IsStart start → AllowsAll start (map action_of h) → IsAtSlot start f ⊎ IsInstalled h f
+followed : {start : State} (h : List Event) (f : File) → IsStart start → AllowsAll start (map action_of h) → IsAtSlot start f ⊎ IsInstalled h f
     → IsFollowed f (state_after start (map action_of h)) (closes_of f.number h)
-followed start [] f begins may (inl at_start) = followed_from_start f start begins at_start
-followed start [] f begins may (inr never) = absurd never
-followed start (e ∷ h) f begins may (inl at_start) =
-    followed_after f (state_after start (map action_of h)) (closes_of f.number h) e.action (followed start h f begins may.0 (inl at_start)) may.1
-followed start (e ∷ h) f begins may (inr (inl before)) =
-    followed_after f (state_after start (map action_of h)) (closes_of f.number h) e.action (followed start h f begins may.0 (inr before)) may.1
-followed start (e ∷ h) f begins may (inr (inr now)) =
+followed [] f begins may (inl at_start) = followed_from_start f begins at_start
+followed [] f begins may (inr never) = absurd never
+followed (e ∷ h) f begins may (inl at_start) = followed_after e.action (followed h f begins may.0 (inl at_start)) may.1
+followed (e ∷ h) f begins may (inr (inl before)) = followed_after e.action (followed h f begins may.0 (inr before)) may.1
+followed {start} (e ∷ h) f begins may (inr (inr now)) =
     let few = tally_start start f.number begins in
     let same = tally_all start h f.number few may.0 in
-    followed_from_new f (state_after start (map action_of h)) (closes_of f.number h) (omega arith) e.action may.1 now
+    followed_from_new (state_after start (map action_of h)) (closes_of f.number h) (omega arith) e.action may.1 now
 
-module _ (f : File) (end : State) (closed : List File) (settled : IsSettled end) (end_of : IsFollowed f end closed) where
+module _ {f : File} {end : State} {closed : List File} (settled : IsSettled end) (end_of : IsFollowed f end closed) where
   all_placed : tally f.number end ≡ placed f.number end.at end.size
   all_placed = let no_fresh : bit (end.fresh f.number) ≡ 0 = ap bit end_of.used in
       let none_waits : present (end.removed f.number) ≡ 0 = ap present (settled.closed f.number) in omega arith
@@ -137,8 +135,8 @@ pub every_removed_file_is_closed : (start end : State) (h : List Event) (f : Fil
     → IsSettled end → IsAtSlot start f ⊎ IsInstalled h f → IsStillThere h end f ⊎ IsClosedOnce h end f
 every_removed_file_is_closed start end h f begins may is settled was_there =
     let closed = closes_of f.number h in
-    let end_of = subst (λ (st : State). IsFollowed f st closed) (sym is) (followed start h f begins may was_there) in
+    let end_of = subst (λ (st : State). IsFollowed f st closed) (sym is) (followed h f begins may was_there) in
     elim end_of.one_of [
-      | inl open_still ↦ inl (still_there f end closed settled end_of open_still.0, open_still.1)
-      | inr gone ↦ inr (no_more_there f end closed settled end_of gone.0, gone.1)
+      | inl open_still ↦ inl (still_there settled end_of open_still.0, open_still.1)
+      | inr gone ↦ inr (no_more_there settled end_of gone.0, gone.1)
     ]

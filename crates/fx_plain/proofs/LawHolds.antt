@@ -27,12 +27,12 @@ pub record IsCovered (claims : ℕ → ℕ) (holds : ℕ) : Type 0 where
   pub below : (bound : ℕ) → sum_below claims bound ≤ holds
 
 -- one pass claims more or less
-covered_after : (claims others : ℕ → ℕ) (q holds left up down : ℕ) → ((k : ℕ) → k ≢ q → others k ≡ claims k)
+covered_after : {claims : ℕ → ℕ} (others : ℕ → ℕ) (q : ℕ) {holds : ℕ} (left up down : ℕ) → ((k : ℕ) → k ≢ q → others k ≡ claims k)
     → others q + down ≤ claims q + up → left + down ≡ holds + up → IsCovered claims holds → IsCovered others left
-covered_after claims others q holds left up down off here now cover = record {
+covered_after {claims} others q {holds} left up down off here now cover = record {
   below = λ bound. elim (cases_lt q bound) [
-    | inl lt ↦ let e = changed_below claims others q off bound lt in let le = cover.below bound in omega arith
-    | inr ge ↦ let e = same_below claims others q off bound ge in let more = sum_grows claims bound q ge in
+    | inl lt ↦ let e = changed_below claims others off bound lt in let le = cover.below bound in omega arith
+    | inr ge ↦ let e = same_below claims others off bound ge in let more = sum_grows claims bound q ge in
         let le : claims q + sum_below claims q ≤ holds = cover.below (suc q) in omega arith
   ];
 }
@@ -59,7 +59,7 @@ covered start (e ∷ h) n may own =
     let st = state_after start (map action_of h) in
     let change : holding n (e ∷ h) e.pass + given n e.action ≤ holding n h e.pass + taken n e.action =
     rw (own_held e h) (own_change n (held_by h e.pass) e.action own.1) in
-    covered_after (holding n h) (holding n (e ∷ h)) e.pass (st.holds n) ((after st e.action).holds n) (taken n e.action) (given n e.action)
+    covered_after (holding n (e ∷ h)) e.pass ((after st e.action).holds n) (taken n e.action) (given n e.action)
     (other_holds n e h) change (holds_after st e.action n may.1) (covered start h n may.0 own.0)
 
 given_none : (n : ℕ) (a : Action) → released_by a ≡ [] → given n a ≡ 0
@@ -105,16 +105,16 @@ kept start h (e ∷ since) p n cover may own is =
     let mine : keeping p n all p ≡ 1 = grind arith in
     let some_hold = held.below (suc p) in
     let here = no_close st e.action n may.1 (omega arith) in (
-      covered_after (keeping p n all) (keeping p n (e ∷ all)) e.pass (st.holds n) ((after st e.action).holds n) (taken n e.action)
+      covered_after (keeping p n (e ∷ all)) e.pass ((after st e.action).holds n) (taken n e.action)
           (given n e.action) (λ k apart. ap (λ (x : ℕ). if k == p then 1 else x) (other_holds n e all k apart)) change
           (holds_after st e.action n may.1) held,
       rw (earlier, here) refl,
     )
 
 -- a look-up that found a file gives its pass a hold
-looked : (before : List Event) (look : Event) (slot : ℕ) (f : File) (holds : ℕ) → look.action ≡ Look slot (Some f)
+looked : (before : List Event) (look : Event) {slot : ℕ} {f : File} {holds : ℕ} → look.action ≡ Look slot (Some f)
     → IsCovered (holding f.number (look ∷ before)) holds → IsCovered (keeping look.pass f.number (look ∷ before)) holds
-looked before look slot f holds is cover =
+looked before look {f} {holds} is cover =
     let n = f.number in
     let h = look ∷ before in
     let found : held_by h look.pass ≡ Some f = own_held look before ∙ ap (held_after (held_by before look.pass)) is in
@@ -139,5 +139,4 @@ no_close_while_held start before since others look slot f may_all own_all is non
     let may = allowed_before start (since ++ h) others may_all in
     let own = released_before (since ++ h) others own_all in
     let cover = covered start h f.number (allowed_before start h since may) (released_before h since own) in
-    (kept start h since look.pass f.number
-    (looked before look slot f ((state_after start (map action_of h)).holds f.number) is cover) may own none_given).1
+    (kept start h since look.pass f.number (looked before look is cover) may own none_given).1

@@ -22,11 +22,11 @@ placed n at size = sum_below (λ slot. named n (at slot)) size
 abbrev pub tally : ℕ → State → ℕ
 tally n st = bit (st.fresh n) + placed n st.at st.size + present (st.removed n)
 
-placed_change : (n : ℕ) (at : ℕ → Option File) (slot size : ℕ) (x : Option File) → slot < size
+placed_change : (n : ℕ) (at : ℕ → Option File) {slot size : ℕ} (x : Option File) → slot < size
     → placed n (changed_at at slot x) size + named n (at slot) ≡ placed n at size + named n x
-placed_change n at slot size x lt =
+placed_change n at {slot} {size} x lt =
     let e : placed n (changed_at at slot x) size + named n (at slot) ≡ placed n at size + named n (changed_at at slot x slot) =
-    changed_below (λ s. named n (at s)) (λ s. named n (changed_at at slot x s)) slot (λ k apart. grind arith) size lt in
+    changed_below (λ s. named n (at s)) (λ s. named n (changed_at at slot x s)) (λ k apart. grind arith) size lt in
     e ∙ ap (λ (y : Option File). placed n at size + named n y) (grind arith)
 
 pub placed_one : (n : ℕ) (at : ℕ → Option File) (slot size : ℕ) → slot < size → named n (at slot) ≤ placed n at size
@@ -44,22 +44,22 @@ removed_change removed None n few = omega arith
 removed_change removed (Some f) n few = grind arith
 
 -- a slot gets another file, or none, and what stood there is removed
-moved : (st : State) (n slot : ℕ) (new found : Option File) (fresh : ℕ → Bool) → bit (fresh n) + named n new ≡ bit (st.fresh n) → slot < st.size
+moved : (st : State) (n : ℕ) {slot : ℕ} (new : Option File) {found : Option File} (fresh : ℕ → Bool) → bit (fresh n) + named n new ≡ bit (st.fresh n) → slot < st.size
     → found ≡ st.at slot → tally n st ≤ 1
     → bit (fresh n) + placed n (changed_at st.at slot new) st.size + present (with_removed st.removed found n) + 0 ≡ tally n st
-moved st n slot new found fresh used lt is few =
+moved st n {slot} new {found} fresh used lt is few =
     let there = ap (named n) is in
-    let change = placed_change n st.at slot st.size new lt in
+    let change = placed_change n st.at new lt in
     let at_least = placed_one n st.at slot st.size lt in
     let more = removed_change st.removed found n (omega arith) in
     omega arith
 
 -- a step moves a number on, and counts each close
 pub tally_after : (st : State) (a : Action) (n : ℕ) → Allows st a → tally n st ≤ 1 → tally n (after st a) + length (closed_of n a) ≡ tally n st
-tally_after st (Put slot f replaced) n may few = moved st n slot (Some f) replaced (changed_at st.fresh f.number false) (fresh_change st.fresh f n may.1) may.0 may.2 few
-tally_after st (Clear slot found) n may few = moved st n slot None found st.fresh (omega arith) may.0 may.1 few
-tally_after st (Take slot found) n may few = moved st n slot None found st.fresh (omega arith) may.0 may.1 few
-tally_after st (Allocate slot f) n may few = moved st n slot (Some f) None (changed_at st.fresh f.number false) (fresh_change st.fresh f n may.3) may.0 (sym may.2) few
+tally_after st (Put slot f replaced) n may few = moved st n (Some f) (changed_at st.fresh f.number false) (fresh_change st.fresh f n may.1) may.0 may.2 few
+tally_after st (Clear slot found) n may few = moved st n None st.fresh (omega arith) may.0 may.1 few
+tally_after st (Take slot found) n may few = moved st n None st.fresh (omega arith) may.0 may.1 few
+tally_after st (Allocate slot f) n may few = moved st n (Some f) (changed_at st.fresh f.number false) (fresh_change st.fresh f n may.3) may.0 (sym may.2) few
 tally_after st (Close f) n may few = let was = may.0 in
     let e : present (changed_at st.removed f.number None n) + length (if_numbered n f) ≡ present (st.removed n) = grind arith in omega arith
 tally_after st (Look slot None) n may few = omega arith
@@ -75,8 +75,8 @@ tally_all start (e ∷ h) n few may =
     omega (arith, length-append (closes_of n h) (closed_of n e.action))
 
 -- a fresh number is at no slot, at the start
-none_placed : (st : State) (n : ℕ) → IsStart st → st.fresh n ≡ true → placed n st.at st.size ≡ 0
-none_placed st n start fresh = sum_zero (λ slot. named n (st.at slot)) st.size (λ slot lt. elim (cases_lt 0 (named n (st.at slot))) [
+none_placed : {st : State} (n : ℕ) → IsStart st → st.fresh n ≡ true → placed n st.at st.size ≡ 0
+none_placed {st} n start fresh = sum_zero (λ slot. named n (st.at slot)) st.size (λ slot lt. elim (cases_lt 0 (named n (st.at slot))) [
   | inl some_there ↦ let (f, is, same) = named_file n (st.at slot) some_there in
       let clash : false ≡ true = sym (start.used slot f lt is) ∙ ap st.fresh same ∙ fresh in cc
   | inr no_file ↦ omega arith
@@ -90,7 +90,7 @@ tally_start st n start =
     (λ j k below_j below_k at_j at_k. let (f, is_f, same_f) = named_file n (st.at j) at_j in let (g, is_g, same_g) = named_file n (st.at k) at_k in
     start.distinct j k f g below_j below_k is_f is_g (same_f ∙ sym same_g)) in
     elim (st.fresh n) as (λ b. st.fresh n ≡ b → bit b + placed n st.at st.size + present (st.removed n) ≤ 1) [
-      | true ↦ λ fresh. let no_slot = none_placed st n start fresh in omega arith
+      | true ↦ λ fresh. let no_slot = none_placed n start fresh in omega arith
       | false ↦ λ fresh. omega arith
     ] refl
 

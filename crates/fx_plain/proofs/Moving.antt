@@ -19,7 +19,7 @@ IsLeft slots first nodes s = (u number : ℕ) → s ≤ u → slot_at slots u �
 module _ (slots : List (Option ℕ)) (first nodes : List Node) (s : ℕ) (placed : AllPlaced slots first) (left : IsLeft slots first nodes s) where
   pub named_inside : (x : Option ℕ) → slot_at slots s ≡ x → IfSome x (λ n. IsSome (file_in (node_at nodes n)))
   named_inside None is = tt
-  named_inside (Some n) is = let there = placed s n is in has_file-At nodes n s there.0 (left s n (omega arith) is ∙ there.1)
+  named_inside (Some n) is = let there = placed s n is in has_file-At nodes n (left s n (omega arith) is ∙ there.1)
 
   pub named_same : file_named nodes (slot_at slots s) ≡ file_named first (slot_at slots s)
   named_same = file_named_same first nodes (slot_at slots s) (λ n is. left s n (omega arith) is)
@@ -29,25 +29,25 @@ module _ (slots : List (Option ℕ)) (first nodes : List Node) (s : ℕ) (placed
   left_without None is = λ u number le at. left u number (omega arith) at
   left_without (Some m) is = λ u number le at.
       let apart : u ≢ s = omega arith in
-      get_or-set_other nodes m number Gone Gone (other_number slots first s u m number placed apart is at) ∙ left u number (omega arith) at
+      get_or-set_other nodes m number Gone Gone (other_number slots first placed apart is at) ∙ left u number (omega arith) at
 
 pub length-without : (nodes : List Node) (x : Option ℕ) → length (nodes_without nodes x) ≡ length nodes
 length-without nodes None = refl
 length-without nodes (Some n) = length-set nodes n Gone
 
-module _ (first slots : List (Option ℕ)) (s : ℕ) (inside : s < length slots) (here : slot_at slots s ≡ slot_at first s) where
+module _ (first slots : List (Option ℕ)) {s : ℕ} (inside : s < length slots) (here : slot_at slots s ≡ slot_at first s) where
   abbrev pub renamed : List (Option ℕ)
   renamed = slice_set slots s (opening_slot (slot_at slots s) s)
 
-  pub done_next : ((u : ℕ) → u < s → slot_at slots u ≡ opening_slot (slot_at first u) u) → (u : ℕ) → u < s + 1
+  pub done_next : ((u : ℕ) → u < s → slot_at slots u ≡ opening_slot (slot_at first u) u) → {u : ℕ} → u < s + 1
       → slot_at renamed u ≡ opening_slot (slot_at first u) u
-  done_next done u lt = by_equality u s (λ _. slot_at renamed u ≡ opening_slot (slot_at first u) u)
+  done_next done {u} lt = by_equality u s (λ _. slot_at renamed u ≡ opening_slot (slot_at first u) u)
       (λ same. ap (slot_at renamed) same ∙ get_or-set_same slots s (opening_slot (slot_at slots s) s) None inside
       ∙ ap (λ (x : Option ℕ). opening_slot x s) here ∙ ap (λ (k : ℕ). opening_slot (slot_at first k) k) (sym same))
       (λ other. get_or-set_other slots s u (opening_slot (slot_at slots s) s) None other ∙ done u (omega arith))
 
-  pub rest_next : ((u : ℕ) → s ≤ u → slot_at slots u ≡ slot_at first u) → (u : ℕ) → s + 1 ≤ u → slot_at renamed u ≡ slot_at first u
-  rest_next rest u le = let apart : u ≢ s = omega arith in
+  pub rest_next : ((u : ℕ) → s ≤ u → slot_at slots u ≡ slot_at first u) → {u : ℕ} → s + 1 ≤ u → slot_at renamed u ≡ slot_at first u
+  rest_next rest {u} le = let apart : u ≢ s = omega arith in
       get_or-set_other slots s u (opening_slot (slot_at slots s) s) None apart ∙ rest u (omega arith)
 
   same_filled : (x : Option ℕ) → file_count_of (opening_slot x s) ≡ file_count_of x
@@ -59,14 +59,14 @@ module _ (first slots : List (Option ℕ)) (s : ℕ) (inside : s < length slots)
       let same = same_filled (slot_at slots s) in omega arith
 
 -- one node more was appended
-pub moved_next : (moved : List Node) (s : ℕ) (node : Node) (expected : ℕ → Node) → length moved ≡ s → node ≡ expected s
-    → ((u : ℕ) → u < s → node_at moved u ≡ expected u) → (u : ℕ) → u < s + 1 → node_at (moved ++ node ∷ []) u ≡ expected u
-moved_next moved s node expected len is before u lt = by_equality u s (λ _. node_at (moved ++ node ∷ []) u ≡ expected u)
+pub moved_next : (moved : List Node) {s : ℕ} {node : Node} (expected : ℕ → Node) → length moved ≡ s → node ≡ expected s
+    → ((u : ℕ) → u < s → node_at moved u ≡ expected u) → {u : ℕ} → u < s + 1 → node_at (moved ++ node ∷ []) u ≡ expected u
+moved_next moved {s} {node} expected len is before {u} lt = by_equality u s (λ _. node_at (moved ++ node ∷ []) u ≡ expected u)
     (λ same. ap (node_at (moved ++ node ∷ [])) (same ∙ sym len) ∙ get_or-append_seam moved node [] Gone ∙ is ∙ ap expected (sym same))
     (λ other. let below : u < length moved = omega arith in get_or_append_left moved (node ∷ []) Gone u below ∙ before u (omega arith))
 
 -- one slot more was done in the list of nodes that is there
-module _ (slots : List (Option ℕ)) (first nodes : List Node) (s : ℕ) (placed : AllPlaced slots first) (left : IsLeft slots first nodes s)
+module _ (slots : List (Option ℕ)) (first nodes : List Node) {s : ℕ} (placed : AllPlaced slots first) (left : IsLeft slots first nodes s)
     (own : HaveOwnNumbers slots) (inside : s < length slots) where
   pub left_settled : (v : Node) → IsLeft slots first (slice_set (nodes_without nodes (slot_at slots s)) s v) (s + 1)
   left_settled v = λ u m le at.
@@ -80,45 +80,45 @@ module _ (slots : List (Option ℕ)) (first nodes : List Node) (s : ℕ) (placed
 
   -- what holds of the nodes of the slots before it, and of this one's, holds of each of them
   pub each_settled : (P : ℕ → Node → Type 0) (v : Node) → s < length nodes → P s v → ((u : ℕ) → u < s → P u (node_at nodes u))
-      → (u : ℕ) → u < s + 1 → P u (node_at (slice_set (nodes_without nodes (slot_at slots s)) s v) u)
-  each_settled P v room here before u lt = each_set P (nodes_without nodes (slot_at slots s)) s v Gone
+      → {u : ℕ} → u < s + 1 → P u (node_at (slice_set (nodes_without nodes (slot_at slots s)) s v) u)
+  each_settled P v room here before {u} lt = each_set P (nodes_without nodes (slot_at slots s)) s v Gone
       (let len = length-without nodes (slot_at slots s) in omega arith) here u
       (λ other. subst (P u) (sym (earlier_stays (slot_at slots s) refl u (omega arith))) (before u (omega arith)))
 
   -- the nodes of the slots behind it stay
-  pub later_stays : (v : Node) (x : Option ℕ) → slot_at slots s ≡ x → (u : ℕ) → s + 1 ≤ u → u < length slots
+  pub later_stays : (v : Node) (x : Option ℕ) → slot_at slots s ≡ x → {u : ℕ} → s + 1 ≤ u → u < length slots
       → node_at (slice_set (nodes_without nodes x) s v) u ≡ node_at nodes u
-  later_stays v None is u le lt = get_or-set_other nodes s u v Gone (λ (same : u ≡ s). absurd (omega arith))
-  later_stays v (Some n) is u le lt = get_or-set_other (nodes_without nodes (Some n)) s u v Gone (λ (same : u ≡ s). absurd (omega arith))
+  later_stays v None is {u} le lt = get_or-set_other nodes s u v Gone (λ (same : u ≡ s). absurd (omega arith))
+  later_stays v (Some n) is {u} le lt = get_or-set_other (nodes_without nodes (Some n)) s u v Gone (λ (same : u ≡ s). absurd (omega arith))
       ∙ get_or-set_other nodes n u Gone Gone (λ (same : u ≡ n). let e : n ≡ s = own s n is (omega arith) in absurd (omega arith))
 
 -- a slot that has its own number already
-module _ (slots : List (Option ℕ)) (nodes : List Node) (s : ℕ) (at : slot_at slots s ≡ Some s) where
-  pub node_settled : (file : Closed) → node_at nodes s ≡ At s file
+module _ (slots : List (Option ℕ)) (nodes : List Node) {s : ℕ} (at : slot_at slots s ≡ Some s) where
+  pub node_settled : {file : Closed} → node_at nodes s ≡ At s file
       → nodes ≡ slice_set (nodes_without nodes (slot_at slots s)) s (moved_node (file_named nodes (slot_at slots s)) s)
-  node_settled file named =
+  node_settled named =
       sym (ap (λ (x : Option ℕ). slice_set (nodes_without nodes x) s (moved_node (file_named nodes x) s)) at
       ∙ set-set nodes s Gone (moved_node (file_in (node_at nodes s)) s)
       ∙ ap (λ (node : Node). slice_set nodes s (moved_node (file_in node) s)) named
       ∙ ap (slice_set nodes s) (sym named) ∙ set-get_or nodes s Gone)
 
 -- the node that a slot's file moved to
-pub filed_by_move : (slots : List (Option ℕ)) (nodes : List Node) (s : ℕ) (node : Node) → node ≡ moved_node (file_named nodes (slot_at slots s)) s
+pub filed_by_move : (slots : List (Option ℕ)) (nodes : List Node) (s : ℕ) {node : Node} → node ≡ moved_node (file_named nodes (slot_at slots s)) s
     → IsFiled slots nodes s node
-filed_by_move slots nodes s node is = record {
+filed_by_move slots nodes s is = record {
   file = λ n at. is ∙ ap (λ (x : Option ℕ). moved_node (file_named nodes x) s) at;
   vacant = λ none. subst IsVacant (sym (is ∙ ap (λ (x : Option ℕ). moved_node (file_named nodes x) s) none))
       (record { used = refl; none_removed = refl });
 }
 
 -- a slot whose file has its own number needs nothing
-own_opening : (x : Option ℕ) (s : ℕ) → ((n : ℕ) → x ≡ Some n → n ≡ s) → x ≡ opening_slot x s
-own_opening None s own = refl
-own_opening (Some n) s own = ap Some (own n refl)
+own_opening : (x : Option ℕ) {s : ℕ} → ((n : ℕ) → x ≡ Some n → n ≡ s) → x ≡ opening_slot x s
+own_opening None own = refl
+own_opening (Some n) own = ap Some (own n refl)
 
-module _ (slots : List (Option ℕ)) (nodes : List Node) (s : ℕ) (own : (n : ℕ) → slot_at slots s ≡ Some n → n ≡ s) where
+module _ (slots : List (Option ℕ)) (nodes : List Node) {s : ℕ} (own : (n : ℕ) → slot_at slots s ≡ Some n → n ≡ s) where
   pub named_as_is : slot_at slots s ≡ opening_slot (slot_at slots s) s
-  named_as_is = own_opening (slot_at slots s) s own
+  named_as_is = own_opening (slot_at slots s) own
 
   pub filed_as_is : AllPlaced slots nodes → (slot_at slots s ≡ None → IsVacant (node_at nodes s)) → IsFiled slots nodes s (node_at nodes s)
   filed_as_is placed vacant = record {
@@ -130,8 +130,8 @@ module _ (slots : List (Option ℕ)) (nodes : List Node) (s : ℕ) (own : (n : �
 -- files that stand in nodes of which more were made
 module _ (slots : List (Option ℕ)) (old new : List Node) (placed : AllPlaced slots old)
     (same : (n : ℕ) → n < length old → node_at new n ≡ node_at old n) where
-  named_before : (u n : ℕ) → slot_at slots u ≡ Some n → node_at new n ≡ node_at old n
-  named_before u n at = let there = placed u n at in same n (inside_of-At old n u there.0 there.1)
+  named_before : (u : ℕ) {n : ℕ} → slot_at slots u ≡ Some n → node_at new n ≡ node_at old n
+  named_before u {n} at = let there = placed u n at in same n (inside_of-At old n there.1)
 
   pub still_placed : AllPlaced slots new
-  still_placed u n at = let there = placed u n at in (there.0, named_before u n at ∙ there.1)
+  still_placed u n at = let there = placed u n at in (there.0, named_before u at ∙ there.1)

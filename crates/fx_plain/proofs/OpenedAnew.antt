@@ -1,11 +1,11 @@
 -- A later part of a history, with the numbers that a table which is opened then gives.
-use Rattle.fx_plain.proofs.Words.{◌≡◌, ◌⊎◌, ℕ, ◌+◌, ◌-◌, ◌<◌, ◌≤◌, Bool, true, false, not, ◌&&◌, nat_lt, List, [], ◌∷◌, map, length, refl, sym, ap, subst, ◌∙◌}
-use Rattle.fx_plain.proofs.Words.{Option, Some, None, if◌then◌else◌, arith, inl, inr, cases_lt, lt-ltb, le-ltb, State, IsSettled, opening, file_numbered}
-use Rattle.fx_plain.proofs.Words.{AllowsAll, after, state_after, action_of, File, Event, Action, IsLegal, identity_of, number_of}
+use Rattle.fx_plain.proofs.Words.{◌≡◌, ◌⊎◌, ℕ, ◌+◌, ◌-◌, ◌<◌, ◌≤◌, Bool, true, false, not, ◌&&◌, nat_lt, List, [], ◌∷◌, map, length, refl, sym, ap}
+use Rattle.fx_plain.proofs.Words.{subst, ◌∙◌, Option, Some, None, if◌then◌else◌, arith, inl, inr, cases_lt, lt-ltb, le-ltb, State, IsSettled, opening}
+use Rattle.fx_plain.proofs.Words.{file_numbered, AllowsAll, after, state_after, action_of, File, Event, Action, IsLegal, identity_of, number_of}
 use Rattle.fx_plain.specs.Laws.{IsStart, installed_by}
 use Rattle.fx_plain.proofs.LawFiles.{installed_now, used_after}
-use Rattle.fx_plain.proofs.Places.{place_of, number_at, IsIn, AreDistinct, number_at_in, place_below, number_at_place, place_of_number}
-use Rattle.fx_plain.proofs.Places.{slot_of, slot_found, no_slot_found}
+use Rattle.fx_plain.proofs.Places.{place_of, number_at, IsIn, AreDistinct, number_at_in, place_below, number_at_place, place_of_number, slot_of}
+use Rattle.fx_plain.proofs.Places.{slot_found, no_slot_found}
 use Rattle.fx_plain.proofs.Renaming.{IsOneToOne, IsNamed, read_at, renamed_state, IsRenamable, InstallsNamed, legal_renamed}
 use Rattle.fx_plain.specs.Reopening.{Renaming, renamed_found, renamed_event, numbers_given, with_number_of, HasOtherNumbers, IsAtRest}
 
@@ -25,7 +25,7 @@ module _ (start : State) where
   pub used_then : (h : List Action) → AllowsAll start h → (n : ℕ) → IsIn n (numbers_given h) → (state_after start h).fresh n ≡ false
   used_then [] may n is = absurd is
   used_then (a ∷ h) may n is = elim (by_installed a (numbers_given h) n is) [
-    | inl new ↦ subst (λ (k : ℕ). (after (state_after start h) a).fresh k ≡ false) new.2 (installed_now new.0 (state_after start h) a may.1 new.1).1
+    | inl new ↦ subst (λ (k : ℕ). (after (state_after start h) a).fresh k ≡ false) new.2 (installed_now (state_after start h) a may.1 new.1).1
     | inr there ↦ used_after (state_after start h) a n (used_then h may.0 n there)
   ]
 
@@ -39,7 +39,7 @@ module _ (start : State) where
   was_fresh [] may n is = absurd is
   was_fresh (a ∷ h) may n is = elim (by_installed a (numbers_given h) n is) [
     | inl new ↦ subst (λ (k : ℕ). start.fresh k ≡ true) new.2
-        (fresh_before h new.0.number (installed_now new.0 (state_after start h) a may.1 new.1).0)
+        (fresh_before h new.0.number (installed_now (state_after start h) a may.1 new.1).0)
     | inr there ↦ was_fresh h may.0 n there
   ]
 
@@ -48,7 +48,7 @@ module _ (start : State) where
   distinct_installs (a ∷ h) may = elim (installed_by a) as (λ x. installed_by a ≡ x → AreDistinct (with_number_of x (numbers_given h))) [
     | None ↦ λ _. distinct_installs h may.0
     | Some f ↦ λ by. (
-      λ there. let clash : true ≡ false = sym (installed_now f (state_after start h) a may.1 by).0 ∙ used_then h may.0 f.number there in cc clash,
+      λ there. let clash : true ≡ false = sym (installed_now (state_after start h) a may.1 by).0 ∙ used_then h may.0 f.number there in cc clash,
       distinct_installs h may.0,
     )
   ] refl
@@ -66,74 +66,74 @@ module _ (chain : ℕ → ℕ) (start : State) (new : List ℕ) where
     back = λ k. if nat_lt k start.size then number_of (start.at k) else number_at (k - start.size) new;
   }
 
-  back_low : (k : ℕ) → k < start.size → by_order.back k ≡ number_of (start.at k)
-  back_low k lt = ap (λ (b : Bool). if b then number_of (start.at k) else number_at (k - start.size) new) (lt-ltb k start.size lt)
+  back_low : {k : ℕ} → k < start.size → by_order.back k ≡ number_of (start.at k)
+  back_low {k} lt = ap (λ (b : Bool). if b then number_of (start.at k) else number_at (k - start.size) new) (lt-ltb k start.size lt)
 
-  back_high : (k : ℕ) → start.size ≤ k → by_order.back k ≡ number_at (k - start.size) new
-  back_high k le = ap (λ (b : Bool). if b then number_of (start.at k) else number_at (k - start.size) new) (le-ltb k start.size le)
+  back_high : {k : ℕ} → start.size ≤ k → by_order.back k ≡ number_at (k - start.size) new
+  back_high {k} le = ap (λ (b : Bool). if b then number_of (start.at k) else number_at (k - start.size) new) (le-ltb k start.size le)
 
   module _ (begins : IsStart start) (fresh : (n : ℕ) → IsIn n new → start.fresh n ≡ true) (distinct : AreDistinct new) where
-    of_slot : (slot : ℕ) (f : File) → slot < start.size → start.at slot ≡ Some f → (x : Option ℕ) → slot_of start.at start.size f.number ≡ x
+    of_slot : {slot : ℕ} {f : File} → slot < start.size → start.at slot ≡ Some f → (x : Option ℕ) → slot_of start.at start.size f.number ≡ x
         → number_by start.size new f.number x ≡ slot
-    of_slot slot f lt is None none = absurd (no_slot_found start.at start.size f.number none slot lt f is refl)
-    of_slot slot f lt is (Some s) found = let there = slot_found start.at start.size f.number s found in
+    of_slot {slot} {f} lt is None none = absurd (no_slot_found start.at start.size f.number none slot lt is refl)
+    of_slot {slot} {f} lt is (Some s) found = let there = slot_found start.at start.size f.number found in
         begins.distinct s slot there.1 f there.0 lt there.2 is there.3
 
     of_new : (n : ℕ) → start.fresh n ≡ true → (x : Option ℕ) → slot_of start.at start.size n ≡ x → number_by start.size new n x ≡ start.size + place_of n new
     of_new n is None none = refl
-    of_new n is (Some s) found = let there = slot_found start.at start.size n s found in
+    of_new n is (Some s) found = let there = slot_found start.at start.size n found in
         let clash : false ≡ true = sym (begins.used s there.1 there.0 there.2) ∙ ap start.fresh there.3 ∙ is in absurd (cc clash)
 
     number_of_new : (n : ℕ) → start.fresh n ≡ true → by_order.number n ≡ start.size + place_of n new
     number_of_new n is = of_new n is (slot_of start.at start.size n) refl
 
-    named_slot : (slot : ℕ) (f : File) → slot < start.size → start.at slot ≡ Some f → IsNamed by_order f.number
-    named_slot slot f lt is = ap by_order.back (of_slot slot f lt is (slot_of start.at start.size f.number) refl) ∙ back_low slot lt ∙ ap number_of is
+    named_slot : {slot : ℕ} {f : File} → slot < start.size → start.at slot ≡ Some f → IsNamed by_order f.number
+    named_slot {f} lt is = ap by_order.back (of_slot lt is (slot_of start.at start.size f.number) refl) ∙ back_low lt ∙ ap number_of is
 
     pub named_new : (n : ℕ) → IsIn n new → IsNamed by_order n
     named_new n there =
-        let back : by_order.back (start.size + place_of n new) ≡ number_at (start.size + place_of n new - start.size) new = back_high _ (omega arith) in
+        let back : by_order.back (start.size + place_of n new) ≡ number_at (start.size + place_of n new - start.size) new = back_high (omega arith) in
         let same : start.size + place_of n new - start.size ≡ place_of n new = omega arith in
         ap by_order.back (number_of_new n (fresh n there)) ∙ back ∙ ap (λ (k : ℕ). number_at k new) same ∙ number_at_place n new there
 
-    from_slot : (k old : ℕ) → k < start.size → (x : Option File) → start.at k ≡ x → number_of x ≡ Some old → by_order.number old ≡ k
-    from_slot k old lt None is same = absurd (cc same)
-    from_slot k old lt (Some f) is same = let e : f.number ≡ old = cc same in
-        ap by_order.number (sym e) ∙ of_slot k f lt is (slot_of start.at start.size f.number) refl
+    from_slot : {k old : ℕ} → k < start.size → (x : Option File) → start.at k ≡ x → number_of x ≡ Some old → by_order.number old ≡ k
+    from_slot lt None is same = absurd (cc same)
+    from_slot {old} lt (Some f) is same = let e : f.number ≡ old = cc same in
+        ap by_order.number (sym e) ∙ of_slot lt is (slot_of start.at start.size f.number) refl
 
     pub one_to_one : IsOneToOne by_order
     one_to_one k old is = elim (cases_lt k start.size) [
-      | inl lt ↦ from_slot k old lt (start.at k) refl (sym (back_low k lt) ∙ is)
-      | inr le ↦ let there = sym (back_high k le) ∙ is in
-          let place = place_of_number (k - start.size) old new distinct there in
-          number_of_new old (fresh old (number_at_in (k - start.size) old new there)) ∙ (let e = place in omega (arith, e, le))
+      | inl lt ↦ from_slot lt (start.at k) refl (sym (back_low lt) ∙ is)
+      | inr le ↦ let there = sym (back_high le) ∙ is in
+          let place = place_of_number (k - start.size) new distinct there in
+          number_of_new old (fresh old (number_at_in (k - start.size) new there)) ∙ (let e = place in omega (arith, e, le))
     ]
 
     -- a fresh number that leads back is one of the new ones
-    is_new : (n : ℕ) → start.fresh n ≡ true → IsNamed by_order n → IsIn n new
-    is_new n is named = let at = number_of_new n is in
-        let back : by_order.back (by_order.number n) ≡ number_at (by_order.number n - start.size) new = back_high _ (omega (arith, at)) in
-        number_at_in (by_order.number n - start.size) n new (sym back ∙ named)
+    is_new : {n : ℕ} → start.fresh n ≡ true → IsNamed by_order n → IsIn n new
+    is_new {n} is named = let at = number_of_new n is in
+        let back : by_order.back (by_order.number n) ≡ number_at (by_order.number n - start.size) new = back_high (omega (arith, at)) in
+        number_at_in (by_order.number n - start.size) new (sym back ∙ named)
 
-    module _ (numbers : ℕ) (enough : start.size + length new ≤ numbers) (past : (slot : ℕ) → start.size ≤ slot → start.at slot ≡ None) where
+    module _ {numbers : ℕ} (enough : start.size + length new ≤ numbers) (past : (slot : ℕ) → start.size ≤ slot → start.at slot ≡ None) where
       fresh_then : (n : ℕ) → IsNamed by_order n → start.fresh n ≡ true
           → (not (nat_lt (by_order.number n) start.size) && nat_lt (by_order.number n) numbers) ≡ true
       fresh_then n named is =
           let at = number_of_new n is in
-          let below = place_below n new (is_new n is named) in
+          let below = place_below n new (is_new is named) in
           let low : start.size ≤ by_order.number n = omega (arith, at) in
           let high : by_order.number n < numbers = omega (arith, at, below, enough) in
           ap (λ (b : Bool × Bool). not b.0 && b.1) (λ i. (le-ltb (by_order.number n) start.size low i, lt-ltb (by_order.number n) numbers high i))
 
-      at_inside : (slot : ℕ) (f : File) → start.at slot ≡ Some f → slot < start.size
-      at_inside slot f is = elim (cases_lt slot start.size) [
+      at_inside : (slot : ℕ) {f : File} → start.at slot ≡ Some f → slot < start.size
+      at_inside slot {f} is = elim (cases_lt slot start.size) [
         | inl lt ↦ lt
         | inr le ↦ let clash : None ≡ Some f = sym (past slot le) ∙ is in absurd (cc clash)
       ]
 
       pub renamable : IsRenamable by_order (opening start numbers).fresh start
       renamable = record {
-        at = λ slot f is. named_slot slot f (at_inside slot f is) is;
+        at = λ slot f is. named_slot (at_inside slot is) is;
         held = λ n some. let none = begins.settled.unheld n in absurd (omega (arith, some, none));
         removed = λ n f is. let clash : None ≡ Some f = sym (begins.settled.closed n) ∙ is in absurd (cc clash);
         stays_fresh = fresh_then;
@@ -142,7 +142,7 @@ module _ (chain : ℕ → ℕ) (start : State) (new : List ℕ) where
       found_anew : (slot : ℕ) (x : Option File) → start.at slot ≡ x → renamed_found by_order x ≡ file_numbered x slot
       found_anew slot None is = refl
       found_anew slot (Some f) is = ap (λ (n : ℕ). Some (record f { number = n }))
-          (of_slot slot f (at_inside slot f is) is (slot_of start.at start.size f.number) refl)
+          (of_slot (at_inside slot is) is (slot_of start.at start.size f.number) refl)
 
       none_removed : (x : Option ℕ) → read_at (renamed_found by_order) None start.removed x ≡ None
       none_removed None = refl
@@ -193,14 +193,14 @@ opened_anew chain numbers start end h rest enough legal =
     let fresh = was_fresh start actions may in
     let distinct = distinct_installs start actions may in
     let r = by_order chain start new in
-    let renamed = legal_renamed r (one_to_one chain start new rest.start fresh distinct) (opening start numbers).fresh start end h
-    (renamable chain start new rest.start fresh distinct numbers enough rest.inside)
+    let renamed = legal_renamed r (one_to_one chain start new rest.start fresh distinct)
+    (renamable chain start new rest.start fresh distinct enough rest.inside)
     (installs_named r actions (named_new chain start new rest.start fresh distinct)) legal in (
       r,
       renamed_state r renamed.0 end,
       refl,
       subst (λ (s : State). IsLegal s (map (renamed_event r) h) (renamed_state r renamed.0 end))
-          (opened chain start new rest.start fresh distinct numbers enough rest.inside) renamed.1,
+          (opened chain start new rest.start fresh distinct enough rest.inside) renamed.1,
       record {
         size = refl;
         range = refl;

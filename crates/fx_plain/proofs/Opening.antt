@@ -2,36 +2,36 @@
 use Rattle.fx_plain.proofs.Words.{sum_by, ◌≡◌, ℕ, ◌<◌, ◌≤◌, ◌^◌, Bool, true, false, not, ◌&&◌, List, length, replicate, refl, sym, ap, subst, ◌∙◌}
 use Rattle.fx_plain.proofs.Words.{slice_index, Option, Some, None, arith, inl, inr, length-replicate, cases_lt, get_or-eq_default, Closed, IsSettled}
 use Rattle.fx_plain.proofs.Words.{opening, Contents, IsTable, IsCounted, state_of, slot_at, node_at, file_at, placed_at, removed_at, is_fresh}
-use Rattle.fx_plain.proofs.Words.{is_retired, IsRenumbered, IsVacant, moved_node, file_in, opening_slot, removed_count_of, itself}
-use Rattle.fx_plain.proofs.Words.{Fresh, At, Gone, Node, nat_lt, lt-ltb, le-ltb, file_numbered}
+use Rattle.fx_plain.proofs.Words.{is_retired, IsRenumbered, IsVacant, moved_node, file_in, opening_slot, removed_count_of, itself, Fresh, At, Gone}
+use Rattle.fx_plain.proofs.Words.{Node, nat_lt, lt-ltb, le-ltb, file_numbered}
 use Rattle.fx_plain.proofs.Cells.{inside_of, read_default}
 use Rattle.fx_plain.proofs.Settled.{no_holds, none_removed, quiet_is}
 use Rattle.fx_plain.proofs.SumLemmas.{sum_of_nothings, sum_by-replicate}
 
-opening_own : (slot number : ℕ) (x : Option ℕ) → opening_slot x slot ≡ Some number → number ≡ slot
-opening_own slot number None is = cc
-opening_own slot number (Some m) is = cc
+opening_own : (slot : ℕ) {number : ℕ} (x : Option ℕ) → opening_slot x slot ≡ Some number → number ≡ slot
+opening_own slot None is = cc
+opening_own slot (Some m) is = cc
 
-module _ (c : Contents) (slots : List (Option ℕ)) (nodes : List Node) (numbers : ℕ) (t : IsTable c) (enough : length c.slots ≤ numbers)
-    (few : numbers < 2 ^ 32) (r : IsRenumbered c.slots c.nodes slots nodes numbers) (holds : List ℕ) (unheld : holds ≡ replicate numbers 0) where
+module _ {c : Contents} {slots : List (Option ℕ)} {nodes : List Node} {numbers : ℕ} (t : IsTable c) (enough : length c.slots ≤ numbers)
+    (few : numbers < 2 ^ 32) (r : IsRenumbered c.slots c.nodes slots nodes numbers) {holds : List ℕ} (unheld : holds ≡ replicate numbers 0) where
   abbrev pub prepared : Contents
   prepared = record { slots = slots; range = c.range; nodes = nodes; holds = holds; numbers = numbers }
 
   -- the node of a slot's own number has its file
-  own_node : (u m : ℕ) → u < length c.slots → slot_at c.slots u ≡ Some m → node_at nodes u ≡ moved_node (file_in (node_at c.nodes m)) u
-  own_node u m inside is = (r.files.filed u inside).file m is
+  own_node : {u m : ℕ} → u < length c.slots → slot_at c.slots u ≡ Some m → node_at nodes u ≡ moved_node (file_in (node_at c.nodes m)) u
+  own_node {u} {m} inside is = (r.files.filed u inside).file m is
 
   -- in no node of a slot stands a removed file
-  low_vacant : (n : ℕ) → n < length c.slots → (x : Option ℕ) → slot_at c.slots n ≡ x → IsVacant (node_at nodes n)
-  low_vacant n low None is = (r.files.filed n low).vacant is
-  low_vacant n low (Some m) is = subst IsVacant
-      (sym (own_node n m low is ∙ ap (λ (node : Node). moved_node (file_in node) n) (t.placed n m is).1)) (record { used = refl; none_removed = refl })
+  low_vacant : {n : ℕ} → n < length c.slots → (x : Option ℕ) → slot_at c.slots n ≡ x → IsVacant (node_at nodes n)
+  low_vacant {n} low None is = (r.files.filed n low).vacant is
+  low_vacant {n} low (Some m) is = subst IsVacant
+      (sym (own_node low is ∙ ap (λ (node : Node). moved_node (file_in node) n) (t.placed n m is).1)) (record { used = refl; none_removed = refl })
 
   -- what holds of each kind of node holds of each
   each_node : (P : ℕ → Node → Type 0) → ((n : ℕ) (node : Node) → n < length c.slots → IsVacant node → P n node)
       → ((n : ℕ) → length c.slots ≤ n → n < numbers → P n Fresh) → ((n : ℕ) → numbers ≤ n → P n Gone) → (n : ℕ) → P n (node_at nodes n)
   each_node P low mid high n = elim (cases_lt n (length c.slots)) [
-    | inl lt ↦ low n (node_at nodes n) lt (low_vacant n lt (slot_at c.slots n) refl)
+    | inl lt ↦ low n (node_at nodes n) lt (low_vacant lt (slot_at c.slots n) refl)
     | inr ge ↦ elim (cases_lt n numbers) [
       | inl lt ↦ subst (P n) (sym (r.fresh n ge lt)) (mid n ge lt)
       | inr past ↦ let len = r.size in subst (P n) (sym (get_or-eq_default nodes Gone (omega arith))) (high n past)
@@ -43,23 +43,22 @@ module _ (c : Contents) (slots : List (Option ℕ)) (nodes : List Node) (numbers
       (λ n node lt vacant. (quiet_is node vacant.none_removed).0 n) (λ n ge lt. refl) (λ n ge. refl)
 
   fresh_is : (n : ℕ) → is_fresh (node_at nodes n) ≡ (not (nat_lt n (length c.slots)) && nat_lt n numbers)
-  fresh_is = each_node (λ n node. is_fresh node ≡ (not (nat_lt n (length c.slots)) && nat_lt n numbers))
-      (λ n node lt vacant. vacant.used
+  fresh_is = each_node (λ n node. is_fresh node ≡ (not (nat_lt n (length c.slots)) && nat_lt n numbers)) (λ n node lt vacant. vacant.used
       ∙ sym (ap (λ (b : Bool). not b && nat_lt n numbers) (lt-ltb n (length c.slots) lt)))
       (λ n ge lt. sym (ap (λ (b : Bool). not b && nat_lt n numbers) (le-ltb n (length c.slots) ge) ∙ lt-ltb n numbers lt))
       (λ n ge. sym (ap (λ (b : Bool × Bool). not b.0 && b.1)
       (λ i. (le-ltb n (length c.slots) (let e = enough in omega arith) i, le-ltb n numbers ge i))))
 
-  named_node : (u : ℕ) → u < length c.slots → (x : Option ℕ) → slot_at c.slots u ≡ x
+  named_node : {u : ℕ} → u < length c.slots → (x : Option ℕ) → slot_at c.slots u ≡ x
       → file_at nodes (opening_slot x u) ≡ file_numbered (file_at c.nodes x) u
-  named_node u inside None is = refl
-  named_node u inside (Some m) is = let there = (t.placed u m is).1 in
-      ap (placed_at u) (own_node u m inside is ∙ ap (λ (node : Node). moved_node (file_in node) u) there)
+  named_node inside None is = refl
+  named_node {u} inside (Some m) is = let there = (t.placed u m is).1 in
+      ap (placed_at u) (own_node inside is ∙ ap (λ (node : Node). moved_node (file_in node) u) there)
       ∙ sym (ap (λ (node : Node). file_numbered (placed_at m node) u) there)
 
   at_is : (u : ℕ) → file_at nodes (slot_at slots u) ≡ file_numbered (file_at c.nodes (slot_at c.slots u)) u
   at_is u = elim (cases_lt u (length c.slots)) [
-    | inl lt ↦ ap (file_at nodes) (r.files.named u lt) ∙ named_node u lt (slot_at c.slots u) refl
+    | inl lt ↦ ap (file_at nodes) (r.files.named u lt) ∙ named_node lt (slot_at c.slots u) refl
     | inr ge ↦ ap (file_at nodes) (get_or-eq_default slots None (let same = r.files.same_size in omega arith))
         ∙ sym (ap (λ (x : Option ℕ). file_numbered (file_at c.nodes x) u) (get_or-eq_default c.slots None ge))
   ]
@@ -77,42 +76,42 @@ module _ (c : Contents) (slots : List (Option ℕ)) (nodes : List Node) (numbers
     fresh = λ n. fresh_is n i;
   }
 
-  named_placed : (u k : ℕ) → u < length c.slots → (x : Option ℕ) → slot_at c.slots u ≡ x → opening_slot x u ≡ Some k
+  named_placed : {u k : ℕ} → u < length c.slots → (x : Option ℕ) → slot_at c.slots u ≡ x → opening_slot x u ≡ Some k
       → (file : Closed) × (node_at nodes k ≡ At u file)
-  named_placed u k inside None is same = cc
-  named_placed u k inside (Some m) is same = let there = t.placed u m is in let e : u ≡ k = cc in
-      (there.0, ap (node_at nodes) (sym e) ∙ own_node u m inside is ∙ ap (λ (node : Node). moved_node (file_in node) u) there.1)
+  named_placed inside None is same = cc
+  named_placed {u} {k} inside (Some m) is same = let there = t.placed u m is in let e : u ≡ k = cc in
+      (there.0, ap (node_at nodes) (sym e) ∙ own_node inside is ∙ ap (λ (node : Node). moved_node (file_in node) u) there.1)
 
-  slot_inside : (u k : ℕ) → slot_at slots u ≡ Some k → u < length c.slots
-  slot_inside u k is = let lt = inside_of slots u None (λ (gone : slot_at slots u ≡ None). let e : Some k ≡ None = sym is ∙ gone in cc) in
+  slot_inside : (u : ℕ) {k : ℕ} → slot_at slots u ≡ Some k → u < length c.slots
+  slot_inside u {k} is = let lt = inside_of slots u None (λ (gone : slot_at slots u ≡ None). let e : Some k ≡ None = sym is ∙ gone in cc) in
       let same = r.files.same_size in omega arith
 
-  pub own_number : (u k : ℕ) → slot_at slots u ≡ Some k → k ≡ u
-  own_number u k is = opening_own u k (slot_at c.slots u) (sym (r.files.named u (slot_inside u k is)) ∙ is)
+  pub own_number : (u : ℕ) {k : ℕ} → slot_at slots u ≡ Some k → k ≡ u
+  own_number u is = opening_own u (slot_at c.slots u) (sym (r.files.named u (slot_inside u is)) ∙ is)
 
   prepared_keeps : IsTable prepared
   prepared_keeps = record {
-    own = λ u k is lt. own_number u k is;
+    own = λ u k is lt. own_number u is;
     used = λ k lt. let below : k < length c.slots = let same = r.files.same_size in omega arith in
         fresh_is k ∙ ap (λ (b : Bool). not b && nat_lt k numbers) (lt-ltb k (length c.slots) below);
     few_slots = let f = t.few_slots in let same = r.files.same_size in omega arith;
     range_inside = let inside = t.range_inside in let same = r.files.same_size in omega arith;
     few_nodes = let len = r.size in omega arith;
     same_numbers = ap (length {A = ℕ}) unheld ∙ length-replicate numbers 0 ∙ sym r.size;
-    placed = λ u k is. let inside = slot_inside u k is in named_placed u k inside (slot_at c.slots u) refl (sym (r.files.named u inside) ∙ is);
+    placed = λ u k is. let inside = slot_inside u is in named_placed inside (slot_at c.slots u) refl (sym (r.files.named u inside) ∙ is);
     held = each_node (λ n node. is_retired node ≡ true → 0 < slice_index holds n)
         (λ n node lt vacant is. let e : false ≡ true = sym (quiet_is node vacant.none_removed).2 ∙ is in cc) (λ n ge lt is. cc) (λ n ge is. cc);
   }
 
-  pub fields_keep : (full held removed : ℕ) → IsCounted c full held removed → IsSettled (state_of c)
+  pub fields_keep : {full held removed : ℕ} → IsCounted c full held removed → IsSettled (state_of c)
       → IsTable prepared × IsCounted prepared full held removed
-  fields_keep full held removed k settled = (
+  fields_keep k settled = (
     prepared_keeps,
     record {
       full_slots = k.full_slots ∙ sym r.files.same_full;
-      all_holds = no_holds c full held removed k settled ∙ sym (ap (sum_by itself) unheld ∙ sum_by-replicate itself numbers 0 refl);
+      all_holds = no_holds k settled ∙ sym (ap (sum_by itself) unheld ∙ sum_by-replicate itself numbers 0 refl);
       small_holds = λ n. let z = no_hold n in omega arith;
-      all_removed = none_removed c full held removed k settled ∙ sym (sum_of_nothings removed_count_of nodes Gone
+      all_removed = none_removed k settled ∙ sym (sum_of_nothings removed_count_of nodes Gone
           (each_node (λ n node. removed_count_of node ≡ 0) (λ n node lt vacant. vacant.none_removed) (λ n ge lt. refl) (λ n ge. refl)));
     },
   )

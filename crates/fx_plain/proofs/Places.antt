@@ -19,10 +19,10 @@ abbrev pub AreDistinct : List ℕ → Type 0
 AreDistinct [] = Unit {0}
 AreDistinct (x ∷ l) = (IsIn x l → ⊥) × AreDistinct l
 
-pub number_at_in : (k n : ℕ) (l : List ℕ) → number_at k l ≡ Some n → IsIn n l
-number_at_in k n [] is = cc
-number_at_in k n (x ∷ l) is = by_equality k (length l) (λ b. (if b then Some x else number_at k l) ≡ Some n → IsIn n (x ∷ l))
-    (λ same here. inl (cc here)) (λ other there. inr (number_at_in k n l there)) is
+pub number_at_in : (k : ℕ) {n : ℕ} (l : List ℕ) → number_at k l ≡ Some n → IsIn n l
+number_at_in k [] is = cc
+number_at_in k {n} (x ∷ l) is = by_equality k (length l) (λ b. (if b then Some x else number_at k l) ≡ Some n → IsIn n (x ∷ l))
+    (λ same here. inl (cc here)) (λ other there. inr (number_at_in k l there)) is
 
 pub place_below : (n : ℕ) (l : List ℕ) → IsIn n l → place_of n l < length l
 place_below n [] is = absurd is
@@ -34,8 +34,8 @@ place_below n (x ∷ l) (inr there) = by_equality x n (λ b. (if b then length l
 at_length : (x : ℕ) (l : List ℕ) → number_at (length l) (x ∷ l) ≡ Some x
 at_length x l = by_equality (length l) (length l) (λ b. (if b then Some x else number_at (length l) l) ≡ Some x) (λ same. refl) (λ other. absurd (other refl))
 
-before_length : (k x : ℕ) (l : List ℕ) → k < length l → number_at k (x ∷ l) ≡ number_at k l
-before_length k x l below = by_equality k (length l) (λ b. (if b then Some x else number_at k l) ≡ number_at k l)
+before_length : {k : ℕ} (x : ℕ) (l : List ℕ) → k < length l → number_at k (x ∷ l) ≡ number_at k l
+before_length {k} x l below = by_equality k (length l) (λ b. (if b then Some x else number_at k l) ≡ number_at k l)
     (λ same. absurd (omega arith)) (λ other. refl)
 
 pub number_at_place : (n : ℕ) (l : List ℕ) → IsIn n l → number_at (place_of n l) l ≡ Some n
@@ -44,15 +44,15 @@ number_at_place n (x ∷ l) is = by_equality x n (λ b. number_at (if b then len
     (λ same. at_length x l ∙ ap Some same)
     (λ other. elim is [
       | inl here ↦ absurd (other here)
-      | inr there ↦ before_length (place_of n l) x l (place_below n l there) ∙ number_at_place n l there
+      | inr there ↦ before_length x l (place_below n l there) ∙ number_at_place n l there
     ])
 
-pub place_of_number : (k n : ℕ) (l : List ℕ) → AreDistinct l → number_at k l ≡ Some n → place_of n l ≡ k
-place_of_number k n [] distinct is = cc
-place_of_number k n (x ∷ l) distinct is = by_equality k (length l) (λ b. (if b then Some x else number_at k l) ≡ Some n → place_of n (x ∷ l) ≡ k)
+pub place_of_number : (k : ℕ) {n : ℕ} (l : List ℕ) → AreDistinct l → number_at k l ≡ Some n → place_of n l ≡ k
+place_of_number k [] distinct is = cc
+place_of_number k {n} (x ∷ l) distinct is = by_equality k (length l) (λ b. (if b then Some x else number_at k l) ≡ Some n → place_of n (x ∷ l) ≡ k)
     (λ same here. by_equality x n (λ b. (if b then length l else place_of n l) ≡ k) (λ _. sym same) (λ other. absurd (other (cc here))))
     (λ apart there. by_equality x n (λ b. (if b then length l else place_of n l) ≡ k)
-    (λ same. absurd (distinct.0 (number_at_in k x l (there ∙ ap Some (sym same))))) (λ other. place_of_number k n l distinct.1 there)) is
+    (λ same. absurd (distinct.0 (number_at_in k l (there ∙ ap Some (sym same))))) (λ other. place_of_number k l distinct.1 there)) is
 
 -- whether the file that stands there has the number
 abbrev pub has_number : ℕ → Option File → Bool
@@ -68,16 +68,16 @@ by_file : (n : ℕ) (x : Option File) (P : Bool → Type 0) → ((f : File) → 
 by_file n None P there none = none (λ f is. absurd (cc is))
 by_file n (Some g) P there none = by_equality g.number n P (λ same. there g refl same) (λ other. none (λ f is same. other (cc (is, same))))
 
-pub slot_found : (at : ℕ → Option File) (size n s : ℕ) → slot_of at size n ≡ Some s → (s < size) × (f : File) × (at s ≡ Some f) × (f.number ≡ n)
-slot_found at zero n s is = cc
-slot_found at (suc k) n s is = by_file n (at k)
+pub slot_found : (at : ℕ → Option File) (size n : ℕ) {s : ℕ} → slot_of at size n ≡ Some s → (s < size) × (f : File) × (at s ≡ Some f) × (f.number ≡ n)
+slot_found at zero n is = cc
+slot_found at (suc k) n {s} is = by_file n (at k)
     (λ b. (if b then Some k else slot_of at k n) ≡ Some s → (s < suc k) × (f : File) × (at s ≡ Some f) × (f.number ≡ n))
     (λ f there named here. let e : k ≡ s = cc here in (omega arith, f, ap at (sym e) ∙ there, named))
-    (λ none below. let found = slot_found at k n s below in (let lt = found.0 in omega arith, found.1, found.2, found.3)) is
+    (λ none below. let found = slot_found at k n below in (let lt = found.0 in omega arith, found.1, found.2, found.3)) is
 
-pub no_slot_found : (at : ℕ → Option File) (size n : ℕ) → slot_of at size n ≡ None → (s : ℕ) → s < size → (f : File) → at s ≡ Some f → f.number ≢ n
-no_slot_found at zero n none s lt f is = absurd (omega arith)
-no_slot_found at (suc k) n none s lt f is = by_file n (at k) (λ b. (if b then Some k else slot_of at k n) ≡ None → f.number ≢ n)
+pub no_slot_found : (at : ℕ → Option File) (size n : ℕ) → slot_of at size n ≡ None → (s : ℕ) → s < size → {f : File} → at s ≡ Some f → f.number ≢ n
+no_slot_found at zero n none s lt is = absurd (omega arith)
+no_slot_found at (suc k) n none s lt {f} is = by_file n (at k) (λ b. (if b then Some k else slot_of at k n) ≡ None → f.number ≢ n)
     (λ g there named found. absurd (cc found))
     (λ others below. by_equality s k (λ _. f.number ≢ n) (λ same. others f (ap at (sym same) ∙ is))
-    (λ apart. no_slot_found at k n below s (omega arith) f is)) none
+    (λ apart. no_slot_found at k n below s (omega arith) is)) none

@@ -33,20 +33,19 @@ pub removed-gave_way : (nodes : List Node) (x : Option ℕ) (slot : ℕ) → Nam
     → removed_of (gave_way nodes x) ≡ with_removed (removed_of nodes) (file_at nodes x)
 removed-gave_way nodes None slot named = refl
 removed-gave_way nodes (Some old) slot named =
-    written removed_at nodes old (node_after_removal (node_at nodes old)) Gone (inside_of-At nodes old slot named.0 named.1)
-    ∙ rw named.1 refl
+    written removed_at nodes (node_after_removal (node_at nodes old)) Gone (inside_of-At nodes old named.1) ∙ rw named.1 refl
 
 pub fresh-gave_way : (nodes : List Node) (x : Option ℕ) (slot : ℕ) → Names nodes x slot → fresh_of (gave_way nodes x) ≡ fresh_of nodes
 fresh-gave_way nodes None slot named = refl
 fresh-gave_way nodes (Some old) slot named =
-    written (λ q node. is_fresh node) nodes old (node_after_removal (node_at nodes old)) Gone (inside_of-At nodes old slot named.0 named.1)
+    written (λ q node. is_fresh node) nodes (node_after_removal (node_at nodes old)) Gone (inside_of-At nodes old named.1)
     ∙ unchanged (fresh_of nodes) old (is_fresh (node_after_removal (node_at nodes old))) (rw named.1 refl)
 
 pub leaving-gave_way : (nodes : List Node) (x : Option ℕ) (slot : ℕ) → Names nodes x slot
     → leaving_of (gave_way nodes x) ≡ more_leaving (leaving_of nodes) (file_at nodes x)
 leaving-gave_way nodes None slot named = refl
 leaving-gave_way nodes (Some old) slot named =
-    written (λ q node. is_leaving node) nodes old (node_after_removal (node_at nodes old)) Gone (inside_of-At nodes old slot named.0 named.1)
+    written (λ q node. is_leaving node) nodes (node_after_removal (node_at nodes old)) Gone (inside_of-At nodes old named.1)
     ∙ rw named.1 refl
 
 pub length-gave_way : (nodes : List Node) (x : Option ℕ) → length (gave_way nodes x) ≡ length nodes
@@ -63,7 +62,7 @@ retired_before : (nodes : List Node) (x : Option ℕ) (slot m : ℕ) → Names n
 retired_before nodes None slot m named = λ is. is
 retired_before nodes (Some old) slot m named =
     each_set (λ k x. is_retired x ≡ true → is_retired (node_at nodes k) ≡ true) nodes old (node_after_removal (node_at nodes old)) Gone
-    (inside_of-At nodes old slot named.0 named.1) (rw named.1 (λ (e : false ≡ true). cc)) m (λ _ is. is)
+    (inside_of-At nodes old named.1) (rw named.1 (λ (e : false ≡ true). cc)) m (λ _ is. is)
 
 opened_le : (node : Node) → removed_count_of node ≤ 1
 opened_le Gone = omega arith
@@ -78,28 +77,28 @@ opened-gave_way : (nodes : List Node) (x : Option ℕ) (slot : ℕ) → Names no
     → sum_by removed_count_of (gave_way nodes x) ≡ sum_by removed_count_of nodes + file_count_of x
 opened-gave_way nodes None slot named = omega arith
 opened-gave_way nodes (Some old) slot named =
-    let all = sum_by-set removed_count_of nodes old (node_after_removal (node_at nodes old)) Gone (inside_of-At nodes old slot named.0 named.1) in
+    let all = sum_by-set removed_count_of nodes old (node_after_removal (node_at nodes old)) Gone (inside_of-At nodes old named.1) in
     let was : removed_count_of (node_at nodes old) ≡ 0 = ap removed_count_of named.1 in
     let now : removed_count_of (node_after_removal (node_at nodes old)) ≡ 1 = ap (λ (x : Node). removed_count_of (node_after_removal x)) named.1 in
     omega arith
 
 -- the number that a slot names is that of the file there
-pub number_at : (c : Contents) (slot : ℕ) (x : Option ℕ) → IsTable c → slot_at c.slots slot ≡ x → x ≡ number_of ((state_of c).at slot)
-number_at c slot None t is = sym (ap (λ (x : Option ℕ). number_of (file_at c.nodes x)) is)
-number_at c slot (Some n) t is =
+pub number_at : {c : Contents} (slot : ℕ) (x : Option ℕ) → IsTable c → slot_at c.slots slot ≡ x → x ≡ number_of ((state_of c).at slot)
+number_at {c} slot None t is = sym (ap (λ (x : Option ℕ). number_of (file_at c.nodes x)) is)
+number_at {c} slot (Some n) t is =
     sym (ap (λ (x : Option ℕ). number_of (file_at c.nodes x)) is ∙ ap (λ (node : Node). number_of (placed_at n node)) (t.placed slot n is).1)
 
 -- two slots name two numbers
-pub other_number : (slots : List (Option ℕ)) (nodes : List Node) (s u m n : ℕ) → AllPlaced slots nodes → u ≢ s → slot_at slots s ≡ Some m
+pub other_number : (slots : List (Option ℕ)) (nodes : List Node) {s u m n : ℕ} → AllPlaced slots nodes → u ≢ s → slot_at slots s ≡ Some m
     → slot_at slots u ≡ Some n → n ≢ m
-other_number slots nodes s u m n placed apart at_s at_u = grind (arith, placed s m at_s, placed u n at_u)
+other_number slots nodes {s} {u} {m} {n} placed apart at_s at_u = grind (arith, placed s m at_s, placed u n at_u)
 
 -- a table in which a slot names another number, or none, and the file that it named has left it
 abbrev pub moved_in : Contents → ℕ → Option ℕ → List Node → Contents
 moved_in c slot y nodes = record c { slots = slice_set c.slots slot y; nodes = gave_way nodes (slot_at c.slots slot) }
 
 -- where the nodes were before as they were for each slot
-module _ (c : Contents) (slot : ℕ) (y : Option ℕ) (nodes : List Node) (t : IsTable c) (inside : slot < length c.slots)
+module _ {c : Contents} {slot : ℕ} (y : Option ℕ) (nodes : List Node) (t : IsTable c) (inside : slot < length c.slots)
     (len : length nodes ≡ length c.nodes) (kept : (u m : ℕ) → slot_at c.slots u ≡ Some m → node_at nodes m ≡ node_at c.nodes m) where
   abbrev changed : Contents
   changed = moved_in c slot y nodes
@@ -111,12 +110,12 @@ module _ (c : Contents) (slot : ℕ) (y : Option ℕ) (nodes : List Node) (t : I
   names None is = tt
   names (Some old) is = let there = t.placed slot old is in (there.0, kept slot old is ∙ there.1)
 
-  stays : (u m : ℕ) → u ≢ slot → slot_at c.slots u ≡ Some m → node_at changed.nodes m ≡ node_at c.nodes m
-  stays u m apart at = node_else nodes old_at m (λ old was. other_number c.slots c.nodes slot u old m t.placed apart was at) ∙ kept u m at
+  stays : {u : ℕ} (m : ℕ) → u ≢ slot → slot_at c.slots u ≡ Some m → node_at changed.nodes m ≡ node_at c.nodes m
+  stays {u} m apart at = node_else nodes old_at m (λ old was. other_number c.slots c.nodes t.placed apart was at) ∙ kept u m at
 
   changed_slots : (u : ℕ) → (state_of changed).at u ≡ changed_at (state_of c).at slot (file_at changed.nodes y) u
   changed_slots u = each_set (λ k x. file_at changed.nodes x ≡ changed_at (state_of c).at slot (file_at changed.nodes y) k) c.slots slot y None inside
-      (grind arith) u (λ apart. file_same c.nodes changed.nodes (slot_at c.slots u) (λ m. stays u m apart) ∙ grind arith)
+      (grind arith) u (λ apart. file_same c.nodes changed.nodes (slot_at c.slots u) (λ m. stays m apart) ∙ grind arith)
 
   state_of-changed : state_of changed ≡ record (state_of c) {
     at = changed_at (state_of c).at slot (file_at changed.nodes y);
@@ -142,19 +141,17 @@ module _ (c : Contents) (slot : ℕ) (y : Option ℕ) (nodes : List Node) (t : I
     few_nodes = rw (length-gave_way nodes old_at, len) t.few_nodes;
     same_numbers = t.same_numbers ∙ sym (length-gave_way nodes old_at ∙ len);
     placed = λ u m. each_set (λ k x. x ≡ Some m → (file : Closed) × (node_at changed.nodes m ≡ At k file)) c.slots slot y None inside
-        (λ is. let now = new m is in (now.0, now.1)) u
-        (λ apart at. let there = t.placed u m at in (there.0, stays u m apart at ∙ there.1));
+        (λ is. let now = new m is in (now.0, now.1)) u (λ apart at. let there = t.placed u m at in (there.0, stays m apart at ∙ there.1));
     own = λ u m at lt. each_set (λ k x. x ≡ Some m → m ≡ k) c.slots slot y None inside (λ is. (new m is).2 (omega arith)) u
         (λ apart at. t.own u m at (omega arith)) at;
     used = λ m lt. ap (λ (f : ℕ → Bool). f m) (fresh-gave_way nodes old_at slot (names old_at refl)) ∙ used m (omega arith);
     held = λ m is. t.held m (still m (retired_before nodes old_at slot m (names old_at refl) is));
   }
 
-  changed_counted : (full held removed full' removed' : ℕ) → IsCounted c full held removed
+  changed_counted : {full held removed : ℕ} (full' removed' : ℕ) → IsCounted c full held removed
       → sum_by removed_count_of nodes ≡ sum_by removed_count_of c.nodes → full' + file_count_of old_at ≡ full + file_count_of y
-      → removed' ≡ removed + file_count_of old_at
-      → (removed' < 2 ^ 32) × (full + 1 < 2 ^ 32) × IsCounted changed full' held removed'
-  changed_counted full held removed full' removed' k same full_is removed_is =
+      → removed' ≡ removed + file_count_of old_at → (removed' < 2 ^ 32) × (full + 1 < 2 ^ 32) × IsCounted changed full' held removed'
+  changed_counted full' removed' k same full_is removed_is =
       let slots_total = sum_by-set file_count_of c.slots slot y None inside in
       let nodes_total = opened-gave_way nodes old_at slot (names old_at refl) in
       let all = sum_by-le removed_count_of 1 changed.nodes (λ k d lt. opened_le (slice_index_or changed.nodes k d)) in
@@ -173,26 +170,26 @@ module _ (c : Contents) (slot : ℕ) (y : Option ℕ) (nodes : List Node) (t : I
 abbrev pub taken : Contents → ℕ → Contents
 taken c slot = moved_in c slot None c.nodes
 
-module _ (c : Contents) (slot : ℕ) (t : IsTable c) (inside : slot < length c.slots) where
+module _ {c : Contents} {slot : ℕ} (t : IsTable c) (inside : slot < length c.slots) where
   pub take_keeps : IsTable (taken c slot)
-  take_keeps = changed_keeps c slot None c.nodes t inside refl (λ _ _ _. refl) (λ n is. cc) t.used (λ _ is. is)
+  take_keeps = changed_keeps None c.nodes t inside refl (λ _ _ _. refl) (λ n is. cc) t.used (λ _ is. is)
 
-  pub take_removes : (found : Option ℕ) → slot_at c.slots slot ≡ found
+  pub take_removes : {found : Option ℕ} → slot_at c.slots slot ≡ found
       → LetsLeave c (taken c slot) (Take slot ((state_of c).at slot)) ((state_of c).at slot) found
-  take_removes found at = record {
-    answer = number_at c slot found t at;
-    step = ((inside, refl), state_of-changed c slot None c.nodes t inside refl (λ _ _ _. refl));
+  take_removes {found} at = record {
+    answer = number_at slot found t at;
+    step = ((inside, refl), state_of-changed None c.nodes t inside refl (λ _ _ _. refl));
     numbers = refl;
     sound = take_keeps;
-    leaving = leaving-changed c slot None c.nodes t inside refl (λ _ _ _. refl);
+    leaving = leaving-changed None c.nodes t inside refl (λ _ _ _. refl);
   }
 
-  pub taken_counted : (number full held removed : ℕ) → IsCounted c full held removed → slot_at c.slots slot ≡ Some number
+  pub taken_counted : {number full held removed : ℕ} → IsCounted c full held removed → slot_at c.slots slot ≡ Some number
       → (1 ≤ full) × (removed + 1 < 2 ^ 32) × IsCounted (taken c slot) (full - 1) held (removed + 1)
-  taken_counted number full held removed k at =
+  taken_counted {full} {removed} k at =
       let one : file_count_of (slot_at c.slots slot) ≡ 1 = ap file_count_of at in
       let some_full : 1 ≤ full = let least = get_or-le-sum_by file_count_of c.slots slot None inside in let f = k.full_slots in omega arith in
-      let all = changed_counted c slot None c.nodes t inside refl (λ _ _ _. refl) full held removed (full - 1) (removed + 1) k refl (omega arith)
+      let all = changed_counted None c.nodes t inside refl (λ _ _ _. refl) (full - 1) (removed + 1) k refl (omega arith)
       (omega arith) in (some_full, all.0, all.2)
 
 -- a table in which a file was put at a slot
@@ -206,8 +203,8 @@ pub record IsFree (c : Contents) (slot n : ℕ) : Type 0 where
   own : n < length c.slots → n ≡ slot
   quiet : removed_count_of (node_at c.nodes n) ≡ 0
 
-pub fresh_free : (c : Contents) (slot n : ℕ) → IsTable c → is_fresh (node_at c.nodes n) ≡ true → IsFree c slot n
-fresh_free c slot n t fresh = record {
+pub fresh_free : {c : Contents} (slot n : ℕ) → IsTable c → is_fresh (node_at c.nodes n) ≡ true → IsFree c slot n
+fresh_free {c} slot n t fresh = record {
   room = inside_told is_fresh c.nodes n refl fresh;
   unnamed = λ u m at same. let there = t.placed u m at in grind (arith, there.1);
   own = λ lt. let clash : true ≡ false = sym fresh ∙ t.used n lt in cc;
@@ -215,9 +212,9 @@ fresh_free c slot n t fresh = record {
 }
 
 -- the slot's own number is free where the slot is empty and nothing waits
-pub own_free : (c : Contents) (slot : ℕ) → IsTable c → IsSettled (state_of c) → slot < length c.slots → slot < length c.nodes
+pub own_free : {c : Contents} {slot : ℕ} → IsTable c → IsSettled (state_of c) → slot < length c.slots → slot < length c.nodes
     → slot_at c.slots slot ≡ None → IsFree c slot slot
-own_free c slot t settled inside room empty = record {
+own_free {c} {slot} t settled inside room empty = record {
   room = room;
   unnamed = λ u m at same. let e : slot ≡ u = sym same ∙ t.own u m at (omega arith) in
       let clash : None ≡ Some m = sym empty ∙ ap (slot_at c.slots) e ∙ at in cc;
@@ -225,7 +222,7 @@ own_free c slot t settled inside room empty = record {
   quiet = not_removed slot (node_at c.nodes slot) (settled.closed slot);
 }
 
-module _ (c : Contents) (slot n : ℕ) (file : Closed) (t : IsTable c) (inside : slot < length c.slots) (free : IsFree c slot n) where
+module _ {c : Contents} {slot n : ℕ} (file : Closed) (t : IsTable c) (inside : slot < length c.slots) (free : IsFree c slot n) where
   abbrev with_file : List Node
   with_file = slice_set c.nodes n (At slot file)
 
@@ -238,8 +235,8 @@ module _ (c : Contents) (slot n : ℕ) (file : Closed) (t : IsTable c) (inside :
   same_named : (u m : ℕ) → slot_at c.slots u ≡ Some m → node_at with_file m ≡ node_at c.nodes m
   same_named u m at = get_or-set_other c.nodes n m (At slot file) Gone (free.unnamed u m at)
 
-  pub still_names : (old : ℕ) → slot_at c.slots slot ≡ Some old → (f : Closed) × (node_at with_file old ≡ At slot f)
-  still_names old is = let there = t.placed slot old is in (there.0, same_named slot old is ∙ there.1)
+  pub still_names : {old : ℕ} → slot_at c.slots slot ≡ Some old → (f : Closed) × (node_at with_file old ≡ At slot f)
+  still_names {old} is = let there = t.placed slot old is in (there.0, same_named slot old is ∙ there.1)
 
   put_here : node_at (gave_way with_file (slot_at c.slots slot)) n ≡ At slot file
   put_here = node_else with_file (slot_at c.slots slot) n (λ old was same. free.unnamed slot old was (sym same))
@@ -251,62 +248,62 @@ module _ (c : Contents) (slot n : ℕ) (file : Closed) (t : IsTable c) (inside :
     removed = with_removed (state_of c).removed ((state_of c).at slot);
     fresh = changed_at (state_of c).fresh n false;
   }
-  state_of-put = state_of-changed c slot (Some n) with_file t inside same_len same_named ∙ λ i. record (state_of c) {
+  state_of-put = state_of-changed (Some n) with_file t inside same_len same_named ∙ λ i. record (state_of c) {
     at = changed_at (state_of c).at slot (placed_at n (put_here i));
-    removed = with_removed ((written removed_at c.nodes n (At slot file) Gone free.room
+    removed = with_removed ((written removed_at c.nodes (At slot file) Gone free.room
         ∙ unchanged (state_of c).removed n None (sym (was_quiet.0 n))) i) ((state_of c).at slot);
-    fresh = written (λ q node. is_fresh node) c.nodes n (At slot file) Gone free.room i;
+    fresh = written (λ q node. is_fresh node) c.nodes (At slot file) Gone free.room i;
   }
 
   pub put_keeps : IsTable (put_at c slot n file)
-  put_keeps = changed_keeps c slot (Some n) with_file t inside same_len same_named
+  put_keeps = changed_keeps (Some n) with_file t inside same_len same_named
       (λ m is. let e : n ≡ m = cc in subst (λ (k : ℕ). (f : Closed) × (node_at (put_at c slot n file).nodes k ≡ At slot f)
       × (k < length c.slots → k ≡ slot)) e (file, put_here, free.own))
       (λ m lt. each_set (λ _ x. is_fresh x ≡ false) c.nodes n (At slot file) Gone free.room refl m (λ _. t.used m lt))
       (λ m. each_set (λ k x. is_retired x ≡ true → is_retired (node_at c.nodes k) ≡ true) c.nodes n (At slot file) Gone free.room
       (λ (is : false ≡ true). cc) m (λ _ is. is))
 
-  pub put_removes : is_fresh (node_at c.nodes n) ≡ true → (found : Option ℕ) → slot_at c.slots slot ≡ found
+  pub put_removes : is_fresh (node_at c.nodes n) ≡ true → {found : Option ℕ} → slot_at c.slots slot ≡ found
       → LetsLeave c (put_at c slot n file) (Put slot (numbered n file) ((state_of c).at slot)) ((state_of c).at slot) found
-  put_removes fresh found at = record {
-    answer = number_at c slot found t at;
+  put_removes fresh {found} at = record {
+    answer = number_at slot found t at;
     step = ((inside, fresh, refl), state_of-put);
     numbers = refl;
     sound = put_keeps;
-    leaving = leaving-changed c slot (Some n) with_file t inside same_len same_named
-        ∙ ap (λ (l : ℕ → Bool). more_leaving l ((state_of c).at slot)) (written (λ q node. is_leaving node) c.nodes n (At slot file) Gone free.room
+    leaving = leaving-changed (Some n) with_file t inside same_len same_named
+        ∙ ap (λ (l : ℕ → Bool). more_leaving l ((state_of c).at slot)) (written (λ q node. is_leaving node) c.nodes (At slot file) Gone free.room
         ∙ unchanged (leaving c) n false (sym was_quiet.1));
   }
 
-  pub put_counted : (full held removed full' removed' : ℕ) → IsCounted c full held removed
+  pub put_counted : {full held removed : ℕ} (full' removed' : ℕ) → IsCounted c full held removed
       → full' + file_count_of (slot_at c.slots slot) ≡ full + 1 → removed' ≡ removed + file_count_of (slot_at c.slots slot)
       → (removed' < 2 ^ 32) × (full + 1 < 2 ^ 32) × IsCounted (put_at c slot n file) full' held removed'
-  put_counted full held removed full' removed' k full_is removed_is =
+  put_counted full' removed' k full_is removed_is =
       let quiet = free.quiet in
       let nodes_total = sum_by-set removed_count_of c.nodes n (At slot file) Gone free.room in
-      changed_counted c slot (Some n) with_file t inside same_len same_named full held removed full' removed' k (omega arith) full_is removed_is
+      changed_counted (Some n) with_file t inside same_len same_named full' removed' k (omega arith) full_is removed_is
 
   -- the table as the calls leave it
-  pub as_put_free : (nodes : List Node) → slot_at c.slots slot ≡ None → nodes ≡ with_file
+  pub as_put_free : {nodes : List Node} → slot_at c.slots slot ≡ None → nodes ≡ with_file
       → record c { slots = slice_set c.slots slot (Some n); nodes = nodes } ≡ put_at c slot n file
-  as_put_free nodes at is = λ i. record c { slots = slice_set c.slots slot (Some n); nodes = (is ∙ ap (gave_way with_file) (sym at)) i }
+  as_put_free at is = λ i. record c { slots = slice_set c.slots slot (Some n); nodes = (is ∙ ap (gave_way with_file) (sym at)) i }
 
-  pub as_put_over : (old : ℕ) (named nodes : List Node) → slot_at c.slots slot ≡ Some old → named ≡ with_file
+  pub as_put_over : {old : ℕ} {named nodes : List Node} → slot_at c.slots slot ≡ Some old → named ≡ with_file
       → nodes ≡ slice_set named old (node_after_removal (node_at named old))
       → record c { slots = slice_set c.slots slot (Some n); nodes = nodes } ≡ put_at c slot n file
-  as_put_over old named nodes at named_is is = λ i. record c {
+  as_put_over {old} at named_is is = λ i. record c {
     slots = slice_set c.slots slot (Some n);
     nodes = (is ∙ ap (λ (x : List Node). slice_set x old (node_after_removal (node_at x old))) named_is ∙ ap (gave_way with_file) (sym at)) i;
   }
 
 -- what was read at a slot is there
-pub seen_at : {X : Type 0} (xs : List X) (i : ℕ) (d x y : X) → i < length xs → x ≡ slice_index_or xs i x → x ≡ y → slice_index_or xs i d ≡ y
-seen_at xs i d x y inside read is = get_or_default xs i d x inside ∙ sym read ∙ is
+pub seen_at : {X : Type 0} (xs : List X) {i : ℕ} (d : X) {x y : X} → i < length xs → x ≡ slice_index_or xs i x → x ≡ y → slice_index_or xs i d ≡ y
+seen_at xs {i} d {x} inside read is = get_or_default xs i d x inside ∙ sym read ∙ is
 
-pub as_taken : (c : Contents) (slot number : ℕ) (nodes : List Node) → slot_at c.slots slot ≡ Some number
+pub as_taken : (c : Contents) (slot : ℕ) {number : ℕ} {nodes : List Node} → slot_at c.slots slot ≡ Some number
     → nodes ≡ slice_set c.nodes number (node_after_removal (node_at c.nodes number))
     → record c { slots = slice_set c.slots slot None; nodes = nodes } ≡ taken c slot
-as_taken c slot number nodes at is = λ i. record c { slots = slice_set c.slots slot None; nodes = (is ∙ ap (gave_way c.nodes) (sym at)) i }
+as_taken c slot at is = λ i. record c { slots = slice_set c.slots slot None; nodes = (is ∙ ap (gave_way c.nodes) (sym at)) i }
 
 -- what holds of a table as its fields are holds of it as contracts see it
 pub carried : (P : Contents → Contents → Type 0) {old now new as_called : Contents} → old ≡ now → as_called ≡ new → P old new → P now as_called

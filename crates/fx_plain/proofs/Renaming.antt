@@ -1,6 +1,6 @@
 -- One step of a table, and a history, with other numbers.
-use Rattle.fx_plain.proofs.Words.{◌≡◌, ◌≢◌, ℕ, ◌+◌, ◌-◌, ◌<◌, Bool, true, false, List, [], ◌∷◌, map, refl, sym, ap, subst, ◌∙◌, Option, Some, None, IsSome}
-use Rattle.fx_plain.proofs.Words.{if◌then◌else◌, ◌==◌, State, Allows, AllowsAll, after, state_after, changed_at, with_removed, IsLegal}
+use Rattle.fx_plain.proofs.Words.{◌≡◌, ◌≢◌, ℕ, ◌+◌, ◌-◌, ◌<◌, Bool, true, false, List, [], ◌∷◌, map, refl, sym, ap, subst, ◌∙◌, Option, Some, None}
+use Rattle.fx_plain.proofs.Words.{IsSome, if◌then◌else◌, ◌==◌, State, Allows, AllowsAll, after, state_after, changed_at, with_removed, IsLegal}
 use Rattle.fx_plain.proofs.Words.{action_of, File, Event, Action, Look, Release, Put, Clear, Take, Allocate, Close}
 use Rattle.fx_plain.specs.declared.event.Action.TheVariants.{Full}
 use Rattle.fx_plain.specs.History.{held_after, held_by, ReleasesItsOwn, AllReleaseTheirOwn}
@@ -44,8 +44,7 @@ pub record IsRenamable (r : Renaming) (fresh : ℕ → Bool) (st : State) : Type
 -- so has each file that one of the actions installs
 abbrev pub InstallsNamed : Renaming → List Action → Type 0
 InstallsNamed r [] = Unit {0}
-InstallsNamed r (action ∷ h) =
-    InstallsNamed r h × ((f : File) → installed_by action ≡ Some f → IsNamed r f.number)
+InstallsNamed r (action ∷ h) = InstallsNamed r h × ((f : File) → installed_by action ≡ Some f → IsNamed r f.number)
 
 -- what holds of the new value, and of each old one at another place, holds of each
 each_changed : {X : Type 0} (P : ℕ → X → Type 0) (f : ℕ → X) (n : ℕ) (v : X) → P n v → (m : ℕ) → (m ≢ n → P m (f m)) → P m (changed_at f n v m)
@@ -72,35 +71,35 @@ fresh_behind r fresh [] = fresh
 fresh_behind r fresh (a ∷ h) = fresh_after r (fresh_behind r fresh h) a
 
 module _ (r : Renaming) (one : IsOneToOne r) where
-  elsewhere_back : {X Y : Type 0} (g : X → Y) (none : Y) (f : ℕ → X) (n : ℕ) (v : X) (k : ℕ) → k ≢ r.number n → (x : Option ℕ) → r.back k ≡ x
+  elsewhere_back : {X Y : Type 0} (g : X → Y) (none : Y) (f : ℕ → X) (n : ℕ) (v : X) {k : ℕ} → k ≢ r.number n → (x : Option ℕ) → r.back k ≡ x
       → read_at g none f x ≡ read_at g none (changed_at f n v) x
-  elsewhere_back g none f n v k other None is = refl
-  elsewhere_back g none f n v k other (Some m) is = ap g (sym (changed_else f n v m (λ same. other (sym (one k m is) ∙ ap r.number same))))
+  elsewhere_back g none f n v other None is = refl
+  elsewhere_back g none f n v {k} other (Some m) is = ap g (sym (changed_else f n v m (λ same. other (sym (one k m is) ∙ ap r.number same))))
 
   -- a change under an old number is one under the new number
-  changed_back : {X Y : Type 0} (g : X → Y) (none : Y) (f : ℕ → X) (n : ℕ) (v : X) → IsNamed r n
+  changed_back : {X Y : Type 0} (g : X → Y) (none : Y) (f : ℕ → X) {n : ℕ} (v : X) → IsNamed r n
       → changed_at (λ k. read_at g none f (r.back k)) (r.number n) (g v) ≡ (λ k. read_at g none (changed_at f n v) (r.back k))
-  changed_back g none f n v known = λ i k. by_equality k (r.number n)
+  changed_back g none f {n} v known = λ i k. by_equality k (r.number n)
       (λ b. (if b then g v else read_at g none f (r.back k)) ≡ read_at g none (changed_at f n v) (r.back k))
       (λ same. sym (ap (read_at g none (changed_at f n v)) (ap r.back same ∙ known) ∙ ap g (changed_here f n v n refl)))
-      (λ other. elsewhere_back g none f n v k other (r.back k) refl) i
+      (λ other. elsewhere_back g none f n v other (r.back k) refl) i
 
   removed_back : (removed : ℕ → Option File) (found : Option File) → ((f : File) → found ≡ Some f → IsNamed r f.number)
       → with_removed (λ k. read_at (renamed_found r) None removed (r.back k)) (renamed_found r found)
       ≡ (λ k. read_at (renamed_found r) None (with_removed removed found) (r.back k))
   removed_back removed None known = refl
-  removed_back removed (Some f) known = changed_back (renamed_found r) None removed f.number (Some f) (known f refl)
+  removed_back removed (Some f) known = changed_back (renamed_found r) None removed (Some f) (known f refl)
 
-  module _ (fresh : ℕ → Bool) (st : State) (k : IsRenamable r fresh st) where
+  module _ {fresh : ℕ → Bool} {st : State} (k : IsRenamable r fresh st) where
     abbrev other : State
     other = renamed_state r fresh st
 
-    held_same : (n : ℕ) → IsNamed r n → other.holds (r.number n) ≡ st.holds n
-    held_same n known = ap (read_at (λ x. x) 0 st.holds) known
+    held_same : {n : ℕ} → IsNamed r n → other.holds (r.number n) ≡ st.holds n
+    held_same known = ap (read_at (λ x. x) 0 st.holds) known
 
     pub allows : (a : Action) → ((f : File) → installed_by a ≡ Some f → IsNamed r f.number) → Allows st a → Allows other (renamed r a)
     allows (Look slot found) known (inside, is) = (inside, ap (renamed_found r) is)
-    allows (Release f) known some = subst (λ (n : ℕ). 0 < n) (sym (held_same f.number (k.held f.number some))) some
+    allows (Release f) known some = subst (λ (n : ℕ). 0 < n) (sym (held_same (k.held f.number some))) some
     allows (Put slot f replaced) known (inside, is_fresh, is) = (inside, k.stays_fresh f.number (known f refl) is_fresh, ap (renamed_found r) is)
     allows (Clear slot found) known (inside, is) = (inside, ap (renamed_found r) is)
     allows (Take slot found) known (inside, is) = (inside, ap (renamed_found r) is)
@@ -108,46 +107,46 @@ module _ (r : Renaming) (one : IsOneToOne r) where
         (inside, in_range, ap (renamed_found r) none, k.stays_fresh f.number (known f refl) is_fresh)
     allows Full known full = λ slot inside in_range. some_renamed r (st.at slot) (full slot inside in_range)
     allows (Close f) known (waits, none) = let named = k.removed f.number f waits in
-        (ap (read_at (renamed_found r) None st.removed) named ∙ ap (renamed_found r) waits, held_same f.number named ∙ none)
+        (ap (read_at (renamed_found r) None st.removed) named ∙ ap (renamed_found r) waits, held_same named ∙ none)
 
     -- a hold more or less
-    holds_back : (n held : ℕ) → IsNamed r n
+    holds_back : {n : ℕ} (held : ℕ) → IsNamed r n
         → changed_at other.holds (r.number n) held ≡ (λ k. read_at (λ x. x) 0 (changed_at st.holds n held) (r.back k))
-    holds_back n held known = changed_back (λ x. x) 0 st.holds n held known
+    holds_back held known = changed_back (λ x. x) 0 st.holds held known
 
     at_slot : (slot : ℕ) (found : Option File) → changed_at other.at slot (renamed_found r found) ≡ (λ u. renamed_found r (changed_at st.at slot found u))
     at_slot slot found = through (renamed_found r) st.at slot found
 
-    known_found : (slot : ℕ) (found : Option File) → found ≡ st.at slot → (f : File) → found ≡ Some f → IsNamed r f.number
-    known_found slot found is f some = k.at slot f (sym is ∙ some)
+    known_found : (slot : ℕ) {found : Option File} → found ≡ st.at slot → (f : File) → found ≡ Some f → IsNamed r f.number
+    known_found slot is f some = k.at slot f (sym is ∙ some)
 
     pub after_is : (a : Action) → Allows st a → after other (renamed r a) ≡ renamed_state r (fresh_after r fresh a) (after st a)
     after_is (Look slot None) may = refl
     after_is (Look slot (Some f)) (inside, is) = let known = k.at slot f (sym is) in λ i. record other {
-      holds = (ap (λ (n : ℕ). changed_at other.holds (r.number f.number) (n + 1)) (held_same f.number known)
-          ∙ holds_back f.number (st.holds f.number + 1) known) i;
+      holds = (ap (λ (n : ℕ). changed_at other.holds (r.number f.number) (n + 1)) (held_same known)
+          ∙ holds_back (st.holds f.number + 1) known) i;
     }
     after_is (Release f) some = let known = k.held f.number some in λ i. record other {
-      holds = (ap (λ (n : ℕ). changed_at other.holds (r.number f.number) (n - 1)) (held_same f.number known)
-          ∙ holds_back f.number (st.holds f.number - 1) known) i;
+      holds = (ap (λ (n : ℕ). changed_at other.holds (r.number f.number) (n - 1)) (held_same known)
+          ∙ holds_back (st.holds f.number - 1) known) i;
     }
     after_is (Put slot f replaced) (inside, is_fresh, is) = λ i. record other {
       at = at_slot slot (Some f) i;
       fresh = changed_at fresh (r.number f.number) false;
-      removed = removed_back st.removed replaced (known_found slot replaced is) i;
+      removed = removed_back st.removed replaced (known_found slot is) i;
     }
     after_is (Clear slot found) (inside, is) = λ i. record other {
       at = at_slot slot None i;
-      removed = removed_back st.removed found (known_found slot found is) i;
+      removed = removed_back st.removed found (known_found slot is) i;
     }
     after_is (Take slot found) (inside, is) = λ i. record other {
       at = at_slot slot None i;
-      removed = removed_back st.removed found (known_found slot found is) i;
+      removed = removed_back st.removed found (known_found slot is) i;
     }
     after_is (Allocate slot f) may = λ i. record other { at = at_slot slot (Some f) i; fresh = changed_at fresh (r.number f.number) false }
     after_is Full may = refl
     after_is (Close f) (waits, none) = λ i. record other {
-      removed = changed_back (renamed_found r) None st.removed f.number None (k.removed f.number f waits) i;
+      removed = changed_back (renamed_found r) None st.removed None (k.removed f.number f waits) i;
     }
 
     -- the files of the state afterwards
@@ -155,17 +154,17 @@ module _ (r : Renaming) (one : IsOneToOne r) where
         → changed_at st.at slot new u ≡ Some f → IsNamed r f.number
     at_after slot new known u f = each_changed (λ v x. x ≡ Some f → IsNamed r f.number) st.at slot new (known f) u (λ other. k.at u f)
 
-    held_after_change : (n held : ℕ) → IsNamed r n → (m : ℕ) → 0 < changed_at st.holds n held m → IsNamed r m
-    held_after_change n held known m = each_changed (λ v x. 0 < x → IsNamed r v) st.holds n held (λ some. known) m (λ other. k.held m)
+    held_after_change : {n : ℕ} (held : ℕ) → IsNamed r n → (m : ℕ) → 0 < changed_at st.holds n held m → IsNamed r m
+    held_after_change {n} held known m = each_changed (λ v x. 0 < x → IsNamed r v) st.holds n held (λ some. known) m (λ other. k.held m)
 
     removed_after : (found : Option File) → ((f : File) → found ≡ Some f → IsNamed r f.number) → (m : ℕ) (f : File)
         → with_removed st.removed found m ≡ Some f → IsNamed r f.number
     removed_after None known m f = k.removed m f
     removed_after (Some g) known m f = each_changed (λ v x. x ≡ Some f → IsNamed r f.number) st.removed g.number (Some g) (known f) m (λ other. k.removed m f)
 
-    still_fresh : (n : ℕ) → IsNamed r n → (m : ℕ) → IsNamed r m → changed_at st.fresh n false m ≡ true
+    still_fresh : {n : ℕ} → IsNamed r n → (m : ℕ) → IsNamed r m → changed_at st.fresh n false m ≡ true
         → changed_at fresh (r.number n) false (r.number m) ≡ true
-    still_fresh n known m named is = by_equality m n (λ b. (if b then false else st.fresh m) ≡ true → changed_at fresh (r.number n) false (r.number m) ≡ true)
+    still_fresh {n} known m named is = by_equality m n (λ b. (if b then false else st.fresh m) ≡ true → changed_at fresh (r.number n) false (r.number m) ≡ true)
         (λ same (no : false ≡ true). absurd (cc no))
         (λ apart is_fresh. changed_else fresh (r.number n) false (r.number m) (λ (same : r.number m ≡ r.number n).
         let e : Some m ≡ Some n = sym named ∙ ap r.back same ∙ known in apart (cc e)) ∙ k.stays_fresh m named is_fresh) is
@@ -174,39 +173,39 @@ module _ (r : Renaming) (one : IsOneToOne r) where
     stays_renamable (Look slot None) known may = k
     stays_renamable (Look slot (Some f)) known (inside, is) = record {
       at = k.at;
-      held = held_after_change f.number (st.holds f.number + 1) (k.at slot f (sym is));
+      held = held_after_change (st.holds f.number + 1) (k.at slot f (sym is));
       removed = k.removed;
       stays_fresh = k.stays_fresh;
     }
     stays_renamable (Release f) known some = record {
       at = k.at;
-      held = held_after_change f.number (st.holds f.number - 1) (k.held f.number some);
+      held = held_after_change (st.holds f.number - 1) (k.held f.number some);
       removed = k.removed;
       stays_fresh = k.stays_fresh;
     }
     stays_renamable (Put slot f replaced) known (inside, is_fresh, is) = record {
       at = at_after slot (Some f) known;
       held = k.held;
-      removed = removed_after replaced (known_found slot replaced is);
-      stays_fresh = still_fresh f.number (known f refl);
+      removed = removed_after replaced (known_found slot is);
+      stays_fresh = still_fresh (known f refl);
     }
     stays_renamable (Clear slot found) known (inside, is) = record {
       at = at_after slot None (λ f none. absurd (cc none));
       held = k.held;
-      removed = removed_after found (known_found slot found is);
+      removed = removed_after found (known_found slot is);
       stays_fresh = k.stays_fresh;
     }
     stays_renamable (Take slot found) known (inside, is) = record {
       at = at_after slot None (λ f none. absurd (cc none));
       held = k.held;
-      removed = removed_after found (known_found slot found is);
+      removed = removed_after found (known_found slot is);
       stays_fresh = k.stays_fresh;
     }
     stays_renamable (Allocate slot f) known may = record {
       at = at_after slot (Some f) known;
       held = k.held;
       removed = k.removed;
-      stays_fresh = still_fresh f.number (known f refl);
+      stays_fresh = still_fresh (known f refl);
     }
     stays_renamable Full known may = k
     stays_renamable (Close f) known may = record {
@@ -218,23 +217,23 @@ module _ (r : Renaming) (one : IsOneToOne r) where
     }
 
   -- a history of actions
-  module _ (fresh : ℕ → Bool) (start : State) (k : IsRenamable r fresh start) where
+  module _ {fresh : ℕ → Bool} {start : State} (k : IsRenamable r fresh start) where
     pub renamable_behind : (h : List Action) → InstallsNamed r h → AllowsAll start h → IsRenamable r (fresh_behind r fresh h) (state_after start h)
     renamable_behind [] known may = k
-    renamable_behind (a ∷ h) known may = stays_renamable (fresh_behind r fresh h) (state_after start h) (renamable_behind h known.0 may.0) a known.1 may.1
+    renamable_behind (a ∷ h) known may = stays_renamable (renamable_behind h known.0 may.0) a known.1 may.1
 
     pub state_behind : (h : List Action) → InstallsNamed r h → AllowsAll start h
         → state_after (renamed_state r fresh start) (map (renamed r) h) ≡ renamed_state r (fresh_behind r fresh h) (state_after start h)
     state_behind [] known may = refl
     state_behind (a ∷ h) known may = ap (λ (s : State). after s (renamed r a)) (state_behind h known.0 may.0)
-        ∙ after_is (fresh_behind r fresh h) (state_after start h) (renamable_behind h known.0 may.0) a may.1
+        ∙ after_is (renamable_behind h known.0 may.0) a may.1
 
     pub allowed_behind : (h : List Action) → InstallsNamed r h → AllowsAll start h → AllowsAll (renamed_state r fresh start) (map (renamed r) h)
     allowed_behind [] known may = tt
     allowed_behind (a ∷ h) known may = (
       allowed_behind h known.0 may.0,
       subst (λ (s : State). Allows s (renamed r a)) (sym (state_behind h known.0 may.0))
-          (allows (fresh_behind r fresh h) (state_after start h) (renamable_behind h known.0 may.0) a known.1 may.1),
+          (allows (renamable_behind h known.0 may.0) a known.1 may.1),
     )
 
 -- what a pass holds
@@ -243,26 +242,26 @@ held_after_same r held (Look slot found) = refl
 held_after_same r held (Release f) = refl
 held_after_same r held _ = refl
 
-if_renamed : (r : Renaming) (b : Bool) (x y x' y' : Option File) → x' ≡ renamed_found r x → y' ≡ renamed_found r y
+if_renamed : (r : Renaming) (b : Bool) (x y : Option File) {x' y' : Option File} → x' ≡ renamed_found r x → y' ≡ renamed_found r y
     → (if b then x' else y') ≡ renamed_found r (if b then x else y)
-if_renamed r true x y x' y' on off = on
-if_renamed r false x y x' y' on off = off
+if_renamed r true x y on off = on
+if_renamed r false x y on off = off
 
 held_same_by : (r : Renaming) (h : List Event) (pass : ℕ) → held_by (map (renamed_event r) h) pass ≡ renamed_found r (held_by h pass)
 held_same_by r [] pass = refl
-held_same_by r (e ∷ h) pass = if_renamed r (e.pass == pass) (held_after (held_by h pass) e.action) (held_by h pass) _ _
+held_same_by r (e ∷ h) pass = if_renamed r (e.pass == pass) (held_after (held_by h pass) e.action) (held_by h pass)
     (ap (λ (held : Option File). held_after held (renamed r e.action)) (held_same_by r h pass) ∙ held_after_same r (held_by h pass) e.action)
     (held_same_by r h pass)
 
-releases_its_own : (r : Renaming) (held now : Option File) (a : Action) → now ≡ renamed_found r held → ReleasesItsOwn held a → ReleasesItsOwn now (renamed r a)
-releases_its_own r held now (Release f) same own = same ∙ ap (renamed_found r) own
-releases_its_own r held now _ same own = tt
+releases_its_own : (r : Renaming) (held : Option File) {now : Option File} (a : Action) → now ≡ renamed_found r held → ReleasesItsOwn held a → ReleasesItsOwn now (renamed r a)
+releases_its_own r held (Release f) same own = same ∙ ap (renamed_found r) own
+releases_its_own r held _ same own = tt
 
 all_release : (r : Renaming) (h : List Event) → AllReleaseTheirOwn h → AllReleaseTheirOwn (map (renamed_event r) h)
 all_release r [] own = tt
 all_release r (e ∷ h) own = (
   all_release r h own.0,
-  releases_its_own r (held_by h e.pass) (held_by (map (renamed_event r) h) e.pass) e.action (held_same_by r h e.pass) own.1,
+  releases_its_own r (held_by h e.pass) e.action (held_same_by r h e.pass) own.1,
 )
 
 -- the actions of a history
@@ -270,21 +269,21 @@ actions_renamed : (r : Renaming) (h : List Event) → map action_of (map (rename
 actions_renamed r [] = refl
 actions_renamed r (e ∷ h) = ap (λ (l : List Action). renamed r e.action ∷ l) (actions_renamed r h)
 
-pub legal_renamed : (r : Renaming) → IsOneToOne r → (fresh : ℕ → Bool) (start end : State) (h : List Event) → IsRenamable r fresh start
+pub legal_renamed : (r : Renaming) → IsOneToOne r → {fresh : ℕ → Bool} {start end : State} {h : List Event} → IsRenamable r fresh start
     → InstallsNamed r (map action_of h) → IsLegal start h end
     → (left : ℕ → Bool) × IsLegal (renamed_state r fresh start) (map (renamed_event r) h) (renamed_state r left end) × IsRenamable r left end
-legal_renamed r one fresh start end h k known legal =
+legal_renamed r one {fresh} {start} {h} k known legal =
     let actions = map action_of h in
     let may = legal.leads.0 in
     let left = fresh_behind r fresh actions in (
       left,
       record {
         leads = (
-          subst (AllowsAll (renamed_state r fresh start)) (sym (actions_renamed r h)) (allowed_behind r one fresh start k actions known may),
-          sym (ap (state_after (renamed_state r fresh start)) (actions_renamed r h) ∙ state_behind r one fresh start k actions known may
+          subst (AllowsAll (renamed_state r fresh start)) (sym (actions_renamed r h)) (allowed_behind r one k actions known may),
+          sym (ap (state_after (renamed_state r fresh start)) (actions_renamed r h) ∙ state_behind r one k actions known may
               ∙ ap (renamed_state r left) (sym legal.leads.1)),
         );
         releases = all_release r h legal.releases;
       },
-      subst (IsRenamable r left) (sym legal.leads.1) (renamable_behind r one fresh start k actions known may),
+      subst (IsRenamable r left) (sym legal.leads.1) (renamable_behind r one k actions known may),
     )

@@ -10,20 +10,20 @@ module _ {X : Type 0} (rest : X) (len : ℕ) (xs : List X) where
       let b : length (replicate (len - length xs) rest) ≡ len - length xs = length-replicate (len - length xs) rest in omega arith
 
   -- what was written is read
-  pub read_written : (n : ℕ) (d : X) → n < length xs → slice_index_or (with_rest rest len xs) n d ≡ slice_index_or xs n d
-  read_written n d inside = get_or_append_left xs (replicate (len - length xs) rest) d n inside
+  pub read_written : {n : ℕ} (d : X) → n < length xs → slice_index_or (with_rest rest len xs) n d ≡ slice_index_or xs n d
+  read_written {n} d inside = get_or_append_left xs (replicate (len - length xs) rest) d n inside
 
   -- behind it stands the rest
-  pub read_rest : (n : ℕ) (d : X) → length xs ≤ n → n < len → slice_index_or (with_rest rest len xs) n d ≡ rest
-  read_rest n d behind inside =
+  pub read_rest : {n : ℕ} (d : X) → length xs ≤ n → n < len → slice_index_or (with_rest rest len xs) n d ≡ rest
+  read_rest {n} d behind inside =
       let at : length xs + (n - length xs) ≡ n = omega arith in
       ap (λ (k : ℕ). slice_index_or (with_rest rest len xs) k d) (sym at)
       ∙ get_or-append-add xs (replicate (len - length xs) rest) (n - length xs) d
       ∙ get_or-replicate (len - length xs) (n - length xs) rest d (omega arith)
 
   -- a write of what was written is a write of the whole list
-  pub with_rest-set : (n : ℕ) (x : X) → n < length xs → with_rest rest len (slice_set xs n x) ≡ slice_set (with_rest rest len xs) n x
-  with_rest-set n x inside = ap (λ (k : ℕ). slice_set xs n x ++ replicate (len - k) rest) (length-set xs n x)
+  pub with_rest-set : {n : ℕ} (x : X) → n < length xs → with_rest rest len (slice_set xs n x) ≡ slice_set (with_rest rest len xs) n x
+  with_rest-set {n} x inside = ap (λ (k : ℕ). slice_set xs n x ++ replicate (len - k) rest) (length-set xs n x)
       ∙ sym (set-append_left xs (replicate (len - length xs) rest) n x inside)
 
   -- one more of the rest may be written at any time
@@ -36,35 +36,35 @@ module _ {X : Type 0} (rest : X) (len : ℕ) (xs : List X) where
       joined ∙ ap (λ (k : ℕ). xs ++ replicate k rest) same
 
 -- what is read as neither the rest nor the default was written
-inside_written : {X : Type 0} (rest d : X) (len : ℕ) (xs : List X) (n : ℕ) → length xs ≤ len → slice_index_or (with_rest rest len xs) n d ≢ rest
+inside_written : {X : Type 0} (rest d : X) {len : ℕ} (xs : List X) (n : ℕ) → length xs ≤ len → slice_index_or (with_rest rest len xs) n d ≢ rest
     → slice_index_or (with_rest rest len xs) n d ≢ d → n < length xs
-inside_written rest d len xs n few no_rest no_default = elim (cases_lt n (length xs)) [
+inside_written rest d {len} xs n few no_rest no_default = elim (cases_lt n (length xs)) [
   | inl lt ↦ lt
   | inr behind ↦ elim (cases_lt n len) [
-    | inl lt ↦ absurd (no_rest (read_rest rest len xs n d behind lt))
+    | inl lt ↦ absurd (no_rest (read_rest rest len xs d behind lt))
     | inr past ↦ let size = length-with_rest rest len xs few in absurd (no_default (get_or-eq_default (with_rest rest len xs) d (omega arith)))
   ]
 ]
 
 -- a node with a file was written
-pub written_inside : (len : ℕ) (xs : List Node) (n : ℕ) → length xs ≤ len → IsSome (file_in (node_at (with_rest Fresh len xs) n)) → n < length xs
-written_inside len xs n few has = inside_written Fresh Gone len xs n few
+pub written_inside : {len : ℕ} (xs : List Node) (n : ℕ) → length xs ≤ len → IsSome (file_in (node_at (with_rest Fresh len xs) n)) → n < length xs
+written_inside xs n few has = inside_written Fresh Gone xs n few
     (λ is. let none : IsSome (file_in Fresh) = subst (λ (node : Node). IsSome (file_in node)) is has in cc none)
     (λ is. let none : IsSome (file_in Gone) = subst (λ (node : Node). IsSome (file_in node)) is has in cc none)
 
 -- a write at a node with a file is a write of the whole list
-pub written_over : (len : ℕ) (xs ys seen : List Node) (n : ℕ) (x : Node) → length xs ≤ len → with_rest Fresh len xs ≡ seen
+pub written_over : {len : ℕ} (xs : List Node) {ys seen : List Node} (n : ℕ) (x : Node) → length xs ≤ len → with_rest Fresh len xs ≡ seen
     → IsSome (file_in (node_at seen n)) → ys ≡ slice_set xs n x → with_rest Fresh len ys ≡ slice_set seen n x
-written_over len xs ys seen n x few is has set = ap (with_rest Fresh len) set
-    ∙ with_rest-set Fresh len xs n x (written_inside len xs n few (subst (λ (l : List Node). IsSome (file_in (node_at l n))) (sym is) has))
+written_over {len} xs n x few is has set = ap (with_rest Fresh len) set
+    ∙ with_rest-set Fresh len xs x (written_inside xs n few (subst (λ (l : List Node). IsSome (file_in (node_at l n))) (sym is) has))
     ∙ ap (λ (l : List Node). slice_set l n x) is
 
 -- and so is one of what the node becomes
-pub changed_over : (f : Node → Node) (len : ℕ) (xs mid ys seen : List Node) (n : ℕ) (node now : Node) → length xs ≤ len
+pub changed_over : (f : Node → Node) {len : ℕ} (xs : List Node) {mid ys seen : List Node} (n : ℕ) {node now : Node} → length xs ≤ len
     → with_rest Fresh len xs ≡ seen → IsSome (file_in (node_at seen n)) → node ≡ node_at xs n → mid ≡ slice_set xs n Gone → now ≡ f node → ys ≡ slice_set mid n now
     → with_rest Fresh len ys ≡ slice_set seen n (f (node_at seen n))
-changed_over f len xs mid ys seen n node now few is has read out became set =
-    let inside = written_inside len xs n few (subst (λ (l : List Node). IsSome (file_in (node_at l n))) (sym is) has) in
-    let same : node ≡ node_at seen n = read ∙ sym (read_written Fresh len xs n Gone inside) ∙ ap (λ (l : List Node). node_at l n) is in
-    written_over len xs ys seen n (f (node_at seen n)) few is has
+changed_over f {len} xs {seen} n {node} {now} few is has read out became set =
+    let inside = written_inside xs n few (subst (λ (l : List Node). IsSome (file_in (node_at l n))) (sym is) has) in
+    let same : node ≡ node_at seen n = read ∙ sym (read_written Fresh len xs Gone inside) ∙ ap (λ (l : List Node). node_at l n) is in
+    written_over xs n (f (node_at seen n)) few is has
     (set ∙ ap (λ (l : List Node). slice_set l n now) out ∙ set-set xs n Gone now ∙ ap (slice_set xs n) (became ∙ ap f same))

@@ -22,18 +22,17 @@ not_removed n Fresh is = refl
 not_removed n _ is = cc
 
 -- a table without holds and removed files is settled
-pub settled_by_counts : (c : Contents) (full held removed : ℕ) → IsCounted c full held removed → held ≡ 0 → removed ≡ 0 → IsSettled (state_of c)
-settled_by_counts c full held removed k no_holds none_removed = record {
+pub settled_by_counts : {c : Contents} {full held removed : ℕ} → IsCounted c full held removed → held ≡ 0 → removed ≡ 0 → IsSettled (state_of c)
+settled_by_counts {c} k no_holds none_removed = record {
   unheld = λ n. nothing_in_sum itself c.holds 0 refl (sym k.all_holds ∙ no_holds) n;
   closed = λ n. (quiet_is (node_at c.nodes n) (nothing_in_sum removed_count_of c.nodes Gone refl (sym k.all_removed ∙ none_removed) n)).0 n;
 }
 
-pub no_holds : (c : Contents) (full held removed : ℕ) → IsCounted c full held removed → IsSettled (state_of c) → held ≡ 0
-no_holds c full held removed k s = k.all_holds ∙ sum_of_nothings itself c.holds 0 s.unheld
+pub no_holds : {c : Contents} {full held removed : ℕ} → IsCounted c full held removed → IsSettled (state_of c) → held ≡ 0
+no_holds {c} k s = k.all_holds ∙ sum_of_nothings itself c.holds 0 s.unheld
 
-pub none_removed : (c : Contents) (full held removed : ℕ) → IsCounted c full held removed → IsSettled (state_of c) → removed ≡ 0
-none_removed c full held removed k s = k.all_removed
-    ∙ sum_of_nothings removed_count_of c.nodes Gone (λ n. not_removed n (node_at c.nodes n) (s.closed n))
+pub none_removed : {c : Contents} {full held removed : ℕ} → IsCounted c full held removed → IsSettled (state_of c) → removed ≡ 0
+none_removed {c} k s = k.all_removed ∙ sum_of_nothings removed_count_of c.nodes Gone (λ n. not_removed n (node_at c.nodes n) (s.closed n))
 
 upto_front : (f : ℕ → ℕ) (n : ℕ) → sum_below f (suc n) ≡ f 0 + sum_below (λ i. f (suc i)) n
 upto_front f zero = omega arith
@@ -45,28 +44,27 @@ total_upto (x ∷ xs) = let rest = total_upto xs in
     let front = upto_front (λ i. file_count_of (slot_at (x ∷ xs) i)) (length xs) in omega (arith, sum_by-cons file_count_of x xs)
 
 -- what a slot names stands there
-one_file : (c : Contents) (slot : ℕ) → IsTable c → (x : Option ℕ) → slot_at c.slots slot ≡ x
+one_file : {c : Contents} (slot : ℕ) → IsTable c → (x : Option ℕ) → slot_at c.slots slot ≡ x
     → length (identities_of (file_at c.nodes x)) ≡ file_count_of x
-one_file c slot t None is = refl
-one_file c slot t (Some n) is = ap (λ (node : Node). length (identities_of (placed_at n node))) (t.placed slot n is).1
+one_file slot t None is = refl
+one_file slot t (Some n) is = ap (λ (node : Node). length (identities_of (placed_at n node))) (t.placed slot n is).1
 
-files_upto : (c : Contents) → IsTable c → (n : ℕ) → length (files_in_order (state_of c).at n) ≡ sum_below (λ i. file_count_of (slot_at c.slots i)) n
-files_upto c t zero = refl
-files_upto c t (suc n) =
-    let rest = files_upto c t n in
-    let one = one_file c n t (slot_at c.slots n) refl in
+files_upto : {c : Contents} → IsTable c → (n : ℕ) → length (files_in_order (state_of c).at n) ≡ sum_below (λ i. file_count_of (slot_at c.slots i)) n
+files_upto t zero = refl
+files_upto {c} t (suc n) =
+    let rest = files_upto t n in
+    let one = one_file n t (slot_at c.slots n) refl in
     let both = length-append (files_in_order (state_of c).at n) (identities_of ((state_of c).at n)) in omega arith
 
 -- the files of a table are as many as its full slots
-pub length-files_of : (c : Contents) → IsTable c → length (files_of (state_of c)) ≡ sum_by file_count_of c.slots
-length-files_of c t = files_upto c t (length c.slots) ∙ sym (total_upto c.slots)
+pub length-files_of : {c : Contents} → IsTable c → length (files_of (state_of c)) ≡ sum_by file_count_of c.slots
+length-files_of {c} t = files_upto t (length c.slots) ∙ sym (total_upto c.slots)
 
 -- a table of empty slots
-pub sparse_keeps : (slots : List (Option ℕ)) (n : ℕ) (nodes : List Node) (holds : List ℕ) → slots ≡ replicate n None → n ≤ 256 → nodes ≡ []
-    → holds ≡ [] → length slots ≡ n
-    → IsTable (record { slots = slots; range = (0, n); nodes = nodes; holds = holds; numbers = n })
+pub sparse_keeps : {slots : List (Option ℕ)} {n : ℕ} {nodes : List Node} {holds : List ℕ} → slots ≡ replicate n None → n ≤ 256 → nodes ≡ []
+    → holds ≡ [] → length slots ≡ n → IsTable (record { slots = slots; range = (0, n); nodes = nodes; holds = holds; numbers = n })
     × IsCounted (record { slots = slots; range = (0, n); nodes = nodes; holds = holds; numbers = n }) 0 0 0
-sparse_keeps slots n nodes holds slots_are few no_nodes no_hold len =
+sparse_keeps {n} slots_are few no_nodes no_hold len =
     subst (λ (x : List (Option ℕ) × List Node × List ℕ). IsTable (record { slots = x.0; range = (0, n); nodes = x.1; holds = x.2; numbers = n })
     × IsCounted (record { slots = x.0; range = (0, n); nodes = x.1; holds = x.2; numbers = n }) 0 0 0)
     (λ i. (sym slots_are i, sym no_nodes i, sym no_hold i)) (

@@ -6,7 +6,7 @@ abbrev pub sum_below : (ℕ → ℕ) → ℕ → ℕ
 sum_below f zero = 0
 sum_below f (suc n) = f n + sum_below f n
 
-module _ (f g : ℕ → ℕ) (q : ℕ) (off : (k : ℕ) → k ≢ q → g k ≡ f k) where
+module _ (f g : ℕ → ℕ) {q : ℕ} (off : (k : ℕ) → k ≢ q → g k ≡ f k) where
   -- a change at or above the bound changes nothing
   pub same_below : (n : ℕ) → n ≤ q → sum_below g n ≡ sum_below f n
   same_below zero le = refl

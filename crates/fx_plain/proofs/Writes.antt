@@ -5,16 +5,16 @@ use Rattle.fx_plain.proofs.Words.{removed_at, is_fresh, is_leaving, is_retired, 
 use Rattle.fx_plain.proofs.Cells.{written, inside_of}
 
 -- a node that isn't gone is one of the table's
-pub inside_of-At : (nodes : List Node) (n slot : ℕ) (file : Closed) → node_at nodes n ≡ At slot file → n < length nodes
-inside_of-At nodes n slot file is = inside_of nodes n Gone (λ (gone : node_at nodes n ≡ Gone). cc)
+pub inside_of-At : (nodes : List Node) (n : ℕ) {slot : ℕ} {file : Closed} → node_at nodes n ≡ At slot file → n < length nodes
+inside_of-At nodes n is = inside_of nodes n Gone (λ (gone : node_at nodes n ≡ Gone). cc)
 
 pub inside_told : (told : Node → Bool) (nodes : List Node) (n : ℕ) → told Gone ≡ false → told (node_at nodes n) ≡ true → n < length nodes
 inside_told told nodes n none is = inside_of nodes n Gone (λ (gone : node_at nodes n ≡ Gone).
     let e : false ≡ true = sym none ∙ ap told (sym gone) ∙ is in cc)
 
 -- a node has a file, at a slot or removed
-pub has_file-At : (nodes : List Node) (n slot : ℕ) (file : Closed) → node_at nodes n ≡ At slot file → IsSome (file_in (node_at nodes n))
-has_file-At nodes n slot file is = subst (λ (node : Node). IsSome (file_in node)) (sym is) refl
+pub has_file-At : (nodes : List Node) (n : ℕ) {slot : ℕ} {file : Closed} → node_at nodes n ≡ At slot file → IsSome (file_in (node_at nodes n))
+has_file-At nodes n is = subst (λ (node : Node). IsSome (file_in node)) (sym is) refl
 
 -- a node by what is told of it
 pub fresh_is : (node : Node) → is_fresh node ≡ true → node ≡ Fresh
@@ -42,24 +42,24 @@ pub file_same : (old new : List Node) (x : Option ℕ) → ((m : ℕ) → x ≡ 
 file_same old new None same = refl
 file_same old new (Some m) same = ap (placed_at m) (same m refl)
 
-pub same_file : (c : Contents) (n : ℕ) (v : Node) → IsTable c → IsOff (node_at c.nodes n) → (slot : ℕ)
+pub same_file : {c : Contents} (n : ℕ) (v : Node) → IsTable c → IsOff (node_at c.nodes n) → (slot : ℕ)
     → file_at (slice_set c.nodes n v) (slot_at c.slots slot) ≡ file_at c.nodes (slot_at c.slots slot)
-same_file c n v t off slot = file_same c.nodes (slice_set c.nodes n v) (slot_at c.slots slot) (λ m is. let at = t.placed slot m is in
+same_file {c} n v t off slot = file_same c.nodes (slice_set c.nodes n v) (slot_at c.slots slot) (λ m is. let at = t.placed slot m is in
     get_or-set_other c.nodes n m v Gone (λ (same : m ≡ n). off slot at.0 (ap (node_at c.nodes) (sym same) ∙ at.1)))
 
-pub state_of-holds : (c : Contents) (n h : ℕ) → n < length c.holds
+pub state_of-holds : (c : Contents) {n : ℕ} (h : ℕ) → n < length c.holds
     → state_of (record c { holds = slice_set c.holds n h }) ≡ record (state_of c) { holds = changed_at (state_of c).holds n h }
-state_of-holds c n h inside = λ i. record (state_of c) { holds = written (λ q x. x) c.holds n h 0 inside i }
+state_of-holds c h inside = λ i. record (state_of c) { holds = written (λ q x. x) c.holds h 0 inside i }
 
-pub state_of-nodes : (c : Contents) (n : ℕ) (v : Node) → IsTable c → n < length c.nodes → IsOff (node_at c.nodes n)
+pub state_of-nodes : {c : Contents} {n : ℕ} (v : Node) → IsTable c → n < length c.nodes → IsOff (node_at c.nodes n)
     → state_of (record c { nodes = slice_set c.nodes n v })
     ≡ record (state_of c) { removed = changed_at (state_of c).removed n (removed_at n v); fresh = changed_at (state_of c).fresh n (is_fresh v) }
-state_of-nodes c n v t inside off = λ i. record (state_of c) {
-  at = λ slot. same_file c n v t off slot i;
-  removed = written removed_at c.nodes n v Gone inside i;
-  fresh = written (λ q x. is_fresh x) c.nodes n v Gone inside i;
+state_of-nodes {c} {n} v t inside off = λ i. record (state_of c) {
+  at = λ slot. same_file n v t off slot i;
+  removed = written removed_at c.nodes v Gone inside i;
+  fresh = written (λ q x. is_fresh x) c.nodes v Gone inside i;
 }
 
-pub leaving-nodes : (c : Contents) (n : ℕ) (v : Node) → n < length c.nodes
+pub leaving-nodes : (c : Contents) {n : ℕ} (v : Node) → n < length c.nodes
     → leaving (record c { nodes = slice_set c.nodes n v }) ≡ changed_at (leaving c) n (is_leaving v)
-leaving-nodes c n v inside = written (λ q x. is_leaving x) c.nodes n v Gone inside
+leaving-nodes c v inside = written (λ q x. is_leaving x) c.nodes v Gone inside

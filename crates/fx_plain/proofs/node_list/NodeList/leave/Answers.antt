@@ -6,5 +6,5 @@ pub returns : goal.returns
 returns c =
     let few : length c.self.inside.written.items ≤ c.self.inside.len = let a = c.self.invariant.0 in let b = c.self.inside.written.ok.0 in
     omega arith in
-    changed_over node_after_removal c.self.inside.len _ _ _ _ c.args.number _ _ few c.self.view_is c.requires c.put_in-node.ensures.before
+    changed_over node_after_removal _ c.args.number few c.self.view_is c.requires c.put_in-node.ensures.before
     c.put_in-node.ensures.after c.node_after_removal.ensures c.put_in.ensures.after

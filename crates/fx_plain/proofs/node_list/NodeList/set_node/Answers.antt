@@ -12,5 +12,5 @@ returns c =
     let inside : c.args.number < length c.write_up_to.new.nodes.items = let a = c.write_up_to.ensures.inside in
     let b = c.write_up_to.new.nodes.ok.0 in omega arith in
     ap (with_rest Fresh c.self.inside.len) c.put_in.ensures.after
-    ∙ with_rest-set Fresh c.self.inside.len c.write_up_to.new.nodes.items c.args.number c.args.node inside
+    ∙ with_rest-set Fresh c.self.inside.len c.write_up_to.new.nodes.items c.args.node inside
     ∙ ap (λ (xs : List Node). slice_set xs c.args.number c.args.node) (c.write_up_to.ensures.same c.self.inside.len lt ∙ c.self.view_is)

@@ -9,11 +9,9 @@ returns-clause-empty c =
     let settled : IsSettled (state_of (the_view c.self.inside)) =
     subst (λ (k : Contents). IsSettled (state_of k)) (sym c.self.view_is) c.requires.settled in
     ap (λ (xs : List (Option ℕ)). state_of (record (the_view c.self.inside) { slots = xs; range = (0, 0); nodes = nodes })) c.clear.ensures.items
-    ∙ state_of-without (the_view c.self.inside) [] (0, 0) nodes c.self.invariant.0.0 (λ _. refl) (omega arith) (omega arith) len
-    c.close_all.ensures.nodes
+    ∙ state_of-without [] (0, 0) nodes c.self.invariant.0.0 (λ _. refl) (omega arith) (omega arith) len c.close_all.ensures.nodes
     ∙ (λ i. record (vacant 0) {
       removed = λ n. settled.closed n i;
       holds = λ n. settled.unheld n i;
       fresh = (state_of (the_view c.self.inside)).fresh;
-    })
-    ∙ ap (λ (k : Contents). record (vacant 0) { fresh = (state_of k).fresh }) c.self.view_is
+    }) ∙ ap (λ (k : Contents). record (vacant 0) { fresh = (state_of k).fresh }) c.self.view_is

@@ -7,7 +7,6 @@ pub file-requires : goal.file-requires
 file-requires c =
     let v : Contents = the_view c.self.inside in
     let inside : c.args.slot < length v.slots = search rules in
-    let at : slot_at v.slots c.args.slot ≡ Some c.in_ok-number.number =
-    seen_at v.slots c.args.slot None c.index.result.now (Some c.in_ok-number.number) inside c.index.ensures c.in_ok-number.was in
+    let at : slot_at v.slots c.args.slot ≡ Some c.in_ok-number.number = seen_at v.slots None inside c.index.ensures c.in_ok-number.was in
     let named = c.self.invariant.0.0.placed c.args.slot c.in_ok-number.number at in
-    has_file-At c.self.inside.nodes c.in_ok-number.number c.args.slot named.0 named.1
+    has_file-At c.self.inside.nodes c.in_ok-number.number named.1

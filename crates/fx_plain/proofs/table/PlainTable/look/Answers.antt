@@ -1,7 +1,7 @@
 use Rattle.fx_plain.proofs.Words.{◌≡◌, ℕ, rules, Option, IfSome, File, sym, ◌<◌, ◌+◌, Some, None, length, subst, arith, ◌^◌, slice_index, Closed}
-use Rattle.fx_plain.proofs.Words.{Look, Steps, Contents, IsTable, IsCounted, state_of, slot_at, node_at, At, HasRoomForHold, the_view}
+use Rattle.fx_plain.proofs.Words.{Look, Steps, Contents, IsCounted, state_of, slot_at, node_at, At, HasRoomForHold, the_view}
 use Rattle.fx_plain.proofs.Removals.{carried, seen_at}
-use Rattle.fx_plain.proofs.Holding.{with_holds, look_steps, at_is, look_inside, look_keeps, look_counted, held_more}
+use Rattle.fx_plain.proofs.Holding.{with_holds, look_steps, at_is, look_counted, held_more}
 use Rattle.fx_plain.proofs.table.PlainTable.look.Goals.{In_ok-number}
 use Rattle.fx_plain.proofs.table.PlainTable.look.Goals as goal
 
@@ -17,38 +17,22 @@ module _ (c : In_ok-number) where
   inside = search rules
 
   at : slot_at table.slots c.args.slot ≡ Some n
-  at = seen_at c.self.inside.slots.items c.args.slot None c.index.result.now (Some n) inside c.index.ensures c.in_ok-number.was
+  at = seen_at c.self.inside.slots.items None inside c.index.ensures c.in_ok-number.was
 
   named : (file : Closed) × (node_at table.nodes n ≡ At c.args.slot file)
   named = c.self.invariant.0.0.placed c.args.slot n at
 
   fits : slice_index table.holds n + 1 < 2 ^ 32
-  fits = subst (λ (x : Option File). IfSome x (λ f. (state_of table).holds f.number + 1 < 2 ^ 32)) (at_is table c.args.slot n named.0 at named.1)
+  fits = subst (λ (x : Option File). IfSome x (λ f. (state_of table).holds f.number + 1 < 2 ^ 32)) (at_is table at named.1)
       (subst (λ (k : Contents). HasRoomForHold (state_of k) c.args.slot) (sym c.self.view_is) c.requires.room)
 
   counted : (c.self.inside.held + 1 < 2 ^ 64) × IsCounted (held_more table n) c.self.inside.full (c.self.inside.held + 1) c.self.inside.removed
-  counted = look_counted table c.args.slot n named.0 c.self.invariant.0.0 inside at named.1 _ _ _ c.self.invariant.0.1 fits
-
-pub add_hold-requires-clause-inside : goal.add_hold-requires-clause-inside
-add_hold-requires-clause-inside c = let a = (goal.at.add_hold-requires-clause-inside c).In_ok-number in
-    look_inside (table a) c.args.slot (n a) (named a).0 c.self.invariant.0.0 (inside a) (at a) (named a).1
-
-pub add_hold-requires-clause-fits : goal.add_hold-requires-clause-fits
-add_hold-requires-clause-fits c = fits (goal.at.add_hold-requires-clause-fits c).In_ok-number
+  counted = look_counted c.self.invariant.0.0 inside at named.1 c.self.invariant.0.1 fits
 
 pub overflow_add-self : goal.overflow_add-self
 overflow_add-self c = let held = (counted (goal.at.overflow_add-self c).In_ok-number).0 in omega arith
 
-pub invariant_of-self : goal.invariant_of-self
-invariant_of-self c = let a = (goal.at.invariant_of-self c).In_ok-number in (
-  subst (λ (k : Contents). IsTable k × IsCounted k c.self.inside.full (c.self.inside.held + 1) c.self.inside.removed)
-      (sym (with_holds (table a) c.add_hold.new.self _ c.add_hold.ensures))
-      (look_keeps (table a) c.args.slot (n a) (named a).0 c.self.invariant.0.0 (inside a) (at a) (named a).1, (counted a).1),
-  c.self.invariant.1,
-)
-
 pub returns-clause-step : goal.returns-clause-step
 returns-clause-step c = let a = (goal.at.returns-clause-step c).In_ok-number in
     carried (λ k m. Steps (state_of k) (Look c.args.slot ((state_of k).at c.args.slot)) (state_of m)) c.self.view_is
-    (with_holds (table a) c.add_hold.new.self _ c.add_hold.ensures)
-    (look_steps (table a) c.args.slot (n a) (named a).0 c.self.invariant.0.0 (inside a) (at a) (named a).1)
+    (with_holds (table a) c.add_hold.ensures) (look_steps c.self.invariant.0.0 (inside a) (at a) (named a).1)

@@ -1,8 +1,8 @@
-use Rattle.fx_plain.proofs.Words.{◌≤◌, sym, ap, subst, ◌∙◌, length, arith, node_at, IsSettled, opening}
-use Rattle.fx_plain.proofs.Words.{AreVacant, Contents, IsRenumbered, state_of, the_view}
+use Rattle.fx_plain.proofs.Words.{◌≤◌, sym, ap, subst, ◌∙◌, length, arith, node_at, IsSettled, opening, AreVacant, Contents, IsRenumbered, state_of}
+use Rattle.fx_plain.proofs.Words.{the_view}
 use Rattle.fx_plain.proofs.Settled.{not_removed}
 use Rattle.fx_plain.proofs.Opening.{fields_keep, state_of-fields, own_number}
-use Rattle.fx_plain.proofs.Prepared.{settled_at_opening, empty_at_opening}
+use Rattle.fx_plain.proofs.Prepared.{settled_at_opening}
 use Rattle.fx_plain.proofs.table.PlainTable.prepare.Goals.{After-start_again}
 use Rattle.fx_plain.proofs.table.PlainTable.prepare.Goals as goal
 
@@ -24,22 +24,17 @@ module _ (c : After-start_again) where
 
 pub invariant_of-self-2 : goal.invariant_of-self-2
 invariant_of-self-2 c = let a = (goal.at.invariant_of-self-2 c).After-start_again in (
-  fields_keep (v a) _ _ c.args.numbers c.self.invariant.0.0 (enough a) c.ranges.numbers.fits (renumbered a) c.start_again.new.self
-      c.start_again.ensures _ _ _ c.self.invariant.0.1 (settled a),
+  fields_keep c.self.invariant.0.0 (enough a) c.ranges.numbers.fits (renumbered a) c.start_again.ensures c.self.invariant.0.1 (settled a),
   record {
     inside = let none = c.none-self-inside.ensures in omega arith;
-    own = λ u n at out. own_number (v a) _ _ c.args.numbers c.self.invariant.0.0 (enough a) c.ranges.numbers.fits (renumbered a)
-        c.start_again.new.self c.start_again.ensures u n at;
+    own = λ u n at out. own_number c.self.invariant.0.0 (enough a) c.ranges.numbers.fits (renumbered a) c.start_again.ensures u at;
   },
 )
 
 pub returns-clause-ok : goal.returns-clause-ok
 returns-clause-ok c = let a = (goal.at.returns-clause-ok c).After-start_again in
-    state_of-fields (v a) _ _ c.args.numbers c.self.invariant.0.0 (enough a) c.ranges.numbers.fits (renumbered a) c.start_again.new.self
+    state_of-fields c.self.invariant.0.0 (enough a) c.ranges.numbers.fits (renumbered a)
     c.start_again.ensures ∙ ap (λ (k : Contents). opening (state_of k) c.args.numbers) c.self.view_is
-
-pub returns-clause-empty : goal.returns-clause-empty
-returns-clause-empty c slot is = empty_at_opening (state_of c.args.self.now) _ c.args.numbers slot (returns-clause-ok c) is
 
 pub returns-clause-settled : goal.returns-clause-settled
 returns-clause-settled c = settled_at_opening (state_of c.args.self.now) _ c.args.numbers (returns-clause-ok c)

@@ -16,21 +16,21 @@ module _ (c : After-set_node) where
   inside = search rules
 
   empty : slot_at v.slots c.args.slot ≡ None
-  empty = unnamed v c.args.slot c.self.invariant.0.0 (ap (λ (k : Contents). (state_of k).at c.args.slot) c.self.view_is ∙ c.requires.empty)
+  empty = unnamed c.args.slot c.self.invariant.0.0 (ap (λ (k : Contents). (state_of k).at c.args.slot) c.self.view_is ∙ c.requires.empty)
 
   free : IsFree v c.args.slot c.args.slot
-  free = own_free v c.args.slot c.self.invariant.0.0 (subst (λ (k : Contents). IsSettled (state_of k)) (sym c.self.view_is) c.requires.settled) inside
+  free = own_free c.self.invariant.0.0 (subst (λ (k : Contents). IsSettled (state_of k)) (sym c.self.view_is) c.requires.settled) inside
       (let lt = inside in let p = subst IsPrepared (sym c.self.view_is) c.requires.prepared in omega (arith, lt, p)) empty
 
   abbrev after : Contents
   after = put_at v c.args.slot c.args.slot c.args.file
 
   counted : (c.self.inside.full + 1 < 2 ^ 32) × IsCounted after (c.self.inside.full + 1) c.self.inside.held c.self.inside.removed
-  counted = let e = ap file_count_of empty in let n = put_counted v c.args.slot c.args.slot c.args.file c.self.invariant.0.0 inside free _ _ _
+  counted = let e = ap file_count_of empty in let n = put_counted c.args.file c.self.invariant.0.0 inside free
       (c.self.inside.full + 1) c.self.inside.removed c.self.invariant.0.1 (omega (arith, e)) (omega (arith, e)) in (n.1, n.2)
 
   state_after : state_of after ≡ record (state_of v) { at = changed_at (state_of v).at c.args.slot (Some (numbered c.args.slot c.args.file)) }
-  state_after = state_of-put v c.args.slot c.args.slot c.args.file c.self.invariant.0.0 inside free ∙ λ i. record (state_of v) {
+  state_after = state_of-put c.args.file c.self.invariant.0.0 inside free ∙ λ i. record (state_of v) {
     at = changed_at (state_of v).at c.args.slot (Some (numbered c.args.slot c.args.file));
     removed = with_removed (state_of v).removed (file_at v.nodes (empty i));
     fresh = unchanged (state_of v).fresh c.args.slot false (sym (c.self.invariant.0.0.used c.args.slot inside)) i;
@@ -42,17 +42,14 @@ overflow_add-self c = let fits = (counted (goal.at.overflow_add-self c).After-se
 pub invariant_of-self : goal.invariant_of-self
 invariant_of-self c = let a = (goal.at.invariant_of-self c).After-set_node in (
   subst (λ (k : Contents). IsTable k × IsCounted k (c.self.inside.full + 1) c.self.inside.held c.self.inside.removed)
-      (sym (as_put_free (v a) c.args.slot c.args.slot c.args.file c.self.invariant.0.0 (inside a) (free a) c.set_node.new.self (empty a)
-      c.set_node.ensures))
-      (put_keeps (v a) c.args.slot c.args.slot c.args.file c.self.invariant.0.0 (inside a) (free a), (counted a).1),
-  own_as_before (v a).slots c.args.slot (Some c.args.slot) (inside a) c.self.inside.to_renumber (λ n is. cc) c.self.invariant.1,
+      (sym (as_put_free c.args.file c.self.invariant.0.0 (inside a) (free a) (empty a) c.set_node.ensures))
+      (put_keeps c.args.file c.self.invariant.0.0 (inside a) (free a), (counted a).1),
+  own_as_before (v a).slots (Some c.args.slot) (inside a) (λ n is. cc) c.self.invariant.1,
 )
 
 pub returns-clause-state : goal.returns-clause-state
 returns-clause-state c = let a = (goal.at.returns-clause-state c).After-set_node in
-    ap state_of
-    (as_put_free (v a) c.args.slot c.args.slot c.args.file c.self.invariant.0.0 (inside a) (free a) c.set_node.new.self (empty a) c.set_node.ensures)
-    ∙ (state_after a ∙ ap
+    ap state_of (as_put_free c.args.file c.self.invariant.0.0 (inside a) (free a) (empty a) c.set_node.ensures) ∙ (state_after a ∙ ap
     (λ (k : Contents). record (state_of k) { at = changed_at (state_of k).at c.args.slot (Some (numbered c.args.slot c.args.file)) }) c.self.view_is)
 
 pub returns-clause-sound : goal.returns-clause-sound

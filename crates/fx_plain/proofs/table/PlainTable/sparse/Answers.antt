@@ -7,8 +7,7 @@ use Rattle.fx_plain.proofs.table.PlainTable.sparse.Goals as goal
 pub invariant_of-result : goal.invariant_of-result
 invariant_of-result c =
     let items : c.in_ok-slots.slots.items ≡ replicate c.args.n None = search rules in (
-      sparse_keeps c.in_ok-slots.slots.items c.args.n c.none.result c.none-2.result items c.requires.few c.none.ensures c.none-2.ensures
-          (search rules),
+      sparse_keeps items c.requires.few c.none.ensures c.none-2.ensures (search rules),
       own_of_none c.in_ok-slots.slots.items c.none-3.result (let none = c.none-3.ensures in omega arith)
           (λ s. ap (λ (xs : List (Option ℕ)). slot_at xs s) items ∙ read_default c.args.n s None),
     )

@@ -14,18 +14,15 @@ module _ (c : In_ok-number) where
   inside = search rules
 
   at : slot_at v.slots c.args.slot ≡ Some c.in_ok-number.number
-  at = seen_at v.slots c.args.slot None c.index.result.now (Some c.in_ok-number.number) inside c.index.ensures c.in_ok-number.was
+  at = seen_at v.slots None inside c.index.ensures c.in_ok-number.was
 
   counted : (1 ≤ c.self.inside.full) × (c.self.inside.removed + 1 < 2 ^ 32)
       × IsCounted (taken v c.args.slot) (c.self.inside.full - 1) c.self.inside.held (c.self.inside.removed + 1)
-  counted = taken_counted v c.args.slot c.self.invariant.0.0 inside c.in_ok-number.number _ _ _ c.self.invariant.0.1 at
-
-pub overflow_sub-self : goal.overflow_sub-self
-overflow_sub-self c = (counted (goal.at.overflow_sub-self c).In_ok-number).0
+  counted = taken_counted c.self.invariant.0.0 inside c.self.invariant.0.1 at
 
 pub leave-requires : goal.leave-requires
 leave-requires c = let named = c.self.invariant.0.0.placed c.args.slot c.in_ok-number.number (at (goal.at.leave-requires c).In_ok-number) in
-    has_file-At c.self.inside.nodes c.in_ok-number.number c.args.slot named.0 named.1
+    has_file-At c.self.inside.nodes c.in_ok-number.number named.1
 
 pub overflow_add-self : goal.overflow_add-self
 overflow_add-self c = let fits = (counted (goal.at.overflow_add-self c).In_ok-number).1 in omega (arith, fits)
@@ -33,13 +30,11 @@ overflow_add-self c = let fits = (counted (goal.at.overflow_add-self c).In_ok-nu
 pub invariant_of-self : goal.invariant_of-self
 invariant_of-self c = let a = (goal.at.invariant_of-self c).In_ok-number in (
   subst (λ (k : Contents). IsTable k × IsCounted k (c.self.inside.full - 1) c.self.inside.held (c.self.inside.removed + 1))
-      (sym (as_taken (v a) c.args.slot c.in_ok-number.number c.leave.new.self (at a) c.leave.ensures))
-      (take_keeps (v a) c.args.slot c.self.invariant.0.0 (inside a), (counted a).2),
-  own_as_before (v a).slots c.args.slot None (inside a) c.self.inside.to_renumber (λ n none. absurd (cc none)) c.self.invariant.1,
+      (sym (as_taken (v a) c.args.slot (at a) c.leave.ensures)) (take_keeps c.self.invariant.0.0 (inside a), (counted a).2),
+  own_as_before (v a).slots None (inside a) (λ n none. absurd (cc none)) c.self.invariant.1,
 )
 
 pub returns : goal.returns
 returns c = let a = (goal.at.returns c).In_ok-number in
     carried (λ k m. let found = (state_of k).at c.args.slot in LetsLeave k m (Take c.args.slot found) found (Some c.in_ok-number.number))
-    c.self.view_is (as_taken (v a) c.args.slot c.in_ok-number.number c.leave.new.self (at a) c.leave.ensures)
-    (take_removes (v a) c.args.slot c.self.invariant.0.0 (inside a) (Some c.in_ok-number.number) (at a))
+    c.self.view_is (as_taken (v a) c.args.slot (at a) c.leave.ensures) (take_removes c.self.invariant.0.0 (inside a) (at a))

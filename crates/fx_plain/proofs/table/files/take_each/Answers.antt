@@ -12,7 +12,7 @@ loop-slot-preserved c =
     let nodes = c.loop-slot.nodes in
     let s = c.loop-slot.slot in
     let inside : c.loop-slot.slot < length c.args.slots.now.items = search rules in
-    let x = read_slot slots s c.index.result.now inside c.index.ensures in
+    let x = read_slot slots s inside c.index.ensures in
     let at : ℕ → Option File = λ u. file_at first (slot_at slots u) in
     let taken : c.take_named.result ≡ identity_of (at s) = c.take_named.ensures.file ∙ (ap (file_named nodes) x
     ∙ next_taken slots first nodes s c.requires.placed i.worked.left) in

@@ -1,7 +1,5 @@
-use Rattle.fx_plain.proofs.Words.{refl, rules, ◌≡◌, ◌+◌, ◌++◌, sym, ap, subst, ◌∙◌, length, length-append, append_assoc, ℕ, List, Option, IfSome, IsSome}
-use Rattle.fx_plain.proofs.Words.{arith, option_to_list, Closed, File, files_in_order, identities_of, file_at, file_in, file_named, slot_at, node_at}
-use Rattle.fx_plain.proofs.Words.{nodes_without, Node}
-use Rattle.fx_plain.proofs.Moving.{named_inside}
+use Rattle.fx_plain.proofs.Words.{rules, ◌≡◌, ◌+◌, ◌++◌, sym, ap, subst, ◌∙◌, length, length-append, append_assoc, ℕ, List, Option, arith}
+use Rattle.fx_plain.proofs.Words.{option_to_list, Closed, File, files_in_order, identities_of, file_at, file_named, slot_at, nodes_without, Node}
 use Rattle.fx_plain.proofs.Emptying.{files_more, files_next, read_slot, next_listed, worked_next, IsWorked}
 use Rattle.fx_plain.proofs.table.life.close_all.Goals.{After-index}
 use Rattle.fx_plain.proofs.table.life.close_all.Goals as goal
@@ -17,16 +15,11 @@ module _ (c : After-index) where
   at s = file_at c.args.nodes.now (slot_at slots s)
 
   read : c.index.result.now ≡ slot_at slots c.loop-slot.slot
-  read = read_slot slots c.loop-slot.slot c.index.result.now (search rules) c.index.ensures
+  read = read_slot slots c.loop-slot.slot (search rules) c.index.ensures
 
   listed : option_to_list (file_named nodes c.index.result.now) ≡ identities_of (at c.loop-slot.slot)
   listed = ap (λ (y : Option ℕ). option_to_list (file_named nodes y)) read
       ∙ next_listed slots c.args.nodes.now nodes c.loop-slot.slot c.requires.placed c.loop-slot.invariant.worked.left
-
-pub close_file-requires-clause-inside : goal.close_file-requires-clause-inside
-close_file-requires-clause-inside c = let a = (goal.at.close_file-requires-clause-inside c).After-index in
-    subst (λ (y : Option ℕ). IfSome y (λ k. IsSome (file_in (node_at c.loop-slot.nodes k)))) (sym (read a))
-    (named_inside c.args.slots.now.items c.args.nodes.now c.loop-slot.nodes c.loop-slot.slot c.requires.placed c.loop-slot.invariant.worked.left _ refl)
 
 pub close_file-requires-clause-room : goal.close_file-requires-clause-room
 close_file-requires-clause-room c =

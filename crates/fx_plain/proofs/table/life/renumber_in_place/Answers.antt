@@ -1,33 +1,7 @@
-use Rattle.fx_plain.proofs.Words.{rules, refl, ◌≡◌, ◌≤◌, ◌<◌, ◌+◌, sym, ap, subst, ◌∙◌, length, ℕ, List, Option, slice_set, arith, inl, inr, cases_lt}
-use Rattle.fx_plain.proofs.Words.{slot_at, node_at, nodes_without, opening_slot, file_count_of, moved_node, file_named, Node, sum_by, IsFiled, Some}
-use Rattle.fx_plain.proofs.Words.{vec_len}
+use Rattle.fx_plain.proofs.Words.{rules, refl, ◌≡◌, ◌<◌, ◌+◌, sym, ap, subst, ◌∙◌, length, ℕ, List, Option, slice_set, arith, slot_at, node_at}
+use Rattle.fx_plain.proofs.Words.{nodes_without, opening_slot, file_count_of, moved_node, file_named, Node, sum_by, IsFiled}
 use Rattle.fx_plain.proofs.table.life.renumber_in_place.Goals as goal
 use Rattle.fx_plain.proofs.Moving.{IsLeft, named_same, done_next, rest_next, full_next, left_settled, each_settled, later_stays, filed_by_move}
-use Rattle.fx_plain.proofs.Moving.{named_as_is, filed_as_is}
-
-pub loop-slot-init : goal.loop-slot-init
-loop-slot-init c =
-    let slots = c.args.slots.now.items in
-    let mine : (s : ℕ) → s < c.args.span.now.start → (n : ℕ) → slot_at slots s ≡ Some n → n ≡ s =
-    λ s lt n at. c.requires.outside.own s n at (inl lt) in
-    record {
-      len = refl;
-      nodes_len = refl;
-      done = λ s lt. named_as_is slots c.args.nodes.now s (mine s lt);
-      rest = λ s le. refl;
-      filed = λ s lt inside. filed_as_is slots c.args.nodes.now s (mine s lt) c.requires.placed
-          (c.requires.vacant s (let len = c.args.slots.now.ok.0 in omega (arith, inside, len)));
-      left = λ s n le at. refl;
-      stays = λ s le lt. refl;
-      full = refl;
-    }
-
-pub settle-requires-clause-placed : goal.settle-requires-clause-placed
-settle-requires-clause-placed c =
-    let i = c.loop-slot.invariant in
-    let here = i.rest c.loop-slot.slot (omega arith) in
-    λ number at. let there = c.requires.placed c.loop-slot.slot number (sym here ∙ at) in
-    (there.0, i.left c.loop-slot.slot number (omega arith) (sym here ∙ at) ∙ there.1)
 
 pub loop-slot-preserved : goal.loop-slot-preserved
 loop-slot-preserved c =
@@ -51,39 +25,17 @@ loop-slot-preserved c =
       len = search rules;
       nodes_len = search rules;
       done = λ u lt. subst (λ (xs : List (Option ℕ)). slot_at xs u ≡ opening_slot (slot_at first u) u) (sym slots_are)
-          (done_next first c.loop-slot.slots.items s inside here i.done u lt);
+          (done_next first c.loop-slot.slots.items inside here i.done lt);
       rest = λ u le. subst (λ (xs : List (Option ℕ)). slot_at xs u ≡ slot_at first u) (sym slots_are)
-          (rest_next first c.loop-slot.slots.items s inside here i.rest u le);
+          (rest_next first c.loop-slot.slots.items inside here i.rest le);
       filed = λ u lt low. subst (λ (xs : List Node). IsFiled first c.args.nodes.now u (node_at xs u)) (sym nodes_are)
-          (each_settled first c.args.nodes.now nodes s c.requires.placed i.left c.requires.own inside_first (IsFiled first c.args.nodes.now) _ room
-          (filed_by_move first c.args.nodes.now s _ moved)
-          (λ k below. i.filed k below (let len = c.args.slots.now.ok.0 in omega (arith, below, inside_first, len))) u lt);
+          (each_settled first c.args.nodes.now nodes c.requires.placed i.left c.requires.own inside_first (IsFiled first c.args.nodes.now) _ room
+          (filed_by_move first c.args.nodes.now s moved)
+          (λ k below. i.filed k below (let len = c.args.slots.now.ok.0 in omega (arith, below, inside_first, len))) lt);
       left = subst (λ (xs : List Node). IsLeft first c.args.nodes.now xs (s + 1)) (sym nodes_are)
-          (left_settled first c.args.nodes.now nodes s c.requires.placed i.left c.requires.own inside_first _);
+          (left_settled first c.args.nodes.now nodes c.requires.placed i.left c.requires.own inside_first _);
       stays = λ u le lt. ap (λ (xs : List Node). node_at xs u) nodes_are
-          ∙ (later_stays first c.args.nodes.now nodes s c.requires.placed i.left c.requires.own inside_first _
-          (slot_at first s) refl u le (let len = c.args.slots.now.ok.0 in omega (arith, lt, len)) ∙ i.stays u (omega (arith, le)) lt);
-      full = ap (λ (xs : List (Option ℕ)). sum_by file_count_of xs) slots_are ∙ full_next first c.loop-slot.slots.items s inside here ∙ i.full;
-    }
-
--- behind the last slot of the span each file has its own number, too
-pub returns-clause-filed : goal.returns-clause-filed
-returns-clause-filed c =
-    let i = c.loop-slot.invariant in
-    let slots = c.args.slots.now.items in
-    let mine : (s : ℕ) → c.loop-slot.slot ≤ s → (n : ℕ) → slot_at slots s ≡ Some n → n ≡ s =
-    λ s ge n at. c.requires.outside.own s n at (inr (let past = c.loop-slot-test.false in omega (arith, ge, past))) in
-    let size : (s : ℕ) → s < length slots → s < vec_len c.args.slots.now = λ s lt. let len = c.args.slots.now.ok.0 in omega (arith, lt, len) in
-    record {
-      same_size = search rules;
-      named = λ s lt. elim (cases_lt s c.loop-slot.slot) [
-        | inl below ↦ i.done s below
-        | inr ge ↦ i.rest s ge ∙ named_as_is slots c.args.nodes.now s (mine s ge)
-      ];
-      filed = λ s lt. elim (cases_lt s c.loop-slot.slot) [
-        | inl below ↦ i.filed s below (size s lt)
-        | inr ge ↦ subst (IsFiled slots c.args.nodes.now s) (sym (i.stays s ge (size s lt)))
-            (filed_as_is slots c.args.nodes.now s (mine s ge) c.requires.placed (c.requires.vacant s lt))
-      ];
-      same_full = i.full;
+          ∙ (later_stays first c.args.nodes.now nodes c.requires.placed i.left c.requires.own inside_first _
+          (slot_at first s) refl le (let len = c.args.slots.now.ok.0 in omega (arith, lt, len)) ∙ i.stays u (omega (arith, le)) lt);
+      full = ap (λ (xs : List (Option ℕ)). sum_by file_count_of xs) slots_are ∙ full_next first c.loop-slot.slots.items inside here ∙ i.full;
     }

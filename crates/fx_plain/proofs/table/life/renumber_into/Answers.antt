@@ -1,14 +1,7 @@
-use Rattle.fx_plain.proofs.Words.{refl, rules, ◌≡◌, ◌<◌, ◌+◌, sym, ap, subst, ◌∙◌, length, ℕ, List, Option, IfSome, IsSome, arith, moved_node, file_in}
-use Rattle.fx_plain.proofs.Words.{file_named, slot_at, node_at, nodes_without, opening_slot, file_count_of, Node, sum_by}
-use Rattle.fx_plain.proofs.Moving.{IsLeft, named_inside, named_same, left_without, done_next, rest_next, full_next, moved_next, filed_by_move}
+use Rattle.fx_plain.proofs.Words.{refl, rules, ◌≡◌, ◌<◌, ◌+◌, sym, ap, subst, ◌∙◌, length, ℕ, List, Option, arith, moved_node, file_named, slot_at}
+use Rattle.fx_plain.proofs.Words.{node_at, nodes_without, opening_slot, file_count_of, Node, sum_by}
+use Rattle.fx_plain.proofs.Moving.{IsLeft, named_same, left_without, done_next, rest_next, full_next, moved_next}
 use Rattle.fx_plain.proofs.table.life.renumber_into.Goals as goal
-
-pub move_file-node-requires-clause-inside : goal.move_file-node-requires-clause-inside
-move_file-node-requires-clause-inside c =
-    let i = c.loop-slot.invariant in
-    let here = i.rest c.loop-slot.slot (omega arith) in
-    (subst (λ (x : Option ℕ). IfSome x (λ k. IsSome (file_in (node_at c.loop-slot.nodes k)))) (sym here)
-    (named_inside c.args.slots.now.items c.args.nodes.now c.loop-slot.nodes c.loop-slot.slot c.requires.placed i.left _ refl))
 
 pub loop-slot-preserved : goal.loop-slot-preserved
 loop-slot-preserved c =
@@ -28,30 +21,16 @@ loop-slot-preserved c =
       count = search rules;
       room = search rules;
       done = λ u lt. subst (λ (xs : List (Option ℕ)). slot_at xs u ≡ opening_slot (slot_at c.args.slots.now.items u) u) (sym slots_are)
-          (done_next c.args.slots.now.items c.loop-slot.slots.items c.loop-slot.slot inside here i.done u lt);
+          (done_next c.args.slots.now.items c.loop-slot.slots.items inside here i.done lt);
       rest = λ u le. subst (λ (xs : List (Option ℕ)). slot_at xs u ≡ slot_at c.args.slots.now.items u) (sym slots_are)
-          (rest_next c.args.slots.now.items c.loop-slot.slots.items c.loop-slot.slot inside here i.rest u le);
+          (rest_next c.args.slots.now.items c.loop-slot.slots.items inside here i.rest le);
       moved = λ u lt. subst (λ (xs : List Node). node_at xs u ≡ moved_node (file_named c.args.nodes.now (slot_at c.args.slots.now.items u)) u)
-          (sym c.push_reserved.ensures.items)
-          (moved_next c.loop-slot.moved.items c.loop-slot.slot c.move_file-node.result
+          (sym c.push_reserved.ensures.items) (moved_next c.loop-slot.moved.items
           (λ k. moved_node (file_named c.args.nodes.now (slot_at c.args.slots.now.items k)) k) (sym c.loop-slot.moved.ok.0 ∙ i.count)
-          (c.move_file-node.ensures.node ∙ ap (λ x. moved_node x c.loop-slot.slot) named) i.moved u lt);
+          (c.move_file-node.ensures.node ∙ ap (λ x. moved_node x c.loop-slot.slot) named) i.moved lt);
       left = subst (λ (xs : List Node). IsLeft c.args.slots.now.items c.args.nodes.now xs (c.loop-slot.slot + 1))
           (sym (nodes_are ∙ ap (nodes_without c.loop-slot.nodes) here))
           (left_without c.args.slots.now.items c.args.nodes.now c.loop-slot.nodes c.loop-slot.slot c.requires.placed i.left _ refl);
       full = ap (λ (xs : List (Option ℕ)). sum_by file_count_of xs) slots_are
-          ∙ full_next c.args.slots.now.items c.loop-slot.slots.items c.loop-slot.slot inside here ∙ i.full;
-    }
-
-pub returns-clause-filed : goal.returns-clause-filed
-returns-clause-filed c =
-    let i = c.loop-slot.invariant in
-    let slots = c.args.slots.now.items in
-    let below : (s : ℕ) → s < length slots → s < c.loop-slot.slot = λ s lt. let past = c.loop-slot-test.false in let end = c.len-slot-end.ensures in
-    let len = c.args.slots.now.ok.0 in omega (arith, lt, past, end, len) in
-    record {
-      same_size = search rules;
-      named = λ s lt. i.done s (below s lt);
-      filed = λ s lt. filed_by_move slots c.args.nodes.now s (node_at c.loop-slot.moved.items s) (i.moved s (below s lt));
-      same_full = i.full;
+          ∙ full_next c.args.slots.now.items c.loop-slot.slots.items inside here ∙ i.full;
     }

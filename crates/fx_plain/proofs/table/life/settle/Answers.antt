@@ -8,6 +8,6 @@ returns-then-number-slot-clause-nodes c =
     let slots = c.args.slots.now.items in
     let inside : c.args.slot < length slots = search rules in
     let at : slot_at slots c.args.slot ≡ Some c.args.slot =
-    seen_at slots c.args.slot None c.index.result.now (Some c.in-Some.number) inside c.index.ensures c.in-Some.is ∙ ap Some c.if-number-slot.true in
+    seen_at slots None inside c.index.ensures c.in-Some.is ∙ ap Some c.if-number-slot.true in
     let there = c.requires.placed c.args.slot at in
-    node_settled slots c.args.nodes.now c.args.slot at there.0 there.1
+    node_settled slots c.args.nodes.now at there.1
