@@ -1,7 +1,6 @@
 -- The files of the slots are taken out, one slot after another, and a file comes back to the number of its slot.
-use Rattle.fx_plain.proofs.Words.{◌≤◌, ◌≡◌, ℕ, ◌+◌, List, length, refl, sym, ap, ◌∙◌, arith, Option, Some, None, Contents, IsTable, IsCounted}
-use Rattle.fx_plain.proofs.Words.{SameButPlaced, state_of, slot_at, node_at, file_at, placed_at, file_count_of, removed_count_of, numbered, sum_by}
-use Rattle.fx_plain.proofs.Words.{Node}
+use Rattle.fx_plain.proofs.Words.{◌≤◌, ◌≡◌, ℕ, ◌+◌, List, length, refl, sym, ap, ◌∙◌, Option, Some, None, Contents, IsTable, SameButPlaced, state_of}
+use Rattle.fx_plain.proofs.Words.{slot_at, node_at, file_at, placed_at, numbered, Node}
 
 -- a table whose files were taken out
 module _ {c : Contents} (slots : List (Option ℕ)) (range : ℕ × ℕ) (nodes : List Node) (t : IsTable c) (none : (s : ℕ) → slot_at slots s ≡ None)
@@ -16,22 +15,6 @@ module _ {c : Contents} (slots : List (Option ℕ)) (range : ℕ × ℕ) (nodes 
     removed = λ n. (same n).same_removed n i;
     fresh = λ n. (same n).same_fresh i;
   }
-
-  pub without_keeps : {full held removed : ℕ} → IsCounted c full held removed → sum_by file_count_of slots ≡ 0
-      → sum_by removed_count_of nodes ≡ sum_by removed_count_of c.nodes → IsTable without_files × IsCounted without_files 0 held removed
-  without_keeps k empty opened_same = (
-    record {
-      few_slots = let few = t.few_slots in omega (arith, few, size);
-      range_inside = range_in;
-      few_nodes = let few = t.few_nodes in omega (arith, few, len);
-      same_numbers = t.same_numbers ∙ sym len;
-      placed = λ s number is. let e : None ≡ Some number = sym (none s) ∙ is in absurd (cc e);
-      own = λ s number is lt. let e : None ≡ Some number = sym (none s) ∙ is in absurd (cc e);
-      used = λ n lt. (same n).same_fresh ∙ t.used n (omega (arith, lt, size));
-      held = λ n is. t.held n (sym (same n).same_retired ∙ is);
-    },
-    record { full_slots = sym empty; all_holds = k.all_holds; small_holds = k.small_holds; all_removed = k.all_removed ∙ sym opened_same },
-  )
 
 -- an empty slot names no number
 none_named : {c : Contents} (slot : ℕ) → IsTable c → (x : Option ℕ) → slot_at c.slots slot ≡ x → file_at c.nodes x ≡ None → x ≡ None

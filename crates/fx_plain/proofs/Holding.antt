@@ -1,6 +1,6 @@
 -- A file gets a hold, loses one, or is retired.
-use Rattle.fx_plain.proofs.Words.{◌≡◌, ◌≢◌, ℕ, ◌+◌, ◌-◌, ◌<◌, ◌≤◌, ◌^◌, ◌==◌, ◌&&◌, not, Bool, true, false, if◌then◌else◌, List, [], length, refl}
-use Rattle.fx_plain.proofs.Words.{sym, ap, subst, ◌∙◌, slice_index, slice_index_or, slice_set, Option, Some, None, arith, length-set, get_or-set_same}
+use Rattle.fx_plain.proofs.Words.{◌≡◌, ◌≢◌, ℕ, ◌+◌, ◌-◌, ◌<◌, ◌≤◌, ◌^◌, ◌==◌, ◌&&◌, not, Bool, true, false, if◌then◌else◌, [], length, refl, sym, ap}
+use Rattle.fx_plain.proofs.Words.{◌∙◌, slice_index, slice_index_or, slice_set, Option, Some, None, arith, length-set, get_or-set_same}
 use Rattle.fx_plain.proofs.Words.{get_or-set_other, Closed, File, Look, Release, Steps, changed_at, after, Leads, close_of, ◌▷▷◌, Contents, IsTable}
 use Rattle.fx_plain.proofs.Words.{IsCounted, state_of, slot_at, node_at, file_at, placed_at, leaving, removed_at, is_fresh, is_leaving, is_retired}
 use Rattle.fx_plain.proofs.Words.{file_in, node_after_retirement, removed_count_of, itself, At, Leaving, Retired, Gone, numbered, identity_of}
@@ -25,16 +25,9 @@ held_less c n = record c { holds = slice_set c.holds n (slice_index c.holds n - 
 -- what other holds of a number keep
 module _ (c : Contents) {n : ℕ} (h : ℕ) (inside : n < length c.holds) where
   holds_keep : IsTable c → (is_retired (node_at c.nodes n) ≡ true → 0 < h) → IsTable (record c { holds = slice_set c.holds n h })
-  holds_keep t some = record {
-    few_slots = t.few_slots;
-    range_inside = t.range_inside;
-    few_nodes = t.few_nodes;
-    same_numbers = length-set c.holds n h ∙ t.same_numbers;
-    placed = t.placed;
-    own = t.own;
-    used = t.used;
-    held = λ m. each_set (λ q x. is_retired (node_at c.nodes q) ≡ true → 0 < x) c.holds n h 0 inside some m (λ _. t.held m);
-  }
+  holds_keep t some =
+      let held = λ (m : ℕ). each_set (λ q x. is_retired (node_at c.nodes q) ≡ true → 0 < x) c.holds n h 0 inside some m (λ _. t.held m) in
+      assumption (length-set c.holds n h ∙ t.same_numbers, held)
 
   holds_counted : {full held removed : ℕ} (held' : ℕ) → IsCounted c full held removed → h < 2 ^ 32 → held' + slice_index c.holds n ≡ held + h
       → IsCounted (record c { holds = slice_set c.holds n h }) full held' removed
@@ -45,27 +38,20 @@ module _ (c : Contents) {n : ℕ} (h : ℕ) (inside : n < length c.holds) where
     all_removed = k.all_removed;
   }
 
-module _ {c : Contents} {slot n : ℕ} {file : Closed} (t : IsTable c) (inside : slot < length c.slots) (at : slot_at c.slots slot ≡ Some n)
-    (named : node_at c.nodes n ≡ At slot file) where
-  pub look_inside : n < length c.holds
-  look_inside = let lt = inside_of-At c.nodes n named in let e = t.same_numbers in omega arith
+pub look_steps : {c : Contents} {slot n : ℕ} {file : Closed} → IsTable c → slot < length c.slots → slot_at c.slots slot ≡ Some n
+    → node_at c.nodes n ≡ At slot file → Steps (state_of c) (Look slot ((state_of c).at slot)) (state_of (held_more c n))
+look_steps {c} {slot} {n} t inside at named =
+    let here : n < length c.holds = let lt = inside_of-At c.nodes n named in let e = t.same_numbers in omega arith in (
+      (inside, refl),
+      state_of-holds c _ here ∙ sym (ap (λ (x : Option File). after (state_of c) (Look slot x)) (at_is c at named)),
+    )
 
-  pub look_steps : Steps (state_of c) (Look slot ((state_of c).at slot)) (state_of (held_more c n))
-  look_steps = (
-    (inside, refl),
-    state_of-holds c _ look_inside ∙ sym (ap (λ (x : Option File). after (state_of c) (Look slot x)) (at_is c at named)),
-  )
-
-  pub look_keeps : IsTable (held_more c n)
-  look_keeps = holds_keep c (slice_index c.holds n + 1) look_inside t (λ _. omega arith)
-
-  pub look_counted : {full held removed : ℕ} → IsCounted c full held removed → slice_index c.holds n + 1 < 2 ^ 32
-      → (held + 1 < 2 ^ 64) × IsCounted (held_more c n) full (held + 1) removed
-  look_counted {held} k fits =
-      let all = sum_by-le itself 4294967295 c.holds
-      (All-from_get_or (λ x. itself x ≤ 4294967295) c.holds 0 (λ i lt. let one = k.small_holds i in omega arith)) in
-      let len = t.same_numbers in let few = t.few_nodes in let h = k.all_holds in
-      (omega arith, holds_counted c _ look_inside (held + 1) k fits (omega arith))
+-- so many nodes have no more holds than this
+pub few_held : {c : Contents} {full held removed : ℕ} → IsTable c → IsCounted c full held removed → held + 1 < 2 ^ 64
+few_held {c} t k =
+    let all = sum_by-le itself 4294967295 c.holds
+    (All-from_get_or (λ x. itself x ≤ 4294967295) c.holds 0 (λ i lt. let one = k.small_holds i in omega arith)) in
+    let len = t.same_numbers in let few = t.few_nodes in let h = k.all_holds in omega arith
 
 -- a node that tells of a removed file is at no slot
 off_told : (told : Node → Bool) (node : Node) → ((slot : ℕ) (file : Closed) → told (At slot file) ≡ false) → told node ≡ true → IsOff node
@@ -95,17 +81,17 @@ keeps_node {c} {n} v t off inside still unfresh = record {
 
 -- the counts, where a node's file is gone
 closed_counted : {c : Contents} {n full held removed : ℕ} → IsCounted c full held removed → n < length c.nodes
-    → removed_count_of (node_at c.nodes n) ≡ 1 → (1 ≤ removed) × IsCounted (closed_at c n) full held (removed - 1)
+    → removed_count_of (node_at c.nodes n) ≡ 1 → IsCounted (closed_at c n) full held (removed - 1)
 closed_counted {c} {n} k inside one =
     let changed = sum_by-set removed_count_of c.nodes n Gone Gone inside in
     let r = k.all_removed in
-    (omega arith, record { full_slots = k.full_slots; all_holds = k.all_holds; small_holds = k.small_holds; all_removed = omega arith })
+    record { full_slots = k.full_slots; all_holds = k.all_holds; small_holds = k.small_holds; all_removed = omega arith }
 
 module _ {c : Contents} (n : ℕ) (t : IsTable c) (going : leaving c n ≡ true) where
   pub was_leaving : (file : Closed) × (node_at c.nodes n ≡ Leaving file)
   was_leaving = leaving_is (node_at c.nodes n) going
 
-  node_inside : n < length c.nodes
+  pub node_inside : n < length c.nodes
   node_inside = inside_told is_leaving c.nodes n refl going
 
   off : IsOff (node_at c.nodes n)
@@ -117,7 +103,7 @@ module _ {c : Contents} (n : ℕ) (t : IsTable c) (going : leaving c n ≡ true)
       let removed : (state_of c).removed n ≡ Some (numbered n was_leaving.0) = ap (removed_at n) was_leaving.1 in
       let closed : closed_by_retirement c n ≡ Some (numbered n was_leaving.0) = ap (λ (h : ℕ). if h == 0 then (state_of c).removed n else None) unheld
       ∙ removed in
-      subst (λ (x : Option File). Leads (state_of c) (close_of x) (state_of (closed_at c n))) (sym closed) (
+      rw closed (
         (tt, (removed, unheld)),
         state_of-nodes Gone t node_inside off
             ∙ ap (λ (f : ℕ → Bool). record (state_of c) { removed = changed_at (state_of c).removed n None; fresh = f })
@@ -128,14 +114,13 @@ module _ {c : Contents} (n : ℕ) (t : IsTable c) (going : leaving c n ≡ true)
   abbrev pub retired_at : Contents
   retired_at = with_node c n (Retired was_leaving.0)
 
-  pub as_retired : {nodes : List Node} → nodes ≡ slice_set c.nodes n (node_after_retirement (node_at c.nodes n))
-      → record c { nodes = nodes } ≡ retired_at
-  as_retired is = λ i. record c { nodes = (is ∙ ap (λ (x : Node). slice_set c.nodes n (node_after_retirement x)) was_leaving.1) i }
+  pub retires : node_after_retirement (node_at c.nodes n) ≡ Retired was_leaving.0
+  retires = ap node_after_retirement was_leaving.1
 
   pub retire_waits : slice_index c.holds n ≢ 0 → Leads (state_of c) (close_of (closed_by_retirement c n)) (state_of retired_at)
   retire_waits held =
       let none : closed_by_retirement c n ≡ None = grind arith in
-      subst (λ (x : Option File). Leads (state_of c) (close_of x) (state_of retired_at)) (sym none) (
+      rw none (
         tt,
         state_of-nodes (Retired was_leaving.0) t node_inside off ∙ λ i. record (state_of c) {
           removed = unchanged (state_of c).removed n (Some (numbered n was_leaving.0)) (sym (ap (removed_at n) was_leaving.1)) i;
@@ -144,10 +129,11 @@ module _ {c : Contents} (n : ℕ) (t : IsTable c) (going : leaving c n ≡ true)
       )
 
   pub retire_close_keeps : {full held removed : ℕ} → IsCounted c full held removed
-      → (1 ≤ removed) × IsTable (closed_at c n) × IsCounted (closed_at c n) full held (removed - 1)
-  retire_close_keeps k =
-      let counted = closed_counted k node_inside (ap removed_count_of was_leaving.1) in
-      (counted.0, keeps_node Gone t off node_inside (λ (is : false ≡ true). cc) refl, counted.1)
+      → IsTable (closed_at c n) × IsCounted (closed_at c n) full held (removed - 1)
+  retire_close_keeps k = (
+    keeps_node Gone t off node_inside (λ (is : false ≡ true). cc) refl,
+    closed_counted k node_inside (ap removed_count_of was_leaving.1),
+  )
 
   pub retire_wait_keeps : {full held removed : ℕ} → IsCounted c full held removed → slice_index c.holds n ≢ 0
       → IsTable retired_at × IsCounted retired_at full held removed
@@ -159,12 +145,6 @@ module _ {c : Contents} (n : ℕ) (t : IsTable c) (going : leaving c n ≡ true)
         record { full_slots = k.full_slots; all_holds = k.all_holds; small_holds = k.small_holds; all_removed = omega arith },
       )
 
-pub with_holds : (c : Contents) {holds now : List ℕ} → holds ≡ now → record c { holds = holds } ≡ record c { holds = now }
-with_holds c is = λ i. record c { holds = is i }
-
-pub with_nodes : (c : Contents) {nodes now : List Node} → nodes ≡ now → record c { nodes = nodes } ≡ record c { nodes = now }
-with_nodes c is = λ i. record c { nodes = is i }
-
 none_by_release : (n : ℕ) (last : Bool) (node : Node) → is_retired node ≡ false
     → (if last && not (is_leaving node) then removed_at n node else None) ≡ None
 none_by_release n last (Retired file) unretired = cc
@@ -174,17 +154,16 @@ none_by_release n true _ unretired = refl
 
 -- a hold is given up
 module _ {c : Contents} (n : ℕ) (t : IsTable c) (some_hold : 0 < slice_index c.holds n) where
-  pub less_inside : n < length c.holds
+  less_inside : n < length c.holds
   less_inside = inside_of c.holds n 0 (λ (zero_is : slice_index_or c.holds n 0 ≡ 0). omega arith)
 
   state_of-less : (f : File) → f.number ≡ n → state_of (held_less c n) ≡ after (state_of c) (Release f)
-  state_of-less f same = state_of-holds c (slice_index c.holds n - 1) less_inside
-      ∙ ap (λ (k : ℕ). record (state_of c) { holds = changed_at (state_of c).holds k ((state_of c).holds k - 1) }) (sym same)
+  state_of-less f same = rw same (state_of-holds c (slice_index c.holds n - 1) less_inside)
 
-  pub less_counted : {full held removed : ℕ} → IsCounted c full held removed → (1 ≤ held) × IsCounted (held_less c n) full (held - 1) removed
+  less_counted : {full held removed : ℕ} → IsCounted c full held removed → IsCounted (held_less c n) full (held - 1) removed
   less_counted {held} k =
       let h = k.all_holds in let small = k.small_holds n in let one = get_or-le-sum_by itself c.holds n 0 less_inside in
-      (omega arith, holds_counted c _ less_inside (held - 1) k (omega arith) (omega arith))
+      holds_counted c _ less_inside (held - 1) k (omega arith) (omega arith)
 
   -- a file that isn't retired, or has another hold, stays open
   less_keeps : (is_retired (node_at c.nodes n) ≡ true → 1 < slice_index c.holds n) → IsTable (held_less c n)
@@ -194,8 +173,7 @@ module _ {c : Contents} (n : ℕ) (t : IsTable c) (some_hold : 0 < slice_index c
   stays : closed_by_release c n ≡ None → IsTable (held_less c n) → EndsHold c (held_less c n) n None
   stays none sound = record {
     answer = sym (ap identity_of none);
-    steps = λ f same. subst (λ (x : Option File). Leads (state_of c) ([] ▷ Release f ▷▷ close_of x) (state_of (held_less c n))) (sym none)
-        ((tt, subst (λ (k : ℕ). 0 < (state_of c).holds k) (sym same) some_hold), state_of-less f same);
+    steps = λ f same. rw none ((tt, rw same some_hold), state_of-less f same);
     numbers = refl;
     sound = sound;
     leaving = refl;
@@ -218,9 +196,12 @@ module _ {c : Contents} (n : ℕ) (t : IsTable c) (some_hold : 0 < slice_index c
     retired_inside : n < length c.nodes
     retired_inside = inside_told is_retired c.nodes n refl closed
 
+    retired_off : IsOff (node_at c.nodes n)
+    retired_off = off_told is_retired (node_at c.nodes n) (λ _ _. refl) closed
+
     -- the table without the last hold and without the file
     abbrev pub let_go : Contents
-    let_go = record c { holds = slice_set c.holds n (slice_index c.holds n - 1); nodes = slice_set c.nodes n Gone }
+    let_go = closed_at (held_less c n) n
 
     not_leaving : leaving c n ≡ false
     not_leaving = ap is_leaving was_retired.1
@@ -229,19 +210,15 @@ module _ {c : Contents} (n : ℕ) (t : IsTable c) (some_hold : 0 < slice_index c
     removed_is = ap (removed_at n) was_retired.1
 
     closing : closed_by_release c n ≡ Some (numbered n was_retired.0)
-    closing = ap (λ (x : ℕ × Bool). if x.0 == 1 && not x.1 then (state_of c).removed n else None) (λ i. (last i, not_leaving i)) ∙ removed_is
+    closing = rw (last, not_leaving) removed_is
 
-    pub let_go_steps : (f : File) → f.number ≡ n → Leads (state_of c) ([] ▷ Release f ▷▷ close_of (closed_by_release c n)) (state_of let_go)
+    let_go_steps : (f : File) → f.number ≡ n → Leads (state_of c) ([] ▷ Release f ▷▷ close_of (closed_by_release c n)) (state_of let_go)
     let_go_steps f same =
-        let unheld : changed_at (state_of c).holds f.number ((state_of c).holds f.number - 1) n ≡ 0 =
-        subst (λ (k : ℕ). changed_at (state_of c).holds k ((state_of c).holds k - 1) n ≡ 0) (sym same)
-        (by_equality n n (λ b. (if b then (state_of c).holds n - 1 else (state_of c).holds n) ≡ 0) (λ _. omega arith)
-        (λ other. absurd (other refl))) in
-        let held : 0 < (state_of c).holds f.number = subst (λ (k : ℕ). 0 < (state_of c).holds k) (sym same) some_hold in
-        subst (λ (x : Option File). Leads (state_of c) ([] ▷ Release f ▷▷ close_of x) (state_of let_go)) (sym closing) (
-          ((tt, held), (removed_is, unheld)),
+        let unheld : changed_at (state_of c).holds f.number ((state_of c).holds f.number - 1) n ≡ 0 = grind arith in
+        rw closing (
+          ((tt, rw same some_hold), (removed_is, unheld)),
           λ i. record (state_of c) {
-            at = λ slot. same_file n Gone t (off_told is_retired (node_at c.nodes n) (λ _ _. refl) closed) slot i;
+            at = λ slot. same_file n Gone t retired_off slot i;
             removed = written removed_at c.nodes Gone Gone retired_inside i;
             holds = (written (λ q x. x) c.holds (slice_index c.holds n - 1) 0 less_inside
                 ∙ ap (λ (k : ℕ). changed_at (state_of c).holds k ((state_of c).holds k - 1)) (sym same)) i;
@@ -250,25 +227,19 @@ module _ {c : Contents} (n : ℕ) (t : IsTable c) (some_hold : 0 < slice_index c
           },
         )
 
-    pub let_go_keeps : IsTable let_go
-    let_go_keeps = Rattle.fx_plain.proofs.Holding.less_keeps n (keeps_node Gone t
-        (off_told is_retired (node_at c.nodes n) (λ _ _. refl) closed) retired_inside (λ (is : false ≡ true). cc) refl) some_hold
+    let_go_keeps : IsTable let_go
+    let_go_keeps = Rattle.fx_plain.proofs.Holding.less_keeps n
+        (keeps_node Gone t retired_off retired_inside (λ (is : false ≡ true). cc) refl) some_hold
         (λ is. let e : false ≡ true = ap is_retired (sym (get_or-set_same c.nodes n Gone Gone retired_inside)) ∙ is in cc)
 
     pub let_go_releases : {out : Option Closed} → out ≡ file_in (node_at c.nodes n) → EndsHold c let_go n out
-    let_go_releases is =
-        record {
-          answer = is ∙ ap file_in was_retired.1 ∙ sym (ap identity_of closing);
-          steps = let_go_steps;
-          numbers = refl;
-          sound = let_go_keeps;
-          leaving = leaving-nodes c Gone retired_inside ∙ unchanged (leaving c) n false (sym not_leaving);
-        }
+    let_go_releases is = record {
+      answer = is ∙ ap file_in was_retired.1 ∙ sym (ap identity_of closing);
+      steps = let_go_steps;
+      numbers = refl;
+      sound = let_go_keeps;
+      leaving = leaving-nodes c Gone retired_inside ∙ unchanged (leaving c) n false (sym not_leaving);
+    }
 
-    pub let_go_counted : {full held removed : ℕ} → IsCounted c full held removed → (1 ≤ removed) × IsCounted let_go full (held - 1) (removed - 1)
-    let_go_counted k =
-        let less = (less_counted k).1 in
-        let gone = closed_counted k retired_inside (ap removed_count_of was_retired.1) in (
-          gone.0,
-          record { full_slots = less.full_slots; all_holds = less.all_holds; small_holds = less.small_holds; all_removed = gone.1.all_removed },
-        )
+    pub let_go_counted : {full held removed : ℕ} → IsCounted c full held removed → IsTable let_go × IsCounted let_go full (held - 1) (removed - 1)
+    let_go_counted k = (let_go_keeps, closed_counted (less_counted k) retired_inside (ap removed_count_of was_retired.1))

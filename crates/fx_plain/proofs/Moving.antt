@@ -1,11 +1,11 @@
 -- Each file moves to the node of its slot's number, one slot after another.
-use Rattle.fx_plain.proofs.Words.{◌≡◌, ◌≢◌, ℕ, ◌+◌, ◌<◌, ◌≤◌, List, [], ◌∷◌, ◌++◌, length, refl, sym, ap, ◌∙◌, slice_set, Option, Some, None, IfSome}
-use Rattle.fx_plain.proofs.Words.{IsSome, arith, set-set, length-set, get_or-set_same, get_or-set_other, get_or_append_left, Closed, AllPlaced}
-use Rattle.fx_plain.proofs.Words.{IsFiled, IsVacant, subst, slot_at, node_at, file_named, file_in, opening_slot, moved_node, nodes_without}
-use Rattle.fx_plain.proofs.Words.{file_count_of, At, Gone, sum_by, Node, sum_by-set, set-get_or, HaveOwnNumbers}
+use Rattle.fx_plain.proofs.Words.{◌≡◌, ◌≢◌, ℕ, ◌+◌, ◌<◌, ◌≤◌, List, [], ◌∷◌, ◌++◌, length, refl, sym, ap, ◌∙◌, slice_set, Option, Some, None, arith}
+use Rattle.fx_plain.proofs.Words.{set-set, length-set, get_or-set_same, get_or-set_other, get_or_append_left, Closed, AllPlaced, IsFiled, IsVacant}
+use Rattle.fx_plain.proofs.Words.{subst, slot_at, node_at, file_named, file_in, opening_slot, moved_node, nodes_without, file_count_of, At, Gone}
+use Rattle.fx_plain.proofs.Words.{sum_by, Node, sum_by-set, set-get_or, HaveOwnNumbers}
 use Rattle.std.proofs.Math.Seq.{get_or-append_seam}
 use Rattle.fx_plain.proofs.Cells.{by_equality, each_set}
-use Rattle.fx_plain.proofs.Writes.{has_file-At, inside_of-At}
+use Rattle.fx_plain.proofs.Writes.{inside_of-At}
 use Rattle.fx_plain.proofs.Removals.{other_number}
 
 file_named_same : (old new : List Node) (x : Option ℕ) → ((n : ℕ) → x ≡ Some n → node_at new n ≡ node_at old n) → file_named new x ≡ file_named old x
@@ -17,10 +17,6 @@ abbrev pub IsLeft : List (Option ℕ) → List Node → List Node → ℕ → Ty
 IsLeft slots first nodes s = (u number : ℕ) → s ≤ u → slot_at slots u ≡ Some number → node_at nodes number ≡ node_at first number
 
 module _ (slots : List (Option ℕ)) (first nodes : List Node) (s : ℕ) (placed : AllPlaced slots first) (left : IsLeft slots first nodes s) where
-  pub named_inside : (x : Option ℕ) → slot_at slots s ≡ x → IfSome x (λ n. IsSome (file_in (node_at nodes n)))
-  named_inside None is = tt
-  named_inside (Some n) is = let there = placed s n is in has_file-At nodes n (left s n (omega arith) is ∙ there.1)
-
   pub named_same : file_named nodes (slot_at slots s) ≡ file_named first (slot_at slots s)
   named_same = file_named_same first nodes (slot_at slots s) (λ n is. left s n (omega arith) is)
 
@@ -110,22 +106,6 @@ filed_by_move slots nodes s is = record {
   vacant = λ none. subst IsVacant (sym (is ∙ ap (λ (x : Option ℕ). moved_node (file_named nodes x) s) none))
       (record { used = refl; none_removed = refl });
 }
-
--- a slot whose file has its own number needs nothing
-own_opening : (x : Option ℕ) {s : ℕ} → ((n : ℕ) → x ≡ Some n → n ≡ s) → x ≡ opening_slot x s
-own_opening None own = refl
-own_opening (Some n) own = ap Some (own n refl)
-
-module _ (slots : List (Option ℕ)) (nodes : List Node) {s : ℕ} (own : (n : ℕ) → slot_at slots s ≡ Some n → n ≡ s) where
-  pub named_as_is : slot_at slots s ≡ opening_slot (slot_at slots s) s
-  named_as_is = own_opening (slot_at slots s) own
-
-  pub filed_as_is : AllPlaced slots nodes → (slot_at slots s ≡ None → IsVacant (node_at nodes s)) → IsFiled slots nodes s (node_at nodes s)
-  filed_as_is placed vacant = record {
-    file = λ n at. let there = placed s n at in
-        ap (node_at nodes) (sym (own n at)) ∙ there.1 ∙ sym (ap (λ (node : Node). moved_node (file_in node) s) there.1);
-    vacant = vacant;
-  }
 
 -- files that stand in nodes of which more were made
 module _ (slots : List (Option ℕ)) (old new : List Node) (placed : AllPlaced slots old)

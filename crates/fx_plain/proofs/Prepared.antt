@@ -21,10 +21,6 @@ opening_is_start st numbers = grind (arith, common_steps)
 pub settled_at_opening : (st new : State) (numbers : ℕ) → new ≡ opening st numbers → IsSettled new
 settled_at_opening st new numbers is = subst IsSettled (sym is) (record { unheld = λ _. refl; closed = λ _. refl })
 
--- a slot that was empty still is
-pub empty_at_opening : (st : State) {new : State} (numbers slot : ℕ) → new ≡ opening st numbers → st.at slot ≡ None → new.at slot ≡ None
-empty_at_opening st numbers slot is empty = ap (λ (s : State). s.at slot) is ∙ ap (λ (found : Option File). file_numbered found slot) empty
-
 -- tables with the same files, their numbers aside, open alike
 by_identity : (x : Option File) (slot : ℕ) → file_numbered x slot ≡ option_map (numbered slot) (identity_of x)
 by_identity None slot = refl

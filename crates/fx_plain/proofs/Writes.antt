@@ -29,10 +29,6 @@ pub retired_is : (node : Node) → is_retired node ≡ true → (file : Closed) 
 retired_is (Retired file) e = (file, refl)
 retired_is _ e = cc
 
-pub has_file-leaving : (node : Node) → is_leaving node ≡ true → IsSome (file_in node)
-has_file-leaving (Leaving file) going = refl
-has_file-leaving _ going = cc
-
 -- no slot names the number of a node that isn't at a slot
 abbrev pub IsOff : Node → Type 0
 IsOff node = (slot : ℕ) (file : Closed) → node ≢ At slot file
