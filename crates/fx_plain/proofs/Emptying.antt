@@ -9,10 +9,10 @@ use Rattle.fx_plain.proofs.Moving.{IsLeft, left_without, named_same}
 
 -- more slots have no fewer files
 pub files_more : (at : ℕ → Option File) (m n : ℕ) → m ≤ n → length (files_in_order at m) ≤ length (files_in_order at n)
-files_more at m zero le = let none_is : m ≡ 0 = omega arith in let same = ap (λ (k : ℕ). length (files_in_order at k)) none_is in omega arith
+files_more at m zero le = let none_is : m ≡ 0 = omega arith in rw none_is (omega arith)
 files_more at m (suc n) le = elim (cases_lt m (suc n)) [
   | inl lt ↦ (let rest = files_more at m n (omega arith) in let both = length-append (files_in_order at n) (identities_of (at n)) in omega arith)
-  | inr ge ↦ (let same : m ≡ suc n = omega arith in let e = ap (λ (k : ℕ). length (files_in_order at k)) same in omega arith)
+  | inr ge ↦ (let same : m ≡ suc n = omega arith in rw same (omega arith))
 ]
 
 pub files_next : (at : ℕ → Option File) (n : ℕ) → files_in_order at (n + 1) ≡ files_in_order at n ++ identities_of (at n)

@@ -10,7 +10,6 @@ pub mod Settled
 pub mod OwnNumbers
 pub mod Moving
 pub mod Emptying
-pub mod FilesOut
 pub mod Opening
 pub mod Prepared
 pub mod Sums

@@ -6,7 +6,7 @@ use Rattle.fx_plain.specs.Laws.{IsStart, installed_by}
 use Rattle.fx_plain.proofs.LawFiles.{installed_now, used_after}
 use Rattle.fx_plain.proofs.Places.{place_of, number_at, IsIn, AreDistinct, number_at_in, place_below, number_at_place, place_of_number, slot_of}
 use Rattle.fx_plain.proofs.Places.{slot_found, no_slot_found}
-use Rattle.fx_plain.proofs.Renaming.{IsOneToOne, IsNamed, read_at, renamed_state, IsRenamable, InstallsNamed, legal_renamed}
+use Rattle.fx_plain.proofs.Renaming.{IsOneToOne, IsNamed, KnowsFound, read_at, renamed_state, IsRenamable, InstallsNamed, legal_renamed}
 use Rattle.fx_plain.specs.Reopening.{Renaming, renamed_found, renamed_event, numbers_given, with_number_of, HasOtherNumbers, IsAtRest}
 
 -- a number that was used at the start is used afterwards
@@ -162,7 +162,7 @@ module _ (chain : ℕ → ℕ) (start : State) (new : List ℕ) where
 installs_named : (r : Renaming) (h : List Action) → ((n : ℕ) → IsIn n (numbers_given h) → IsNamed r n) → InstallsNamed r h
 installs_named r [] known = tt
 installs_named r (a ∷ h) known = elim (installed_by a) as (λ x. installed_by a ≡ x → ((n : ℕ) → IsIn n (with_number_of x (numbers_given h)) → IsNamed r n)
-    → InstallsNamed r h × ((f : File) → installed_by a ≡ Some f → IsNamed r f.number)) [
+    → InstallsNamed r h × KnowsFound r (installed_by a)) [
       | None ↦ λ by all. (installs_named r h all, λ f is. let clash : None ≡ Some f = sym by ∙ is in absurd (cc clash))
       | Some g ↦ λ by all. (
         installs_named r h (λ n there. all n (inr there)),

@@ -16,6 +16,10 @@ IsOneToOne r = (new old : ℕ) → r.back new ≡ Some old → r.number old ≡ 
 abbrev pub IsNamed : Renaming → ℕ → Type 0
 IsNamed r old = r.back (r.number old) ≡ Some old
 
+-- so does the number of the file that was found, if there is one
+abbrev pub KnowsFound : Renaming → Option File → Type 0
+KnowsFound r found = (f : File) → found ≡ Some f → IsNamed r f.number
+
 -- what is read under a new number: what stands under the old one, or else what a table without
 -- files has there
 abbrev pub read_at : {X Y : Type 0} → (X → Y) → Y → (ℕ → X) → Option ℕ → Y
@@ -36,15 +40,15 @@ renamed_state r fresh st = record {
 -- each file of the state has a number that leads to one which leads back, and each such number that
 -- is fresh leads to a fresh one
 pub record IsRenamable (r : Renaming) (fresh : ℕ → Bool) (st : State) : Type 0 where
-  pub at : (slot : ℕ) (f : File) → st.at slot ≡ Some f → IsNamed r f.number
+  pub at : (slot : ℕ) → KnowsFound r (st.at slot)
   pub held : (old : ℕ) → 0 < st.holds old → IsNamed r old
-  pub removed : (old : ℕ) (f : File) → st.removed old ≡ Some f → IsNamed r f.number
+  pub removed : (old : ℕ) → KnowsFound r (st.removed old)
   pub stays_fresh : (old : ℕ) → IsNamed r old → st.fresh old ≡ true → fresh (r.number old) ≡ true
 
 -- so has each file that one of the actions installs
 abbrev pub InstallsNamed : Renaming → List Action → Type 0
 InstallsNamed r [] = Unit {0}
-InstallsNamed r (action ∷ h) = InstallsNamed r h × ((f : File) → installed_by action ≡ Some f → IsNamed r f.number)
+InstallsNamed r (action ∷ h) = InstallsNamed r h × KnowsFound r (installed_by action)
 
 -- what holds of the new value, and of each old one at another place, holds of each
 each_changed : {X : Type 0} (P : ℕ → X → Type 0) (f : ℕ → X) (n : ℕ) (v : X) → P n v → (m : ℕ) → (m ≢ n → P m (f m)) → P m (changed_at f n v m)
@@ -84,7 +88,7 @@ module _ (r : Renaming) (one : IsOneToOne r) where
       (λ same. sym (ap (read_at g none (changed_at f n v)) (ap r.back same ∙ known) ∙ ap g (changed_here f n v n refl)))
       (λ other. elsewhere_back g none f n v other (r.back k) refl) i
 
-  removed_back : (removed : ℕ → Option File) (found : Option File) → ((f : File) → found ≡ Some f → IsNamed r f.number)
+  removed_back : (removed : ℕ → Option File) (found : Option File) → KnowsFound r found
       → with_removed (λ k. read_at (renamed_found r) None removed (r.back k)) (renamed_found r found)
       ≡ (λ k. read_at (renamed_found r) None (with_removed removed found) (r.back k))
   removed_back removed None known = refl
@@ -97,7 +101,7 @@ module _ (r : Renaming) (one : IsOneToOne r) where
     held_same : {n : ℕ} → IsNamed r n → other.holds (r.number n) ≡ st.holds n
     held_same known = ap (read_at (λ x. x) 0 st.holds) known
 
-    pub allows : (a : Action) → ((f : File) → installed_by a ≡ Some f → IsNamed r f.number) → Allows st a → Allows other (renamed r a)
+    allows : (a : Action) → KnowsFound r (installed_by a) → Allows st a → Allows other (renamed r a)
     allows (Look slot found) known (inside, is) = (inside, ap (renamed_found r) is)
     allows (Release f) known some = subst (λ (n : ℕ). 0 < n) (sym (held_same (k.held f.number some))) some
     allows (Put slot f replaced) known (inside, is_fresh, is) = (inside, k.stays_fresh f.number (known f refl) is_fresh, ap (renamed_found r) is)
@@ -110,57 +114,47 @@ module _ (r : Renaming) (one : IsOneToOne r) where
         (ap (read_at (renamed_found r) None st.removed) named ∙ ap (renamed_found r) waits, held_same named ∙ none)
 
     -- a hold more or less
-    holds_back : {n : ℕ} (held : ℕ) → IsNamed r n
-        → changed_at other.holds (r.number n) held ≡ (λ k. read_at (λ x. x) 0 (changed_at st.holds n held) (r.back k))
-    holds_back held known = changed_back (λ x. x) 0 st.holds held known
+    holds_back : (change : ℕ → ℕ) {n : ℕ} → IsNamed r n → changed_at other.holds (r.number n) (change (other.holds (r.number n)))
+        ≡ (λ k. read_at (λ x. x) 0 (changed_at st.holds n (change (st.holds n))) (r.back k))
+    holds_back change {n} known = ap (λ (held : ℕ). changed_at other.holds (r.number n) (change held)) (held_same known)
+        ∙ changed_back (λ x. x) 0 st.holds (change (st.holds n)) known
 
     at_slot : (slot : ℕ) (found : Option File) → changed_at other.at slot (renamed_found r found) ≡ (λ u. renamed_found r (changed_at st.at slot found u))
     at_slot slot found = through (renamed_found r) st.at slot found
 
-    known_found : (slot : ℕ) {found : Option File} → found ≡ st.at slot → (f : File) → found ≡ Some f → IsNamed r f.number
+    known_found : (slot : ℕ) {found : Option File} → found ≡ st.at slot → KnowsFound r found
     known_found slot is f some = k.at slot f (sym is ∙ some)
 
-    pub after_is : (a : Action) → Allows st a → after other (renamed r a) ≡ renamed_state r (fresh_after r fresh a) (after st a)
+    emptied_is : (slot : ℕ) {found : Option File} → found ≡ st.at slot
+        → after other (renamed r (Take slot found)) ≡ renamed_state r fresh (after st (Take slot found))
+    emptied_is slot {found} is = λ i. record other { at = at_slot slot None i; removed = removed_back st.removed found (known_found slot is) i }
+
+    after_is : (a : Action) → Allows st a → after other (renamed r a) ≡ renamed_state r (fresh_after r fresh a) (after st a)
     after_is (Look slot None) may = refl
-    after_is (Look slot (Some f)) (inside, is) = let known = k.at slot f (sym is) in λ i. record other {
-      holds = (ap (λ (n : ℕ). changed_at other.holds (r.number f.number) (n + 1)) (held_same known)
-          ∙ holds_back (st.holds f.number + 1) known) i;
-    }
-    after_is (Release f) some = let known = k.held f.number some in λ i. record other {
-      holds = (ap (λ (n : ℕ). changed_at other.holds (r.number f.number) (n - 1)) (held_same known)
-          ∙ holds_back (st.holds f.number - 1) known) i;
-    }
-    after_is (Put slot f replaced) (inside, is_fresh, is) = λ i. record other {
+    after_is (Look slot (Some f)) may = λ i. record other { holds = holds_back (λ held. held + 1) (k.at slot f (sym may.1)) i }
+    after_is (Release f) may = λ i. record other { holds = holds_back (λ held. held - 1) (k.held f.number may) i }
+    after_is (Put slot f replaced) may = λ i. record other {
       at = at_slot slot (Some f) i;
       fresh = changed_at fresh (r.number f.number) false;
-      removed = removed_back st.removed replaced (known_found slot is) i;
+      removed = removed_back st.removed replaced (known_found slot may.2) i;
     }
-    after_is (Clear slot found) (inside, is) = λ i. record other {
-      at = at_slot slot None i;
-      removed = removed_back st.removed found (known_found slot is) i;
-    }
-    after_is (Take slot found) (inside, is) = λ i. record other {
-      at = at_slot slot None i;
-      removed = removed_back st.removed found (known_found slot is) i;
-    }
+    after_is (Clear slot found) may = emptied_is slot may.1
+    after_is (Take slot found) may = emptied_is slot may.1
     after_is (Allocate slot f) may = λ i. record other { at = at_slot slot (Some f) i; fresh = changed_at fresh (r.number f.number) false }
     after_is Full may = refl
-    after_is (Close f) (waits, none) = λ i. record other {
-      removed = changed_back (renamed_found r) None st.removed None (k.removed f.number f waits) i;
-    }
+    after_is (Close f) may = λ i. record other { removed = changed_back (renamed_found r) None st.removed None (k.removed f.number f may.0) i }
 
     -- the files of the state afterwards
-    at_after : (slot : ℕ) (new : Option File) → ((f : File) → new ≡ Some f → IsNamed r f.number) → (u : ℕ) (f : File)
-        → changed_at st.at slot new u ≡ Some f → IsNamed r f.number
-    at_after slot new known u f = each_changed (λ v x. x ≡ Some f → IsNamed r f.number) st.at slot new (known f) u (λ other. k.at u f)
+    file_changed : {files : ℕ → Option File} → ((m : ℕ) → KnowsFound r (files m)) → (n : ℕ) {new : Option File} → KnowsFound r new
+        → (m : ℕ) → KnowsFound r (changed_at files n new m)
+    file_changed {files} all n {new} known m f = each_changed (λ v x. x ≡ Some f → IsNamed r f.number) files n new (known f) m (λ other. all m f)
 
-    held_after_change : {n : ℕ} (held : ℕ) → IsNamed r n → (m : ℕ) → 0 < changed_at st.holds n held m → IsNamed r m
-    held_after_change {n} held known m = each_changed (λ v x. 0 < x → IsNamed r v) st.holds n held (λ some. known) m (λ other. k.held m)
+    held_changed : (held : ℕ) {n : ℕ} → IsNamed r n → (m : ℕ) → 0 < changed_at st.holds n held m → IsNamed r m
+    held_changed held {n} known m = each_changed (λ v x. 0 < x → IsNamed r v) st.holds n held (λ some. known) m (λ other. k.held m)
 
-    removed_after : (found : Option File) → ((f : File) → found ≡ Some f → IsNamed r f.number) → (m : ℕ) (f : File)
-        → with_removed st.removed found m ≡ Some f → IsNamed r f.number
-    removed_after None known m f = k.removed m f
-    removed_after (Some g) known m f = each_changed (λ v x. x ≡ Some f → IsNamed r f.number) st.removed g.number (Some g) (known f) m (λ other. k.removed m f)
+    removed_after : (found : Option File) → KnowsFound r found → (m : ℕ) → KnowsFound r (with_removed st.removed found m)
+    removed_after None known = k.removed
+    removed_after (Some g) known = file_changed k.removed g.number known
 
     still_fresh : {n : ℕ} → IsNamed r n → (m : ℕ) → IsNamed r m → changed_at st.fresh n false m ≡ true
         → changed_at fresh (r.number n) false (r.number m) ≡ true
@@ -169,66 +163,37 @@ module _ (r : Renaming) (one : IsOneToOne r) where
         (λ apart is_fresh. changed_else fresh (r.number n) false (r.number m) (λ (same : r.number m ≡ r.number n).
         let e : Some m ≡ Some n = sym named ∙ ap r.back same ∙ known in apart (cc e)) ∙ k.stays_fresh m named is_fresh) is
 
-    pub stays_renamable : (a : Action) → ((f : File) → installed_by a ≡ Some f → IsNamed r f.number) → Allows st a → IsRenamable r (fresh_after r fresh a) (after st a)
+    nothing_known : KnowsFound r None
+    nothing_known f none = absurd (cc none)
+
+    stays_emptied : (slot : ℕ) (found : Option File) → found ≡ st.at slot → IsRenamable r fresh (after st (Take slot found))
+    stays_emptied slot found is = assumption (file_changed k.at slot nothing_known, removed_after found (known_found slot is))
+
+    stays_renamable : (a : Action) → KnowsFound r (installed_by a) → Allows st a → IsRenamable r (fresh_after r fresh a) (after st a)
     stays_renamable (Look slot None) known may = k
-    stays_renamable (Look slot (Some f)) known (inside, is) = record {
-      at = k.at;
-      held = held_after_change (st.holds f.number + 1) (k.at slot f (sym is));
-      removed = k.removed;
-      stays_fresh = k.stays_fresh;
-    }
-    stays_renamable (Release f) known some = record {
-      at = k.at;
-      held = held_after_change (st.holds f.number - 1) (k.held f.number some);
-      removed = k.removed;
-      stays_fresh = k.stays_fresh;
-    }
-    stays_renamable (Put slot f replaced) known (inside, is_fresh, is) = record {
-      at = at_after slot (Some f) known;
-      held = k.held;
-      removed = removed_after replaced (known_found slot is);
-      stays_fresh = still_fresh (known f refl);
-    }
-    stays_renamable (Clear slot found) known (inside, is) = record {
-      at = at_after slot None (λ f none. absurd (cc none));
-      held = k.held;
-      removed = removed_after found (known_found slot is);
-      stays_fresh = k.stays_fresh;
-    }
-    stays_renamable (Take slot found) known (inside, is) = record {
-      at = at_after slot None (λ f none. absurd (cc none));
-      held = k.held;
-      removed = removed_after found (known_found slot is);
-      stays_fresh = k.stays_fresh;
-    }
-    stays_renamable (Allocate slot f) known may = record {
-      at = at_after slot (Some f) known;
-      held = k.held;
-      removed = k.removed;
-      stays_fresh = still_fresh (known f refl);
-    }
+    stays_renamable (Look slot (Some f)) known may = assumption (held_changed (st.holds f.number + 1) (k.at slot f (sym may.1)))
+    stays_renamable (Release f) known may = assumption (held_changed (st.holds f.number - 1) (k.held f.number may))
+    stays_renamable (Put slot f replaced) known may =
+        assumption (file_changed k.at slot known, removed_after replaced (known_found slot may.2), still_fresh (known f refl))
+    stays_renamable (Clear slot found) known may = stays_emptied slot found may.1
+    stays_renamable (Take slot found) known may = stays_emptied slot found may.1
+    stays_renamable (Allocate slot f) known may = assumption (file_changed k.at slot known, still_fresh (known f refl))
     stays_renamable Full known may = k
-    stays_renamable (Close f) known may = record {
-      at = k.at;
-      held = k.held;
-      removed = λ m g. each_changed (λ v x. x ≡ Some g → IsNamed r g.number) st.removed f.number None (λ none. absurd (cc none)) m
-          (λ apart. k.removed m g);
-      stays_fresh = k.stays_fresh;
-    }
+    stays_renamable (Close f) known may = assumption (file_changed k.removed f.number nothing_known)
 
   -- a history of actions
   module _ {fresh : ℕ → Bool} {start : State} (k : IsRenamable r fresh start) where
-    pub renamable_behind : (h : List Action) → InstallsNamed r h → AllowsAll start h → IsRenamable r (fresh_behind r fresh h) (state_after start h)
+    renamable_behind : (h : List Action) → InstallsNamed r h → AllowsAll start h → IsRenamable r (fresh_behind r fresh h) (state_after start h)
     renamable_behind [] known may = k
     renamable_behind (a ∷ h) known may = stays_renamable (renamable_behind h known.0 may.0) a known.1 may.1
 
-    pub state_behind : (h : List Action) → InstallsNamed r h → AllowsAll start h
+    state_behind : (h : List Action) → InstallsNamed r h → AllowsAll start h
         → state_after (renamed_state r fresh start) (map (renamed r) h) ≡ renamed_state r (fresh_behind r fresh h) (state_after start h)
     state_behind [] known may = refl
     state_behind (a ∷ h) known may = ap (λ (s : State). after s (renamed r a)) (state_behind h known.0 may.0)
         ∙ after_is (renamable_behind h known.0 may.0) a may.1
 
-    pub allowed_behind : (h : List Action) → InstallsNamed r h → AllowsAll start h → AllowsAll (renamed_state r fresh start) (map (renamed r) h)
+    allowed_behind : (h : List Action) → InstallsNamed r h → AllowsAll start h → AllowsAll (renamed_state r fresh start) (map (renamed r) h)
     allowed_behind [] known may = tt
     allowed_behind (a ∷ h) known may = (
       allowed_behind h known.0 may.0,
@@ -238,7 +203,6 @@ module _ (r : Renaming) (one : IsOneToOne r) where
 
 -- what a pass holds
 held_after_same : (r : Renaming) (held : Option File) (a : Action) → held_after (renamed_found r held) (renamed r a) ≡ renamed_found r (held_after held a)
-held_after_same r held (Look slot found) = refl
 held_after_same r held (Release f) = refl
 held_after_same r held _ = refl
 
@@ -253,7 +217,8 @@ held_same_by r (e ∷ h) pass = if_renamed r (e.pass == pass) (held_after (held_
     (ap (λ (held : Option File). held_after held (renamed r e.action)) (held_same_by r h pass) ∙ held_after_same r (held_by h pass) e.action)
     (held_same_by r h pass)
 
-releases_its_own : (r : Renaming) (held : Option File) {now : Option File} (a : Action) → now ≡ renamed_found r held → ReleasesItsOwn held a → ReleasesItsOwn now (renamed r a)
+releases_its_own : (r : Renaming) (held : Option File) {now : Option File} (a : Action) → now ≡ renamed_found r held → ReleasesItsOwn held a
+    → ReleasesItsOwn now (renamed r a)
 releases_its_own r held (Release f) same own = same ∙ ap (renamed_found r) own
 releases_its_own r held _ same own = tt
 

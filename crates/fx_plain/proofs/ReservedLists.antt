@@ -52,19 +52,9 @@ written_inside xs n few has = inside_written Fresh Gone xs n few
     (λ is. let none : IsSome (file_in Fresh) = subst (λ (node : Node). IsSome (file_in node)) is has in cc none)
     (λ is. let none : IsSome (file_in Gone) = subst (λ (node : Node). IsSome (file_in node)) is has in cc none)
 
--- a write at a node with a file is a write of the whole list
-pub written_over : {len : ℕ} (xs : List Node) {ys seen : List Node} (n : ℕ) (x : Node) → length xs ≤ len → with_rest Fresh len xs ≡ seen
-    → IsSome (file_in (node_at seen n)) → ys ≡ slice_set xs n x → with_rest Fresh len ys ≡ slice_set seen n x
-written_over {len} xs n x few is has set = ap (with_rest Fresh len) set
-    ∙ with_rest-set Fresh len xs x (written_inside xs n few (subst (λ (l : List Node). IsSome (file_in (node_at l n))) (sym is) has))
-    ∙ ap (λ (l : List Node). slice_set l n x) is
-
--- and so is one of what the node becomes
-pub changed_over : (f : Node → Node) {len : ℕ} (xs : List Node) {mid ys seen : List Node} (n : ℕ) {node now : Node} → length xs ≤ len
-    → with_rest Fresh len xs ≡ seen → IsSome (file_in (node_at seen n)) → node ≡ node_at xs n → mid ≡ slice_set xs n Gone → now ≡ f node → ys ≡ slice_set mid n now
-    → with_rest Fresh len ys ≡ slice_set seen n (f (node_at seen n))
-changed_over f {len} xs {seen} n {node} {now} few is has read out became set =
-    let inside = written_inside xs n few (subst (λ (l : List Node). IsSome (file_in (node_at l n))) (sym is) has) in
-    let same : node ≡ node_at seen n = read ∙ sym (read_written Fresh len xs Gone inside) ∙ ap (λ (l : List Node). node_at l n) is in
-    written_over xs n (f (node_at seen n)) few is has
-    (set ∙ ap (λ (l : List Node). slice_set l n now) out ∙ set-set xs n Gone now ∙ ap (slice_set xs n) (became ∙ ap f same))
+-- a write at a node with a file of what the node becomes is a write of the whole list
+pub changed_over : (f : Node → Node) {len : ℕ} (xs : List Node) (n : ℕ) → length xs ≤ len → IsSome (file_in (node_at (with_rest Fresh len xs) n))
+    → with_rest Fresh len (slice_set (slice_set xs n Gone) n (f (node_at xs n)))
+    ≡ slice_set (with_rest Fresh len xs) n (f (node_at (with_rest Fresh len xs) n))
+changed_over f {len} xs n few has = let inside = written_inside xs n few has in
+    rw (set-set, read_written Fresh len xs Gone inside) (with_rest-set Fresh len xs (f (node_at xs n)) inside)

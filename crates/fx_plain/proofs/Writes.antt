@@ -59,3 +59,11 @@ state_of-nodes {c} {n} v t inside off = λ i. record (state_of c) {
 pub leaving-nodes : (c : Contents) {n : ℕ} (v : Node) → n < length c.nodes
     → leaving (record c { nodes = slice_set c.nodes n v }) ≡ changed_at (leaving c) n (is_leaving v)
 leaving-nodes c v inside = written (λ q x. is_leaving x) c.nodes v Gone inside
+
+-- an empty slot names no number
+none_named : {c : Contents} (slot : ℕ) → IsTable c → (x : Option ℕ) → slot_at c.slots slot ≡ x → file_at c.nodes x ≡ None → x ≡ None
+none_named slot t None is empty = refl
+none_named slot t (Some n) is empty = absurd (cc (rw (t.placed slot n is).1 at empty))
+
+pub unnamed : {c : Contents} (slot : ℕ) → IsTable c → (state_of c).at slot ≡ None → slot_at c.slots slot ≡ None
+unnamed {c} slot t empty = none_named slot t (slot_at c.slots slot) refl empty

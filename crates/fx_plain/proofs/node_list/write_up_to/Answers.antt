@@ -3,15 +3,10 @@ use Rattle.fx_plain.proofs.ReservedLists.{with_rest-push}
 use Rattle.fx_plain.proofs.node_list.write_up_to.Goals as goal
 
 pub loop-preserved : goal.loop-preserved
-loop-preserved c =
-    let i = c.loop.invariant in
-    let test = c.loop-test.true in
-    let size = c.loop.nodes.ok.0 in
-    let count = i.count in
-    record {
-      count = search rules;
-      few = λ len lt few. let pushed = c.push_reserved.ensures.len in omega arith;
-      same = λ len lt. ap (with_rest Fresh len) c.push_reserved.ensures.items ∙ with_rest-push Fresh len c.loop.nodes.items (omega arith)
-          ∙ i.same len lt;
-      capacity = search rules;
-    }
+loop-preserved c = record {
+  count = search rules;
+  few = λ len lt few. omega arith;
+  same = λ len lt. ap (with_rest Fresh len) c.push_reserved.ensures.items ∙ with_rest-push Fresh len c.loop.nodes.items (omega arith)
+      ∙ c.loop.invariant.same len lt;
+  capacity = search rules;
+}

@@ -1,9 +1,9 @@
-use Rattle.fx_plain.proofs.Words.{◌≤◌, length, arith, Gone}
-use Rattle.fx_plain.proofs.ReservedLists.{written_over}
+use Rattle.fx_plain.proofs.Words.{sym, arith, Fresh, Gone}
+use Rattle.fx_plain.proofs.ReservedLists.{written_inside, with_rest-set}
 use Rattle.fx_plain.proofs.node_list.NodeList.take_file.Goals as goal
 
 pub returns-clause-after : goal.returns-clause-after
 returns-clause-after c =
-    let few : length c.self.inside.written.items ≤ c.self.inside.len = let a = c.self.invariant.0 in let b = c.self.inside.written.ok.0 in
-    omega arith in
-    written_over _ c.args.number Gone few c.self.view_is c.requires c.put_in.ensures.after
+    let xs = c.self.inside.written.items in
+    let inside = written_inside {len = c.self.inside.len} xs c.args.number (omega arith) (rw (sym c.self.view_is) at c.requires) in
+    rw (c.put_in.ensures.after, sym c.self.view_is) (with_rest-set Fresh c.self.inside.len xs Gone inside)

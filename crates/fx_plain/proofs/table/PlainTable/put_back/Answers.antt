@@ -1,7 +1,7 @@
 use Rattle.fx_plain.proofs.Words.{rules, false, ◌≡◌, ◌^◌, None, ◌+◌, ◌<◌, Some, length, sym, ap, subst, ◌∙◌, arith, IsSettled, changed_at}
 use Rattle.fx_plain.proofs.Words.{with_removed, slot_at, file_at, Contents, IsTable, IsCounted, state_of, numbered, IsPrepared, the_view}
-use Rattle.fx_plain.proofs.FilesOut.{unnamed}
 use Rattle.fx_plain.proofs.Cells.{unchanged}
+use Rattle.fx_plain.proofs.Writes.{unnamed}
 use Rattle.fx_plain.proofs.Removals.{IsFree, own_free, put_at, state_of-put, put_counted}
 use Rattle.fx_plain.proofs.OwnNumbers.{own_as_before}
 use Rattle.fx_plain.proofs.table.PlainTable.put_back.Goals.{After-set_node}

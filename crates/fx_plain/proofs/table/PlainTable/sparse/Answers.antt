@@ -1,4 +1,4 @@
-use Rattle.fx_plain.proofs.Words.{rules, ap, ◌≡◌, ◌∙◌, ℕ, List, Option, None, replicate, arith, slot_at}
+use Rattle.fx_plain.proofs.Words.{rules, ◌≡◌, None, replicate, arith}
 use Rattle.fx_plain.proofs.Cells.{read_default}
 use Rattle.fx_plain.proofs.OwnNumbers.{own_of_none}
 use Rattle.fx_plain.proofs.Settled.{sparse_keeps}
@@ -8,6 +8,5 @@ pub invariant_of-result : goal.invariant_of-result
 invariant_of-result c =
     let items : c.in_ok-slots.slots.items ≡ replicate c.args.n None = search rules in (
       sparse_keeps items c.requires.few c.none.ensures c.none-2.ensures (search rules),
-      own_of_none c.in_ok-slots.slots.items c.none-3.result (let none = c.none-3.ensures in omega arith)
-          (λ s. ap (λ (xs : List (Option ℕ)). slot_at xs s) items ∙ read_default c.args.n s None),
+      own_of_none c.in_ok-slots.slots.items c.none-3.result (omega arith) (λ s. rw items (read_default c.args.n s None)),
     )

@@ -1,8 +1,8 @@
-use Rattle.fx_plain.proofs.Words.{rules, ◌≡◌, ◌<◌, ◌+◌, ◌++◌, ◌∷◌, [], sym, ap, subst, ◌∙◌, length, append_assoc, arith, ℕ, List, Option, Closed}
-use Rattle.fx_plain.proofs.Words.{File, identity_of, slots_in_order, file_at, file_named, slot_at, nodes_without, Node}
+use Rattle.fx_plain.proofs.Words.{rules, ◌≡◌, ◌<◌, ◌∷◌, [], ap, ◌∙◌, length, append_assoc, arith, ℕ, Option, File, identity_of, slots_in_order}
+use Rattle.fx_plain.proofs.Words.{file_at, file_named, slot_at, nodes_without}
 use Rattle.fx_plain.proofs.table.files.take_each.Goals as goal
 use Rattle.std.proofs.lemmas.List.FromFn.{map-range_with_len_more}
-use Rattle.fx_plain.proofs.Emptying.{read_slot, next_taken, worked_next, IsWorked}
+use Rattle.fx_plain.proofs.Emptying.{read_slot, next_taken, worked_next}
 
 pub loop-slot-preserved : goal.loop-slot-preserved
 loop-slot-preserved c =
@@ -17,14 +17,11 @@ loop-slot-preserved c =
     let taken : c.take_named.result ≡ identity_of (at s) = c.take_named.ensures.file ∙ (ap (file_named nodes) x
     ∙ next_taken slots first nodes s c.requires.placed i.worked.left) in
     let nodes_are : c.take_named.new.nodes ≡ nodes_without nodes (slot_at slots s) = c.take_named.ensures.nodes ∙ ap (nodes_without nodes) x in
-    let pushed = c.push_reserved.ensures in
+    let more = map-range_with_len_more (λ u. identity_of (at u)) 0 s s (omega arith) in
     record {
-      files = pushed.items ∙ (ap (λ (xs : List (Option Closed)). xs ++ c.take_named.result ∷ []) i.files
-          ∙ (append_assoc c.args.files.now.items (slots_in_order at s) (c.take_named.result ∷ [])
-          ∙ (ap (λ (y : Option Closed). c.args.files.now.items ++ (slots_in_order at s ++ y ∷ [])) taken
-          ∙ ap (λ (xs : List (Option Closed)). c.args.files.now.items ++ xs) (sym (map-range_with_len_more (λ u. identity_of (at u)) 0 s s (let e : 0 + s ≡ s = omega arith in e))))));
-      count = let a = pushed.len in let b = i.count in omega (arith, a, b);
-      capacity = pushed.capacity ∙ i.capacity;
-      worked = subst (λ (xs : List Node). IsWorked slots first xs (s + 1)) (sym nodes_are)
-          (worked_next slots first nodes s c.requires.placed i.worked.left i.worked);
+      files = rw (c.push_reserved.ensures.items, i.files, taken, more)
+          (append_assoc c.args.files.now.items (slots_in_order at s) (identity_of (at s) ∷ []));
+      count = search rules;
+      capacity = search rules;
+      worked = rw nodes_are (worked_next slots first nodes s c.requires.placed i.worked.left i.worked);
     }
