@@ -1,10 +1,11 @@
 -- A settled table is at rest, wherever its history has led to.
-use Rattle.fx_plain.proofs.Words.{◌≡◌, ◌≢◌, ℕ, zero, suc, ◌+◌, ◌<◌, ◌≤◌, true, false, List, [], ◌∷◌, map, sym, ap, subst, ◌∙◌, Option, Some, None}
-use Rattle.fx_plain.proofs.Words.{refl, if◌then◌else◌, arith, get_or-eq_default, State, IsSettled, opening, file_numbered, Allows, AllowsAll, after}
+use Rattle.fx_plain.proofs.Words.{◌≡◌, ◌≢◌, ℕ, zero, suc, ◌+◌, ◌<◌, ◌≤◌, List, [], ◌∷◌, map, sym, ap, subst, ◌∙◌, Option, Some, None, refl}
+use Rattle.fx_plain.proofs.Words.{if◌then◌else◌, arith, get_or-eq_default, State, IsSettled, opening, file_numbered, Allows, AllowsAll, after}
 use Rattle.fx_plain.proofs.Words.{state_after, changed_at, action_of, File, Event, Action, Put, Clear, Take, Allocate, Look, IsLegal, Contents}
 use Rattle.fx_plain.proofs.Words.{state_of, file_at}
 use Rattle.fx_plain.specs.Laws.{IsStart}
 use Rattle.fx_plain.specs.Reopening.{IsAtRest}
+use Rattle.std.proofs.lemmas.Bool.{false_from_ne_true}
 use Rattle.fx_plain.proofs.Cells.{by_equality}
 use Rattle.fx_plain.proofs.Named.{named, named_same}
 use Rattle.fx_plain.proofs.Prepared.{opening_is_start}
@@ -33,10 +34,7 @@ begins_by_tally {st} few settled = record {
       let here : named f.number (st.at slot) ≡ 1 = ap (named f.number) is ∙ named_same f f.number refl in
       let at_least = placed_one f.number st.at slot st.size below in
       let one = few f.number in
-      elim (st.fresh f.number) as (λ b. st.fresh f.number ≡ b → b ≡ false) [
-        | true ↦ λ fresh. let counted = ap bit fresh in absurd (omega arith)
-        | false ↦ λ _. refl
-      ] refl;
+      false_from_ne_true (st.fresh f.number) (λ fresh. let counted = ap bit fresh in omega arith);
 }
 
 -- no file is past the slots

@@ -21,10 +21,8 @@ IsOnly f st = HoldsOfFiles (Same f) (SameAt f) (λ _ p. p) st
 -- a file that is installed has a fresh number, which is then used, and closes nothing
 pub installed_now : {f : File} (st : State) (a : Action) → Allows st a → installed_by a ≡ Some f
     → (st.fresh f.number ≡ true) × ((after st a).fresh f.number ≡ false) × (closed_of f.number a ≡ [])
-installed_now {f} st (Put slot new replaced) may is = let e : new ≡ f = cc in let was = may.1 in
-    (ap (λ (x : File). st.fresh x.number) (sym e) ∙ was, grind arith, refl)
-installed_now {f} st (Allocate slot new) may is = let e : new ≡ f = cc in let was = may.3 in
-    (ap (λ (x : File). st.fresh x.number) (sym e) ∙ was, grind arith, refl)
+installed_now {f} st (Put slot new replaced) may is = let e : new ≡ f = cc in (rw (sym e) may.1, grind arith, refl)
+installed_now {f} st (Allocate slot new) may is = let e : new ≡ f = cc in (rw (sym e) may.3, grind arith, refl)
 installed_now st _ may is = cc
 
 pub used_after : (st : State) (a : Action) (n : ℕ) → st.fresh n ≡ false → (after st a).fresh n ≡ false

@@ -1,8 +1,8 @@
 -- Each file moves to the node of its slot's number, one slot after another.
 use Rattle.fx_plain.proofs.Words.{◌≡◌, ◌≢◌, ℕ, ◌+◌, ◌<◌, ◌≤◌, List, [], ◌∷◌, ◌++◌, length, refl, sym, ap, ◌∙◌, slice_set, Option, Some, None, arith}
-use Rattle.fx_plain.proofs.Words.{set-set, length-set, get_or-set_same, get_or-set_other, get_or_append_left, Closed, AllPlaced, IsFiled, IsVacant}
-use Rattle.fx_plain.proofs.Words.{subst, slot_at, node_at, file_named, file_in, opening_slot, moved_node, nodes_without, file_count_of, At, Gone}
-use Rattle.fx_plain.proofs.Words.{sum_by, Node, sum_by-set, set-get_or, HaveOwnNumbers}
+use Rattle.fx_plain.proofs.Words.{set-set, length-set, get_or-set_other, get_or_append_left, Closed, AllPlaced, IsFiled, IsVacant, subst, slot_at}
+use Rattle.fx_plain.proofs.Words.{node_at, file_named, file_in, opening_slot, moved_node, nodes_without, file_count_of, At, Gone, sum_by, Node}
+use Rattle.fx_plain.proofs.Words.{sum_by-set, set-get_or, HaveOwnNumbers}
 use Rattle.std.proofs.Math.Seq.{get_or-append_seam}
 use Rattle.fx_plain.proofs.Cells.{by_equality, each_set}
 use Rattle.fx_plain.proofs.Writes.{inside_of-At}
@@ -31,28 +31,29 @@ pub length-without : (nodes : List Node) (x : Option ℕ) → length (nodes_with
 length-without nodes None = refl
 length-without nodes (Some n) = length-set nodes n Gone
 
-module _ (first slots : List (Option ℕ)) {s : ℕ} (inside : s < length slots) (here : slot_at slots s ≡ slot_at first s) where
-  abbrev pub renamed : List (Option ℕ)
-  renamed = slice_set slots s (opening_slot (slot_at slots s) s)
+same_filled : (x : Option ℕ) (s : ℕ) → file_count_of (opening_slot x s) ≡ file_count_of x
+same_filled None s = refl
+same_filled (Some n) s = refl
 
-  pub done_next : ((u : ℕ) → u < s → slot_at slots u ≡ opening_slot (slot_at first u) u) → {u : ℕ} → u < s + 1
-      → slot_at renamed u ≡ opening_slot (slot_at first u) u
-  done_next done {u} lt = by_equality u s (λ _. slot_at renamed u ≡ opening_slot (slot_at first u) u)
-      (λ same. ap (slot_at renamed) same ∙ get_or-set_same slots s (opening_slot (slot_at slots s) s) None inside
-      ∙ ap (λ (x : Option ℕ). opening_slot x s) here ∙ ap (λ (k : ℕ). opening_slot (slot_at first k) k) (sym same))
-      (λ other. get_or-set_other slots s u (opening_slot (slot_at slots s) s) None other ∙ done u (omega arith))
+-- the slots before s name their own numbers, and the others are as they were
+pub record IsOpened (first slots : List (Option ℕ)) (s : ℕ) : Type 0 where
+  pub done : (u : ℕ) → u < s → slot_at slots u ≡ opening_slot (slot_at first u) u
+  pub rest : (u : ℕ) → s ≤ u → slot_at slots u ≡ slot_at first u
+  pub full : sum_by file_count_of slots ≡ sum_by file_count_of first
 
-  pub rest_next : ((u : ℕ) → s ≤ u → slot_at slots u ≡ slot_at first u) → {u : ℕ} → s + 1 ≤ u → slot_at renamed u ≡ slot_at first u
-  rest_next rest {u} le = let apart : u ≢ s = omega arith in
-      get_or-set_other slots s u (opening_slot (slot_at slots s) s) None apart ∙ rest u (omega arith)
-
-  same_filled : (x : Option ℕ) → file_count_of (opening_slot x s) ≡ file_count_of x
-  same_filled None = refl
-  same_filled (Some n) = refl
-
-  pub full_next : sum_by file_count_of renamed ≡ sum_by file_count_of slots
-  full_next = let changed = sum_by-set file_count_of slots s (opening_slot (slot_at slots s) s) None inside in
-      let same = same_filled (slot_at slots s) in omega arith
+pub opened_next : {first slots : List (Option ℕ)} {s : ℕ} → IsOpened first slots s → s < length slots
+    → IsOpened first (slice_set slots s (opening_slot (slot_at slots s) s)) (s + 1)
+opened_next {first} {slots} {s} before inside =
+    let changed = sum_by-set file_count_of slots s (opening_slot (slot_at slots s) s) None inside in
+    let same = same_filled (slot_at slots s) s in
+    let full = before.full in
+    record {
+      done = λ u lt. each_set (λ k x. x ≡ opening_slot (slot_at first k) k) slots s (opening_slot (slot_at slots s) s) None inside
+          (rw (before.rest s (omega arith)) refl) u (λ other. before.done u (omega arith));
+      rest = λ u le. let apart : u ≢ s = omega arith in
+          get_or-set_other slots s u (opening_slot (slot_at slots s) s) None apart ∙ before.rest u (omega arith);
+      full = omega arith;
+    }
 
 -- one node more was appended
 pub moved_next : (moved : List Node) {s : ℕ} {node : Node} (expected : ℕ → Node) → length moved ≡ s → node ≡ expected s

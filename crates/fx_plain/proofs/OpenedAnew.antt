@@ -1,12 +1,14 @@
 -- A later part of a history, with the numbers that a table which is opened then gives.
 use Rattle.fx_plain.proofs.Words.{◌≡◌, ◌⊎◌, ℕ, ◌+◌, ◌-◌, ◌<◌, ◌≤◌, Bool, true, false, not, ◌&&◌, nat_lt, List, [], ◌∷◌, map, length, refl, sym, ap}
 use Rattle.fx_plain.proofs.Words.{subst, ◌∙◌, Option, Some, None, if◌then◌else◌, arith, inl, inr, cases_lt, lt-ltb, le-ltb, State, IsSettled, opening}
-use Rattle.fx_plain.proofs.Words.{file_numbered, AllowsAll, after, state_after, action_of, File, Event, Action, IsLegal, identity_of, number_of}
+use Rattle.fx_plain.proofs.Words.{file_numbered, AllowsAll, after, state_after, action_of, File, Event, Action, IsLegal, identity_of, number_of, Put}
+use Rattle.fx_plain.proofs.Words.{Allocate}
+use Rattle.std.proofs.lemmas.Bool.{true_from_ne_false}
 use Rattle.fx_plain.specs.Laws.{IsStart, installed_by}
 use Rattle.fx_plain.proofs.LawFiles.{installed_now, used_after}
 use Rattle.fx_plain.proofs.Places.{place_of, number_at, IsIn, AreDistinct, number_at_in, place_below, number_at_place, place_of_number, slot_of}
 use Rattle.fx_plain.proofs.Places.{slot_found, no_slot_found}
-use Rattle.fx_plain.proofs.Renaming.{IsOneToOne, IsNamed, KnowsFound, read_at, renamed_state, IsRenamable, InstallsNamed, legal_renamed}
+use Rattle.fx_plain.proofs.Renaming.{IsOneToOne, IsNamed, read_at, renamed_state, IsRenamable, InstallsNamed, legal_renamed}
 use Rattle.fx_plain.specs.Reopening.{Renaming, renamed_found, renamed_event, numbers_given, with_number_of, HasOtherNumbers, IsAtRest}
 
 -- a number that was used at the start is used afterwards
@@ -14,11 +16,13 @@ used_behind : (start : State) (h : List Action) (n : ℕ) → start.fresh n ≡ 
 used_behind start [] n used = used
 used_behind start (a ∷ h) n used = used_after (state_after start h) a n (used_behind start h n used)
 
-by_installed : (a : Action) (l : List ℕ) (n : ℕ) → IsIn n (with_number_of (installed_by a) l) → ((f : File) × (installed_by a ≡ Some f) × (f.number ≡ n)) ⊎ IsIn n l
-by_installed a l n is = elim (installed_by a) as (λ x. installed_by a ≡ x → IsIn n (with_number_of x l) → ((f : File) × (installed_by a ≡ Some f) × (f.number ≡ n)) ⊎ IsIn n l) [
-  | None ↦ λ _ there. inr there
-  | Some f ↦ λ by there. elim there [ inl same ↦ inl (f, by, same) | inr more ↦ inr more ]
-] refl is
+by_installed : (a : Action) (l : List ℕ) (n : ℕ) → IsIn n (with_number_of (installed_by a) l)
+    → ((f : File) × (installed_by a ≡ Some f) × (f.number ≡ n)) ⊎ IsIn n l
+by_installed (Put slot f replaced) l n (inl same) = inl (f, refl, same)
+by_installed (Put slot f replaced) l n (inr more) = inr more
+by_installed (Allocate slot f) l n (inl same) = inl (f, refl, same)
+by_installed (Allocate slot f) l n (inr more) = inr more
+by_installed _ l n is = inr is
 
 -- a number that was given was fresh at the start, and is used then
 module _ (start : State) where
@@ -30,10 +34,8 @@ module _ (start : State) where
   ]
 
   fresh_before : (h : List Action) (n : ℕ) → (state_after start h).fresh n ≡ true → start.fresh n ≡ true
-  fresh_before h n fresh = elim (start.fresh n) as (λ b. start.fresh n ≡ b → b ≡ true) [
-    | true ↦ λ _. refl
-    | false ↦ λ used. let clash : false ≡ true = sym (used_behind start h n used) ∙ fresh in absurd (cc clash)
-  ] refl
+  fresh_before h n fresh = true_from_ne_false (start.fresh n) (λ used.
+      let clash : false ≡ true = sym (used_behind start h n used) ∙ fresh in cc)
 
   pub was_fresh : (h : List Action) → AllowsAll start h → (n : ℕ) → IsIn n (numbers_given h) → start.fresh n ≡ true
   was_fresh [] may n is = absurd is
@@ -67,10 +69,10 @@ module _ (chain : ℕ → ℕ) (start : State) (new : List ℕ) where
   }
 
   back_low : {k : ℕ} → k < start.size → by_order.back k ≡ number_of (start.at k)
-  back_low {k} lt = ap (λ (b : Bool). if b then number_of (start.at k) else number_at (k - start.size) new) (lt-ltb k start.size lt)
+  back_low {k} lt = rw (lt-ltb k start.size lt) refl
 
   back_high : {k : ℕ} → start.size ≤ k → by_order.back k ≡ number_at (k - start.size) new
-  back_high {k} le = ap (λ (b : Bool). if b then number_of (start.at k) else number_at (k - start.size) new) (le-ltb k start.size le)
+  back_high {k} le = rw (le-ltb k start.size le) refl
 
   module _ (begins : IsStart start) (fresh : (n : ℕ) → IsIn n new → start.fresh n ≡ true) (distinct : AreDistinct new) where
     of_slot : {slot : ℕ} {f : File} → slot < start.size → start.at slot ≡ Some f → (x : Option ℕ) → slot_of start.at start.size f.number ≡ x
@@ -123,7 +125,7 @@ module _ (chain : ℕ → ℕ) (start : State) (new : List ℕ) where
           let below = place_below n new (is_new is named) in
           let low : start.size ≤ by_order.number n = omega (arith, at) in
           let high : by_order.number n < numbers = omega (arith, at, below, enough) in
-          ap (λ (b : Bool × Bool). not b.0 && b.1) (λ i. (le-ltb (by_order.number n) start.size low i, lt-ltb (by_order.number n) numbers high i))
+          rw (le-ltb (by_order.number n) start.size low, lt-ltb (by_order.number n) numbers high) refl
 
       at_inside : (slot : ℕ) {f : File} → start.at slot ≡ Some f → slot < start.size
       at_inside slot {f} is = elim (cases_lt slot start.size) [
@@ -159,16 +161,16 @@ module _ (chain : ℕ → ℕ) (start : State) (new : List ℕ) where
         holds = λ n. none_held (by_order.back n) i;
       }
 
+given_more : (x : Option File) (l : List ℕ) (n : ℕ) → IsIn n l → IsIn n (with_number_of x l)
+given_more None l n is = is
+given_more (Some f) l n is = inr is
+
 installs_named : (r : Renaming) (h : List Action) → ((n : ℕ) → IsIn n (numbers_given h) → IsNamed r n) → InstallsNamed r h
 installs_named r [] known = tt
-installs_named r (a ∷ h) known = elim (installed_by a) as (λ x. installed_by a ≡ x → ((n : ℕ) → IsIn n (with_number_of x (numbers_given h)) → IsNamed r n)
-    → InstallsNamed r h × KnowsFound r (installed_by a)) [
-      | None ↦ λ by all. (installs_named r h all, λ f is. let clash : None ≡ Some f = sym by ∙ is in absurd (cc clash))
-      | Some g ↦ λ by all. (
-        installs_named r h (λ n there. all n (inr there)),
-        λ f is. let e : Some g ≡ Some f = sym by ∙ is in all f.number (inl (cc e)),
-      )
-    ] refl known
+installs_named r (a ∷ h) known = (
+  installs_named r h (λ n there. known n (given_more (installed_by a) (numbers_given h) n there)),
+  λ f is. known f.number (rw is (inl refl)),
+)
 
 same_identity : (r : Renaming) (x : Option File) → identity_of (renamed_found r x) ≡ identity_of x
 same_identity r None = refl

@@ -1,9 +1,9 @@
 -- The state of a table that was prepared.
-use Rattle.fx_plain.proofs.Words.{sum_by, ◌≡◌, ℕ, ◌<◌, ◌≤◌, ◌^◌, Bool, true, false, not, ◌&&◌, List, length, replicate, refl, sym, ap, subst, ◌∙◌}
-use Rattle.fx_plain.proofs.Words.{slice_index, Option, Some, None, arith, inl, inr, length-replicate, cases_lt, get_or-eq_default, Closed, IsSettled}
-use Rattle.fx_plain.proofs.Words.{opening, Contents, IsTable, IsCounted, state_of, slot_at, node_at, file_at, placed_at, removed_at, is_fresh}
-use Rattle.fx_plain.proofs.Words.{is_retired, IsRenumbered, IsVacant, moved_node, file_in, opening_slot, removed_count_of, itself, Fresh, At, Gone}
-use Rattle.fx_plain.proofs.Words.{Node, nat_lt, lt-ltb, le-ltb, file_numbered}
+use Rattle.fx_plain.proofs.Words.{sum_by, ◌≡◌, ℕ, ◌<◌, ◌≤◌, ◌^◌, true, false, not, ◌&&◌, List, length, replicate, refl, sym, ap, ◌∙◌, slice_index}
+use Rattle.fx_plain.proofs.Words.{Option, Some, None, arith, inl, inr, length-replicate, cases_lt, get_or-eq_default, Closed, IsSettled, opening}
+use Rattle.fx_plain.proofs.Words.{Contents, IsTable, IsCounted, state_of, slot_at, node_at, file_at, removed_at, is_fresh, is_retired, IsRenumbered}
+use Rattle.fx_plain.proofs.Words.{IsVacant, moved_node, file_in, opening_slot, removed_count_of, itself, Fresh, At, Gone, Node, nat_lt, lt-ltb}
+use Rattle.fx_plain.proofs.Words.{le-ltb, file_numbered}
 use Rattle.fx_plain.proofs.Cells.{inside_of, read_default}
 use Rattle.fx_plain.proofs.Settled.{no_holds, none_removed, quiet_is}
 use Rattle.fx_plain.proofs.SumLemmas.{sum_of_nothings, sum_by-replicate}
@@ -24,8 +24,7 @@ module _ {c : Contents} {slots : List (Option ℕ)} {nodes : List Node} {numbers
   -- in no node of a slot stands a removed file
   low_vacant : {n : ℕ} → n < length c.slots → (x : Option ℕ) → slot_at c.slots n ≡ x → IsVacant (node_at nodes n)
   low_vacant {n} low None is = (r.files.filed n low).vacant is
-  low_vacant {n} low (Some m) is = subst IsVacant
-      (sym (own_node low is ∙ ap (λ (node : Node). moved_node (file_in node) n) (t.placed n m is).1)) (record { used = refl; none_removed = refl })
+  low_vacant {n} low (Some m) is = rw (own_node low is, (t.placed n m is).1) (record { used = refl; none_removed = refl })
 
   -- what holds of each kind of node holds of each
   each_node : (P : ℕ → Node → Type 0) → ((n : ℕ) (node : Node) → n < length c.slots → IsVacant node → P n node)
@@ -33,8 +32,8 @@ module _ {c : Contents} {slots : List (Option ℕ)} {nodes : List Node} {numbers
   each_node P low mid high n = elim (cases_lt n (length c.slots)) [
     | inl lt ↦ low n (node_at nodes n) lt (low_vacant lt (slot_at c.slots n) refl)
     | inr ge ↦ elim (cases_lt n numbers) [
-      | inl lt ↦ subst (P n) (sym (r.fresh n ge lt)) (mid n ge lt)
-      | inr past ↦ let len = r.size in subst (P n) (sym (get_or-eq_default nodes Gone (omega arith))) (high n past)
+      | inl lt ↦ rw (r.fresh n ge lt) (mid n ge lt)
+      | inr past ↦ let len = r.size in let behind : length nodes ≤ n = omega arith in rw (get_or-eq_default nodes Gone behind) (high n past)
     ]
   ]
 
@@ -43,28 +42,25 @@ module _ {c : Contents} {slots : List (Option ℕ)} {nodes : List Node} {numbers
       (λ n node lt vacant. (quiet_is node vacant.none_removed).0 n) (λ n ge lt. refl) (λ n ge. refl)
 
   fresh_is : (n : ℕ) → is_fresh (node_at nodes n) ≡ (not (nat_lt n (length c.slots)) && nat_lt n numbers)
-  fresh_is = each_node (λ n node. is_fresh node ≡ (not (nat_lt n (length c.slots)) && nat_lt n numbers)) (λ n node lt vacant. vacant.used
-      ∙ sym (ap (λ (b : Bool). not b && nat_lt n numbers) (lt-ltb n (length c.slots) lt)))
-      (λ n ge lt. sym (ap (λ (b : Bool). not b && nat_lt n numbers) (le-ltb n (length c.slots) ge) ∙ lt-ltb n numbers lt))
-      (λ n ge. sym (ap (λ (b : Bool × Bool). not b.0 && b.1)
-      (λ i. (le-ltb n (length c.slots) (let e = enough in omega arith) i, le-ltb n numbers ge i))))
+  fresh_is = each_node (λ n node. is_fresh node ≡ (not (nat_lt n (length c.slots)) && nat_lt n numbers))
+      (λ n node lt vacant. rw (lt-ltb n (length c.slots) lt) vacant.used)
+      (λ n ge lt. rw (le-ltb n (length c.slots) ge, lt-ltb n numbers lt) refl)
+      (λ n ge. let past : length c.slots ≤ n = omega arith in rw (le-ltb n (length c.slots) past, le-ltb n numbers ge) refl)
 
   named_node : {u : ℕ} → u < length c.slots → (x : Option ℕ) → slot_at c.slots u ≡ x
       → file_at nodes (opening_slot x u) ≡ file_numbered (file_at c.nodes x) u
   named_node inside None is = refl
-  named_node {u} inside (Some m) is = let there = (t.placed u m is).1 in
-      ap (placed_at u) (own_node inside is ∙ ap (λ (node : Node). moved_node (file_in node) u) there)
-      ∙ sym (ap (λ (node : Node). file_numbered (placed_at m node) u) there)
+  named_node {u} inside (Some m) is = rw (own_node inside is, (t.placed u m is).1) refl
 
   at_is : (u : ℕ) → file_at nodes (slot_at slots u) ≡ file_numbered (file_at c.nodes (slot_at c.slots u)) u
   at_is u = elim (cases_lt u (length c.slots)) [
     | inl lt ↦ ap (file_at nodes) (r.files.named u lt) ∙ named_node lt (slot_at c.slots u) refl
-    | inr ge ↦ ap (file_at nodes) (get_or-eq_default slots None (let same = r.files.same_size in omega arith))
-        ∙ sym (ap (λ (x : Option ℕ). file_numbered (file_at c.nodes x) u) (get_or-eq_default c.slots None ge))
+    | inr ge ↦ let same = r.files.same_size in let behind : length slots ≤ u = omega arith in
+        rw (get_or-eq_default slots None behind, get_or-eq_default c.slots None ge) refl
   ]
 
   no_hold : (n : ℕ) → slice_index holds n ≡ 0
-  no_hold n = ap (λ (l : List ℕ). slice_index l n) unheld ∙ read_default numbers n 0
+  no_hold n = rw unheld (read_default numbers n 0)
 
   pub state_of-fields : state_of prepared ≡ opening (state_of c) numbers
   state_of-fields = λ i. record {
@@ -80,7 +76,7 @@ module _ {c : Contents} {slots : List (Option ℕ)} {nodes : List Node} {numbers
       → (file : Closed) × (node_at nodes k ≡ At u file)
   named_placed inside None is same = cc
   named_placed {u} {k} inside (Some m) is same = let there = t.placed u m is in let e : u ≡ k = cc in
-      (there.0, ap (node_at nodes) (sym e) ∙ own_node inside is ∙ ap (λ (node : Node). moved_node (file_in node) u) there.1)
+      (there.0, rw (sym e, own_node inside is, there.1) refl)
 
   slot_inside : (u : ℕ) {k : ℕ} → slot_at slots u ≡ Some k → u < length c.slots
   slot_inside u {k} is = let lt = inside_of slots u None (λ (gone : slot_at slots u ≡ None). let e : Some k ≡ None = sym is ∙ gone in cc) in
@@ -93,7 +89,7 @@ module _ {c : Contents} {slots : List (Option ℕ)} {nodes : List Node} {numbers
   prepared_keeps = record {
     own = λ u k is lt. own_number u is;
     used = λ k lt. let below : k < length c.slots = let same = r.files.same_size in omega arith in
-        fresh_is k ∙ ap (λ (b : Bool). not b && nat_lt k numbers) (lt-ltb k (length c.slots) below);
+        fresh_is k ∙ rw (lt-ltb k (length c.slots) below) refl;
     few_slots = let f = t.few_slots in let same = r.files.same_size in omega arith;
     range_inside = let inside = t.range_inside in let same = r.files.same_size in omega arith;
     few_nodes = let len = r.size in omega arith;

@@ -26,17 +26,14 @@ number_at_in k {n} (x ∷ l) is = by_equality k (length l) (λ b. (if b then Som
 
 pub place_below : (n : ℕ) (l : List ℕ) → IsIn n l → place_of n l < length l
 place_below n [] is = absurd is
-place_below n (x ∷ l) (inl is) = by_equality x n (λ b. (if b then length l else place_of n l) < suc (length l))
-    (λ same. omega arith) (λ other. absurd (other is))
-place_below n (x ∷ l) (inr there) = by_equality x n (λ b. (if b then length l else place_of n l) < suc (length l))
-    (λ same. omega arith) (λ other. let below = place_below n l there in omega arith)
+place_below n (x ∷ l) (inl is) = grind arith
+place_below n (x ∷ l) (inr there) = let below = place_below n l there in grind arith
 
 at_length : (x : ℕ) (l : List ℕ) → number_at (length l) (x ∷ l) ≡ Some x
-at_length x l = by_equality (length l) (length l) (λ b. (if b then Some x else number_at (length l) l) ≡ Some x) (λ same. refl) (λ other. absurd (other refl))
+at_length x l = grind arith
 
 before_length : {k : ℕ} (x : ℕ) (l : List ℕ) → k < length l → number_at k (x ∷ l) ≡ number_at k l
-before_length {k} x l below = by_equality k (length l) (λ b. (if b then Some x else number_at k l) ≡ number_at k l)
-    (λ same. absurd (omega arith)) (λ other. refl)
+before_length x l below = grind arith
 
 pub number_at_place : (n : ℕ) (l : List ℕ) → IsIn n l → number_at (place_of n l) l ≡ Some n
 number_at_place n [] is = absurd is

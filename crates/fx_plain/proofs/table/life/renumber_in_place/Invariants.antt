@@ -1,4 +1,5 @@
-use Rattle.fx_plain.proofs.Words.{◌≡◌, ◌≤◌, ◌<◌, ℕ, Some, length, sum_by, slot_at, node_at, opening_slot, file_count_of, IsFiled, vec_len}
+use Rattle.fx_plain.proofs.Words.{◌≡◌, ◌≤◌, ◌<◌, ℕ, Some, length, slot_at, node_at, IsFiled, vec_len}
+use Rattle.fx_plain.proofs.Moving.{IsOpened}
 use Rattle.fx_plain.proofs.table.life.renumber_in_place.Given as goal
 
 -- the slots so far name their own numbers, whose nodes have their files, and what the others name is as it was
@@ -6,10 +7,8 @@ abbrev pub invariant-loop-slot : goal.invariant-loop-slot
 invariant-loop-slot l = record {
   len : vec_len l.slots ≡ vec_len l.fn.slots;
   nodes_len : length l.nodes ≡ length l.fn.nodes;
-  done : (s : ℕ) → s < l.slot → slot_at l.slots.items s ≡ opening_slot (slot_at l.fn.slots.items s) s;
-  rest : (s : ℕ) → l.slot ≤ s → slot_at l.slots.items s ≡ slot_at l.fn.slots.items s;
+  opened : IsOpened l.fn.slots.items l.slots.items l.slot;
   filed : (s : ℕ) → s < l.slot → s < vec_len l.fn.slots → IsFiled l.fn.slots.items l.fn.nodes s (node_at l.nodes s);
   left : (s number : ℕ) → l.slot ≤ s → slot_at l.fn.slots.items s ≡ Some number → node_at l.nodes number ≡ node_at l.fn.nodes number;
   stays : (s : ℕ) → l.slot ≤ s → s < vec_len l.fn.slots → node_at l.nodes s ≡ node_at l.fn.nodes s;
-  full : sum_by file_count_of l.slots.items ≡ sum_by file_count_of l.fn.slots.items;
 }

@@ -1,5 +1,5 @@
-use Rattle.fx_plain.proofs.Words.{◌≡◌, ◌≤◌, ◌<◌, ℕ, Some, length, sum_by, slot_at, node_at, moved_node, file_named, opening_slot, file_count_of}
-use Rattle.fx_plain.proofs.Words.{vec_len, vec_capacity}
+use Rattle.fx_plain.proofs.Words.{◌≡◌, ◌≤◌, ◌<◌, ℕ, Some, length, slot_at, node_at, moved_node, file_named, vec_len, vec_capacity}
+use Rattle.fx_plain.proofs.Moving.{IsOpened}
 use Rattle.fx_plain.proofs.table.life.renumber_into.Given as goal
 
 -- the slots so far name their own numbers, and the others are as they were, with their files
@@ -9,9 +9,7 @@ invariant-loop-slot l = record {
   nodes_len : length l.nodes ≡ length l.fn.nodes;
   count : vec_len l.moved ≡ l.slot;
   room : vec_capacity l.moved ≡ vec_capacity l.fn.moved;
-  done : (s : ℕ) → s < l.slot → slot_at l.slots.items s ≡ opening_slot (slot_at l.fn.slots.items s) s;
-  rest : (s : ℕ) → l.slot ≤ s → slot_at l.slots.items s ≡ slot_at l.fn.slots.items s;
+  opened : IsOpened l.fn.slots.items l.slots.items l.slot;
   moved : (s : ℕ) → s < l.slot → node_at l.moved.items s ≡ moved_node (file_named l.fn.nodes (slot_at l.fn.slots.items s)) s;
   left : (s number : ℕ) → l.slot ≤ s → slot_at l.fn.slots.items s ≡ Some number → node_at l.nodes number ≡ node_at l.fn.nodes number;
-  full : sum_by file_count_of l.slots.items ≡ sum_by file_count_of l.fn.slots.items;
 }
