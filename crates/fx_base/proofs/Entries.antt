@@ -1,8 +1,8 @@
 -- The entries of a catalogue, by their places.
-use Rattle.std.proofs.Common.{rules, ◌≡◌, ◌⊎◌, inl, inr, ℕ, suc, zero, ◌<◌, ◌≤◌, true, false, List, [], ◌∷◌, ◌++◌, length, refl, sym, ap, ◌∙◌, Option}
-use Rattle.std.proofs.Common.{Some, None, All, slice_index_or, slice_get, subst, length-append, arith, option_map, string_bytes}
+use Rattle.std.proofs.Common.{rules, ◌≡◌, ◌⊎◌, inl, inr, ℕ, suc, zero, ◌<◌, ◌≤◌, true, false, List, [], ◌∷◌, ◌++◌, length, refl, sym, ap, ◌∙◌, Some}
+use Rattle.std.proofs.Common.{None, slice_index_or, slice_get, length-append, arith, option_map, string_bytes}
 use Rattle.std.proofs.lemmas.List.{get_or-map, length-map}
-use Rattle.std.proofs.lemmas.List.Elements.{All-append}
+use Rattle.std.proofs.lemmas.List.Elements.{All-push}
 use Rattle.std.proofs.lemmas.Option.{slice_get-map, slice_get_past, slice_get_read}
 use Rattle.std.proofs.lemmas.Bool.{cases_lt, or_parts}
 use Rattle.std.proofs.lemmas.Slice.Eq.{bytes_eq-Decides}
@@ -48,12 +48,10 @@ pub still_distinct : (catalogue : List FileEntry) (y : FileEntry)
 still_distinct catalogue y distinct new i j name at_i at_j = elim (either_place catalogue y i name at_i) [
   | inl old_i ↦ (elim (either_place catalogue y j name at_j) [
     | inl old_j ↦ distinct i j name old_i old_j
-    | inr new_j ↦ absurd
-        (not_named catalogue y.name new i (old_i ∙ ap Some (sym new_j.1)))
+    | inr new_j ↦ absurd (not_named catalogue y.name new i (old_i ∙ ap Some (sym new_j.1)))
   ])
   | inr new_i ↦ (elim (either_place catalogue y j name at_j) [
-    | inl old_j ↦ absurd
-        (not_named catalogue y.name new j (old_j ∙ ap Some (sym new_i.1)))
+    | inl old_j ↦ absurd (not_named catalogue y.name new j (old_j ∙ ap Some (sym new_i.1)))
     | inr new_j ↦ new_i.0 ∙ sym new_j.0
   ])
 ]
@@ -65,35 +63,29 @@ pub record IsRead (catalogue : List FileEntry) (i : ℕ) (e : Entry) : Type 0 wh
   pub name : name_at catalogue i ≡ Some (string_bytes e.name)
   pub named : IsTrue (is_name (string_bytes e.name))
 
-pub read_at : (entries : List Entry) (i : ℕ) (e : Entry) → IsCatalogue (file_entries_of entries) → i < length entries
-    → e ≡ slice_index_or entries i e → IsRead (file_entries_of entries) i e
-read_at entries i e good inside is =
+pub read_at : (entries : List Entry) {catalogue : List FileEntry} {i : ℕ} {e : Entry} → file_entries_of entries ≡ catalogue
+    → IsCatalogue (file_entries_of entries) → i < length catalogue → e ≡ slice_index_or entries i e → IsRead catalogue i e
+read_at entries {i = i} {e = e} seen good inside is =
+    let within : i < length (file_entries_of entries) = rw seen inside in
+    let low : i < length entries = simp length-map at within in
     let at : slice_get (file_entries_of entries) i ≡ Some (file_entry_of e) =
-    slice_get-map file_entry_of entries i
-    ∙ ap (λ (x : Option Entry). option_map file_entry_of x) (slice_get_read entries (length entries) i e refl inside is) in
+    rw (slice_get-map, slice_get_read entries (length entries) i e refl low is) refl in
     let there : slice_index_or (file_entries_of entries) i (file_entry_of e) ≡ file_entry_of e =
-    get_or-map file_entry_of entries i e (file_entry_of e) inside ∙ ap file_entry_of (sym is) in
-    let within : i < length (file_entries_of entries) = subst (λ (n : ℕ). i < n) (sym (length-map entries file_entry_of)) inside in
-    record {
-      size = ap (λ (x : Option FileEntry). option_map (λ file. length file.bytes) x) at;
-      small = subst (λ (f : FileEntry). length f.bytes ≤ LONGEST_ENTRY) there (good.small i (file_entry_of e) within);
-      name = ap (λ (x : Option FileEntry). option_map (λ file. file.name) x) at;
-      named = subst (λ (f : FileEntry). IsTrue (is_name f.name)) there (good.named i (file_entry_of e) within);
-    }
-
--- what holds of each entry and of one more
-with_one_more : (P : FileEntry → Type 0) (catalogue : List FileEntry) (y : FileEntry) → All P catalogue → P y → All P (catalogue ++ y ∷ [])
-with_one_more P catalogue y all one =
-    All-append P catalogue (y ∷ []) all (λ k d inside. let zero_is : k ≡ 0 = omega arith in
-    subst (λ (n : ℕ). P (slice_index_or (y ∷ []) n d)) (sym zero_is) one)
+    get_or-map file_entry_of entries i e (file_entry_of e) low ∙ ap file_entry_of (sym is) in
+    rw (sym seen) (record {
+      size = rw at refl;
+      small = rw there at (good.small i (file_entry_of e) within);
+      name = rw at refl;
+      named = rw there at (good.named i (file_entry_of e) within);
+    })
 
 -- a catalogue with one more entry
 pub one_more : (catalogue : List FileEntry) (y : FileEntry) → IsCatalogue catalogue → length catalogue < MOST_ENTRIES → length y.bytes ≤ LONGEST_ENTRY
     → is_name y.name ≡ true → has_name y.name catalogue ≡ false → IsCatalogue (catalogue ++ y ∷ [])
 one_more catalogue y good few small named new = record {
   few = simp length-append (omega arith);
-  small = with_one_more (λ (x : FileEntry). length x.bytes ≤ LONGEST_ENTRY) catalogue y good.small small;
-  named = with_one_more (λ (x : FileEntry). IsTrue (is_name x.name)) catalogue y good.named (search (rules, named));
+  small = All-push (λ (x : FileEntry). length x.bytes ≤ LONGEST_ENTRY) catalogue y good.small small;
+  named = All-push (λ (x : FileEntry). IsTrue (is_name x.name)) catalogue y good.named (search (rules, named));
   distinct = still_distinct catalogue y good.distinct new;
 }
 

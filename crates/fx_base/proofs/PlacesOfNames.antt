@@ -1,6 +1,6 @@
 -- The place of a name, among the entries of a catalogue.
-use Rattle.std.proofs.Common.{◌≡◌, ℕ, suc, ◌+◌, ◌<◌, Bool, true, false, List, [], ◌∷◌, ◌++◌, length, refl, sym, ap, subst, ◌∙◌, Option, Some, None}
-use Rattle.std.proofs.Common.{arith, is_some, IfSome}
+use Rattle.std.proofs.Common.{◌≡◌, ℕ, suc, ◌+◌, ◌<◌, Bool, true, false, List, [], ◌∷◌, ◌++◌, length, refl, sym, ap, ◌∙◌, Option, Some, None, arith}
+use Rattle.std.proofs.Common.{is_some, IfSome}
 use Rattle.std.proofs.lemmas.Slice.Eq.{bytes_eq-Decides}
 use Rattle.std.specs.Prelude.{cond, ◌||◌}
 use Rattle.std.specs.List.{position_from}
@@ -31,12 +31,12 @@ module _ (name : List ℕ) where
       ] refl is
 
 -- what is found for a name has the name, and is an entry
-pub found_there : (name : List ℕ) (catalogue : List FileEntry) (found : Option ℕ) → found ≡ place_from name 0 catalogue
+pub found_there : (name : List ℕ) (catalogue : List FileEntry) {found : Option ℕ} → found ≡ place_from name 0 catalogue
     → IfSome found (λ entry. name_at catalogue entry ≡ Some name) × IfSome found (λ entry. entry < length catalogue)
-found_there name catalogue None is = (tt, tt)
-found_there name catalogue (Some k) is =
+found_there name catalogue {found = None} is = (tt, tt)
+found_there name catalogue {found = Some k} is =
     let (j, at, inside, named) = name_at-place_from name 0 k catalogue (sym is) in
-    let same : k ≡ j = omega (arith, at) in (subst (λ (n : ℕ). name_at catalogue n ≡ Some name) (sym same) named, omega (arith, at, inside))
+    let same : k ≡ j = omega (arith, at) in (rw same named, omega (arith, at, inside))
 
 -- a name is found exactly where an entry has it
 pub is_some-place_from : (name : List ℕ) (i : ℕ) (catalogue : List FileEntry) → is_some (place_from name i catalogue) ≡ has_name name catalogue
@@ -63,8 +63,7 @@ place_from-push name i (x ∷ xs) y new =
     let count : i + 1 + length xs ≡ i + length (x ∷ xs) = omega arith in
     let same = place_from-push name (i + 1) xs y (or_parts _ _ new).1
     ∙ ap (λ (k : ℕ). cond (bytes_eq y.name name) (Some k) (place_from name (i + 1) xs)) count in
-    elim (bytes_eq x.name name) as (λ b. bytes_eq x.name name ≡ b
-    → cond b (Some i) (place_from name (i + 1) (xs ++ y ∷ []))
+    elim (bytes_eq x.name name) as (λ b. bytes_eq x.name name ≡ b → cond b (Some i) (place_from name (i + 1) (xs ++ y ∷ []))
     ≡ cond (bytes_eq y.name name) (Some (i + length (x ∷ xs))) (cond b (Some i) (place_from name (i + 1) xs))) [
       | true ↦ λ here. ap (λ (b : Bool). cond b (Some (i + length (x ∷ xs))) (Some i))
           (sym (apart name x y (bytes_eq y.name name) (or_parts _ _ new).0 here refl))
