@@ -46,8 +46,8 @@ record IsFollowed (f : File) (st : State) (closed : List File) : Type 0 where
   only : IsOnly f st
   one_of : IsOneOf f (tally f.number st) closed
 
-moved_on : {f : File} {there : ℕ} (left : ℕ) {closed now : List File} → IsOneOf f there closed → left + length now ≡ there → (now ≡ []) ⊎ (now ≡ f ∷ [])
-    → IsOneOf f left (closed ++ now)
+moved_on : {f : File} {there : ℕ} (left : ℕ) {closed now : List File} → IsOneOf f there closed → left + length now ≡ there
+    → (now ≡ []) ⊎ (now ≡ f ∷ []) → IsOneOf f left (closed ++ now)
 moved_on left (inl open_still) count (inl none_now) = let e = ap length none_now in
     inl (omega (arith, open_still.0), rw (open_still.1, none_now) refl)
 moved_on left (inl open_still) count (inr one_now) = let e = ap length one_now in

@@ -44,8 +44,8 @@ removed_change removed None n few = omega arith
 removed_change removed (Some f) n few = grind arith
 
 -- a slot gets another file, or none, and what stood there is removed
-moved : (st : State) (n : ℕ) {slot : ℕ} (new : Option File) {found : Option File} (fresh : ℕ → Bool) → bit (fresh n) + named n new ≡ bit (st.fresh n) → slot < st.size
-    → found ≡ st.at slot → tally n st ≤ 1
+moved : (st : State) (n : ℕ) {slot : ℕ} (new : Option File) {found : Option File} (fresh : ℕ → Bool)
+    → bit (fresh n) + named n new ≡ bit (st.fresh n) → slot < st.size → found ≡ st.at slot → tally n st ≤ 1
     → bit (fresh n) + placed n (changed_at st.at slot new) st.size + present (with_removed st.removed found n) + 0 ≡ tally n st
 moved st n {slot} new {found} fresh used lt is few =
     let there = ap (named n) is in
@@ -56,10 +56,12 @@ moved st n {slot} new {found} fresh used lt is few =
 
 -- a step moves a number on, and counts each close
 pub tally_after : (st : State) (a : Action) (n : ℕ) → Allows st a → tally n st ≤ 1 → tally n (after st a) + length (closed_of n a) ≡ tally n st
-tally_after st (Put slot f replaced) n may few = moved st n (Some f) (changed_at st.fresh f.number false) (fresh_change st.fresh f n may.1) may.0 may.2 few
+tally_after st (Put slot f replaced) n may few =
+    moved st n (Some f) (changed_at st.fresh f.number false) (fresh_change st.fresh f n may.1) may.0 may.2 few
 tally_after st (Clear slot found) n may few = moved st n None st.fresh (omega arith) may.0 may.1 few
 tally_after st (Take slot found) n may few = moved st n None st.fresh (omega arith) may.0 may.1 few
-tally_after st (Allocate slot f) n may few = moved st n (Some f) (changed_at st.fresh f.number false) (fresh_change st.fresh f n may.3) may.0 (sym may.2) few
+tally_after st (Allocate slot f) n may few =
+    moved st n (Some f) (changed_at st.fresh f.number false) (fresh_change st.fresh f n may.3) may.0 (sym may.2) few
 tally_after st (Close f) n may few = let was = may.0 in
     let e : present (changed_at st.removed f.number None n) + length (if_numbered n f) ≡ present (st.removed n) = grind arith in omega arith
 tally_after st (Look slot None) n may few = omega arith

@@ -68,7 +68,8 @@ module _ (slots : List (Option ℕ)) (first nodes : List Node) {s : ℕ} (placed
   pub left_settled : (v : Node) → IsLeft slots first (slice_set (nodes_without nodes (slot_at slots s)) s v) (s + 1)
   left_settled v = λ u m le at.
       let apart : m ≢ s = λ (same : m ≡ s). let e : m ≡ u = own u m at (omega arith) in absurd (omega arith) in
-      get_or-set_other (nodes_without nodes (slot_at slots s)) s m v Gone apart ∙ left_without slots first nodes s placed left (slot_at slots s) refl u m le at
+      get_or-set_other (nodes_without nodes (slot_at slots s)) s m v Gone apart
+      ∙ left_without slots first nodes s placed left (slot_at slots s) refl u m le at
 
   earlier_stays : (x : Option ℕ) → slot_at slots s ≡ x → (u : ℕ) → u < s → node_at (nodes_without nodes x) u ≡ node_at nodes u
   earlier_stays None is u lt = refl

@@ -81,7 +81,8 @@ module _ (chain : ℕ → ℕ) (start : State) (new : List ℕ) where
     of_slot {slot} {f} lt is (Some s) found = let there = slot_found start.at start.size f.number found in
         begins.distinct s slot there.1 f there.0 lt there.2 is there.3
 
-    of_new : (n : ℕ) → start.fresh n ≡ true → (x : Option ℕ) → slot_of start.at start.size n ≡ x → number_by start.size new n x ≡ start.size + place_of n new
+    of_new : (n : ℕ) → start.fresh n ≡ true → (x : Option ℕ) → slot_of start.at start.size n ≡ x
+        → number_by start.size new n x ≡ start.size + place_of n new
     of_new n is None none = refl
     of_new n is (Some s) found = let there = slot_found start.at start.size n found in
         let clash : false ≡ true = sym (begins.used s there.1 there.0 there.2) ∙ ap start.fresh there.3 ∙ is in absurd (cc clash)

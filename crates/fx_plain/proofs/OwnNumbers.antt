@@ -20,7 +20,8 @@ module _ (slots : List (Option ℕ)) {slot : ℕ} (x : Option ℕ) (inside : slo
   }
 
 -- no slot has a file
-pub own_of_none : (slots : List (Option ℕ)) (span : SlotSpan) → span.end ≤ length slots → ((s : ℕ) → slot_at slots s ≡ None) → HaveOwnOutside slots span
+pub own_of_none : (slots : List (Option ℕ)) (span : SlotSpan) → span.end ≤ length slots → ((s : ℕ) → slot_at slots s ≡ None)
+    → HaveOwnOutside slots span
 own_of_none slots span few none = record {
   inside = few;
   own = λ u n at out. let e : None ≡ Some n = sym (none u) ∙ at in absurd (cc e);

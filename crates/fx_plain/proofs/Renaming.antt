@@ -103,7 +103,7 @@ module _ (r : Renaming) (one : IsOneToOne r) where
 
     allows : (a : Action) → KnowsFound r (installed_by a) → Allows st a → Allows other (renamed r a)
     allows (Look slot found) known (inside, is) = (inside, ap (renamed_found r) is)
-    allows (Release f) known some = subst (λ (n : ℕ). 0 < n) (sym (held_same (k.held f.number some))) some
+    allows (Release f) known some = rw (held_same (k.held f.number some)) some
     allows (Put slot f replaced) known (inside, is_fresh, is) = (inside, k.stays_fresh f.number (known f refl) is_fresh, ap (renamed_found r) is)
     allows (Clear slot found) known (inside, is) = (inside, ap (renamed_found r) is)
     allows (Take slot found) known (inside, is) = (inside, ap (renamed_found r) is)
@@ -119,28 +119,31 @@ module _ (r : Renaming) (one : IsOneToOne r) where
     holds_back change {n} known = ap (λ (held : ℕ). changed_at other.holds (r.number n) (change held)) (held_same known)
         ∙ changed_back (λ x. x) 0 st.holds (change (st.holds n)) known
 
-    at_slot : (slot : ℕ) (found : Option File) → changed_at other.at slot (renamed_found r found) ≡ (λ u. renamed_found r (changed_at st.at slot found u))
-    at_slot slot found = through (renamed_found r) st.at slot found
-
     known_found : (slot : ℕ) {found : Option File} → found ≡ st.at slot → KnowsFound r found
     known_found slot is f some = k.at slot f (sym is ∙ some)
 
     emptied_is : (slot : ℕ) {found : Option File} → found ≡ st.at slot
         → after other (renamed r (Take slot found)) ≡ renamed_state r fresh (after st (Take slot found))
-    emptied_is slot {found} is = λ i. record other { at = at_slot slot None i; removed = removed_back st.removed found (known_found slot is) i }
+    emptied_is slot {found} is = λ i. record other {
+      at = through (renamed_found r) st.at slot None i;
+      removed = removed_back st.removed found (known_found slot is) i;
+    }
 
     after_is : (a : Action) → Allows st a → after other (renamed r a) ≡ renamed_state r (fresh_after r fresh a) (after st a)
     after_is (Look slot None) may = refl
     after_is (Look slot (Some f)) may = λ i. record other { holds = holds_back (λ held. held + 1) (k.at slot f (sym may.1)) i }
     after_is (Release f) may = λ i. record other { holds = holds_back (λ held. held - 1) (k.held f.number may) i }
     after_is (Put slot f replaced) may = λ i. record other {
-      at = at_slot slot (Some f) i;
+      at = through (renamed_found r) st.at slot (Some f) i;
       fresh = changed_at fresh (r.number f.number) false;
       removed = removed_back st.removed replaced (known_found slot may.2) i;
     }
     after_is (Clear slot found) may = emptied_is slot may.1
     after_is (Take slot found) may = emptied_is slot may.1
-    after_is (Allocate slot f) may = λ i. record other { at = at_slot slot (Some f) i; fresh = changed_at fresh (r.number f.number) false }
+    after_is (Allocate slot f) may = λ i. record other {
+      at = through (renamed_found r) st.at slot (Some f) i;
+      fresh = changed_at fresh (r.number f.number) false;
+    }
     after_is Full may = refl
     after_is (Close f) may = λ i. record other { removed = changed_back (renamed_found r) None st.removed None (k.removed f.number f may.0) i }
 
@@ -158,7 +161,8 @@ module _ (r : Renaming) (one : IsOneToOne r) where
 
     still_fresh : {n : ℕ} → IsNamed r n → (m : ℕ) → IsNamed r m → changed_at st.fresh n false m ≡ true
         → changed_at fresh (r.number n) false (r.number m) ≡ true
-    still_fresh {n} known m named is = by_equality m n (λ b. (if b then false else st.fresh m) ≡ true → changed_at fresh (r.number n) false (r.number m) ≡ true)
+    still_fresh {n} known m named is = by_equality m n
+        (λ b. (if b then false else st.fresh m) ≡ true → changed_at fresh (r.number n) false (r.number m) ≡ true)
         (λ same (no : false ≡ true). absurd (cc no))
         (λ apart is_fresh. changed_else fresh (r.number n) false (r.number m) (λ (same : r.number m ≡ r.number n).
         let e : Some m ≡ Some n = sym named ∙ ap r.back same ∙ known in apart (cc e)) ∙ k.stays_fresh m named is_fresh) is
@@ -197,12 +201,12 @@ module _ (r : Renaming) (one : IsOneToOne r) where
     allowed_behind [] known may = tt
     allowed_behind (a ∷ h) known may = (
       allowed_behind h known.0 may.0,
-      subst (λ (s : State). Allows s (renamed r a)) (sym (state_behind h known.0 may.0))
-          (allows (renamable_behind h known.0 may.0) a known.1 may.1),
+      rw (state_behind h known.0 may.0) (allows (renamable_behind h known.0 may.0) a known.1 may.1),
     )
 
 -- what a pass holds
-held_after_same : (r : Renaming) (held : Option File) (a : Action) → held_after (renamed_found r held) (renamed r a) ≡ renamed_found r (held_after held a)
+held_after_same : (r : Renaming) (held : Option File) (a : Action)
+    → held_after (renamed_found r held) (renamed r a) ≡ renamed_found r (held_after held a)
 held_after_same r held (Release f) = refl
 held_after_same r held _ = refl
 

@@ -55,8 +55,8 @@ pub length-files_of : {c : Contents} → IsTable c → length (files_of (state_o
 length-files_of {c} t = files_upto t (length c.slots) (omega arith) ∙ ap (sum_by file_count_of) (take_all (length c.slots) c.slots (omega arith))
 
 -- a table of empty slots
-pub sparse_keeps : {slots : List (Option ℕ)} {n : ℕ} {nodes : List Node} {holds : List ℕ} → slots ≡ replicate n None → n ≤ 256 → nodes ≡ [] → holds ≡ []
-    → IsTable (record { slots = slots; range = (0, n); nodes = nodes; holds = holds; numbers = n })
+pub sparse_keeps : {slots : List (Option ℕ)} {n : ℕ} {nodes : List Node} {holds : List ℕ} → slots ≡ replicate n None → n ≤ 256
+    → nodes ≡ [] → holds ≡ [] → IsTable (record { slots = slots; range = (0, n); nodes = nodes; holds = holds; numbers = n })
     × IsCounted (record { slots = slots; range = (0, n); nodes = nodes; holds = holds; numbers = n }) 0 0 0
 sparse_keeps {n} slots_are few no_nodes no_hold =
     let len : length (replicate {A = Option ℕ} n None) ≡ n = length-replicate n None in
