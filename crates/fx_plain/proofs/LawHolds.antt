@@ -106,8 +106,7 @@ kept start h (e ∷ since) p n cover may own is =
     let some_hold = held.below (suc p) in
     let here = no_close st e.action n may.1 (omega arith) in (
       covered_after (keeping p n (e ∷ all)) e.pass ((after st e.action).holds n) (taken n e.action)
-          (given n e.action) (λ k apart. ap (λ (x : ℕ). if k == p then 1 else x) (other_holds n e all k apart)) change
-          (holds_after st e.action n may.1) held,
+          (given n e.action) (λ k apart. rw (other_holds n e all k apart) refl) change (holds_after st e.action n may.1) held,
       rw (earlier, here) refl,
     )
 

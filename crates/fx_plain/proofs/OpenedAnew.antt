@@ -1,7 +1,7 @@
 -- A later part of a history, with the numbers that a table which is opened then gives.
 use Rattle.fx_plain.proofs.Words.{◌≡◌, ◌⊎◌, ℕ, ◌+◌, ◌-◌, ◌<◌, ◌≤◌, Bool, true, false, not, ◌&&◌, nat_lt, List, [], ◌∷◌, map, length, refl, sym, ap}
-use Rattle.fx_plain.proofs.Words.{subst, ◌∙◌, Option, Some, None, if◌then◌else◌, arith, inl, inr, cases_lt, lt-ltb, le-ltb, State, IsSettled, opening}
-use Rattle.fx_plain.proofs.Words.{file_numbered, AllowsAll, after, state_after, action_of, File, Event, Action, IsLegal, identity_of, number_of, Put}
+use Rattle.fx_plain.proofs.Words.{◌∙◌, Option, Some, None, if◌then◌else◌, arith, inl, inr, cases_lt, lt-ltb, le-ltb, State, IsSettled, opening}
+use Rattle.fx_plain.proofs.Words.{file_numbered, AllowsAll, state_after, action_of, File, Event, Action, IsLegal, identity_of, number_of, Put}
 use Rattle.fx_plain.proofs.Words.{Allocate}
 use Rattle.std.proofs.lemmas.Bool.{true_from_ne_false}
 use Rattle.fx_plain.specs.Laws.{IsStart, installed_by}
@@ -29,7 +29,7 @@ module _ (start : State) where
   pub used_then : (h : List Action) → AllowsAll start h → (n : ℕ) → IsIn n (numbers_given h) → (state_after start h).fresh n ≡ false
   used_then [] may n is = absurd is
   used_then (a ∷ h) may n is = elim (by_installed a (numbers_given h) n is) [
-    | inl new ↦ subst (λ (k : ℕ). (after (state_after start h) a).fresh k ≡ false) new.2 (installed_now (state_after start h) a may.1 new.1).1
+    | inl new ↦ rw (sym new.2) (installed_now (state_after start h) a may.1 new.1).1
     | inr there ↦ used_after (state_after start h) a n (used_then h may.0 n there)
   ]
 
@@ -40,8 +40,7 @@ module _ (start : State) where
   pub was_fresh : (h : List Action) → AllowsAll start h → (n : ℕ) → IsIn n (numbers_given h) → start.fresh n ≡ true
   was_fresh [] may n is = absurd is
   was_fresh (a ∷ h) may n is = elim (by_installed a (numbers_given h) n is) [
-    | inl new ↦ subst (λ (k : ℕ). start.fresh k ≡ true) new.2
-        (fresh_before h new.0.number (installed_now (state_after start h) a may.1 new.1).0)
+    | inl new ↦ rw (sym new.2) (fresh_before h new.0.number (installed_now (state_after start h) a may.1 new.1).0)
     | inr there ↦ was_fresh h may.0 n there
   ]
 
@@ -54,6 +53,17 @@ module _ (start : State) where
       distinct_installs h may.0,
     )
   ] refl
+
+-- where nothing is read under an old number, nothing is under a new one
+read_none : {X Y : Type 0} (g : X → Y) (none : Y) (f : ℕ → X) → ((n : ℕ) → g (f n) ≡ none) → (x : Option ℕ) → read_at g none f x ≡ none
+read_none g none f nothing None = refl
+read_none g none f nothing (Some n) = nothing n
+
+settled_still : (r : Renaming) (fresh : ℕ → Bool) (st : State) → IsSettled st → IsSettled (renamed_state r fresh st)
+settled_still r fresh st settled = record {
+  unheld = λ n. read_none (λ k. k) 0 st.holds settled.unheld (r.back n);
+  closed = λ n. read_none (renamed_found r) None st.removed (λ k. rw (settled.closed k) refl) (r.back n);
+}
 
 -- a slot's file gets the slot's number, and a new one a number behind those of the slots
 abbrev pub number_by : ℕ → List ℕ → ℕ → Option ℕ → ℕ
@@ -144,22 +154,13 @@ module _ (chain : ℕ → ℕ) (start : State) (new : List ℕ) where
 
       found_anew : (slot : ℕ) (x : Option File) → start.at slot ≡ x → renamed_found by_order x ≡ file_numbered x slot
       found_anew slot None is = refl
-      found_anew slot (Some f) is = ap (λ (n : ℕ). Some (record f { number = n }))
-          (of_slot (at_inside slot is) is (slot_of start.at start.size f.number) refl)
-
-      none_removed : (x : Option ℕ) → read_at (renamed_found by_order) None start.removed x ≡ None
-      none_removed None = refl
-      none_removed (Some n) = ap (renamed_found by_order) (begins.settled.closed n)
-
-      none_held : (x : Option ℕ) → read_at (λ n. n) 0 start.holds x ≡ 0
-      none_held None = refl
-      none_held (Some n) = begins.settled.unheld n
+      found_anew slot (Some f) is = rw (of_slot (at_inside slot is) is (slot_of start.at start.size f.number) refl) refl
 
       pub opened : renamed_state by_order (opening start numbers).fresh start ≡ opening start numbers
-      opened = λ i. record (opening start numbers) {
+      opened = let still = settled_still by_order (opening start numbers).fresh start begins.settled in λ i. record (opening start numbers) {
         at = λ slot. found_anew slot (start.at slot) refl i;
-        removed = λ n. none_removed (by_order.back n) i;
-        holds = λ n. none_held (by_order.back n) i;
+        removed = λ n. still.closed n i;
+        holds = λ n. still.unheld n i;
       }
 
 given_more : (x : Option File) (l : List ℕ) (n : ℕ) → IsIn n l → IsIn n (with_number_of x l)
@@ -177,15 +178,6 @@ same_identity : (r : Renaming) (x : Option File) → identity_of (renamed_found 
 same_identity r None = refl
 same_identity r (Some f) = refl
 
-settled_still : (r : Renaming) (fresh : ℕ → Bool) (st : State) → IsSettled st → IsSettled (renamed_state r fresh st)
-settled_still r fresh st settled = record {
-  unheld = λ n. elim (r.back n) as (λ x. read_at (λ k. k) 0 st.holds x ≡ 0) [ None ↦ refl | Some old ↦ settled.unheld old ];
-  closed = λ n. elim (r.back n) as (λ x. read_at (renamed_found r) None st.removed x ≡ None) [
-    | None ↦ refl
-    | Some old ↦ ap (renamed_found r) (settled.closed old)
-  ];
-}
-
 pub opened_anew : (chain : ℕ → ℕ) (numbers : ℕ) (start end : State) (h : List Event) → IsAtRest start
     → start.size + length (numbers_given (map action_of h)) ≤ numbers → IsLegal start h end
     → (r : Renaming) × (left : State) × (r.chain ≡ chain) × IsLegal (opening start numbers) (map (renamed_event r) h) left × HasOtherNumbers end left
@@ -202,8 +194,7 @@ opened_anew chain numbers start end h rest enough legal =
       r,
       renamed_state r renamed.0 end,
       refl,
-      subst (λ (s : State). IsLegal s (map (renamed_event r) h) (renamed_state r renamed.0 end))
-          (opened chain start new rest.start fresh distinct enough rest.inside) renamed.1,
+      rw (opened chain start new rest.start fresh distinct enough rest.inside) at renamed.1,
       record {
         size = refl;
         range = refl;
