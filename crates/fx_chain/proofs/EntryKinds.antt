@@ -1,11 +1,11 @@
 -- The entries of an update, by their sign, and how a list of them goes on.
 use Rattle.fx_chain.proofs.Words.{◌≡◌, ℕ, zero, suc, ◌+◌, ◌<◌, Bool, true, false, if◌then◌else◌, ℤ, pos, negsuc, int_le, int_lt, List, [], ◌∷◌, ◌++◌}
-use Rattle.fx_chain.proofs.Words.{length, filter, take, drop, add-one, refl, sym, ap, subst, ◌∙◌, slice_index_or, arith, nat_abs, ltb-true, le-leb}
+use Rattle.fx_chain.proofs.Words.{length, filter, take, drop, add-one, refl, sym, ap, ◌∙◌, slice_index_or, arith, nat_abs, ltb-true, le-leb}
 use Rattle.fx_chain.proofs.Words.{append-nil, length-take-le, take_more, filter-append, Action, ◌▷▷◌, AppliesEntry, AppliesList, is_bad_entry}
 use Rattle.fx_chain.proofs.Words.{Opening, PlayerView, ActsSo, entry_installs, list_installs, Place}
 use Rattle.std.proofs.lemmas.List.{append_assoc, length-append}
 use Rattle.std.proofs.Math.Seq.{drop-cons}
-use Rattle.fx_chain.proofs.ActsInTurn.{so_said, so_then}
+use Rattle.fx_chain.proofs.ActsInTurn.{so_then}
 
 -- an entry of 0 or more is the number that it reads as
 pub unsigned : (z : ℤ) → int_le (pos 0) z ≡ true → z ≡ pos (nat_abs z)
@@ -28,38 +28,31 @@ list_installs-cons (negsuc n) list = omega arith
 
 pub list_installs-push : (list : List ℤ) (z : ℤ) → list_installs (list ++ z ∷ []) ≡ list_installs list + entry_installs z
 list_installs-push list z =
-    ap length (filter-append (λ entry. int_le (pos 0) entry) list (z ∷ [])) ∙ length-append (installing list) (installing (z ∷ []))
-    ∙ ap (λ (n : ℕ). list_installs list + n) (list_installs-cons z []) ∙ omega arith
+    let one = list_installs-cons z [] in
+    ap length (filter-append (λ entry. int_le (pos 0) entry) list (z ∷ [])) ∙ length-append (installing list) (installing (z ∷ [])) ∙ omega arith
 
 -- an entry that is neither installed nor emptied leaves its slot
 pub leaves_slot : (place : Place) (in_list slot entries : ℕ) (z : ℤ) → is_bad_entry entries z ≡ false → int_le (pos 0) z ≡ false
     → int_lt (negsuc 1) z ≡ false → AppliesEntry place in_list slot z []
 leaves_slot place in_list slot entries (pos n) good low high = let e : true ≡ false = sym (le-leb 0 n (omega arith)) ∙ low in cc
-leaves_slot place in_list slot entries (negsuc zero) good low high = let e : true ≡ false = high in cc
+leaves_slot place in_list slot entries (negsuc zero) good low high = cc
 leaves_slot place in_list slot entries (negsuc (suc n)) good low high = refl
 
 -- the entries of a list, and one more behind them
-pub applies_more : (place : Place) (in_list slot : ℕ) (list : List ℤ) (z : ℤ) (events own : List Action)
-    → AppliesList place in_list slot list events → AppliesEntry place (in_list + length list) (slot + length list) z own
+applies_more : (place : Place) (in_list slot : ℕ) (list : List ℤ) (z : ℤ) (at to : ℕ) (events own : List Action) → at ≡ in_list + length list
+    → to ≡ slot + length list → AppliesList place in_list slot list events → AppliesEntry place at to z own
     → AppliesList place in_list slot (list ++ z ∷ []) (events ▷▷ own)
-applies_more place in_list slot [] z events own none applies =
-    let here : AppliesEntry place in_list slot z own =
-    subst (λ (n : ℕ × ℕ). AppliesEntry place n.0 n.1 z own)
-    (λ i. ((let e : in_list + 0 ≡ in_list = omega arith in e) i, (let e : slot + 0 ≡ slot = omega arith in e) i)) applies in
-    (own, [], ap (λ (h : List Action). own ++ h) none ∙ append-nil own, here, refl)
-applies_more place in_list slot (x ∷ list) z events own (first, others, is, front, rest) applies =
-    let further : AppliesEntry place ((in_list + 1) + length list) ((slot + 1) + length list) z own =
-    subst (λ (n : ℕ × ℕ). AppliesEntry place n.0 n.1 z own)
-    (λ i. (
-      (let e : in_list + suc (length list) ≡ (in_list + 1) + length list = omega arith in e) i,
-      (let e : slot + suc (length list) ≡ (slot + 1) + length list = omega arith in e) i,
-    )) applies in (
-      first,
-      others ▷▷ own,
-      ap (λ (h : List Action). own ++ h) is ∙ sym (append_assoc own others first),
-      front,
-      applies_more place (in_list + 1) (slot + 1) list z others own rest further,
-    )
+applies_more place in_list slot [] z at to events own at_is to_is none applies =
+    let same_place : at ≡ in_list = omega arith in
+    let same_slot : to ≡ slot = omega arith in
+    (own, [], ap (λ (h : List Action). own ++ h) none ∙ append-nil own, rw (same_place, same_slot) at applies, refl)
+applies_more place in_list slot (x ∷ list) z at to events own at_is to_is (first, others, is, front, rest) applies = (
+  first,
+  others ▷▷ own,
+  ap (λ (h : List Action). own ++ h) is ∙ sym (append_assoc own others first),
+  front,
+  applies_more place (in_list + 1) (slot + 1) list z at to others own (omega arith) (omega arith) rest applies,
+)
 
 -- the entries that are left install what this one and those behind it do
 pub installs_left : (list : List ℤ) (i : ℕ) → i < length list → list_installs (drop i list)
@@ -69,25 +62,14 @@ installs_left list i inside =
     ∙ ap (λ (n : ℕ). entry_installs (slice_index_or list i (pos 0)) + list_installs (drop n list)) (sym (add-one i))
 
 -- the first entries were applied, and then the next one
-pub applies_next : (o : Opening) (p q r : PlayerView) (place : Place) (off : ℕ) (list : List ℤ) (i : ℕ) → i < length list
+pub applies_next : {o : Opening} {p q r : PlayerView} (place : Place) (off : ℕ) (list : List ℤ) (i : ℕ) → i < length list
     → ActsSo o p 0 (list_installs (take i list)) i (AppliesList place 0 off (take i list)) q
     → ActsSo o q 0 (entry_installs (slice_index_or list i (pos 0))) 1 (AppliesEntry place i (off + i) (slice_index_or list i (pos 0))) r
     → ActsSo o p 0 (list_installs (take (i + 1) list)) (i + 1) (AppliesList place 0 off (take (i + 1) list)) r
-applies_next o p q r place off list i inside done own =
+applies_next place off list i inside done own =
     let entry = slice_index_or list i (pos 0) in
     let count : length (take i list) ≡ i = length-take-le i list (omega arith) in
     let front : take (i + 1) list ≡ take i list ++ entry ∷ [] = take_more list i (pos 0) inside in
-    let installs = ap list_installs front ∙ list_installs-push (take i list) entry in
-    let Before = AppliesList place 0 off (take i list) in
-    let Now = AppliesList place 0 off (take i list ++ entry ∷ []) in
-    let here = λ (events : List Action) (applies : AppliesEntry place i (off + i) entry events).
-    subst (λ (n : ℕ × ℕ). AppliesEntry place n.0 n.1 entry events)
-    (λ k. (
-      (let e : i ≡ 0 + length (take i list) = omega arith in e) k,
-      (let e : off + i ≡ off + length (take i list) = omega arith in e) k,
-    )) applies in
-    so_said o p r (0 + 0) (list_installs (take i list) + entry_installs entry) (i + 1) 0 (list_installs (take (i + 1) list)) (i + 1) Now _
-    (omega arith) (omega arith) (omega arith)
-    (λ (events : List Action) told. subst (λ (xs : List ℤ). AppliesList place 0 off xs events) (sym front) told)
-    (so_then o p q r 0 (list_installs (take i list)) i 0 (entry_installs entry) 1 Before (AppliesEntry place i (off + i) entry) Now
-    (λ xs ys a b. applies_more place 0 off (take i list) entry xs ys a (here ys b)) done own)
+    let installs = list_installs-push (take i list) entry in
+    rw front (so_then done own (λ xs ys. applies_more place 0 off (take i list) entry i (off + i) xs ys (omega arith) (omega arith))
+    (omega arith) (omega arith) (omega arith))

@@ -1,11 +1,11 @@
 -- The runs of a list are the one way to part it.
-use Rattle.fx_chain.proofs.Words.{◌≡◌, ◌<◌, Bool, true, false, not, if◌then◌else◌, List, [], ◌∷◌, ◌++◌, length, refl, sym, ap, ◌∙◌, All, arith}
-use Rattle.fx_chain.proofs.Words.{list_all, flat_map, append-nil, AllPass-from_list_all, list_all-from_AllPass, All-nil, All-cons, All-head, All-tail}
-use Rattle.fx_chain.proofs.Words.{Asked, is_link, but_last, is_over, AreRuns, AreTheOnlyRuns, in_front, runs_of, open_run}
+use Rattle.fx_chain.proofs.Words.{◌≡◌, ◌<◌, Bool, true, false, not, if◌then◌else◌, List, [], ◌∷◌, ◌++◌, length, refl, sym, ap, ◌∙◌, All, arith, inl}
+use Rattle.fx_chain.proofs.Words.{inr, cases_Bool, list_all, flat_map, append-nil, AllPass-from_list_all, list_all-from_AllPass, All-nil, All-cons}
+use Rattle.fx_chain.proofs.Words.{All-head, All-tail, Asked, is_link, but_last, is_over, AreRuns, AreTheOnlyRuns, in_front, runs_of, open_run}
 
 -- what each request does that is a member of a run and not its last
 abbrev pub AllLink : List Asked → Type 0
-AllLink requests = All (λ request. (is_link request.flags) ≡ true) requests
+AllLink requests = All (λ request. is_link request.flags ≡ true) requests
 
 -- a run: all but the last request link with the next one
 abbrev pub IsLinked : List Asked → Type 0
@@ -18,19 +18,19 @@ abbrev pub IsOver : List Asked → Type 0
 IsOver run = is_over run ≡ true
 
 abbrev pub Links : Asked → Type 0
-Links request = (is_link request.flags) ≡ true
+Links request = is_link request.flags ≡ true
 
-pub runs_link : (r : Asked) (rs : List Asked) → (is_link r.flags) ≡ true → runs_of (r ∷ rs) ≡ in_front r (runs_of rs)
+pub runs_link : (r : Asked) (rs : List Asked) → is_link r.flags ≡ true → runs_of (r ∷ rs) ≡ in_front r (runs_of rs)
 runs_link r rs links = ap (λ (b : Bool). if b then in_front r (runs_of rs) else (r ∷ []) ∷ runs_of rs) links
 
-pub runs_end : (r : Asked) (rs : List Asked) → (is_link r.flags) ≡ false → runs_of (r ∷ rs) ≡ (r ∷ []) ∷ runs_of rs
+pub runs_end : (r : Asked) (rs : List Asked) → is_link r.flags ≡ false → runs_of (r ∷ rs) ≡ (r ∷ []) ∷ runs_of rs
 runs_end r rs ends = ap (λ (b : Bool). if b then in_front r (runs_of rs) else (r ∷ []) ∷ runs_of rs) ends
 
 pub runs_one : (r : Asked) → runs_of (r ∷ []) ≡ (r ∷ []) ∷ []
 runs_one r = elim (is_link r.flags) as (λ b. (if b then (r ∷ []) ∷ [] else (r ∷ []) ∷ []) ≡ (r ∷ []) ∷ []) [ true ↦ refl | false ↦ refl ]
 
 -- a linked request in front of runs
-linked_step : (r : Asked) (rs : List Asked) (runs : List (List Asked)) → (is_link r.flags) ≡ true → AreRuns rs runs → AreRuns (r ∷ rs) (in_front r runs)
+linked_step : (r : Asked) (rs : List Asked) (runs : List (List Asked)) → is_link r.flags ≡ true → AreRuns rs runs → AreRuns (r ∷ rs) (in_front r runs)
 linked_step r rs [] links are = record {
   whole = ap (λ xs. r ∷ xs) are.whole;
   not_empty = All-cons HasMembers (r ∷ []) [] (omega arith) (All-nil _);
@@ -54,12 +54,12 @@ linked_step r rs ((x ∷ xs) ∷ run ∷ runs) links are = record {
       (All-tail IsOver (x ∷ xs) (but_last (run ∷ runs)) are.over);
 }
 
-over_step : (r : Asked) (runs : List (List Asked)) → (is_link r.flags) ≡ false → All IsOver (but_last runs) → All IsOver (but_last ((r ∷ []) ∷ runs))
+over_step : (r : Asked) (runs : List (List Asked)) → is_link r.flags ≡ false → All IsOver (but_last runs) → All IsOver (but_last ((r ∷ []) ∷ runs))
 over_step r [] ends over = All-nil _
 over_step r (run ∷ runs) ends over = All-cons IsOver (r ∷ []) (but_last (run ∷ runs)) (ap not ends) over
 
 -- a run of one request in front of runs
-ended_step : (r : Asked) (rs : List Asked) (runs : List (List Asked)) → (is_link r.flags) ≡ false → AreRuns rs runs → AreRuns (r ∷ rs) ((r ∷ []) ∷ runs)
+ended_step : (r : Asked) (rs : List Asked) (runs : List (List Asked)) → is_link r.flags ≡ false → AreRuns rs runs → AreRuns (r ∷ rs) ((r ∷ []) ∷ runs)
 ended_step r rs runs ends are = record {
   whole = ap (λ ys. r ∷ ys) are.whole;
   not_empty = All-cons HasMembers (r ∷ []) runs (omega arith) are.not_empty;
@@ -70,10 +70,10 @@ ended_step r rs runs ends are = record {
 -- the runs of a list are runs
 pub are_runs : (requests : List Asked) → AreRuns requests (runs_of requests)
 are_runs [] = record { whole = refl; not_empty = All-nil _; linked = All-nil _; over = All-nil _ }
-are_runs (r ∷ rs) = elim (is_link r.flags) as (λ b. (is_link r.flags) ≡ b → AreRuns (r ∷ rs) (if b then in_front r (runs_of rs) else (r ∷ []) ∷ runs_of rs)) [
-  | true ↦ λ links. linked_step r rs (runs_of rs) links (are_runs rs)
-  | false ↦ λ ends. ended_step r rs (runs_of rs) ends (are_runs rs)
-] refl
+are_runs (r ∷ rs) = elim (cases_Bool (is_link r.flags)) [
+  | inl links ↦ rw links (linked_step r rs (runs_of rs) links (are_runs rs))
+  | inr ends ↦ rw ends (ended_step r rs (runs_of rs) ends (are_runs rs))
+]
 
 -- a linked list is one run
 pub one_run : (run : List Asked) → 0 < length run → IsLinked run → runs_of run ≡ run ∷ []
@@ -86,7 +86,7 @@ one_run (x ∷ y ∷ run) some linked =
 -- a run that is over is the first run
 pub first_run : (run rest : List Asked) → IsLinked run → is_over run ≡ true → runs_of (run ++ rest) ≡ run ∷ runs_of rest
 first_run [] rest linked over = cc
-first_run (x ∷ []) rest linked over = let ends : (is_link x.flags) ≡ false =
+first_run (x ∷ []) rest linked over = let ends : is_link x.flags ≡ false =
     elim (is_link x.flags) as (λ b. not b ≡ true → b ≡ false) [ true ↦ λ e. sym e | false ↦ λ e. refl ] over in runs_end x rest ends
 first_run (x ∷ y ∷ run) rest linked over =
     runs_link x (y ∷ run ++ rest) (All-head Links x (but_last (y ∷ run)) linked)
@@ -108,11 +108,11 @@ only_runs requests runs are = sym (parted runs are.not_empty are.linked are.over
 pub the_only_runs : (requests : List Asked) → AreTheOnlyRuns requests (runs_of requests)
 the_only_runs requests = record { are = are_runs requests; only = only_runs requests }
 
-pub AllLink-test : (requests : List Asked) → AllLink requests → list_all (λ r. (is_link r.flags)) requests ≡ true
-AllLink-test requests link = list_all-from_AllPass (λ r. (is_link r.flags)) requests link
+pub AllLink-test : (requests : List Asked) → AllLink requests → list_all (λ r. is_link r.flags) requests ≡ true
+AllLink-test requests link = list_all-from_AllPass (λ r. is_link r.flags) requests link
 
-pub test-AllLink : (requests : List Asked) → list_all (λ r. (is_link r.flags)) requests ≡ true → AllLink requests
-test-AllLink requests test = AllPass-from_list_all (λ r. (is_link r.flags)) requests test
+pub test-AllLink : (requests : List Asked) → list_all (λ r. is_link r.flags) requests ≡ true → AllLink requests
+test-AllLink requests test = AllPass-from_list_all (λ r. is_link r.flags) requests test
 
 pub open_run-all : (requests : List Asked) → AllLink requests → open_run requests ≡ requests
 open_run-all [] link = refl

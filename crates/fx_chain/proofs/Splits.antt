@@ -17,7 +17,7 @@ but_last-push [] y = refl
 but_last-push (x ∷ []) y = refl
 but_last-push (x ∷ z ∷ zs) y = ap (λ ws. x ∷ ws) (but_last-push (z ∷ zs) y)
 
-pub is_over-push : (xs : List Asked) (r : Asked) → (is_link r.flags) ≡ false → is_over (xs ++ r ∷ []) ≡ true
+pub is_over-push : (xs : List Asked) (r : Asked) → is_link r.flags ≡ false → is_over (xs ++ r ∷ []) ≡ true
 is_over-push [] r ends = ap not ends
 is_over-push (x ∷ []) r ends = ap not ends
 is_over-push (x ∷ y ∷ ys) r ends = is_over-push (y ∷ ys) r ends
@@ -29,9 +29,9 @@ is_over-append (x ∷ []) (y ∷ ys) over = over
 is_over-append (x ∷ y ∷ ys) run over = is_over-append (y ∷ ys) run over
 
 -- a run that is over has a request that doesn't link
-list_all-over : (run rest : List Asked) → is_over run ≡ true → list_all (λ r. (is_link r.flags)) (run ++ rest) ≡ false
+list_all-over : (run rest : List Asked) → is_over run ≡ true → list_all (λ r. is_link r.flags) (run ++ rest) ≡ false
 list_all-over [] rest over = cc
-list_all-over (x ∷ []) rest over = ap (λ b. b && list_all (λ r. (is_link r.flags)) rest) (not-true (is_link x.flags) over)
+list_all-over (x ∷ []) rest over = ap (λ b. b && list_all (λ r. is_link r.flags) rest) (not-true (is_link x.flags) over)
 list_all-over (x ∷ y ∷ run) rest over = and_right (is_link x.flags) _ (list_all-over (y ∷ run) rest over)
 
 -- the open run stands behind each run that is over
@@ -62,7 +62,7 @@ in_front-append x (run ∷ runs) more some = refl
 
 pub runs_of-append : (front rest : List Asked) → is_over front ≡ true → runs_of (front ++ rest) ≡ runs_of front ++ runs_of rest
 runs_of-append [] rest over = cc
-runs_of-append (x ∷ []) rest over = let ends : (is_link x.flags) ≡ false = not-true (is_link x.flags) over in
+runs_of-append (x ∷ []) rest over = let ends : is_link x.flags ≡ false = not-true (is_link x.flags) over in
     runs_end x rest ends ∙ ap (λ runs. runs ++ runs_of rest) (sym (runs_end x [] ends))
 runs_of-append (x ∷ y ∷ ys) rest over = elim (cases_Bool (is_link x.flags)) [
   | inl links ↦ runs_link x (y ∷ ys ++ rest) links ∙ ap (in_front x) (runs_of-append (y ∷ ys) rest over)
@@ -78,14 +78,14 @@ record Ends (front : List Asked) : Type 0 where
   pub is_closed : IsClosed closed
   pub linked : AllLink (open_run front)
 
-one_more : (x : Asked) (xs closed : List Asked) → list_all (λ r. (is_link r.flags)) (x ∷ xs) ≡ false → xs ≡ closed ++ open_run xs → IsClosed closed
+one_more : (x : Asked) (xs closed : List Asked) → list_all (λ r. is_link r.flags) (x ∷ xs) ≡ false → xs ≡ closed ++ open_run xs → IsClosed closed
     → AllLink (open_run xs) → IsClosed (x ∷ closed)
 one_more x xs closed differs parts is_closed linked = elim is_closed [
   | inl none ↦
       let all : xs ≡ open_run xs = parts ∙ ap (λ ys. ys ++ open_run xs) none in
-      let link : list_all (λ r. (is_link r.flags)) xs ≡ true = AllLink-test xs (subst AllLink (sym all) linked) in
-      let ends : (is_link x.flags) ≡ false = elim (cases_Bool (is_link x.flags)) [
-        | inl links ↦ absurd (both_ways _ differs (and_from (is_link x.flags) (list_all (λ r. (is_link r.flags)) xs) links link))
+      let link : list_all (λ r. is_link r.flags) xs ≡ true = AllLink-test xs (subst AllLink (sym all) linked) in
+      let ends : is_link x.flags ≡ false = elim (cases_Bool (is_link x.flags)) [
+        | inl links ↦ absurd (both_ways _ differs (and_from (is_link x.flags) (list_all (λ r. is_link r.flags) xs) links link))
         | inr ends ↦ ends
       ] in
       inr (ap (λ ys. is_over (x ∷ ys)) none ∙ ap not ends)
@@ -94,7 +94,7 @@ one_more x xs closed differs parts is_closed linked = elim is_closed [
 
 ends_of : (front : List Asked) → Ends front
 ends_of [] = record { closed = []; parts = refl; is_closed = inl refl; linked = All-nil Links }
-ends_of (x ∷ xs) = elim (cases_Bool (list_all (λ r. (is_link r.flags)) (x ∷ xs))) [
+ends_of (x ∷ xs) = elim (cases_Bool (list_all (λ r. is_link r.flags) (x ∷ xs))) [
   | inl all ↦
       let link : AllLink (x ∷ xs) = test-AllLink (x ∷ xs) all in
       let open_is : open_run (x ∷ xs) ≡ x ∷ xs = open_run-all (x ∷ xs) link in

@@ -4,14 +4,14 @@ pub use Rattle.fx_base.specs.declared.open_file.Closed.{Closed}
 pub use Rattle.fx_chain.specs.Accepted.{IsAccepted, IsChain, IsShortRun, IsWithinLimits, members_of}
 pub use Rattle.fx_chain.specs.Answers.{Answers, AppliesEntry, AppliesList, MayClose, Refuses, is_bad_entry}
 pub use Rattle.fx_chain.specs.Chains.{chains_from, chains_of}
-pub use Rattle.fx_chain.specs.Completed.{Completed, all_completed, completed, completed_of, next_member, refusal}
+pub use Rattle.fx_chain.specs.Completed.{Completed, all_completed, completed_of, next_member, refusal}
 pub use Rattle.fx_chain.specs.Contexts.{Does, IsKept, view_of}
 pub use Rattle.fx_chain.specs.Explains.{AnswersBehind, Explains, canceled, first_member, severs}
 pub use Rattle.fx_chain.specs.Faults.{HasNoFault, IsFirstFault, fault_after, fault_behind, fault_of, first_fault, has_bad_flags, is_long_read}
 pub use Rattle.fx_chain.specs.Faults.{is_long_update, or_later}
-pub use Rattle.fx_chain.specs.Operation.{Asked, Closes, Opens, Operation, Reads, Updates, all_asked, asked_of, is_fixed, is_link, operation_of}
-pub use Rattle.fx_chain.specs.Performs.{Acts, ActsSo, AnswersNext, PlayerView, PlaysMembers, player}
-pub use Rattle.fx_chain.specs.Removals.{IsRelease, IsRemovedBy, IsRetirement}
+pub use Rattle.fx_chain.specs.Operation.{Asked, Closes, Opens, Operation, Reads, Updates, all_asked, asked_of, is_fixed, is_link}
+pub use Rattle.fx_chain.specs.Performs.{ActsSo, AnswersNext, PlayerView, PlaysMembers, player}
+pub use Rattle.fx_chain.specs.Removals.{IsRelease, IsRetirement}
 pub use Rattle.fx_chain.specs.Runs.{AreRuns, AreTheOnlyRuns, StandsIn, but_last, in_front, is_over, open_run, runs_of}
 pub use Rattle.fx_chain.specs.Weights.{all_installs, all_weights, entry_installs, installs_of, list_installs, weight_of}
 pub use Rattle.fx_chain.specs.declared.chain.Chain.{Chain}
@@ -27,14 +27,14 @@ pub use Rattle.fx_table.specs.Opening.{Opening, size_of}
 pub use Rattle.fx_table.specs.Pass.{IsFront, IsIdle, PassView, retired_of}
 pub use Rattle.fx_table.specs.declared.limits.TheConstants.{CHAIN_NUMBERS, MAX_CHAINS}
 pub use Rattle.fx_table.specs.declared.values.Retired.{Retired}
-pub use Rattle.std.proofs.Common.{All, Bool, Err, List, None, Ok, Option, Result, Some, [], add-one, ap, append_assoc, arith, drop, eq-eqb, false}
-pub use Rattle.std.proofs.Common.{filter, if◌then◌else◌, inl, inr, int_le, int_lt, is_some, length, length-append, map, nat_abs, nat_le, nat_lt}
+pub use Rattle.std.proofs.Common.{All, Bool, Err, List, None, Ok, Option, Result, Some, [], add-one, ap, append_assoc, arith, drop, false}
+pub use Rattle.std.proofs.Common.{filter, if◌then◌else◌, inl, inr, int_le, int_lt, is_some, length, length-append, map, nat_abs, nat_lt}
 pub use Rattle.std.proofs.Common.{negsuc, not, of_z, pos, refl, rules, slice_index_or, subst, suc, sym, take, to_z, true, vec_capacity, vec_len, w32}
 pub use Rattle.std.proofs.Common.{zero, ℕ, ℤ, ◌&&◌, ◌*◌, ◌++◌, ◌+◌, ◌-◌, ◌<◌, ◌==◌, ◌||◌, ◌∙◌, ◌∷◌, ◌≡◌, ◌≢◌, ◌≤◌, ◌⊎◌}
 pub use Rattle.std.proofs.lemmas.Bool.{MatchBool-at_false, MatchBool-at_true, and_cases, and_from, and_right, both_ways, cases_Bool, cases_eq}
 pub use Rattle.std.proofs.lemmas.Bool.{eqb-false, le-leb, lt-leb, ltb-false, ltb-true, ne_eqb, not-true}
 pub use Rattle.std.proofs.lemmas.Int.{to_z-of_z, to_z_pos}
-pub use Rattle.std.proofs.lemmas.List.{append-nil, drop-drop, drop-map, drop_all, drop_at, drop_more, length-drop, length-map, length-take-le}
+pub use Rattle.std.proofs.lemmas.List.{append-nil, drop-drop, drop-map, drop_all, drop_at, drop_more, length-map, length-take-le}
 pub use Rattle.std.proofs.lemmas.List.{map-append, map_more, take-append-drop, take-map, take_all, take_at, take_more}
 pub use Rattle.std.proofs.lemmas.List.Elements.{All-cons, All-drop, All-head, All-nil, All-push, All-tail, All-take, All-weaker, filter-append}
 pub use Rattle.std.proofs.lemmas.List.Sums.{AllPass-from_list_all, list_all-from_AllPass, sum_by-append, sum_by-cons}

@@ -1,7 +1,7 @@
-use Rattle.fx_chain.proofs.Words.{◌≡◌, ℕ, Result, Ok, Err, Option, refl, ◌∙◌, arith, Take, Taken, no_use, Opening, PassView, Retired, view_of}
+use Rattle.fx_chain.proofs.Words.{◌≡◌, ℕ, Result, Ok, Err, Option, refl, ◌∙◌, Take, Taken, no_use, Opening, PassView, Retired}
 use Rattle.std.specs.Result.{result_ok}
 use Rattle.fx_table.specs.declared.values.Empty.{Empty}
-use Rattle.fx_chain.proofs.ActsInTurn.{Removed, is_removed, removes}
+use Rattle.fx_chain.proofs.ActsInTurn.{Removed, removes}
 use Rattle.fx_chain.proofs.removal.take.Goals as goal
 
 taken : (o : Opening) (v w : PassView) (slot : ℕ) (result : Result Retired Empty) (removed : Option Retired) → removed ≡ result_ok result
@@ -9,12 +9,8 @@ taken : (o : Opening) (v w : PassView) (slot : ℕ) (result : Result Retired Emp
 taken o v w slot (Err e) removed is adds = rw is adds
 taken o v w slot (Ok x) removed is adds = rw is adds
 
-pub retire-requires-clause-removed : goal.retire-requires-clause-removed
-retire-requires-clause-removed g c κs within =
-    is_removed _ _ _ (Take c.args.slot) no_use _ (taken _ _ _ _ _ _ c.ok-removed.ensures.value c.take.ensures.taken)
-
 pub returns-clause-removed : goal.returns-clause-removed
 returns-clause-removed g c =
-    let (r, is, does) = removes _ (view_of g.T.FileTable.view c.args.player.now) _ _ (Take c.args.slot) 0 no_use (omega arith) (omega arith) (λ r. refl) _
-    (taken _ _ _ _ _ _ c.ok-removed.ensures.value c.take.ensures.taken) c.retire.ensures.retired in
+    let (r, is, does) = removes _ (Take c.args.slot) no_use _ (λ r. refl) (taken _ _ _ _ _ _ c.ok-removed.ensures.value c.take.ensures.taken)
+    c.retire.ensures.retired in
     (r, c.is_some-found.ensures ∙ is, does)
