@@ -1,6 +1,6 @@
 -- Two calls in a row.
-use Rattle.fx_table.proofs.Words.{ℕ, List, [], ◌++◌, map, sym, refl, ap, ◌∙◌, arith, map-append, Event, Action, IsSeenBy, ◌▷▷◌, Doing, Opening}
-use Rattle.fx_table.proofs.Words.{PassView, IsFront, event_of, Use, Adds}
+use Rattle.fx_table.proofs.Words.{List, [], ◌++◌, sym, refl, ap, ◌∙◌, arith, map-append, Event, Action, IsSeenBy, ◌▷▷◌, Doing, Opening}
+use Rattle.fx_table.proofs.Words.{PassView, IsFront, Use, Adds}
 use Rattle.std.proofs.Common.{append_assoc}
 use Rattle.fx_table.specs.Calls.{no_use, both_uses}
 
@@ -31,17 +31,12 @@ pub adds_then : (o : Opening) (u v w : PassView) (xs ys : List Action) (d e : Do
 adds_then o u v w xs ys d e a b one two = record {
   seen = seen_further u.front v.front w.front one.seen two.seen;
   front = two.front;
-  own = two.own
-      ∙ (ap (λ (l : List Event). map (event_of v) ys ++ l) one.own
-      ∙ (ap (λ (z : ℕ × ℕ). map (λ action. record { pass = z.0; chain = z.1; action = action }) ys ++ (map (event_of u) xs ++ u.own))
-      (λ i. (one.number i, one.chain i))
-      ∙ (sym (append_assoc (map (event_of u) ys) (map (event_of u) xs) u.own)
-      ∙ ap (λ (l : List Event). l ++ u.own) (sym (map-append (event_of u) ys xs)))));
+  own = rw (two.own, one.own, one.number, one.chain, map-append, append_assoc);
   now = two.now;
   number = two.number ∙ one.number;
   chain = two.chain ∙ one.chain;
   drawn = two.drawn ∙ one.drawn;
   no_chains_left = two.no_chains_left ∙ one.no_chains_left;
-  numbers_left = let p = one.numbers_left in let q = two.numbers_left in omega arith;
-  looks_left = let p = one.looks_left in let q = two.looks_left in omega arith;
+  numbers_left = omega arith;
+  looks_left = omega arith;
 }

@@ -1,7 +1,7 @@
 -- A chain has one pass, and its part of the one history is what that pass did for it.
-use Rattle.fx_table.proofs.Words.{◌≡◌, ℕ, ◌≤◌, true, false, cond, List, [], ◌∷◌, map, sym, refl, ap, subst, ◌∙◌, arith, eqb, eq-eqb, ⊎_elim, Contains}
-use Rattle.fx_table.proofs.Words.{sum_by, count_by, Contains-append_cases, sum_by-cons, by_equality, Contents, part_of_pass, Event, Action, Doing}
-use Rattle.fx_table.proofs.Words.{Opening, PassView, event_of, Use, Adds, ClosesTable, times_drawn}
+use Rattle.fx_table.proofs.Words.{◌≡◌, ℕ, ◌≤◌, true, false, cond, List, [], ◌∷◌, map, sym, refl, ap, subst, ◌∙◌, arith, eqb, eq-eqb, ⊎_elim}
+use Rattle.fx_table.proofs.Words.{Contains, dite, ℕ_discrete, ne_eqb, sum_by, count_by, Contains-append_cases, sum_by-cons, Contents, part_of_pass}
+use Rattle.fx_table.proofs.Words.{Event, Action, Doing, Opening, PassView, event_of, Use, Adds, ClosesTable, times_drawn}
 use Rattle.fx_plain.specs.History.{part_of_chain}
 use Rattle.fx_table.specs.Pass.{IsOfDrawnChains}
 use Rattle.fx_table.proofs.Members.{contains_none, contains_head, contains_tail, contains_cases, contains_map}
@@ -10,7 +10,7 @@ use Rattle.fx_table.proofs.SumLemmas.{found_by, sum_of}
 
 -- what stands in a list is counted
 pub some_times : (c : ℕ) (l : List ℕ) → Contains l c → 1 ≤ count_by (λ d. eqb d c) l
-some_times c l h = let one = bit_here c c refl in let a = sum_of (λ d. one_if (eqb d c)) l c h in omega arith
+some_times c l h = omega (arith, bit_here c c refl, sum_of (λ d. one_if (eqb d c)) l c h)
 
 -- what is counted stands there
 pub some_there : (c : ℕ) (l : List ℕ) → 1 ≤ count_by (λ d. eqb d c) l → Contains l c
@@ -21,10 +21,7 @@ pub one_pass : (c : ℕ) (vs : List PassView) → sum_by (times_drawn c) vs ≤ 
     → Contains vs v → Contains vs w → Contains v.drawn c → Contains w.drawn c → v ≡ w
 one_pass c [] few v w h i d e = absurd (contains_none v h)
 one_pass c (u ∷ vs) few v w h i d e =
-    let sum = sum_by-cons (times_drawn c) u vs in
-    let vs_one = some_times c v.drawn d in
-    let ws_one = some_times c w.drawn e in
-    ⊎_elim
+    let sum = sum_by-cons (times_drawn c) u vs in let vs_one = some_times c v.drawn d in let ws_one = some_times c w.drawn e in ⊎_elim
     (λ (is : v ≡ u). ⊎_elim
     (λ (same : w ≡ u). is ∙ sym same)
     (λ t. absurd (let a = ap (times_drawn c) is in let r = sum_of (times_drawn c) vs w t in omega arith)) (contains_cases u vs w i))
@@ -41,12 +38,9 @@ one_pass_of_chain o passes left chain one other k h i d e = one_pass chain passe
 pub in_part : (p : ℕ) (h : List Event) (e : Event) → Contains h e → e.pass ≡ p → Contains (part_of_pass p h) e
 in_part p [] e i is = absurd (contains_none e i)
 in_part p (x ∷ h) e i is = ⊎_elim
-    (λ (same : e ≡ x). rw (eq-eqb x.pass p (ap (λ (z : Event). z.pass) (sym same) ∙ is))
-    (subst (Contains (x ∷ part_of_pass p h)) (sym same) (contains_head x (part_of_pass p h))))
-    (λ t. elim (eqb x.pass p) as (λ b. Contains (cond b (x ∷ part_of_pass p h) (part_of_pass p h)) e) [
-      | true ↦ contains_tail x (part_of_pass p h) e (in_part p h e t is)
-      | false ↦ in_part p h e t is
-    ])
+    (λ (same : e ≡ x). rw (same, eq-eqb x.pass p (rw same at is)) (contains_head x (part_of_pass p h)))
+    (λ t. elim (eqb x.pass p) as (λ b. Contains (cond b (x ∷ part_of_pass p h) (part_of_pass p h)) e)
+    [ true ↦ contains_tail x (part_of_pass p h) e (in_part p h e t is) | false ↦ in_part p h e t is ])
     (contains_cases x h e i)
 
 -- where all events of a chain are of one pass, the chain's part is that of the pass's part
@@ -55,14 +49,11 @@ chain_in_pass : (c p : ℕ) (h : List Event) → ((e : Event) → Contains h e �
 chain_in_pass c p [] one = refl
 chain_in_pass c p (e ∷ h) one =
     let rest = chain_in_pass c p h (λ x i. one x (contains_tail e h x i)) in
-    by_equality e.chain c (λ b. cond b (e ∷ part_of_chain c h) (part_of_chain c h) ≡ part_of_chain c (part_of_pass p (e ∷ h)))
+    dite (ℕ_discrete e.chain c)
     (λ same. rw (eq-eqb e.pass p (one e (contains_head e h) same), eq-eqb e.chain c same) (ap (λ (l : List Event). e ∷ l) rest))
-    (λ apart. elim (eqb e.pass p) as (λ b. part_of_chain c h ≡ part_of_chain c (cond b (e ∷ part_of_pass p h) (part_of_pass p h))) [
-      | true ↦ by_equality e.chain c
-          (λ b. part_of_chain c h ≡ cond b (e ∷ part_of_chain c (part_of_pass p h)) (part_of_chain c (part_of_pass p h)))
-          (λ same. absurd (apart same)) (λ _. rest)
-      | false ↦ rest
-    ])
+    (λ apart. rw (ne_eqb e.chain c apart)
+    (elim (eqb e.pass p) as (λ b. part_of_chain c h ≡ part_of_chain c (cond b (e ∷ part_of_pass p h) (part_of_pass p h)))
+    [ true ↦ rw (ne_eqb e.chain c apart) rest | false ↦ rest ]))
 
 pub part_of_drawn : (o : Opening) (passes : List PassView) (left : Contents) (chain : ℕ) (v : PassView) (closing : ClosesTable o passes left)
     → ((w : PassView) → Contains passes w → IsOfDrawnChains w) → Contains passes v → Contains v.drawn chain
@@ -79,8 +70,7 @@ part_of_drawn o passes left chain v k drawn_for at drew =
 pub keeps_drawn_chains : (o : Opening) (before after : PassView) (actions : List Action) (doing : Doing) (used : Use)
     → Contains before.drawn before.chain → IsOfDrawnChains before → Adds o before actions doing used after → IsOfDrawnChains after
 keeps_drawn_chains o before after actions doing used drew so_far adds e h =
-    subst (λ (l : List ℕ). Contains l e.chain) (sym adds.drawn) (⊎_elim
-    (λ new. let r = contains_map (event_of before) actions e new in
-    subst (Contains before.drawn) (sym (ap (λ (z : Event). z.chain) r.2)) drew)
+    rw adds.drawn (⊎_elim
+    (λ new. rw (ap (λ (z : Event). z.chain) (contains_map (event_of before) actions e new).2) drew)
     (λ old. so_far e old)
     (Contains-append_cases (map (event_of before) actions) before.own e (subst (λ (l : List Event). Contains l e) adds.own h)))

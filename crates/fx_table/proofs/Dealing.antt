@@ -1,5 +1,5 @@
 -- Passes are dealt out, one for each number from 1 on.
-use Rattle.fx_table.proofs.Words.{Contains, ◌≡◌, ℕ, suc, ◌+◌, ◌-◌, ◌<◌, ◌≤◌, List, [], ◌∷◌, ◌++◌, map, length, take, sym, ap, ◌∙◌, subst, arith, All}
+use Rattle.fx_table.proofs.Words.{Contains, ◌≡◌, ℕ, suc, ◌+◌, ◌-◌, ◌<◌, ◌≤◌, List, [], ◌∷◌, ◌++◌, map, length, take, sym, ap, ◌∙◌, arith, All}
 use Rattle.fx_table.proofs.Words.{range_with_len, PassView}
 use Rattle.std.proofs.Common.{length-append}
 use Rattle.std.proofs.lemmas.List.{map_push}
@@ -13,13 +13,10 @@ module _ {X : Type 0} (new : ℕ → X) (p n : ℕ) where
   left q = map new (range_with_len q ((n + 1) - q))
 
   pub first_left : p ≤ n → left p ≡ new p ∷ left (p + 1)
-  first_left few = let e : (n + 1) - p ≡ suc ((n + 1) - (p + 1)) = omega arith in ap (λ (m : ℕ). map new (range_with_len p m)) e
+  first_left few = let e : (n + 1) - p ≡ suc ((n + 1) - (p + 1)) = omega arith in rw e
 
   pub last_left : p ≡ n → left p ≡ take 1 (left p)
-  last_left last =
-      let e : (n + 1) - p ≡ 1 = omega arith in
-      let alone : left p ≡ new p ∷ [] = ap (λ (m : ℕ). map new (range_with_len p m)) e in
-      alone ∙ sym (ap (take 1) alone)
+  last_left last = let e : (n + 1) - p ≡ 1 = omega arith in rw e
 
 module _ {P : Type 0} (Is : P → Type 0) (shown : P → PassView) where
   -- an idle pass of the table
@@ -40,18 +37,16 @@ module _ {P : Type 0} (Is : P → Type 0) (shown : P → PassView) where
 module _ {P : Type 0} {Is : P → Type 0} {shown : P → PassView} {p n : ℕ} {old list : List P} {x : P} (dealt : AreDealt Is shown p n old)
     (pushed : list ≡ old ++ x ∷ []) (new : Is x × (shown x ≡ new_pass p)) where
   ready_now : All (IsReady Is shown) list
-  ready_now = subst (All (IsReady Is shown)) (sym pushed) (All-push (IsReady Is shown) old x dealt.ready (new.0, ap (λ (v : PassView). v.doing) new.1))
+  ready_now = rw pushed (All-push (IsReady Is shown) old x dealt.ready (new.0, ap (λ (v : PassView). v.doing) new.1))
 
   new_now : map shown list ≡ new_passes p
   new_now =
-      let low = dealt.low in
       let next : 1 + (p - 1) ≡ p = omega arith in
       let so_many : (p - 1) + 1 ≡ p = omega arith in
-      ap (map shown) pushed ∙ (map_push shown old x ∙ ((λ i. dealt.new i ++ new.1 i ∷ [])
-      ∙ (sym (map-range_with_len_more new_pass 1 (p - 1) p next) ∙ ap new_passes so_many)))
+      rw (pushed, map_push, dealt.new, new.1) (sym (map-range_with_len_more new_pass 1 (p - 1) p next) ∙ ap new_passes so_many)
 
   count_now : length list ≡ p
-  count_now = let e = dealt.count in let f = ap (length {A = P}) pushed in omega (arith, f, length-append old (x ∷ []))
+  count_now = omega (arith, dealt.count, ap (length {A = P}) pushed, length-append old (x ∷ []))
 
   pub one_dealt : p < n → AreDealt Is shown (p + 1) n list
   one_dealt few = record {

@@ -24,10 +24,9 @@ named nodes (Some n) f e = (n, refl, e)
 -- the node of a file at a slot says so
 pub node_of : (c : Contents) → IsTable c → (slot : ℕ) (f : File) → (state_of c).at slot ≡ Some f → node_at c.nodes f.number ≡ At slot f.identity
 node_of c sound slot f e =
-    let a = named c.nodes (slot_at c.slots slot) f e in
-    let p = sound.placed slot a.0 a.1 in
-    let is : record { number = a.0; identity = p.0 } ≡ f =
-    some_file (record { number = a.0; identity = p.0 }) f (sym (ap (placed_at a.0) p.1) ∙ a.2) in
+    let (n, at, placed) = named c.nodes (slot_at c.slots slot) f e in
+    let p = sound.placed slot n at in
+    let is : record { number = n; identity = p.0 } ≡ f = some_file _ f (sym (ap (placed_at n) p.1) ∙ placed) in
     subst (λ (g : File). node_at c.nodes g.number ≡ At slot g.identity) is p.1
 
 -- a file at a slot was not removed, and isn't leaving
@@ -46,22 +45,17 @@ apart_from c sound slot o is x f there out same =
 -- a file that is leaving is among the removed ones
 pub leaving_file : (c : Contents) → IsTable c → (f : File) → HasFile (state_of c) f → leaving c f.number ≡ true
     → (state_of c).removed f.number ≡ Some f
-leaving_file c sound f there leaves = ⊎_elim
-    (λ s. let no_way : false ≡ true = sym (stays_put c sound s.0 f s.1) ∙ leaves in absurd (cc no_way))
-    (λ e. e) there
+leaving_file c sound f there leaves = ⊎_elim (λ s. let put = stays_put c sound s.0 f s.1 in absurd (cc (put, leaves))) (λ e. e) there
 
 -- a removed file that comes out is the file that the pass had to do with
 pub removed_file : (c : Contents) → IsTable c → (f g : File) → HasFile (state_of c) f → (state_of c).removed f.number ≡ Some g → f ≡ g
-removed_file c sound f g there out = ⊎_elim
-    (λ s. absurd (none_file g (sym (not_removed c sound s.0 f s.1) ∙ out)))
-    (λ e. some_file f g (sym e ∙ out)) there
+removed_file c sound f g there out = ⊎_elim (λ s. let put = not_removed c sound s.0 f s.1 in absurd (cc (put, out))) (λ e. cc (e, out)) there
 
 -- A slot gets another file, or none, and what stood there is removed: each file is still somewhere
 module _ (s : State) (slot : ℕ) (new found : Option File) (is : found ≡ s.at slot) (apart : (x f : File) → found ≡ Some x
     → s.removed f.number ≡ Some f → f.number ≢ x.number) where
   at_slot : (f : File) (o : Option File) → o ≡ Some f → with_removed s.removed o f.number ≡ Some f
-  at_slot f o e = subst (λ (z : Option File). with_removed s.removed z f.number ≡ Some f) (sym e)
-      (changed_here s.removed f.number (Some f) f.number refl)
+  at_slot f o e = rw e (changed_here s.removed f.number (Some f) f.number refl)
 
   out_still : (f : File) → s.removed f.number ≡ Some f → (o : Option File) → found ≡ o → with_removed s.removed o f.number ≡ Some f
   out_still f out None e = out

@@ -1,6 +1,6 @@
 -- All passes in one seat, which come back one behind the other.
 use Rattle.fx_table.proofs.Words.{◌≡◌, ◌≢◌, ℕ, List, [], ◌∷◌, ◌++◌, map, length, reverse, sym, refl, ap, ◌∙◌, subst, arith, Contains, sum_by}
-use Rattle.fx_table.proofs.Words.{reverse-append, dite, some, some-injective, ℕ_discrete, get_elem?, All}
+use Rattle.fx_table.proofs.Words.{reverse-append, dite, some, ℕ_discrete, get_elem?, All}
 use Rattle.std.specs.Prelude.{flat_map}
 use Rattle.std.proofs.lemmas.List.Elements.{All-contains, Contains-push}
 use Rattle.std.proofs.lemmas.List.{nil_from_length}
@@ -15,8 +15,7 @@ module _ {P L : Type 0} (logs : P → List L) where
   -- the first pass, and the others behind it
   pub gathered : (ps others : List P) (first : P) (its all : List L) → ps ≡ others ++ first ∷ [] → its ≡ logs first
       → all ≡ its ++ flat_map logs (reverse others) → all ≡ flat_map logs (reverse ps)
-  gathered ps others first its all split is joined = joined ∙ (ap (λ (l : List L). l ++ flat_map logs (reverse others)) is
-      ∙ ap (flat_map logs) (sym (ap (reverse {A = P}) split ∙ reverse-append others (first ∷ []))))
+  gathered ps others first its all split is joined = rw (split, reverse-append, ← is) joined
 
   -- where each pass has one log
   pub logs_are : (log : P → L) (ps : List P) → ((p : P) → Contains ps p → logs p ≡ log p ∷ []) → flat_map logs ps ≡ map log ps
@@ -43,5 +42,5 @@ module _ {V L : Type 0} (logs : V → List L) (views : List V) (seat : ℕ) (v :
   pub each_seat : (P : V → Type 0) → P v → ((i : ℕ) (u : V) → get_elem? views i ≡ some u → logs u ≡ [] → P u)
       → (i : ℕ) (u : V) → get_elem? views i ≡ some u → P u
   each_seat P here none i u e = dite (ℕ_discrete i seat)
-      (λ same. subst P (some-injective v u (sym at ∙ (ap (get_elem? views) (sym same) ∙ e))) here)
+      (λ same. let is : v ≡ u = cc in subst P is here)
       (λ other. none i u e (empty_else i u other e))

@@ -1,7 +1,8 @@
 -- What a list contains, by its first element and the others.
-use Rattle.fx_table.proofs.Words.{ℕ, ◌<◌, length, get_elem?, some, some-ne-none, some-injective, ◌≡◌, List, [], ◌∷◌, map, reverse, sym, refl, subst}
+use Rattle.fx_table.proofs.Words.{ℕ, ◌<◌, length, get_elem?, some, some-ne-none, some-injective, ◌≡◌, List, [], ◌∷◌, map, reverse, sym, refl, ap, ◌∙◌}
 use Rattle.fx_table.proofs.Words.{suc, zero, arith, ◌⊎◌, inl, inr, ⊎_elim, Contains, All}
 use Rattle.std.specs.Prelude.{slice_index_or}
+use Rattle.std.proofs.lemmas.List.{length-map, get_or-map}
 use Rattle.std.proofs.lemmas.List.Elements.{All-contains_itself}
 use Rattle.std.proofs.lemmas.List.Sorted.{Contains-permutation, IsPermutation-reverse, IsPermutation-sym}
 
@@ -40,14 +41,9 @@ module _ {X : Type 0} where
 
 pub contains_map : {X Y : Type 0} (f : X → Y) (xs : List X) (y : Y) → Contains (map f xs) y → (x : X) × Contains xs x × (y ≡ f x)
 contains_map f [] y h = absurd (contains_none y h)
-contains_map f (x ∷ xs) y h = ⊎_elim
-    (λ is. (x, contains_head x xs, is))
-    (λ t. let r = contains_map f xs y t in (r.0, contains_tail x xs r.0 r.1, r.2))
-    (contains_cases (f x) (map f xs) y h)
+contains_map f (x ∷ xs) y (zero, inside, is) = (x, contains_head x xs, sym is)
+contains_map f (x ∷ xs) y (suc k, inside, is) =
+    let r = contains_map f xs y (k, omega (arith, inside), is) in (r.0, contains_tail x xs r.0 r.1, r.2)
 
 pub contains_mapped : {X Y : Type 0} (f : X → Y) (xs : List X) (x : X) → Contains xs x → Contains (map f xs) (f x)
-contains_mapped f [] x h = absurd (contains_none x h)
-contains_mapped {X} {Y} f (z ∷ xs) x h = ⊎_elim
-    (λ is. subst (λ (y : X). Contains (f z ∷ map f xs) (f y)) (sym is) (contains_head (f z) (map f xs)))
-    (λ t. contains_tail (f z) (map f xs) (f x) (contains_mapped f xs x t))
-    (contains_cases z xs x h)
+contains_mapped f xs x (k, inside, is) = (k, omega (arith, length-map xs f, inside), get_or-map f xs k x (f x) inside ∙ ap f is)

@@ -9,11 +9,9 @@ use Rattle.fx_table.proofs.SumLemmas.{sum_set}
 
 module _ {A : Type 0} where
   set_else : (l : List A) (i j : ℕ) (a : A) → j ≢ i → get_elem? (set l i a) j ≡ get_elem? l j
-  set_else [] i j a n = refl
   set_else (x ∷ l) zero zero a n = absurd (n refl)
-  set_else (x ∷ l) zero (suc j) a n = refl
-  set_else (x ∷ l) (suc i) zero a n = refl
   set_else (x ∷ l) (suc i) (suc j) a n = set_else l i j a (λ e. n (ap suc e))
+  set_else _ _ _ a n = refl
 
   set_here : (l : List A) (i : ℕ) (a b : A) → get_elem? (set l i a) i ≡ some b → a ≡ b
   set_here [] i a b e = absurd (some-ne-none b (sym e))
@@ -49,11 +47,11 @@ module _ {V L S : Type 0} (logs : V → List L) (start : V → S) (k : S) (Idle 
   module _ (views : List V) (id : ℕ) (v : V) (at : get_elem? views id ≡ some v) (idle : Idle v) where
     -- a seat that does something is another one
     other_than : (j : ℕ) (u : V) → get_elem? views j ≡ some u → (Idle u → ⊥) → j ≢ id
-    other_than j u e busy same = busy (subst Idle (some-injective v u (sym at ∙ (ap (get_elem? views) (sym same) ∙ e))) idle)
+    other_than j u e busy same = let is : v ≡ u = cc in busy (subst Idle is idle)
 
     set_cases : (a : V) (j : ℕ) (u : V) → IsAnew views a → get_elem? (set views id a) j ≡ some u → IsAnew views u ⊎ (get_elem? views j ≡ some u)
     set_cases a j u new e = dite (ℕ_discrete j id)
-        (λ same. inl (subst (IsAnew views) (set_here views id a u (ap (get_elem? (set views id a)) (sym same) ∙ e)) new))
+        (λ same. inl (subst (IsAnew views) (set_here views id a u (rw same at e)) new))
         (λ other. inr (sym (set_else views id j a other) ∙ e))
 
     -- a seat gives its first pass to a new one
@@ -71,38 +69,27 @@ module _ {V L S : Type 0} (logs : V → List L) (start : V → S) (k : S) (Idle 
       part : (l : List L) → (logs v ≡ [] → l ≡ []) → ((x : L) → Contains l x → Contains (logs v) x) → IsAnew views (cut l)
       part l none inside = record {
         idle = its_idle l;
-        its = λ x h. (id, v, at, idle, inside x (subst (λ (m : List L). Contains m x) (its_logs l) h));
+        its = λ x h. (id, v, at, idle, inside x (rw (its_logs l) at h));
         begun = ⊎_elim (λ z. inl (its_logs l ∙ none z)) (λ z. inr (its_start l ∙ z)) begun;
       }
 
       rest_part : IsAnew views rest
-      rest_part = part (drop 1 (logs v)) (λ z. ap (drop 1) z)
-          (λ x h. subst (λ (m : List L). Contains m x) both (Contains-append_right (take 1 (logs v)) (drop 1 (logs v)) x h))
+      rest_part = part (drop 1 (logs v)) (ap (drop 1)) (λ x h. rw both at (Contains-append_right (take 1 (logs v)) (drop 1 (logs v)) x h))
 
       first_part : IsAnew views first
-      first_part = part (take 1 (logs v)) (λ z. ap (take 1) z)
-          (λ x h. subst (λ (m : List L). Contains m x) both (Contains-append_left (take 1 (logs v)) (drop 1 (logs v)) x h))
+      first_part = part (take 1 (logs v)) (ap (take 1)) (λ x h. rw both at (Contains-append_left (take 1 (logs v)) (drop 1 (logs v)) x h))
+
+      sum_split : (g : V → ℕ) → g first + g rest ≡ g v → sum_by g (set views id rest ++ first ∷ []) ≡ sum_by g views
+      sum_split g whole = omega (arith, sum_by-append g (set views id rest) (first ∷ []), sum_set g views id v rest at, whole)
 
       pub split : AreReseated views (set views id rest ++ first ∷ [])
       split = record {
         each = λ j u e. ⊎_elim (λ m. set_cases rest j u rest_part m) (λ m. inl (subst (IsAnew views) m first_part))
             (at_snoc (set views id rest) first u j e);
         others = λ j u e busy. at_longer (set views id rest) (first ∷ []) j u (set_else views id j rest (other_than j u e busy) ∙ e);
-        by_logs = λ f none more.
-            let a = sum_by-append (λ (u : V). f (logs u)) (set views id rest) (first ∷ []) in
-            let b = sum_set (λ (u : V). f (logs u)) views id v rest at in
-            let c = more (take 1 (logs v)) (drop 1 (logs v)) in
-            let d = ap f both in
-            let g = ap f (its_logs (drop 1 (logs v))) in
-            let h = ap f (its_logs (take 1 (logs v))) in
-            omega arith;
-        by_work = λ f none.
-            let a = sum_by-append f (set views id rest) (first ∷ []) in
-            let b = sum_set f views id v rest at in
-            let c = none v idle in
-            let d = none rest (its_idle (drop 1 (logs v))) in
-            let g = none first (its_idle (take 1 (logs v))) in
-            omega arith;
+        by_logs = λ f none more. sum_split (λ u. f (logs u)) (rw (its_logs (take 1 (logs v)), its_logs (drop 1 (logs v)))
+            (sym (more (take 1 (logs v)) (drop 1 (logs v))) ∙ ap f both));
+        by_work = λ f none. sum_split f (omega (arith, none v idle, none rest (its_idle (drop 1 (logs v))), none first (its_idle (take 1 (logs v)))));
       }
 
     -- a seat takes in the passes of another
@@ -116,39 +103,27 @@ module _ {V L S : Type 0} (logs : V → List L) (start : V → S) (k : S) (Idle 
       both_new = record {
         idle = both_idle;
         its = λ x h. ⊎_elim (λ m. (id, v, at, idle, m)) (λ m. (other, w, w_at, w_idle, m))
-            (Contains-append_cases (logs v) (logs w) x (subst (λ (m : List L). Contains m x) its_logs h));
+            (Contains-append_cases (logs v) (logs w) x (rw its_logs at h));
         begun = inr begun;
       }
 
       spent_new : IsAnew views spent
       spent_new = record {
         idle = spent_idle;
-        its = λ x h. absurd (contains_none x (subst (λ (m : List L). Contains m x) none_left h));
+        its = λ x h. absurd (contains_none x (rw none_left at h));
         begun = inl none_left;
       }
+
+      sum_joined : (g : V → ℕ) → g both + g spent ≡ g v + g w → sum_by g (set (set views id both) other spent) ≡ sum_by g views
+      sum_joined g whole = omega (arith, sum_set g views id v both at, sum_set g (set views id both) other w spent there, whole)
 
       pub joined : AreReseated views (set (set views id both) other spent)
       joined = record {
         each = λ j u e. dite (ℕ_discrete j other)
-            (λ same. inl (subst (IsAnew views) (set_here (set views id both) other spent u
-            (ap (get_elem? (set (set views id both) other spent)) (sym same) ∙ e)) spent_new))
+            (λ same. inl (subst (IsAnew views) (set_here (set views id both) other spent u (rw same at e)) spent_new))
             (λ else. set_cases both j u both_new (sym (set_else (set views id both) other j spent else) ∙ e));
         others = λ j u e busy. set_else (set views id both) other j spent
-            (λ same. busy (subst Idle (some-injective w u (sym w_at ∙ (ap (get_elem? views) (sym same) ∙ e))) w_idle))
-            ∙ (set_else views id j both (other_than j u e busy) ∙ e);
-        by_logs = λ f none more.
-            let a = sum_set (λ (u : V). f (logs u)) views id v both at in
-            let b = sum_set (λ (u : V). f (logs u)) (set views id both) other w spent there in
-            let c = more (logs v) (logs w) in
-            let d = ap f its_logs in
-            let g = ap f none_left in
-            omega arith;
-        by_work = λ f none.
-            let a = sum_set f views id v both at in
-            let b = sum_set f (set views id both) other w spent there in
-            let c = none v idle in
-            let d = none w w_idle in
-            let g = none both both_idle in
-            let h = none spent spent_idle in
-            omega arith;
+            (λ same. let at = w_at in let is : w ≡ u = cc in busy (subst Idle is w_idle)) ∙ (set_else views id j both (other_than j u e busy) ∙ e);
+        by_logs = λ f none more. sum_joined (λ u. f (logs u)) (rw (its_logs, none_left) (omega (arith, more (logs v) (logs w), none)));
+        by_work = λ f none. sum_joined f (omega (arith, none v idle, none w w_idle, none both both_idle, none spent spent_idle));
       }

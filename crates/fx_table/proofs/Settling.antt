@@ -1,6 +1,7 @@
 -- The one history of all passes, which a close tells, and a table of one pass without it.
-use Rattle.fx_table.proofs.Words.{◌≡◌, ℕ, ◌<◌, ◌≤◌, true, List, [], ◌∷◌, sym, ap, ◌∙◌, subst, Contains, None, sum_by, Contains-append_right, Contents}
-use Rattle.fx_table.proofs.Words.{state_of, IsLegal, IsSeenBy, part_of_pass, held_by, Event, ClosesTable, times_drawn, Opening, PassView, IsFront}
+use Rattle.fx_table.proofs.Words.{◌≡◌, ℕ, ◌<◌, ◌≤◌, true, List, [], ◌∷◌, sym, ap, ◌∙◌, subst, Contains, None, sum_by, Contains-append_right}
+use Rattle.fx_table.proofs.Words.{Contents, state_of, IsLegal, IsSeenBy, part_of_pass, held_by, Event, ClosesTable, times_drawn, Opening, PassView}
+use Rattle.fx_table.proofs.Words.{IsFront}
 use Rattle.fx_plain.specs.State.{IsSettled}
 use Rattle.fx_table.specs.Opening.{start_of, state_at, HasSameFiles}
 use Rattle.fx_table.specs.Settling.{IsSettledSoFar}

@@ -18,12 +18,9 @@ module _ {X : Type 0} (f : X → ℕ) where
   pub sum_two : (l : List X) (i j : ℕ) (v w : X) → i ≢ j → get_elem? l i ≡ some v → get_elem? l j ≡ some w → f v + f w ≤ sum_by f l
   sum_two [] i j v w n e g = absurd (some-ne-none v (sym e))
   sum_two (x ∷ xs) zero zero v w n e g = absurd (n refl)
-  sum_two (x ∷ xs) zero (suc j) v w n e g =
-      let s : f x ≡ f v = ap f (some-injective x v e) in let r = sum_at xs j w g in let a = sum_by-cons f x xs in omega arith
-  sum_two (x ∷ xs) (suc i) zero v w n e g =
-      let s : f x ≡ f w = ap f (some-injective x w g) in let r = sum_at xs i v e in let a = sum_by-cons f x xs in omega arith
-  sum_two (x ∷ xs) (suc i) (suc j) v w n e g =
-      let r = sum_two xs i j v w (λ same. n (ap suc same)) e g in let a = sum_by-cons f x xs in omega arith
+  sum_two (x ∷ xs) zero (suc j) v w n e g = omega (arith, ap f (some-injective x v e), sum_at xs j w g, sum_by-cons f x xs)
+  sum_two (x ∷ xs) (suc i) zero v w n e g = omega (arith, ap f (some-injective x w g), sum_at xs i v e, sum_by-cons f x xs)
+  sum_two (x ∷ xs) (suc i) (suc j) v w n e g = omega (arith, sum_two xs i j v w (λ same. n (ap suc same)) e g, sum_by-cons f x xs)
 
   -- an element that the list contains
   pub sum_of : (l : List X) (v : X) → Contains l v → f v ≤ sum_by f l
@@ -34,8 +31,7 @@ module _ {X : Type 0} (f : X → ℕ) where
 
   pub sum_zero_at : (l : List X) → ((i : ℕ) (v : X) → get_elem? l i ≡ some v → f v ≡ 0) → sum_by f l ≡ 0
   sum_zero_at [] each = refl
-  sum_zero_at (x ∷ l) each =
-      let a = sum_by-cons f x l in let b = each 0 x refl in let r = sum_zero_at l (λ i v e. each (suc i) v e) in omega arith
+  sum_zero_at (x ∷ l) each = omega (arith, sum_by-cons f x l, each 0 x refl, sum_zero_at l (λ i v e. each (suc i) v e))
 
   -- an element that adds to a sum
   pub found_sum : (l : List X) → 1 ≤ sum_by f l → (x : X) × Contains l x × (1 ≤ f x)
@@ -53,24 +49,16 @@ module _ {X : Type 0} (f : X → ℕ) where
       → sum_by f l ≡ f v
   sum_only [] i v at zeros = absurd (some-ne-none v (sym at))
   sum_only (x ∷ l) zero v at zeros =
-      let a = sum_by-cons f x l in
-      let b = sum_zero_at l (λ j u e. zeros (suc j) u (λ h. omega arith) e) in
-      let c : f x ≡ f v = ap f (some-injective x v at) in
-      omega arith
+      let none = sum_zero_at l (λ j u e. zeros (suc j) u (λ h. omega arith) e) in
+      omega (arith, sum_by-cons f x l, none, ap f (some-injective x v at))
   sum_only (x ∷ l) (suc i) v at zeros =
-      let a = sum_by-cons f x l in
-      let b = zeros 0 x (λ h. omega arith) refl in
-      let r = sum_only l i v at (λ j u n e. zeros (suc j) u (λ h. n (omega arith)) e) in
-      omega arith
+      let rest = sum_only l i v at (λ j u n e. zeros (suc j) u (λ h. n (omega arith)) e) in
+      omega (arith, sum_by-cons f x l, zeros 0 x (λ h. omega arith) refl, rest)
 
 pub sum_le_at : {X : Type 0} (f g : X → ℕ) (l : List X) → ((i : ℕ) (v : X) → get_elem? l i ≡ some v → f v ≤ g v) → sum_by f l ≤ sum_by g l
 sum_le_at f g [] h = omega arith
 sum_le_at f g (x ∷ xs) h =
-    let a = h 0 x refl in
-    let b = sum_by-cons f x xs in
-    let c = sum_by-cons g x xs in
-    let r = sum_le_at f g xs (λ i v e. h (suc i) v e) in
-    omega arith
+    omega (arith, h 0 x refl, sum_by-cons f x xs, sum_by-cons g x xs, sum_le_at f g xs (λ i v e. h (suc i) v e))
 
 pub sum_le_of : {X : Type 0} (f g : X → ℕ) (l : List X) → ((x : X) → Contains l x → f x ≤ g x) → sum_by f l ≤ sum_by g l
 sum_le_of f g l h = sum_le_at f g l (λ i v e. let at = stands_at l i v e in h v (i, at.0, at.1))
