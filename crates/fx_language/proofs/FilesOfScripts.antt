@@ -1,9 +1,9 @@
 -- The files of a script are a catalogue, of bytes alone.
-use Rattle.std.proofs.Common.{◌≡◌, ℕ, ◌+◌, ◌<◌, ◌≤◌, ◌==◌, nat_le, nat_lt, Bool, true, false, not, List, [], ◌∷◌, ◌++◌, length, refl, subst, arith}
-use Rattle.std.proofs.Common.{Option, option_and_then, Result, Ok, Err, ok_or, IfOk, if◌then◌else◌}
+use Rattle.std.proofs.Common.{◌≡◌, ℕ, ◌+◌, ◌<◌, ◌≤◌, ◌==◌, nat_le, nat_lt, true, false, not, List, [], ◌∷◌, ◌++◌, length, refl, subst, arith}
+use Rattle.std.proofs.Common.{Option, option_and_then, Result, Ok, Err, ok_or, IfOk}
 use Rattle.std.specs.Str.{bytes_eq}
-use Rattle.std.proofs.lemmas.Bool.{leb-false, ltb-false, not-false}
-use Rattle.std.proofs.lemmas.List.Elements.{All-append, All-nil, All-cons}
+use Rattle.std.proofs.lemmas.Bool.{cond_both, leb-false, ltb-false, not-false}
+use Rattle.std.proofs.lemmas.List.Elements.{All-nil, All-push}
 use Rattle.std.specs.Prelude.{codes}
 use Rattle.std.specs.Result.{result_ok}
 use Rattle.hex.specs.Hex.{IsBytes, decode_of}
@@ -18,15 +18,10 @@ use Rattle.fx_base.proofs.Entries.{one_more}
 use Rattle.fx_language.specs.declared.fault.ScriptFault.{ScriptFault}
 use Rattle.fx_language.specs.declared.fault.ScriptFault.TheVariants.{BadHex}
 use Rattle.fx_language.specs.declared.limits.TheConstants.{LONGEST_SCRIPT, LONGEST_LINE}
-use Rattle.fx_language.specs.Line.{Line, FileLine, CommandLine, RequestLine, SubmitLine, line_of, ◌>>=◌}
+use Rattle.fx_language.specs.Line.{Line, FileLine, line_of, ◌>>=◌}
 use Rattle.fx_language.specs.Lines.{lines, words, is_printable, is_skipped}
 use Rattle.fx_language.specs.Script.{AreFiles, LineFault, Meaning, Progress, IsScript, after_file, after_line, after_text, after_texts, at_end}
 use Rattle.fx_language.specs.Script.{is_late, line_fault_of, nothing, on_line, reading_of, unless, with_file}
-
--- what holds of both branches of a test
-either_if : {A : Type 0} (P : A → Type 0) (b : Bool) (x y : A) → (b ≡ true → P x) → (b ≡ false → P y) → P (if b then x else y)
-either_if P true x y yes_so not_so = yes_so refl
-either_if P false x y yes_so not_so = not_so refl
 
 -- where lines are read, the files are those of a script
 abbrev Keeps : Result Progress ScriptFault → Type 0
@@ -40,19 +35,18 @@ module _ (p : Progress) (are : AreFiles p.catalogue) where
       → length bytes ≤ LONGEST_ENTRY → IsBytes bytes → AreFiles (p.catalogue ++ record { name = name; bytes = bytes } ∷ [])
   grown name bytes few named new small fits = record {
     catalogue = one_more p.catalogue (record { name = name; bytes = bytes }) are.catalogue few small named new;
-    bytes = All-append (λ (file : FileEntry). IsBytes file.bytes) p.catalogue (record { name = name; bytes = bytes } ∷ []) are.bytes
-        (All-cons (λ (file : FileEntry). IsBytes file.bytes) (record { name = name; bytes = bytes }) [] fits (All-nil (λ (file : FileEntry). IsBytes file.bytes)));
+    bytes = All-push (λ (file : FileEntry). IsBytes file.bytes) p.catalogue (record { name = name; bytes = bytes }) are.bytes fits;
   }
 
   file_keeps : (name bytes : List ℕ) → IsBytes bytes → Keeps (with_file p name bytes)
   file_keeps name bytes fits =
       let with : Progress = record p { catalogue = p.catalogue ++ record { name = name; bytes = bytes } ∷ [] } in
       let Kept : Option AddFault → Type 0 = λ x. Keeps (unless (option_and_then line_fault_of x) with) in
-      either_if Kept (nat_le MOST_ENTRIES (length p.catalogue)) _ _ (λ _. tt)
-      (λ few. either_if Kept (length name == 0) _ _ (λ _. tt)
-      (λ _. either_if Kept (not (is_name name)) _ _ (λ _. tt)
-      (λ named. either_if Kept (has_name name p.catalogue) _ _ (λ _. tt)
-      (λ new. either_if Kept (nat_lt LONGEST_ENTRY (length bytes)) _ _ (λ _. tt)
+      cond_both (nat_le MOST_ENTRIES (length p.catalogue)) _ _ Kept (λ _. tt)
+      (λ few. cond_both (length name == 0) _ _ Kept (λ _. tt)
+      (λ _. cond_both (not (is_name name)) _ _ Kept (λ _. tt)
+      (λ named. cond_both (has_name name p.catalogue) _ _ Kept (λ _. tt)
+      (λ new. cond_both (nat_lt LONGEST_ENTRY (length bytes)) _ _ Kept (λ _. tt)
       (λ small. grown name bytes (leb-false MOST_ENTRIES (length p.catalogue) few) (not-false (is_name name) named) new
       (ltb-false LONGEST_ENTRY (length bytes) small) fits)))))
 
@@ -64,20 +58,18 @@ module _ (p : Progress) (are : AreFiles p.catalogue) where
   hex_keeps : (name hex : List ℕ) → Keeps (after_file p name hex)
   hex_keeps name hex =
       let Kept : Option (List ℕ) → Type 0 = λ x. Keeps (ok_or x BadHex >>= with_file p name) in
-      either_if Kept (bytes_eq hex (codes "-")) _ _ (λ _. file_keeps name [] (λ i. omega arith))
-      (λ _. either_if Kept (length hex == 0) _ _ (λ _. tt) (λ _. decoded_keeps name hex (decode_of hex) refl))
+      cond_both (bytes_eq hex (codes "-")) _ _ Kept (λ _. file_keeps name [] (λ i. omega arith))
+      (λ _. cond_both (length hex == 0) _ _ Kept (λ _. tt) (λ _. decoded_keeps name hex (decode_of hex) refl))
 
   line_keeps : (n : ℕ) (line : Line) → Keeps (after_line n p line)
   line_keeps n (FileLine name hex) = hex_keeps name hex
-  line_keeps n (CommandLine instruction) = are
-  line_keeps n (RequestLine asked) = are
-  line_keeps n SubmitLine = are
+  line_keeps n _ = are
 
   text_keeps : (n : ℕ) (text : List ℕ) → Keeps (after_text n p text)
   text_keeps n text =
-      either_if Keeps (nat_lt LONGEST_LINE (length text)) _ _ (λ _. tt)
-      (λ _. either_if Keeps (not (is_printable text)) _ _ (λ _. tt)
-      (λ _. either_if Keeps (is_skipped text) _ _ (λ _. are)
+      cond_both (nat_lt LONGEST_LINE (length text)) _ _ Keeps (λ _. tt)
+      (λ _. cond_both (not (is_printable text)) _ _ Keeps (λ _. tt)
+      (λ _. cond_both (is_skipped text) _ _ Keeps (λ _. are)
       (λ _. by_line (line_of (is_late p) (words text)))))
     where
       by_line : (r : Result Line ScriptFault) → Keeps (r >>= after_line n p)
@@ -85,17 +77,13 @@ module _ (p : Progress) (are : AreFiles p.catalogue) where
       by_line (Err fault) = tt
 
   end_says : Says (at_end p)
-  end_says = either_if Says (length p.waiting == 0) _ _ (λ _. are) (λ _. tt)
-
-on_says : (n : ℕ) (r : Result Progress ScriptFault) (next : Progress → Result Meaning LineFault) → Keeps r
-    → ((q : Progress) → AreFiles q.catalogue → Says (next q)) → Says (on_line n r next)
-on_says n (Ok q) next so go = go q so
-on_says n (Err fault) next so go = tt
+  end_says = cond_both (length p.waiting == 0) _ _ Says (λ _. are) (λ _. tt)
 
 texts_say : (n : ℕ) (p : Progress) (texts : List (List ℕ)) → AreFiles p.catalogue → Says (after_texts n p texts)
 texts_say n p [] are = end_says p are
-texts_say n p (text ∷ texts) are = on_says n (after_text n p text) (λ q. after_texts (n + 1) q texts) (text_keeps p are n text)
-    (λ q so. texts_say (n + 1) q texts so)
+texts_say n p (text ∷ texts) are =
+    elim (after_text n p text) as (λ r. Keeps r → Says (on_line n r (λ q. after_texts (n + 1) q texts)))
+    [ Ok q ↦ texts_say (n + 1) q texts | Err fault ↦ λ _. tt ] (text_keeps p are n text)
 
 no_files : AreFiles []
 no_files = record {
@@ -109,7 +97,7 @@ no_files = record {
 }
 
 reading_says : (bytes : List ℕ) → Says (reading_of bytes)
-reading_says bytes = either_if Says (nat_lt LONGEST_SCRIPT (length bytes)) _ _ (λ _. tt) (λ _. texts_say 1 nothing (lines bytes) no_files)
+reading_says bytes = cond_both (nat_lt LONGEST_SCRIPT (length bytes)) _ _ Says (λ _. tt) (λ _. texts_say 1 nothing (lines bytes) no_files)
 
 pub each_script_has_files : (bytes : List ℕ) (meaning : Meaning) → IsScript bytes meaning → AreFiles meaning.catalogue
 each_script_has_files bytes meaning is = subst Says is (reading_says bytes)

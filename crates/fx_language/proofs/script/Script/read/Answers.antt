@@ -1,28 +1,21 @@
-use Rattle.std.proofs.Common.{◌≡◌, ℕ, Bool, false, nat_lt, List, ◌∷◌, length, Result, Err, sym, ap, ◌∙◌, arith, if◌then◌else◌}
+use Rattle.std.proofs.Common.{ℕ, List, length, ap, arith}
+use Rattle.std.specs.Prelude.{◌==◌}
 use Rattle.std.proofs.lemmas.Bool.{le-ltb}
-use Rattle.fx_language.specs.Lines.{lines}
-use Rattle.fx_language.specs.Parts.{parts_left}
-use Rattle.fx_language.specs.Script.{LineFault, Meaning, after_texts, nothing}
-use Rattle.fx_language.specs.ScriptView.{progress_of}
+use Rattle.std.proofs.lemmas.List.Splits.{length-slice_split}
+use Rattle.std.proofs.lemmas.List.Sums.{count_by-le-length}
 use Rattle.fx_language.specs.declared.limits.TheConstants.{LONGEST_SCRIPT}
-use Rattle.fx_language.specs.declared.fault.ScriptFault.TheVariants.{LongScript}
-use Rattle.fx_language.proofs.LinesOf.{few_lines}
 use Rattle.fx_language.proofs.script.Script.read.Goals as goal
 
+-- a script has at most one line more than it has bytes
 pub overflow_add-line : goal.overflow_add-line
 overflow_add-line c =
-    let few = few_lines c.args.bytes.now in
-    let taken : length (parts_left c.loop-text.text-iterator) ≡ length (c.in-Some.text.now ∷ parts_left c.next.new.self) = ap (λ (l : List
-    (List ℕ)). length l) c.in-Some.ensures.steps in
+    let bytes = c.args.bytes.now in
+    let some = count_by-le-length (λ b. b == 10) bytes in
+    let taken = ap (λ (l : List (List ℕ)). length l) c.in-Some.ensures.steps in
     let count = c.loop-text.invariant.count in
-    omega (arith, few, taken, count)
+    omega (arith, length-slice_split (λ b. b == 10) bytes, some, taken, count)
 
 pub of-requires : goal.of-requires
 of-requires c =
-    let short : nat_lt LONGEST_SCRIPT (length c.args.bytes.now) ≡ false = le-ltb LONGEST_SCRIPT (length c.args.bytes.now) c.if-bytes-gt-LONGEST_SCRIPT.false in
-    let all : Result Meaning LineFault = after_texts 1 nothing (lines c.args.bytes.now) in (
-      c.args.bytes.now,
-      ap (λ (b : Bool). if b then Err (record { line = 0; kind = LongScript }) else all) short
-          ∙ sym c.loop-text.invariant.left
-          ∙ ap (after_texts c.loop-text.line (progress_of c.loop-text.reader)) c.in-None.ensures.steps.0,
-    )
+    let short = le-ltb LONGEST_SCRIPT (length c.args.bytes.now) c.if-bytes-gt-LONGEST_SCRIPT.false in
+    (c.args.bytes.now, rw (short, ← c.loop-text.invariant.left, c.in-None.ensures.steps.0))
