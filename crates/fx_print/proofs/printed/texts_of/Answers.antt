@@ -1,4 +1,5 @@
-use Rattle.std.proofs.Common.{rules, arith, ◌≡◌, ℕ, ◌+◌, ◌/◌, ◌%◌, ◌<◌, min, List, ◌++◌, refl, ap, subst, ◌∙◌, length, slice_index_or, string_bytes, String, Global}
+use Rattle.std.proofs.Common.{rules, arith, ◌≡◌, ℕ, ◌+◌, ◌/◌, ◌%◌, ◌<◌, min, List, ◌++◌, refl, ap, subst, ◌∙◌, length, slice_index_or, string_bytes}
+use Rattle.std.proofs.Common.{String, Global}
 use Rattle.std.proofs.lemmas.List.{get_or-map, length-map, map-append}
 use Rattle.std.proofs.lemmas.List.Concat.{flat_map-append}
 use Rattle.std.proofs.lemmas.Result.{IfOk-weaker}
@@ -9,7 +10,8 @@ use Rattle.fx_print.specs.Text.{completion_line, completion_lines}
 use Rattle.fx_print.proofs.Chunks.{all_chunks, joined}
 use Rattle.fx_print.proofs.printed.texts_of.Goals as goal
 
-lines-append : (a b : List Completion) → completion_lines (all_completed (a ++ b)) ≡ completion_lines (all_completed a) ++ completion_lines (all_completed b)
+lines-append : (a b : List Completion)
+    → completion_lines (all_completed (a ++ b)) ≡ completion_lines (all_completed a) ++ completion_lines (all_completed b)
 lines-append a b = ap completion_lines (map-append completed_of a b) ∙ flat_map-append completion_line (all_completed a) (all_completed b)
 
 pub returns : goal.returns
