@@ -1,5 +1,5 @@
 -- Histories that go on, by what one pass does or by what others do.
-use Rattle.fx_table.proofs.Words.{◌≡◌, ◌≢◌, ℕ, List, [], ◌∷◌, ◌++◌, map, sym, refl, ap, ◌∙◌, subst, eq-eqb, ne_eqb, Contains, map-append, State}
+use Rattle.fx_table.proofs.Words.{◌≡◌, ◌≢◌, ℕ, List, [], ◌∷◌, ◌++◌, map, refl, ap, ◌∙◌, eq-eqb, ne_eqb, Contains, map-append, State}
 use Rattle.fx_table.proofs.Words.{held_by, IsLegal, part_of_pass, ◌▷▷◌, Event, Action}
 use Rattle.std.proofs.lemmas.List.Elements.{filter-append}
 use Rattle.fx_plain.proofs.Leading.{leads_then}
@@ -37,8 +37,7 @@ held_mine q c a h = rw (eq-eqb q q refl)
 pub legal_then : (first mid last : State) (es h : List Event) → IsLegal first h mid → Leads mid (map action_of es) last
     → AllReleaseTheirOwn (h ▷▷ es) → IsLegal first (h ▷▷ es) last
 legal_then first mid last es h legal leads own = record {
-  leads = subst (λ (l : List Action). Leads first l last) (sym (map-append action_of es h))
-      (leads_then first mid last (map action_of h) (map action_of es) legal.leads leads);
+  leads = rw map-append (leads_then first mid last (map action_of h) (map action_of es) legal.leads leads);
   releases = own;
 }
 

@@ -51,5 +51,4 @@ module _ {X : Type 0} (number : X → ℕ) (new : ℕ → X) (its : (p : ℕ) �
       omega (arith, counted_from (p + 1) n, a, b, once_more p (p + 1) q refl, ap (λ m. once m q) e)
 
   pub counted_once : (n : ℕ) → counted 1 n ≡ once n q
-  counted_once n = let e : 0 + n ≡ n = omega arith in
-      omega (arith, counted_from 0 n, ap (λ m. once m q) e, once_is 0 q)
+  counted_once n = let e : 0 + n ≡ n = omega arith in omega (arith, counted_from 0 n, ap (λ m. once m q) e, once_is 0 q)

@@ -1,7 +1,6 @@
 -- The one history of all passes, which a close tells, and a table of one pass without it.
-use Rattle.fx_table.proofs.Words.{◌≡◌, ℕ, ◌<◌, ◌≤◌, true, List, [], ◌∷◌, sym, ap, ◌∙◌, subst, Contains, None, sum_by, Contains-append_right}
-use Rattle.fx_table.proofs.Words.{Contents, state_of, IsLegal, IsSeenBy, part_of_pass, held_by, Event, ClosesTable, times_drawn, Opening, PassView}
-use Rattle.fx_table.proofs.Words.{IsFront}
+use Rattle.fx_table.proofs.Words.{◌≡◌, ℕ, ◌<◌, ◌≤◌, true, List, [], ◌∷◌, sym, ap, ◌∙◌, Contains, None, sum_by, Contains-append_right, Contents}
+use Rattle.fx_table.proofs.Words.{state_of, IsLegal, IsSeenBy, part_of_pass, held_by, Event, ClosesTable, times_drawn, Opening, PassView, IsFront}
 use Rattle.fx_plain.specs.State.{IsSettled}
 use Rattle.fx_table.specs.Opening.{start_of, state_at, HasSameFiles}
 use Rattle.fx_table.specs.Settling.{IsSettledSoFar}
@@ -40,14 +39,14 @@ module _ (o : Opening) (v : PassView) (h : List Event) (whole : IsWhole o h (v �
   author : (e : Event) → Contains v.front e → e.pass ≡ v.number
   author e i =
       let seen = whole.seen v (contains_head v []) in
-      let a = whole.authors e (subst (λ (l : List Event). Contains l e) (sym seen.1) (Contains-append_right seen.0 v.front e i)) in
+      let a = whole.authors e (rw seen.1 (Contains-append_right seen.0 v.front e i)) in
       a.2 ∙ ap (λ (w : PassView). w.number) (contains_only v a.0 a.1)
 
   pub settles : IsSettledSoFar o v
   settles = record {
     whole = sym (part_all v.number v.front author) ∙ front.mine;
-    legal = subst (λ (l : List Event). IsLegal (start_of o) l (state_at o l)) is_own whole.legal;
-    settled = subst (λ (l : List Event). IsSettled (state_at o l)) is_own whole.settled;
-    held = subst (λ (l : List Event). held_by l v.number ≡ None) is_own free;
+    legal = rw is_own at whole.legal;
+    settled = rw is_own at whole.settled;
+    held = rw is_own at free;
     chains_inside = whole.chains_inside v (contains_head v []);
   }
