@@ -1,5 +1,5 @@
 -- The chains of a submission without a fault: where each stands, and what it keeps to.
-use Rattle.fx_chain.proofs.Words.{◌≡◌, inl, ℕ, ◌+◌, ◌≤◌, List, [], ◌∷◌, ◌++◌, length, map, take, drop, refl, sym, ap, ◌∙◌, All, subst, arith}
+use Rattle.fx_chain.proofs.Words.{◌≡◌, inl, ℕ, ◌+◌, ◌≤◌, List, [], ◌∷◌, ◌++◌, length, map, drop, refl, sym, ap, ◌∙◌, All, subst, arith}
 use Rattle.fx_chain.proofs.Words.{flat_map, take_at, drop_at, All-nil, All-cons, All-head, All-tail, All-take, All-drop, IsAccepted, IsWithinLimits}
 use Rattle.fx_chain.proofs.Words.{IsShortRun, IsChain, members_of, chains_from, chains_of, Asked, but_last, runs_of, all_installs}
 use Rattle.fx_chain.proofs.Words.{MOST_MEMBERS, CHAIN_NUMBERS}
@@ -13,9 +13,7 @@ use Rattle.fx_chain.proofs.Splits.{IsClosed, IsClosed-append, but_last-last, ope
 members_of-run : {requests : List Asked} (before run later : List Asked) → requests ≡ before ++ (run ++ later)
     → members_of requests (record { first = length before; len = length run }) ≡ run
 members_of-run before run later is =
-    ap (λ xs. take (length run) (drop (length before) xs)) is
-    ∙ ap (take (length run)) (drop_at before (run ++ later) (length before) refl)
-    ∙ take_at run later (length run) refl
+    rw (is, drop_at before (run ++ later) (length before) refl, take_at run later (length run) refl)
 
 record Fits (run : List Asked) : Type 0 where
   pub members : length run ≤ MOST_MEMBERS
@@ -84,10 +82,9 @@ map-members_of : (requests before : List Asked) (runs : List (List Asked)) → r
     → map (members_of requests) (chains_from (length before) runs) ≡ runs
 map-members_of requests before [] is = refl
 map-members_of requests before (run ∷ runs) is =
-    ap (λ xs. xs ∷ map (members_of requests) (chains_from (length before + length run) runs))
-    (members_of-run before run (flat_map (λ y. y) runs) is)
-    ∙ ap (λ n. run ∷ map (members_of requests) (chains_from n runs)) (sym (length-append before run))
-    ∙ ap (λ rs. run ∷ rs) (map-members_of requests (before ++ run) runs (is ∙ sym (append_assoc before run (flat_map (λ y. y) runs))))
+    let later = flat_map (λ y. y) runs in
+    let more = map-members_of requests (before ++ run) runs (is ∙ sym (append_assoc before run later)) in
+    rw (members_of-run before run later is, ← length-append before run, more)
 
 pub members-are-runs : (requests : List Asked) → map (members_of requests) (chains_of (runs_of requests)) ≡ runs_of requests
 members-are-runs requests = map-members_of requests [] (runs_of requests) (sym (are_runs requests).whole)

@@ -1,5 +1,5 @@
 -- A submission is cut from its first run on.
-use Rattle.fx_chain.proofs.Words.{◌≡◌, ℕ, ◌+◌, ◌≤◌, List, [], ◌∷◌, ◌++◌, length, take, drop, sym, ap, ◌∙◌, append-nil, drop-drop, length-map}
+use Rattle.fx_chain.proofs.Words.{◌≡◌, ℕ, ◌+◌, ◌≤◌, List, [], ◌∷◌, ◌++◌, length, take, drop, ◌∙◌, append-nil, drop-drop, length-map}
 use Rattle.fx_chain.proofs.Words.{length-take-le, chains_from, chains_of, asked_of, all_asked, runs_of, Chain, Request}
 use Rattle.std.proofs.lemmas.List.{append_assoc}
 use Rattle.fx_chain.proofs.Asking.{asked_none}
@@ -14,14 +14,9 @@ pub cut_next : (requests rest : List Request) (made : List Chain) (first len : �
     → IsCut requests made first → IsCut requests (made ++ record { first = first; len = len } ∷ []) (first + len)
 cut_next requests rest made first len is inside run so =
     let count : length (all_asked (take len rest)) ≡ len = length-map (take len rest) asked_of ∙ length-take-le len rest inside in
-    append_assoc made (record { first = first; len = len } ∷ []) (chains_from (first + len) (runs_of (all_asked (drop (first + len) requests))))
-    ∙ ap (λ xs. made ++ record { first = first; len = len } ∷ chains_from (first + len) (runs_of (all_asked xs)))
-    (sym (drop-drop len first requests) ∙ ap (drop len) (sym is))
-    ∙ ap (λ n. made ++ record { first = first; len = n } ∷ chains_from (first + n) (runs_of (all_asked (drop len rest)))) (sym count)
-    ∙ ap (λ runs. made ++ chains_from first runs) (sym run ∙ ap (λ xs. runs_of (all_asked xs)) is) ∙ so
+    rw (append_assoc, ← drop-drop len first requests, ← is) (rw (← is, run, count) at so)
 
 -- at the end all chains were made
 pub cut_all : (requests : List Request) (made : List Chain) (first : ℕ) → length requests ≤ first → IsCut requests made first
     → made ≡ chains_of (runs_of (all_asked requests))
-cut_all requests made first end so =
-    sym (append-nil made) ∙ ap (λ xs. made ++ chains_from first (runs_of xs)) (sym (asked_none requests first end)) ∙ so
+cut_all requests made first end so = rw (asked_none requests first end, append-nil) at so

@@ -1,7 +1,8 @@
 -- The runs of a list are the one way to part it.
 use Rattle.fx_chain.proofs.Words.{◌≡◌, ◌<◌, Bool, true, false, not, if◌then◌else◌, List, [], ◌∷◌, ◌++◌, length, refl, sym, ap, ◌∙◌, All, arith, inl}
-use Rattle.fx_chain.proofs.Words.{inr, cases_Bool, list_all, flat_map, append-nil, AllPass-from_list_all, list_all-from_AllPass, All-nil, All-cons}
-use Rattle.fx_chain.proofs.Words.{All-head, All-tail, Asked, is_link, but_last, is_over, AreRuns, AreTheOnlyRuns, in_front, runs_of, open_run}
+use Rattle.fx_chain.proofs.Words.{inr, cases_Bool, not-true, list_all, flat_map, append-nil, AllPass-from_list_all, list_all-from_AllPass, All-nil}
+use Rattle.fx_chain.proofs.Words.{All-cons, All-head, All-tail, Asked, is_link, but_last, is_over, AreRuns, AreTheOnlyRuns, in_front, runs_of}
+use Rattle.fx_chain.proofs.Words.{open_run}
 
 -- what each request does that is a member of a run and not its last
 abbrev pub AllLink : List Asked → Type 0
@@ -80,17 +81,14 @@ pub one_run : (run : List Asked) → 0 < length run → IsLinked run → runs_of
 one_run [] some linked = absurd (omega arith)
 one_run (x ∷ []) some linked = runs_one x
 one_run (x ∷ y ∷ run) some linked =
-    runs_link x (y ∷ run) (All-head Links x (but_last (y ∷ run)) linked)
-    ∙ ap (in_front x) (one_run (y ∷ run) (omega arith) (All-tail Links x (but_last (y ∷ run)) linked))
+    rw (All-head Links x (but_last (y ∷ run)) linked, one_run (y ∷ run) (omega arith) (All-tail Links x (but_last (y ∷ run)) linked))
 
 -- a run that is over is the first run
 pub first_run : (run rest : List Asked) → IsLinked run → is_over run ≡ true → runs_of (run ++ rest) ≡ run ∷ runs_of rest
 first_run [] rest linked over = cc
-first_run (x ∷ []) rest linked over = let ends : is_link x.flags ≡ false =
-    elim (is_link x.flags) as (λ b. not b ≡ true → b ≡ false) [ true ↦ λ e. sym e | false ↦ λ e. refl ] over in runs_end x rest ends
+first_run (x ∷ []) rest linked over = runs_end x rest (not-true (is_link x.flags) over)
 first_run (x ∷ y ∷ run) rest linked over =
-    runs_link x (y ∷ run ++ rest) (All-head Links x (but_last (y ∷ run)) linked)
-    ∙ ap (in_front x) (first_run (y ∷ run) rest (All-tail Links x (but_last (y ∷ run)) linked) over)
+    rw (All-head Links x (but_last (y ∷ run)) linked, first_run (y ∷ run) rest (All-tail Links x (but_last (y ∷ run)) linked) over)
 
 parted : (runs : List (List Asked)) → All HasMembers runs → All IsLinked runs → All IsOver (but_last runs)
     → runs_of (flat_map (λ run. run) runs) ≡ runs

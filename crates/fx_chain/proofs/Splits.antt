@@ -1,6 +1,6 @@
 -- A run and its last request, and the open run behind runs that are over.
 use Rattle.fx_chain.proofs.Words.{◌≡◌, inl, inr, ◌<◌, ◌⊎◌, Bool, true, false, not, ◌&&◌, if◌then◌else◌, List, [], ◌∷◌, ◌++◌, length, refl, sym, ap}
-use Rattle.fx_chain.proofs.Words.{◌∙◌, subst, arith, ◌+◌, ◌==◌, list_all, and_right, and_from, both_ways, cases_Bool, not-true, ne_eqb, All-nil}
+use Rattle.fx_chain.proofs.Words.{◌∙◌, subst, arith, ◌+◌, ◌==◌, list_all, and_right, and_cases, both_ways, cases_Bool, not-true, ne_eqb, All-nil}
 use Rattle.fx_chain.proofs.Words.{All-cons, All-head, All-tail, All-push, append-nil, Asked, is_link, but_last, is_over, in_front, runs_of, open_run}
 use Rattle.fx_chain.proofs.Words.{StandsIn}
 use Rattle.std.proofs.lemmas.List.{append_assoc, length-append}
@@ -37,10 +37,8 @@ list_all-over (x ∷ y ∷ run) rest over = and_right (is_link x.flags) _ (list_
 -- the open run stands behind each run that is over
 open_run-skip : (run rest : List Asked) → is_over run ≡ true → open_run (run ++ rest) ≡ open_run rest
 open_run-skip [] rest over = cc
-open_run-skip (x ∷ []) rest over = ap (λ (b : Bool). if b then x ∷ rest else open_run rest) (list_all-over (x ∷ []) rest over)
-open_run-skip (x ∷ y ∷ run) rest over =
-    ap (λ (b : Bool). if b then x ∷ y ∷ run ++ rest else open_run (y ∷ run ++ rest)) (list_all-over (x ∷ y ∷ run) rest over)
-    ∙ open_run-skip (y ∷ run) rest over
+open_run-skip (x ∷ []) rest over = rw (list_all-over (x ∷ []) rest over)
+open_run-skip (x ∷ y ∷ run) rest over = rw (list_all-over (x ∷ y ∷ run) rest over) (open_run-skip (y ∷ run) rest over)
 
 -- no run is open
 abbrev pub IsClosed : List Asked → Type 0
@@ -50,10 +48,8 @@ pub IsClosed-append : (front run : List Asked) → IsOver run → IsClosed (fron
 IsClosed-append front run over = inr (is_over-append front run over)
 
 pub open_run-closed : (front run : List Asked) → IsClosed front → AllLink run → open_run (front ++ run) ≡ run
-open_run-closed front run closed link = elim closed [
-  | inl none ↦ ap (λ (xs : List Asked). open_run (xs ++ run)) none ∙ open_run-all run link
-  | inr over ↦ open_run-skip front run over ∙ open_run-all run link
-]
+open_run-closed front run (inl none) link = rw none (open_run-all run link)
+open_run-closed front run (inr over) link = open_run-skip front run over ∙ open_run-all run link
 
 -- the runs of a list whose last request doesn't link are the first runs of a longer list
 in_front-append : (x : Asked) (runs more : List (List Asked)) → 0 < length runs → in_front x (runs ++ more) ≡ in_front x runs ++ more
@@ -62,13 +58,10 @@ in_front-append x (run ∷ runs) more some = refl
 
 pub runs_of-append : (front rest : List Asked) → is_over front ≡ true → runs_of (front ++ rest) ≡ runs_of front ++ runs_of rest
 runs_of-append [] rest over = cc
-runs_of-append (x ∷ []) rest over = let ends : is_link x.flags ≡ false = not-true (is_link x.flags) over in
-    runs_end x rest ends ∙ ap (λ runs. runs ++ runs_of rest) (sym (runs_end x [] ends))
+runs_of-append (x ∷ []) rest over = rw (not-true (is_link x.flags) over)
 runs_of-append (x ∷ y ∷ ys) rest over = elim (cases_Bool (is_link x.flags)) [
-  | inl links ↦ runs_link x (y ∷ ys ++ rest) links ∙ ap (in_front x) (runs_of-append (y ∷ ys) rest over)
-      ∙ in_front-append x (runs_of (y ∷ ys)) (runs_of rest) (runs-some y ys) ∙ ap (λ runs. runs ++ runs_of rest) (sym (runs_link x (y ∷ ys) links))
-  | inr ends ↦ runs_end x (y ∷ ys ++ rest) ends ∙ ap (λ runs. (x ∷ []) ∷ runs) (runs_of-append (y ∷ ys) rest over)
-      ∙ ap (λ runs. runs ++ runs_of rest) (sym (runs_end x (y ∷ ys) ends))
+  | inl links ↦ rw (links, runs_of-append (y ∷ ys) rest over) (in_front-append x (runs_of (y ∷ ys)) (runs_of rest) (runs-some y ys))
+  | inr ends ↦ rw (ends, runs_of-append (y ∷ ys) rest over)
 ]
 
 -- a list is what is over, and then its open run
@@ -80,17 +73,13 @@ record Ends (front : List Asked) : Type 0 where
 
 one_more : (x : Asked) (xs closed : List Asked) → list_all (λ r. is_link r.flags) (x ∷ xs) ≡ false → xs ≡ closed ++ open_run xs → IsClosed closed
     → AllLink (open_run xs) → IsClosed (x ∷ closed)
-one_more x xs closed differs parts is_closed linked = elim is_closed [
-  | inl none ↦
+one_more x xs closed differs parts (inl none) linked = elim (and_cases (is_link x.flags) (list_all (λ r. is_link r.flags) xs) differs) [
+  | inl ends ↦ inr (rw none (ap not ends))
+  | inr some ↦
       let all : xs ≡ open_run xs = parts ∙ ap (λ ys. ys ++ open_run xs) none in
-      let link : list_all (λ r. is_link r.flags) xs ≡ true = AllLink-test xs (subst AllLink (sym all) linked) in
-      let ends : is_link x.flags ≡ false = elim (cases_Bool (is_link x.flags)) [
-        | inl links ↦ absurd (both_ways _ differs (and_from (is_link x.flags) (list_all (λ r. is_link r.flags) xs) links link))
-        | inr ends ↦ ends
-      ] in
-      inr (ap (λ ys. is_over (x ∷ ys)) none ∙ ap not ends)
-  | inr over ↦ inr (is_over-append (x ∷ []) closed over)
+      absurd (both_ways _ some (AllLink-test xs (subst AllLink (sym all) linked)))
 ]
+one_more x xs closed differs parts (inr over) linked = inr (is_over-append (x ∷ []) closed over)
 
 ends_of : (front : List Asked) → Ends front
 ends_of [] = record { closed = []; parts = refl; is_closed = inl refl; linked = All-nil Links }
@@ -127,18 +116,11 @@ begins_at [] r behind linked = elim (cases_Bool (is_link r.flags)) [
 ]
 begins_at (x ∷ run) r behind linked =
     let next = begins_at run r behind (All-tail Links x run linked) in
-    record {
-      rest = next.rest;
-      later = next.later;
-      parts = runs_link x (run ++ r ∷ behind) (All-head Links x run linked)
-          ∙ ap (in_front x) next.parts;
-    }
+    record { rest = next.rest; later = next.later; parts = rw (All-head Links x run linked, next.parts) }
 
 runs_of-closed : (front rest : List Asked) → IsClosed front → runs_of (front ++ rest) ≡ runs_of front ++ runs_of rest
-runs_of-closed front rest closed = elim closed [
-  | inl none ↦ ap (λ xs. runs_of (xs ++ rest)) none ∙ ap (λ xs. runs_of xs ++ runs_of rest) (sym none)
-  | inr over ↦ runs_of-append front rest over
-]
+runs_of-closed front rest (inl none) = rw none
+runs_of-closed front rest (inr over) = runs_of-append front rest over
 
 pub stands_in : (front : List Asked) (r : Asked) (behind : List Asked) → StandsIn front r (runs_of (front ++ r ∷ behind))
 stands_in front r behind =
