@@ -1,10 +1,12 @@
 -- A worker goes on by one chain that its pass drew.
-use Rattle.fx_ring.proofs.Words.{◌≡◌, ◌≢◌, ◌⊎◌, ℕ, ◌+◌, ◌<◌, ◌≤◌, List, [], ◌∷◌, ◌++◌, map, length, refl, sym, ap, subst, ◌∙◌, All, Contains, Some}
-use Rattle.fx_ring.proofs.Words.{None, ⊎_elim, length-append, arith, map-append, All-append, FileEntry, CloseListView, Closed, Event, Action}
+use Rattle.fx_ring.proofs.Words.{◌≡◌, ◌≢◌, ℕ, ◌+◌, ◌-◌, ◌<◌, ◌≤◌, List, [], ◌∷◌, ◌++◌, map, length, refl, sym, ap, subst, ◌∙◌, All, Contains}
+use Rattle.fx_ring.proofs.Words.{Some, None, ⊎_elim, length-append, arith, map-append, All-append, FileEntry, CloseListView, Closed, Event, Action}
 use Rattle.fx_ring.proofs.Words.{action_of, closes_in, part_of_chain, ◌▷◌, Opening, size_of, PassView, event_of, Completed}
 use Rattle.fx_ring.proofs.Words.{Explains, first_member, Asked, all_weights, worker_state, run_of_chain, completions_of_chain, HasWorked, HasRoom}
-use Rattle.fx_ring.proofs.Words.{zero, suc, ◌-◌, drop, slice_index_or, sum_by, sum_by-drop_more}
+use Rattle.fx_ring.proofs.Words.{drop, slice_index_or, sum_by, sum_by-drop_more}
+use Rattle.std.proofs.lemmas.List.{drop-drop}
 use Rattle.std.proofs.lemmas.List.Elements.{Contains-append_cases}
+use Rattle.std.proofs.lemmas.List.Sums.{sum_by-take-drop}
 use Rattle.fx_plain.proofs.Leading.{closes_in-then}
 use Rattle.fx_table.specs.Calls.{Draws, Use}
 use Rattle.fx_table.proofs.Members.{contains_head, contains_tail, contains_cases, contains_map, each_all}
@@ -13,24 +15,16 @@ use Rattle.fx_chain.proofs.ChainGoesOn.{explained_count}
 use Rattle.fx_ring.proofs.Parts.{only_first, only_second, not_first, not_second}
 use Rattle.fx_ring.proofs.CompletionPlaces.{explained_of_members}
 
--- what a list has behind a place: the next of its elements, and less behind that
-module _ {X : Type 0} (f : X → ℕ) (xs : List X) (d : X) where
-  sum_at : (k i j : ℕ) → j ≡ i + k → j < length xs → f (slice_index_or xs j d) + sum_by f (drop (j + 1) xs) ≤ sum_by f (drop i xs)
-  sum_at zero i j is inside =
-      let same : j ≡ i = omega arith in
-      let here = sum_by-drop_more f xs j d inside in
-      subst (λ (n : ℕ). f (slice_index_or xs j d) + sum_by f (drop (j + 1) xs) ≤ sum_by f (drop n xs)) same (omega arith)
-  sum_at (suc k) i j is inside =
-      let here = sum_by-drop_more f xs i d (omega arith) in
-      let further = sum_at k (i + 1) j (omega arith) inside in
-      omega arith
-
-  -- what stands at a further place, counted from 1, and what stands behind that
-  pub sum_behind : (i : ℕ) {c : ℕ} → i < c → c ≤ length xs → f (slice_index_or xs (c - 1) d) + sum_by f (drop c xs) ≤ sum_by f (drop i xs)
-  sum_behind i {c} further inside =
-      let next : (c - 1) + 1 ≡ c = omega arith in
-      subst (λ (n : ℕ). f (slice_index_or xs (c - 1) d) + sum_by f (drop n xs) ≤ sum_by f (drop i xs)) next
-      (sum_at (c - 1 - i) i (c - 1) (omega arith) (omega arith))
+-- what stands at a further place of a list, counted from 1, and what stands behind that
+pub sum_behind : {X : Type 0} (f : X → ℕ) (xs : List X) (d : X) (i : ℕ) {c : ℕ} → i < c → c ≤ length xs
+    → f (slice_index_or xs (c - 1) d) + sum_by f (drop c xs) ≤ sum_by f (drop i xs)
+sum_behind f xs d i {c} further inside =
+    let here = sum_by-drop_more f xs (c - 1) d (omega arith) in
+    let parts = sum_by-take-drop f (drop i xs) (c - 1 - i) in
+    let rest = ap (sum_by f) (drop-drop (c - 1 - i) i xs) in
+    let place = ap (λ (n : ℕ). sum_by f (drop n xs)) (let e : i + (c - 1 - i) ≡ c - 1 = omega arith in e) in
+    let next = ap (λ (n : ℕ). sum_by f (drop n xs)) (let e : c - 1 + 1 ≡ c = omega arith in e) in
+    omega arith
 
 abbrev chain_of : Event → ℕ
 chain_of e = e.chain
@@ -53,69 +47,31 @@ pub record GoesOn (v x : PassView) (actions : List Action) (used : Use) : Type 0
   pub drawn : x.drawn ≡ v.drawn
   pub looks_left : x.looks_left + used.looks ≡ v.looks_left
 
--- the chain was played so
-pub record HasPlayed (catalogue : List FileEntry) (size submission chain : ℕ) (asked : List Asked) (v : PassView) (closes : CloseListView)
-    (before : List Completed) (x : PassView) (files : CloseListView) (now : List Completed) : Type 0 where
-  pub completions : List Completed
-  pub parts : now ≡ before ++ completions
-  pub actions : List Action
-  pub used : Use
-  pub goes : GoesOn v x actions used
-  pub closed : files.files ≡ closes.files ++ closes_in actions
-  pub room : files.room + length (closes_in actions) ≡ closes.room
-  pub says : Explains catalogue size (first_member submission chain) asked actions completions
-  pub few_looks : used.looks ≤ length asked
-  pub few_files : length (closes_in actions) ≤ all_weights asked
-
-pub played_by : {o : Opening} {catalogue : List FileEntry} {submission chain : ℕ} {asked : List Asked} {v x : PassView} {closes files : CloseListView}
-    {before now : List Completed} → PlaysChain o catalogue submission chain asked (player v closes) before (player x files) now
-    → HasPlayed catalogue (size_of o) submission chain asked v closes before x files now
-played_by {chain} p = record {
-  completions = p.0;
-  parts = p.1;
-  actions = p.2.actions;
-  used = p.2.used;
-  goes = record { own = p.2.acts.adds.own; chain = p.2.acts.adds.chain; drawn = p.2.acts.adds.drawn; looks_left = p.2.acts.adds.looks_left };
-  closed = p.2.acts.files;
-  room = p.2.acts.room;
-  says = p.2.says;
-  few_looks = p.2.few_looks;
-  few_files = p.2.few_files;
-}
-
 -- what is said of each chain that a worker drew
 abbrev IsDone : List FileEntry → ℕ → ℕ → List (List Asked) → ℕ → List Action → List Completed → Type 0
 IsDone catalogue size submission runs chain events completions =
     Explains catalogue size (first_member submission chain) (run_of_chain runs chain) events completions
     × (length (closes_in events) ≤ all_weights (run_of_chain runs chain))
 
-module _ (o : Opening) (catalogue : List FileEntry) (submission : ℕ) (runs : List (List Asked)) (v x : PassView)
-    (before now : List Completed) (closes files : CloseListView) (chain : ℕ)
+-- a chain behind all others was played from w to y, and that takes the worker from v to x
+module _ {o : Opening} {catalogue : List FileEntry} {submission : ℕ} {runs : List (List Asked)} {v x w y : PassView} {asked : List Asked}
+    {before now : List Completed} {closes files : CloseListView} {chain : ℕ}
     (worked : HasWorked catalogue (size_of o) submission runs (worker_state v before closes))
-    (further : v.chain < chain) (inside : chain ≤ length runs)
-    (played : HasPlayed catalogue (size_of o) submission chain (run_of_chain runs chain) (drawing o v chain) closes before x files now) where
-  abbrev actions : List Action
-  actions = played.actions
-
+    (further : v.chain < chain) (inside : chain ≤ length runs) (are : asked ≡ run_of_chain runs chain)
+    (played : PlaysChain o catalogue submission chain asked (player w closes) before (player y files) now)
+    (goes : GoesOn (drawing o v chain) x played.2.actions played.2.used) where
   abbrev events : List Event
-  events = map (event_of (drawing o v chain)) actions
-
-  own_is : x.own ≡ events ++ v.own
-  own_is = played.goes.own
-
-  drawn_is : x.drawn ≡ chain ∷ v.drawn
-  drawn_is = played.goes.drawn
+  events = map (event_of (drawing o v chain)) played.2.actions
 
   -- the new events and completions are of the chain
   of_chain : (e : Event) → Contains events e → chain_of e ≡ chain
-  of_chain e h = ap chain_of (contains_map (event_of (drawing o v chain)) actions e h).2
+  of_chain e h = ap chain_of (contains_map (event_of (drawing o v chain)) played.2.actions e h).2
 
   new_events : All (λ e. chain_of e ≡ chain) events
   new_events = each_all (λ e. chain_of e ≡ chain) events of_chain
 
-  new_completions : All (λ c. chain_of_completed c ≡ chain) played.completions
-  new_completions k d l = ((explained_of_members catalogue (size_of o) (first_member submission chain) (run_of_chain runs chain) actions
-      played.says).within k d l).0
+  new_completions : All (λ c. chain_of_completed c ≡ chain) played.0
+  new_completions k d l = ((explained_of_members catalogue (size_of o) (first_member submission chain) asked played.2.actions played.2.says).within k d l).0
 
   -- those before are of chains before it
   old_events : All (λ e. chain_of e ≢ chain) v.own
@@ -125,109 +81,96 @@ module _ (o : Opening) (catalogue : List FileEntry) (submission : ℕ) (runs : L
   old_completions : All (λ c. chain_of_completed c ≢ chain) before
   old_completions k d l same = let low = (worked.inside _ (worked.completed k d l)).1 in absurd (omega arith)
 
-  done_now : IsDone catalogue (size_of o) submission runs chain (map action_of (part_of_chain chain x.own)) (completions_of_chain chain now)
-  done_now =
-      let part : map action_of (part_of_chain chain x.own) ≡ actions = ap (λ (h : List Event). map action_of (part_of_chain chain h)) own_is
-      ∙ ap (map action_of) (only_first chain_of chain events v.own new_events old_events) ∙ actions_again (drawing o v chain) actions in
-      let mine : completions_of_chain chain now ≡ played.completions = ap (completions_of_chain chain) played.parts
-      ∙ only_second chain_of_completed chain before played.completions old_completions new_completions in
-      subst (λ (z : List Action × List Completed). IsDone catalogue (size_of o) submission runs chain z.0 z.1)
-      (λ i. (sym part i, sym mine i)) (played.says, played.few_files)
+  abbrev Done : ℕ → Type 0
+  Done c = IsDone catalogue (size_of o) submission runs c (map action_of (part_of_chain c (events ++ v.own))) (completions_of_chain c (before ++ played.0))
 
-  done_before : {c : ℕ} → Contains v.drawn c
-      → IsDone catalogue (size_of o) submission runs c (map action_of (part_of_chain c x.own)) (completions_of_chain c now)
+  done_now : Done chain
+  done_now =
+      let part = ap (map action_of) (only_first chain_of chain events v.own new_events old_events) ∙ actions_again (drawing o v chain) played.2.actions in
+      let mine = only_second chain_of_completed chain before played.0 old_completions new_completions in
+      subst (λ (z : List Action × List Completed × List Asked). Explains catalogue (size_of o) (first_member submission chain) z.2 z.0 z.1
+      × (length (closes_in z.0) ≤ all_weights z.2)) (λ i. (sym part i, sym mine i, are i)) (played.2.says, played.2.few_files)
+
+  done_before : {c : ℕ} → Contains v.drawn c → Done c
   done_before {c} h =
       let low = (worked.inside c h).1 in
       let other : chain ≢ c = λ same. absurd (omega arith) in
-      let part : map action_of (part_of_chain c x.own) ≡ map action_of (part_of_chain c v.own) =
-      ap (λ (l : List Event). map action_of (part_of_chain c l)) own_is
-      ∙ ap (map action_of) (not_first chain_of c events v.own (λ k d l same. other (sym (new_events k d l) ∙ same))) in
-      let mine : completions_of_chain c now ≡ completions_of_chain c before = ap (completions_of_chain c) played.parts
-      ∙ not_second chain_of_completed c before played.completions (λ k d l same. other (sym (new_completions k d l) ∙ same)) in
-      subst (λ (z : List Action × List Completed). IsDone catalogue (size_of o) submission runs c z.0 z.1)
+      let part = not_first chain_of c events v.own (λ k d l same. other (sym (new_events k d l) ∙ same)) in
+      let mine = not_second chain_of_completed c before played.0 (λ k d l same. other (sym (new_completions k d l) ∙ same)) in
+      subst (λ (z : List Event × List Completed). IsDone catalogue (size_of o) submission runs c (map action_of z.0) z.1)
       (λ i. (sym part i, sym mine i)) (worked.explained c h, worked.weighed c h)
 
-  drawn_cases : {c : ℕ} → Contains x.drawn c → (c ≡ chain) ⊎ Contains v.drawn c
-  drawn_cases {c} h = contains_cases chain v.drawn c (subst (λ (l : List ℕ). Contains l c) drawn_is h)
-
-  done : (c : ℕ) → Contains x.drawn c
-      → IsDone catalogue (size_of o) submission runs c (map action_of (part_of_chain c x.own)) (completions_of_chain c now)
-  done c h = ⊎_elim
-      (λ is. subst (λ (n : ℕ). IsDone catalogue (size_of o) submission runs n (map action_of (part_of_chain n x.own)) (completions_of_chain n now))
-      (sym is) done_now) (λ t. done_before t) (drawn_cases h)
+  done : (c : ℕ) → Contains (chain ∷ v.drawn) c → Done c
+  done c h = ⊎_elim (λ is. subst Done (sym is) done_now) (λ t. done_before t) (contains_cases chain v.drawn c h)
 
   pub worked_on : HasWorked catalogue (size_of o) submission runs (worker_state x now files)
-  worked_on = record {
-    explained = λ c h. (done c h).0;
-    weighed = λ c h. (done c h).1;
-    inside = λ c h. ⊎_elim
-        (λ is. (omega arith, omega arith)) (λ t. let low = worked.inside c t in let top = low.1 in (low.0, omega arith)) (drawn_cases h);
-    reached = omega arith;
-    own = λ e h. subst (λ (l : List ℕ). Contains l e.chain) (sym drawn_is) (⊎_elim
-        (λ new. subst (Contains (chain ∷ v.drawn)) (sym (of_chain e new)) (contains_head chain v.drawn))
-        (λ old. contains_tail chain v.drawn e.chain (worked.own e old))
-        (Contains-append_cases events v.own e (subst (λ (l : List Event). Contains l e) own_is h)));
-    completed = subst (λ (z : List Completed × List ℕ). All (λ c. Contains z.1 c.place.chain) z.0) (λ i. (sym played.parts i, sym drawn_is i))
-        (All-append (λ c. Contains (chain ∷ v.drawn) c.place.chain) before played.completions
-        (λ k d l. contains_tail chain v.drawn _ (worked.completed k d l))
-        (λ k d l. subst (Contains (chain ∷ v.drawn)) (sym (new_completions k d l)) (contains_head chain v.drawn)));
-    closed = played.closed
-        ∙ ap (λ (l : List Closed). l ++ closes_in actions) worked.closed
-        ∙ sym (closes_in-then (map action_of v.own) actions)
-        ∙ ap (λ (l : List Action). closes_in (l ++ map action_of v.own)) (sym (actions_again (drawing o v chain) actions))
-        ∙ ap closes_in (sym (map-append action_of events v.own))
-        ∙ ap (λ (l : List Event). closes_in (map action_of l)) (sym own_is);
-  }
+  worked_on = subst (λ (z : List Event × List ℕ × ℕ × List Completed × List Closed). HasWorked catalogue (size_of o) submission runs
+      (worker_state (record x { own = z.0; drawn = z.1; chain = z.2 }) z.3 (record files { files = z.4 })))
+      (λ i. (sym goes.own i, sym goes.drawn i, sym goes.chain i, sym played.1 i, sym played.2.acts.files i)) (record {
+        explained = λ c h. (done c h).0;
+        weighed = λ c h. (done c h).1;
+        inside = λ c h. ⊎_elim (λ is. (omega arith, omega arith))
+            (λ t. let low = worked.inside c t in let top = low.1 in (low.0, omega arith)) (contains_cases chain v.drawn c h);
+        reached = inside;
+        own = λ e h. ⊎_elim (λ new. subst (Contains (chain ∷ v.drawn)) (sym (of_chain e new)) (contains_head chain v.drawn))
+            (λ old. contains_tail chain v.drawn e.chain (worked.own e old)) (Contains-append_cases events v.own e h);
+        completed = All-append (λ c. Contains (chain ∷ v.drawn) c.place.chain) before played.0
+            (λ k d l. contains_tail chain v.drawn _ (worked.completed k d l))
+            (λ k d l. subst (Contains (chain ∷ v.drawn)) (sym (new_completions k d l)) (contains_head chain v.drawn));
+        closed = ap (λ (l : List Closed). l ++ closes_in played.2.actions) worked.closed
+            ∙ sym (closes_in-then (map action_of v.own) played.2.actions)
+            ∙ ap (λ (l : List Action). closes_in (l ++ map action_of v.own)) (sym (actions_again (drawing o v chain) played.2.actions))
+            ∙ ap closes_in (sym (map-append action_of events v.own));
+      })
 
   pub room_left : {capacity more : ℕ} → HasRoom runs (worker_state v before closes) capacity → capacity ≤ more
       → HasRoom runs (worker_state x now files) more
   room_left {more} room grows =
       let requests = sum_behind (λ (run : List Asked). length run) runs [] v.chain further inside in
       let weights = sum_behind all_weights runs [] v.chain further inside in
-      let count = explained_count catalogue (size_of o) (first_member submission chain) (run_of_chain runs chain) actions played.completions played.says in
-      let longer = ap length played.parts ∙ length-append before played.completions in
-      let few = played.few_looks in
-      let looks = played.goes.looks_left in
-      let filled = played.room in
-      let weigh = played.few_files in
-      subst (λ (n : ℕ). HasRoom runs (worker_state (record x { chain = n }) now files) more) (sym played.goes.chain)
+      let count = explained_count catalogue (size_of o) (first_member submission chain) asked played.2.actions played.0 played.2.says in
+      let same = ap length are in
+      let weights_same = ap all_weights are in
+      let longer = ap length played.1 ∙ length-append before played.0 in
+      let few = played.2.few_looks in
+      let looks = goes.looks_left in
+      let filled = played.2.acts.room in
+      let weigh = played.2.few_files in
+      subst (λ (n : ℕ). HasRoom runs (worker_state (record x { chain = n }) now files) more) (sym goes.chain)
       (record { looks = omega arith; completions = omega arith; closes = omega arith })
 
 -- what a worker has in front of a chain that its pass drew suffices for the chain
-module _ (o : Opening) (runs : List (List Asked)) (v w : PassView) (before : List Completed) (closes : CloseListView)
-    (chain capacity : ℕ) (asked : List Asked) (room : HasRoom runs (worker_state v before closes) capacity)
-    (count : o.chains ≡ length runs) (drew : Draws o v (Some chain) w) (are : asked ≡ run_of_chain runs chain) where
-  pub enough : (length asked ≤ w.looks_left) × (length before + length asked ≤ capacity) × (all_weights asked ≤ closes.room)
-  enough =
-      let further = drew.1 in
-      let last = drew.2 in
-      let requests = sum_behind (λ (run : List Asked). length run) runs [] v.chain further (omega arith) in
-      let weights = sum_behind all_weights runs [] v.chain further (omega arith) in
-      let same = ap length are in
-      let weigh = ap all_weights are in
-      let left = ap (λ (z : PassView). z.looks_left) drew.3 in
-      (omega arith, omega arith, omega arith)
+pub enough : (o : Opening) {runs : List (List Asked)} {v w : PassView} {before : List Completed} {closes : CloseListView} {chain capacity : ℕ}
+    {asked : List Asked} → HasRoom runs (worker_state v before closes) capacity → o.chains ≡ length runs → Draws o v (Some chain) w
+    → asked ≡ run_of_chain runs chain
+    → (length asked ≤ w.looks_left) × (length before + length asked ≤ capacity) × (all_weights asked ≤ closes.room)
+enough o {runs} {v} room count drew are =
+    let further = drew.1 in
+    let last = drew.2 in
+    let requests = sum_behind (λ (run : List Asked). length run) runs [] v.chain further (omega arith) in
+    let weights = sum_behind all_weights runs [] v.chain further (omega arith) in
+    let same = ap length are in
+    let weigh = ap all_weights are in
+    let left = ap (λ (z : PassView). z.looks_left) drew.3 in
+    (omega arith, omega arith, omega arith)
 
-  -- and the worker goes on
-  module _ (catalogue : List FileEntry) (submission more : ℕ) (x : PassView) (now : List Completed) (files : CloseListView)
-      (worked : HasWorked catalogue (size_of o) submission runs (worker_state v before closes)) (grows : capacity ≤ more)
-      (played : PlaysChain o catalogue submission chain asked (player w closes) before (player x files) now) where
-    played_so : PlaysChain o catalogue submission chain (run_of_chain runs chain) (player (drawing o v chain) closes) before (player x files) now
-    played_so = subst (λ (z : PassView × List Asked). PlaysChain o catalogue submission chain z.1 (player z.0 closes) before (player x files) now)
-        (λ i. (drew.3 i, are i)) played
+-- and the worker goes on
+module _ {o : Opening} {catalogue : List FileEntry} {submission : ℕ} {runs : List (List Asked)} {v w x : PassView} {asked : List Asked}
+    {before now : List Completed} {closes files : CloseListView} {chain : ℕ} (count : o.chains ≡ length runs) (drew : Draws o v (Some chain) w)
+    (are : asked ≡ run_of_chain runs chain) (worked : HasWorked catalogue (size_of o) submission runs (worker_state v before closes))
+    (played : PlaysChain o catalogue submission chain asked (player w closes) before (player x files) now) where
+  inside : chain ≤ length runs
+  inside = let low = drew.2 in omega arith
 
-    went : HasPlayed catalogue (size_of o) submission chain (run_of_chain runs chain) (drawing o v chain) closes before x files now
-    went = played_by played_so
+  goes : GoesOn (drawing o v chain) x played.2.actions played.2.used
+  goes = subst (λ (z : PassView). GoesOn z x played.2.actions played.2.used) drew.3 (assumption played.2.acts.adds)
 
-    pub worked_next : HasWorked catalogue (size_of o) submission runs (worker_state x now files)
-    worked_next =
-        worked_on o catalogue submission runs v x before now closes files chain worked drew.1 (omega arith) went
+  pub worked_next : HasWorked catalogue (size_of o) submission runs (worker_state x now files)
+  worked_next = worked_on worked drew.1 inside are played goes
 
-    pub room_next : HasRoom runs (worker_state x now files) more
-    room_next = room_left o catalogue submission runs v x before now closes files chain worked drew.1 (omega arith) went room grows
-
-    pub number_next : x.number ≡ v.number
-    number_next = played.2.acts.adds.number ∙ ap (λ (z : PassView). z.number) drew.3
+  pub room_next : {capacity more : ℕ} → HasRoom runs (worker_state v before closes) capacity → capacity ≤ more
+      → HasRoom runs (worker_state x now files) more
+  room_next = room_left worked drew.1 inside are played goes
 
 -- a worker whose pass was told that there are no more chains
 pub worked_all : (o : Opening) {catalogue : List FileEntry} {size submission : ℕ} {runs : List (List Asked)} {v w : PassView} {cs : List Completed}

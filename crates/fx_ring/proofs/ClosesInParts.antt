@@ -1,11 +1,10 @@
 -- The files that a history closed, in parts by a key of its events.
-use Rattle.fx_ring.proofs.Words.{ℕ, zero, suc, ◌+◌, ◌<◌, ◌≤◌, ◌==◌, true, false, not, cond, List, [], ◌∷◌, ◌++◌, map, filter, flat_map, All, sym, ap}
-use Rattle.fx_ring.proofs.Words.{subst, arith, append_assoc, IsPermutation-refl, IsPermutation-trans, IsPermutation-append_left}
-use Rattle.fx_ring.proofs.Words.{IsPermutation-append_right, IsPermutation-append_comm, Closed, action_of, closed_by, closes_in, Event}
-use Rattle.std.specs.List.Sorted.{IsPermutation}
+use Rattle.fx_ring.proofs.Words.{◌≡◌, ℕ, ◌+◌, ◌<◌, ◌≤◌, ◌==◌, true, false, not, cond, List, [], ◌∷◌, ◌++◌, map, filter, flat_map, length, All, refl, sym}
+use Rattle.fx_ring.proofs.Words.{subst, arith, append_assoc, length-append, sum_by, sum_by-cons, IsPermutation, IsPermutation-refl, IsPermutation-trans}
+use Rattle.fx_ring.proofs.Words.{IsPermutation-append_left, IsPermutation-append_right, IsPermutation-append_comm, Closed, action_of, closed_by}
+use Rattle.fx_ring.proofs.Words.{closes_in, Event}
 use Rattle.std.specs.List.{range_with_len}
-use Rattle.fx_ring.proofs.NumberedParts.{number_within, same_parts}
-use Rattle.fx_ring.proofs.Parts.{has, lacks, kept_lacking, within_lacking, none_within}
+use Rattle.fx_ring.proofs.Parts.{has, lacks, made_by_key}
 
 abbrev pub closes_of : List Event → List Closed
 closes_of h = closes_in (map action_of h)
@@ -34,20 +33,16 @@ module _ (key : Event → ℕ) where
         | false ↦ subst (IsPermutation (closes_of h ++ c)) (append_assoc (closes_of mine) (closes_of others) c) so_far
       ]
 
-  abbrev pub closes_with : List Event → ℕ → List Closed
-  closes_with h k = closes_of (filter (λ e. key e == k) h)
-
   -- where each key is one of so many from the first on, the parts are all
   pub closes_by_key : (first n : ℕ) (h : List Event) → All (λ e. (first ≤ key e) × (key e < first + n)) h
-      → IsPermutation (closes_of h) (flat_map (closes_with h) (range_with_len first n))
-  closes_by_key first zero h all =
-      subst (λ (l : List Event). IsPermutation (closes_of l) []) (sym (none_within key first h all)) (IsPermutation-refl [])
-  closes_by_key first (suc n) h all =
-      let others : List Event = filter (lacks key first) h in
-      let behind : IsPermutation (closes_of others) (flat_map (closes_with h) (range_with_len (first + 1) n)) =
-      subst (IsPermutation (closes_of others)) (same_parts (range_with_len (first + 1) n)
-      (λ k i. let low = (number_within n i).0 in ap closes_of (kept_lacking key first k h (λ same. omega arith))))
-      (closes_by_key (first + 1) n others (within_lacking key first n h all)) in
-      IsPermutation-trans (closes_of h) (closes_with h first ++ closes_of others) (flat_map (closes_with h) (range_with_len first (suc n)))
-      (closes_split first h)
-      (IsPermutation-append_right (closes_with h first) (closes_of others) (flat_map (closes_with h) (range_with_len (first + 1) n)) behind)
+      → IsPermutation (closes_of h) (flat_map (λ k. closes_of (filter (λ e. key e == k) h)) (range_with_len first n))
+  closes_by_key = made_by_key key closes_of refl closes_split
+
+-- how many they are
+pub closes_sum : (h : List Event) → length (closes_of h) ≡ sum_by (λ e. length (closed_by e.action)) h
+closes_sum [] = refl
+closes_sum (e ∷ h) =
+    let both = length-append (closes_of h) (closed_by e.action) in
+    let sum = sum_by-cons (λ (e : Event). length (closed_by e.action)) e h in
+    let rest = closes_sum h in
+    omega arith

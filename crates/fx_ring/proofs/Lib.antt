@@ -6,6 +6,7 @@ pub mod NoTags
 pub mod ListSteps
 pub mod Origins
 pub mod Updates
+pub mod NumberedParts
 pub mod Parts
 pub mod OneOrder
 pub mod NewMarks
@@ -17,7 +18,6 @@ pub mod MarksApart
 pub mod SubmittedRing
 pub mod ChainPlayed
 pub mod Runs
-pub mod NumberedParts
 pub mod ClosesInParts
 pub mod WorkersTogether
 pub mod NewCrew

@@ -1,13 +1,13 @@
 -- What a pass alone did between two settled moments, as the history of one submission.
-use Rattle.fx_ring.proofs.Words.{◌≡◌, ◌≢◌, ℕ, zero, suc, ◌+◌, ◌-◌, ◌*◌, ◌<◌, ◌≤◌, ◌==◌, true, false, not, cond, List, [], ◌∷◌, ◌++◌, map, filter}
+use Rattle.fx_ring.proofs.Words.{◌≡◌, ◌≢◌, ℕ, ◌+◌, ◌-◌, ◌*◌, ◌<◌, ◌≤◌, ◌==◌, true, false, cond, List, [], ◌∷◌, ◌++◌, map}
 use Rattle.fx_ring.proofs.Words.{length, refl, sym, ap, subst, ◌∙◌, arith, Option, None, All, All-head, All-tail, All-weaker, Contains, by_equality}
 use Rattle.fx_ring.proofs.Words.{IsPermutation, IsNonDecreasingBy, FileEntry, CloseListView, Closed, State, opening, state_of, IsLegal, action_of}
 use Rattle.fx_ring.proofs.Words.{closes_in, closed_by, part_of_chain, File, Event, Action, Opening, size_of, state_at, PassView, numbers_for}
 use Rattle.fx_ring.proofs.Words.{Completed, Explains, first_member, Asked, runs_of, IsShortRun, HasClosed, ring_of, ring_with, with_table}
-use Rattle.fx_ring.proofs.Words.{IsOneHistory, HasWorked, worker_state, completions_of_chain, run_of_chain}
+use Rattle.fx_ring.proofs.Words.{installed_by, sum_by, sum_by-cons, IsOneHistory, HasWorked, worker_state, completions_of_chain, run_of_chain}
 use Rattle.fx_plain.specs.declared.table.TheConstants.{MOST_SLOTS}
 use Rattle.fx_plain.specs.History.{held_by, ◌▷▷◌}
-use Rattle.fx_plain.specs.Reopening.{Renaming, renamed, renamed_event, numbers_given, IsAtRest, HasOtherNumbers}
+use Rattle.fx_plain.specs.Reopening.{Renaming, renamed, renamed_event, numbers_given, with_number_of, IsAtRest, HasOtherNumbers}
 use Rattle.fx_plain.proofs.AtRest.{opening_is_at_rest, stays_at_rest}
 use Rattle.fx_plain.proofs.Leading.{same_size}
 use Rattle.fx_plain.proofs.Behind.{legal_behind}
@@ -18,7 +18,8 @@ use Rattle.fx_table.proofs.Members.{contains_map, contains_mapped, each_all}
 use Rattle.fx_chain.proofs.OtherNumbers.{explains, few_given, given_one}
 use Rattle.fx_ring.specs.OpenRings.{table_with_files, chain_less, begun_behind}
 use Rattle.fx_ring.proofs.TableOfState.{opened_so, ring_so, size_there}
-use Rattle.fx_ring.proofs.Parts.{has, lacks, kept_lacking, within_lacking, none_within}
+use Rattle.fx_ring.proofs.Parts.{few_by_key}
+use Rattle.std.proofs.lemmas.List.Sums.{sum_by-le}
 use Rattle.fx_ring.proofs.PartsExplained.{IsShort, in_order_explained}
 
 -- a table is at rest wherever all is settled
@@ -42,33 +43,16 @@ none_held {number} h all none p = by_equality p number (λ _. held_by h p ≡ No
 abbrev given : List Event → ℕ
 given h = length (numbers_given (map action_of h))
 
-abbrev chain_of : Event → ℕ
-chain_of e = e.chain
+abbrev given_by : Event → ℕ
+given_by e = length (with_number_of (installed_by e.action) [])
 
-given_split : (first : ℕ) (h : List Event) → given h ≡ given (filter (has chain_of first) h) + given (filter (lacks chain_of first) h)
-given_split first [] = refl
-given_split first (e ∷ h) =
-    let rest = given_split first h in
+given_sum : (h : List Event) → given h ≡ sum_by given_by h
+given_sum [] = refl
+given_sum (e ∷ h) =
     let one = given_one e.action (numbers_given (map action_of h)) in
-    let mine = given_one e.action (numbers_given (map action_of (filter (has chain_of first) h))) in
-    let others = given_one e.action (numbers_given (map action_of (filter (lacks chain_of first) h))) in
-    elim (e.chain == first) as (λ b. given (e ∷ h) ≡ given (cond b (e ∷ filter (has chain_of first) h) (filter (has chain_of first) h))
-    + given (cond (not b) (e ∷ filter (lacks chain_of first) h) (filter (lacks chain_of first) h))) [
-      | true ↦ omega (arith, rest, one, mine)
-      | false ↦ omega (arith, rest, one, others)
-    ]
-
-given_by_chains : {most : ℕ} (first n : ℕ) (h : List Event) → All (λ e. (first ≤ e.chain) × (e.chain < first + n)) h
-    → ((c : ℕ) → first ≤ c → c < first + n → given (part_of_chain c h) ≤ most) → given h ≤ most * n
-given_by_chains first zero h all few = let none = ap given (none_within chain_of first h all) in omega (arith, none)
-given_by_chains {most} first (suc n) h all few =
-    let split = given_split first h in
-    let here = few first (omega arith) (omega arith) in
-    let rest = given_by_chains (first + 1) n (filter (lacks chain_of first) h) (within_lacking chain_of first n h all)
-    (λ c low high. subst (λ (l : List Event). given l ≤ most) (sym (kept_lacking chain_of first c h (λ same. absurd (omega arith))))
-    (few c (omega arith) (omega arith))) in
-    let times : most * suc n ≡ most + most * n = omega arith in
-    omega (arith, split, here, rest, times)
+    let sum = sum_by-cons given_by e h in
+    let rest = given_sum h in
+    omega arith
 
 -- the history with other numbers and chains
 
@@ -98,8 +82,8 @@ actions_less : (base : ℕ) (since : List Event) → map action_of (map (chain_l
 actions_less base [] = refl
 actions_less base (e ∷ since) = ap (λ (l : List Action). e.action ∷ l) (actions_less base since)
 
-module _ (catalogue : List FileEntry) (o : Opening) (before after : PassView) (drawn : List ℕ) (since : List Event) (submissions : ℕ)
-    (requests : List Asked) (completions : List Completed) (closes : CloseListView) (few_slots : size_of o ≤ MOST_SLOTS)
+module _ {catalogue : List FileEntry} {o : Opening} {before after : PassView} {drawn : List ℕ} (since : List Event) (submissions : ℕ)
+    (requests : List Asked) {completions : List Completed} {closes : CloseListView} (few_slots : size_of o ≤ MOST_SLOTS)
     (short : All IsShortRun (runs_of requests)) (first : IsSettledSoFar o before) (last : IsSettledSoFar o after)
     (authors : All (λ e. e.pass ≡ before.number) before.own) (own : after.own ≡ before.own ▷▷ since)
     (worked : HasWorked catalogue (size_of o) (submissions + 1) (runs_of requests)
@@ -134,18 +118,18 @@ module _ (catalogue : List FileEntry) (o : Opening) (before after : PassView) (d
   chain_inside {e} there = let is = worked.inside e.chain (worked.own e there) in let low = is.0 in let high = is.1 in let top = worked.reached in
       (low, omega (arith, high, top))
 
-  few_of_chain : {c : ℕ} → 1 ≤ c → c ≤ length runs → given (part_of_chain c less) ≤ 64
-  few_of_chain {c} low high =
-      let told = few_given catalogue (size_of o) (run_of_chain runs c) (first_member (submissions + 1) c) (map action_of (part_of_chain c less))
-      (completions_of_chain c completions) (worked.explained c (all_drawn c low high)) in
-      let run = short (c - 1) [] (omega (arith, low, high)) in
-      let few = run.installs in omega (arith, told, few)
-
   few_numbers : given since ≤ 64 * length runs
-  few_numbers = subst (λ (l : List Action). length (numbers_given l) ≤ 64 * length runs) (actions_less base since)
-      (given_by_chains 1 (length runs) less
-      (each_all (λ e. (1 ≤ e.chain) × (e.chain < 1 + length runs)) less (λ e there. let is = chain_inside there in let low = is.0 in let high = is.1 in
-      (low, omega (arith, high)))) (λ c low high. few_of_chain low (omega (arith, high))))
+  few_numbers =
+      let all = each_all (λ e. (1 ≤ e.chain) × (e.chain < 1 + length runs)) less
+      (λ e there. let is = chain_inside there in let low = is.0 in let high = is.1 in (low, omega (arith, high))) in
+      let few = few_by_key (λ e. e.chain) given_by (λ _. 64) [] 1 runs less all (λ i lt.
+      let c : ℕ = 1 + i in
+      let told = few_given catalogue (size_of o) (run_of_chain runs c) (first_member (submissions + 1) c) (map action_of (part_of_chain c less))
+      (completions_of_chain c completions) (worked.explained c (all_drawn c (omega arith) (omega (arith, lt)))) in
+      omega (arith, told, (short (c - 1) [] (omega (arith, lt))).installs, given_sum (part_of_chain c less))) in
+      let most = sum_by-le (λ (_ : List Asked). 64) 64 runs (λ k d lt. omega arith) in
+      subst (λ (l : List Action). length (numbers_given l) ≤ 64 * length runs) (actions_less base since)
+      (omega (arith, few, most, given_sum less))
 
   opened : (r : Renaming) × (left : State) × (r.chain ≡ (λ c. c - base))
       × IsLegal (opening st (numbers_for (length runs))) (map (renamed_event r) since) left × HasOtherNumbers end left

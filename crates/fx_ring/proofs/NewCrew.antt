@@ -1,12 +1,12 @@
 -- What a crew is before it plays: new passes, with room for all.
 use Rattle.fx_ring.proofs.Words.{◌≡◌, ℕ, ◌≤◌, List, [], ◌∷◌, ◌++◌, map, flat_map, reverse, length, All, sum_by, refl, sym, ap, subst, ◌∙◌, arith}
 use Rattle.fx_ring.proofs.Words.{vec_capacity, length-map, reverse-append, map-append, map-map, length-flat_map, All-nil, All-contains, sum_by-cons}
-use Rattle.fx_ring.proofs.Words.{sum_by-append, FileEntry, CloseListView, PassView, new_pass, new_passes, MOST_MEMBERS, IsAccepted, IsChain}
+use Rattle.fx_ring.proofs.Words.{sum_by-append, FileEntry, CloseListView, PassView, new_pass, new_passes, MOST_MEMBERS, IsChain, Event}
 use Rattle.fx_ring.proofs.Words.{members_of, Completed, all_completed, Asked, runs_of, all_weights, weight_of, Completion, Chain, HasRoomFor}
 use Rattle.fx_ring.proofs.Words.{HasWorked, HasRoom, worker_state, Outcome, Worker}
 use Rattle.std.specs.Prelude.{Contains}
 use Rattle.fx_table.proofs.Members.{contains_none, contains_map, contains_mapped, contains_reverse, each_all}
-use Rattle.fx_chain.proofs.Accepted.{accepted-length}
+use Rattle.fx_table.specs.declared.limits.TheConstants.{PASS_LOOKS}
 use Rattle.fx_chain.proofs.Runs.{are_runs}
 use Rattle.std.specs.List.{range_with_len}
 use Rattle.std.proofs.lemmas.List.{map-id}
@@ -30,18 +30,21 @@ module _ {A W : Type 0} (P : A → Type 0) (f : W → A) (ws : List W) (xs : Lis
       let m = contains_map f ws x (contains_reverse (map f ws) x (subst (λ (l : List A). Contains l x) e h)) in
       subst P (sym m.2) (All-contains (λ w. P (f w)) ws m.0 a m.1))
 
--- a pass that has seen and done nothing
-abbrev pub IsNew : PassView → Type 0
-IsNew v = (m : ℕ) × (v ≡ new_pass m)
+-- a pass that has done nothing, and can look up so often
+pub record IsNew (often : ℕ) (v : PassView) : Type 0 where
+  pub own : v.own ≡ []
+  pub drawn : v.drawn ≡ []
+  pub chain : v.chain ≡ 0
+  pub looks : often ≤ v.looks_left
 
 module _ {P : Type 0} (V : P → PassView) (ps : List P) (n : ℕ) (new : map (λ p. V p) ps ≡ new_passes n) where
   pub as_many_passes : length ps ≡ n
   as_many_passes = let a = length-map ps V in let b = ap length new in let c = length-map-range_with_len new_pass 1 n in omega arith
 
-  pub all_new : All (λ p. IsNew (V p)) ps
-  all_new = each_all (λ p. IsNew (V p)) ps (λ p h.
+  pub all_new : All (λ p. IsNew PASS_LOOKS (V p)) ps
+  all_new = each_all (λ p. IsNew PASS_LOOKS (V p)) ps (λ p h.
       let from = contains_map new_pass (range_with_len 1 n) (V p) (subst (λ (l : List PassView). Contains l (V p)) new (contains_mapped V ps p h)) in
-      (from.0, from.2))
+      subst (IsNew PASS_LOOKS) (sym from.2) (record { own = refl; drawn = refl; chain = refl; looks = omega arith }))
 
   pub numbers_are : (crew : List (Worker P)) → map (λ w. w.pass) crew ≡ reverse ps
       → map (λ w. (V w.pass).number) crew ≡ reverse (range_with_len 1 n)
@@ -76,34 +79,31 @@ runs_are_short {requests} chains members within = subst (All (λ run. length run
     let same = ap length m.2 in
     omega arith))
 
-module _ (catalogue : List FileEntry) (size submission : ℕ) (runs : List (List Asked)) where
-  begun : (m : ℕ) (closes : CloseListView) → closes.files ≡ [] → HasWorked catalogue size submission runs (worker_state (new_pass m) [] closes)
-  begun m closes none = record {
-    explained = λ c h. absurd (contains_none c h);
-    weighed = λ c h. absurd (contains_none c h);
-    inside = λ c h. absurd (contains_none c h);
-    reached = omega arith;
-    own = λ e h. absurd (contains_none e h);
-    completed = All-nil (λ c. Contains [] c.place.chain);
-    closed = none;
-  }
-
-  pub new_has_worked : {v : PassView} {outcome : Outcome} {requests : List Asked} → IsNew v → HasRoomFor requests outcome
+-- a worker with a new pass has worked as it should, and has room for all
+module _ {often : ℕ} {v : PassView} {outcome : Outcome} {requests : List Asked} (new : IsNew often v) (room : HasRoomFor requests outcome) where
+  pub new_has_worked : {catalogue : List FileEntry} {size submission : ℕ} {runs : List (List Asked)}
       → HasWorked catalogue size submission runs (worker_state v (all_completed outcome.completions.items) outcome.closes)
-  new_has_worked {outcome} is room =
-      subst (λ (z : PassView × List Completed). HasWorked catalogue size submission runs (worker_state z.0 z.1 outcome.closes))
-      (λ i. (sym is.1 i, sym (ap all_completed room.no_completions) i))
-      (begun is.0 outcome.closes (ap (λ (l : CloseListView). l.files) room.closes))
+  new_has_worked {catalogue} {size} {submission} {runs} =
+      subst (λ (z : List Event × List ℕ × ℕ × List Completed).
+      HasWorked catalogue size submission runs (worker_state (record v { own = z.0; drawn = z.1; chain = z.2 }) z.3 outcome.closes))
+      (λ i. (sym new.own i, sym new.drawn i, sym new.chain i, sym (ap all_completed room.no_completions) i)) (record {
+        explained = λ c h. absurd (contains_none c h);
+        weighed = λ c h. absurd (contains_none c h);
+        inside = λ c h. absurd (contains_none c h);
+        reached = omega arith;
+        own = λ e h. absurd (contains_none e h);
+        completed = All-nil (λ c. Contains [] c.place.chain);
+        closed = ap (λ (l : CloseListView). l.files) room.closes;
+      })
 
-pub new_has_room : {v : PassView} {outcome : Outcome} {requests : List Asked} → IsAccepted requests → IsNew v → HasRoomFor requests outcome
-    → HasRoom (runs_of requests) (worker_state v (all_completed outcome.completions.items) outcome.closes) (vec_capacity outcome.completions)
-new_has_room {outcome} {requests} accepted is room =
-    let few = accepted-length requests accepted in
-    let all = runs_have_all requests in
-    let weights = runs_weigh_all requests in
-    let closes = ap (λ (l : CloseListView). l.room) room.closes in
-    let none = ap (λ (l : List Completion). length (all_completed l)) room.no_completions in
-    subst (λ (z : PassView).
-    HasRoom (runs_of requests) (worker_state z (all_completed outcome.completions.items) outcome.closes) (vec_capacity outcome.completions))
-    (sym is.1)
-    (record { looks = omega arith; completions = omega arith; closes = omega arith })
+  pub new_has_room : length requests ≤ often
+      → HasRoom (runs_of requests) (worker_state v (all_completed outcome.completions.items) outcome.closes) (vec_capacity outcome.completions)
+  new_has_room few =
+      let enough = new.looks in
+      let all = runs_have_all requests in
+      let weights = runs_weigh_all requests in
+      let closes = ap (λ (l : CloseListView). l.room) room.closes in
+      let none = ap (λ (l : List Completion). length (all_completed l)) room.no_completions in
+      let capacity = room.room in
+      subst (λ (n : ℕ). HasRoom (runs_of requests) (worker_state (record v { chain = n }) (all_completed outcome.completions.items) outcome.closes)
+      (vec_capacity outcome.completions)) (sym new.chain) (record { looks = omega arith; completions = omega arith; closes = omega arith })

@@ -1,6 +1,6 @@
 -- Lists with a part for each number from one on, and lists of which one element alone has a part.
-use Rattle.fx_ring.proofs.Words.{◌≡◌, ℕ, suc, ◌+◌, ◌<◌, ◌≤◌, List, [], ◌∷◌, ◌++◌, flat_map, filter, reverse, length, Bool, All, sum_by}
-use Rattle.fx_ring.proofs.Words.{slice_index_or, length-append, refl, sym, ap, subst, ◌∙◌, arith, append-nil, ⊎_elim, reverse-append, flat_map-append}
+use Rattle.fx_ring.proofs.Words.{◌≡◌, ℕ, ◌+◌, ◌<◌, ◌≤◌, List, [], ◌∷◌, ◌++◌, flat_map, filter, reverse, Bool, All, sum_by}
+use Rattle.fx_ring.proofs.Words.{refl, sym, ap, subst, ◌∙◌, arith, append-nil, ⊎_elim, reverse-append, flat_map-append}
 use Rattle.fx_ring.proofs.Words.{All-nil, All-append, filter-append, IsPermutation-refl, IsPermutation-trans, IsPermutation-append_left}
 use Rattle.fx_ring.proofs.Words.{IsPermutation-append_comm, sum_by-cons, sum_of}
 use Rattle.std.specs.Prelude.{Contains}
@@ -12,21 +12,6 @@ use Rattle.fx_table.proofs.Members.{contains_none, contains_head, contains_tail,
 pub number_within : {first : ℕ} (n : ℕ) {k : ℕ} → Contains (range_with_len first n) k → (first ≤ k) × (k < first + n)
 number_within {first} n {k} (i, lt, is) =
     let long = length-range_with_len first n in let there = get_or-range_with_len first n i k (omega arith) in (omega arith, omega arith)
-
--- what the numbers' parts have together, where each has no more than what stands at its place of a list
-pub few_in_parts : {X Y : Type 0} (f : X → ℕ) (d : X) (g : ℕ → List Y) (first : ℕ) (xs : List X)
-    → ((i : ℕ) → i < length xs → length (g (first + i)) ≤ f (slice_index_or xs i d))
-    → length (flat_map g (range_with_len first (length xs))) ≤ sum_by f xs
-few_in_parts f d g first [] few = omega arith
-few_in_parts f d g first (x ∷ xs) few =
-    let rest = few_in_parts f d g (first + 1) xs (λ i lt. let on : first + suc i ≡ first + 1 + i = omega arith in
-    subst (λ (k : ℕ). length (g k) ≤ f (slice_index_or xs i d)) on (few (suc i) (omega arith))) in
-    let here = few 0 (omega arith) in
-    let place : first + 0 ≡ first = omega arith in
-    let one = ap (λ (k : ℕ). length (g k)) place in
-    let both = length-append (g first) (flat_map g (range_with_len (first + 1) (length xs))) in
-    let sum = sum_by-cons f x xs in
-    omega arith
 
 module _ {W X : Type 0} (g : W → List X) where
   pub no_parts : (ws : List W) → ((w : W) → Contains ws w → g w ≡ []) → flat_map g ws ≡ []

@@ -1,10 +1,11 @@
 -- The completions of a submission, once they are in order of place: they are the chains' parts, one after another.
 use Rattle.fx_ring.proofs.Words.{◌≡◌, ℕ, suc, ◌+◌, ◌-◌, ◌*◌, ◌<◌, ◌≤◌, List, [], ◌∷◌, ◌++◌, length, length-append, map, All, sum_by, IsPermutation}
-use Rattle.fx_ring.proofs.Words.{refl, sym, subst, ◌∙◌, arith, slice_index_or, IsNonDecreasingBy, All-head, All-tail, All-nil, FileEntry}
+use Rattle.fx_ring.proofs.Words.{refl, sym, subst, flat_map, ◌∙◌, arith, slice_index_or, IsNonDecreasingBy, All-head, All-tail, All-nil, FileEntry}
 use Rattle.fx_ring.proofs.Words.{All-append, All-weaker, sum_by-cons, IsPermutation-sym, IsPermutation-trans, length_permutation, Asked, MOST_MEMBERS}
 use Rattle.fx_ring.proofs.Words.{part_of_chain, action_of, Event, Completed, Explains, first_member, ExplainsParts, completions_of_chain, run_of_chain}
 use Rattle.fx_ring.proofs.CompletionPlaces.{place_key, explained_of_members}
-use Rattle.fx_ring.proofs.Parts.{parts_from, parts_are_all}
+use Rattle.std.specs.List.{range_with_len}
+use Rattle.fx_ring.proofs.Parts.{made_by_key, split_by_key}
 use Rattle.fx_ring.proofs.OneOrder.{Rises, one_list_in_order}
 
 rises_append : {m : ℕ} (xs ys : List Completed) → Rises place_key xs → Rises place_key ys → All (λ c. place_key c < m) xs
@@ -28,7 +29,7 @@ module _ (catalogue : List FileEntry) (size submission : ℕ) (history : List Ev
 
   -- the parts of the chains from this one on
   abbrev parts : ℕ → List (List Asked) → List Completed
-  parts chain runs = parts_from (λ c. c.place.chain) chain (length runs) all
+  parts chain runs = flat_map (λ k. completions_of_chain k all) (range_with_len chain (length runs))
 
   record AreInOrder (chain : ℕ) (runs : List (List Asked)) : Type 0 where
     explains : ExplainsParts catalogue size submission chain runs history (parts chain runs)
@@ -67,7 +68,7 @@ module _ (catalogue : List FileEntry) (size submission : ℕ) (history : List Ev
         subst (λ j. IsExplainedPart (1 + i) (slice_index_or runs j [])) same (explained (1 + i) (omega arith) (omega arith)))
 
     all_parts : IsPermutation all (parts 1 runs)
-    all_parts = parts_are_all (λ c. c.place.chain) 1 (length runs)
+    all_parts = made_by_key (λ c. c.place.chain) (λ l. l) refl (split_by_key (λ c. c.place.chain)) 1 (length runs) all
         (λ k d lt. let it = inside k d lt in let low = it.0 in let high = it.1 in (omega arith, omega arith))
 
     -- there is one completion of each request

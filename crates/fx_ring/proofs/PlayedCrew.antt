@@ -27,7 +27,7 @@ module _ {P : Type 0} (V : P → PassView) where
   scattered_views ws is =
       ap (map V) is ∙ (map_reversed V (map (λ w. w.pass) ws) ∙ ap reverse (map-map V (λ w. w.pass) ws ∙ sym (map-map pass_of (state_of_worker V) ws)))
 
-  module _ (ws : List (Worker P)) (outcomes : List Outcome) (is : outcomes ≡ reverse (map (λ w. w.outcome) ws)) where
+  module _ (ws : List (Worker P)) {outcomes : List Outcome} (is : outcomes ≡ reverse (map (λ w. w.outcome) ws)) where
     turned : reverse outcomes ≡ map (λ w. w.outcome) ws
     turned = ap reverse is ∙ reverse-reverse (map (λ w. w.outcome) ws)
 
@@ -57,20 +57,21 @@ module _ {P : Type 0} (V : P → PassView) where
         omega arith
 
   -- a crew has played, once its passes are back: what each worker did is known, and each was told that no chains are left
-  module _ (catalogue : List FileEntry) (submission : ℕ) (requests : List Request) (chains : List Chain) (o : Opening)
-      (ps : List P) (begun ws : List (Worker P)) (back : List P) (left : Contents)
-      (members : map (members_of (all_asked requests)) chains ≡ runs_of (all_asked requests)) (within : All (IsChain (all_asked requests)) chains) (count : o.chains ≡ length chains)
-      (new : map (λ p. V p) ps ≡ new_passes o.passes) (gathered : map (λ w. w.pass) begun ≡ reverse ps)
-      (numbers : map (λ w. (V w.pass).number) ws ≡ map (λ w. (V w.pass).number) begun) (scattered : back ≡ reverse (map (λ w. w.pass) ws)) where
-    pub crew_has_played : All (λ w. HasWorked catalogue (size_of o) submission (runs_of (all_asked requests)) (state_of_worker V w)) ws
-        → All (λ w. (V w.pass).no_chains_left ≡ true) ws → ClosesTable o (map (λ p. V p) back) left
-        → HavePlayed catalogue submission (runs_of (all_asked requests)) o (states ws) (map (λ p. V p) back) left
-    crew_has_played worked told closing = record {
-      worked = All-map (HasWorked catalogue (size_of o) submission (runs_of (all_asked requests))) (state_of_worker V) ws worked;
-      told = All-map (λ w. w.pass.no_chains_left ≡ true) (state_of_worker V) ws told;
-      chains = count ∙ sym (as_many requests chains members);
-      short = runs_are_short chains members within;
-      are = scattered_views ws scattered;
-      numbers = map-map number_of (state_of_worker V) ws ∙ (numbers ∙ numbers_are V ps o.passes new begun gathered);
-      closing = closing;
-    }
+  pub crew_has_played : {catalogue : List FileEntry} {submission : ℕ} (requests : List Request) (chains : List Chain) {o : Opening}
+      (ps : List P) (begun ws : List (Worker P)) {back : List P} {left : Contents} → map (members_of (all_asked requests)) chains ≡ runs_of (all_asked requests)
+      → All (IsChain (all_asked requests)) chains → o.chains ≡ length chains → map (λ p. V p) ps ≡ new_passes o.passes
+      → map (λ w. w.pass) begun ≡ reverse ps → map (λ w. (V w.pass).number) ws ≡ map (λ w. (V w.pass).number) begun
+      → back ≡ reverse (map (λ w. w.pass) ws)
+      → All (λ w. HasWorked catalogue (size_of o) submission (runs_of (all_asked requests)) (state_of_worker V w)) ws
+      → All (λ w. (V w.pass).no_chains_left ≡ true) ws → ClosesTable o (map (λ p. V p) back) left
+      → HavePlayed catalogue submission (runs_of (all_asked requests)) o (states ws) (map (λ p. V p) back) left
+  crew_has_played {catalogue} {submission} requests chains {o} ps begun ws members within count new gathered numbers scattered
+      worked told closing = record {
+        worked = All-map (HasWorked catalogue (size_of o) submission (runs_of (all_asked requests))) (state_of_worker V) ws worked;
+        told = All-map (λ w. w.pass.no_chains_left ≡ true) (state_of_worker V) ws told;
+        chains = count ∙ sym (as_many requests chains members);
+        short = runs_are_short chains members within;
+        are = scattered_views ws scattered;
+        numbers = map-map number_of (state_of_worker V) ws ∙ (numbers ∙ numbers_are V ps o.passes new begun gathered);
+        closing = closing;
+      }

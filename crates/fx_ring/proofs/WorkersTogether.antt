@@ -1,6 +1,6 @@
 -- What the workers of a submission did, taken together.
 use Rattle.fx_ring.proofs.Words.{◌≡◌, ℕ, ◌+◌, ◌-◌, ◌<◌, ◌≤◌, ◌==◌, true, List, [], map, flat_map, reverse, length, All, sum_by, count_by}
-use Rattle.fx_ring.proofs.Words.{slice_index_or, refl, sym, ap, subst, ◌∙◌, arith, eqb, IsNonDecreasingBy, All-contains, IsPermutation-trans}
+use Rattle.fx_ring.proofs.Words.{slice_index_or, closed_by, filter, refl, sym, ap, subst, ◌∙◌, arith, eqb, IsNonDecreasingBy, All-contains, IsPermutation-trans}
 use Rattle.fx_ring.proofs.Words.{length_permutation, FileEntry, IsInOrderOfMark, CloseListView, Closed, opening, Contents, state_of, IsLegal}
 use Rattle.fx_ring.proofs.Words.{action_of, part_of_chain, Event, ClosesTable, times_drawn, numbers_for, Opening, size_of, state_at, PassView}
 use Rattle.fx_ring.proofs.Words.{IsOfDrawnChains, some_times, part_of_drawn, sum_reverse, sum_map, Completed, Explains, first_member, Asked, runs_of}
@@ -8,14 +8,14 @@ use Rattle.fx_ring.proofs.Words.{all_weights, ring_with, IsOneHistory, WorkerSta
 use Rattle.std.specs.Prelude.{Contains}
 use Rattle.std.specs.List.Sorted.{IsPermutation}
 use Rattle.fx_table.proofs.Members.{contains_map, contains_mapped, contains_reverse, contains_reversed, each_all}
-use Rattle.fx_ring.proofs.ClosesInParts.{closes_of, closes_with, closes_by_key}
+use Rattle.fx_ring.proofs.ClosesInParts.{closes_of, closes_by_key, closes_sum}
 use Rattle.fx_table.proofs.Chains.{in_part}
 use Rattle.std.specs.List.{range_with_len}
-use Rattle.fx_ring.proofs.NumberedParts.{number_within, few_in_parts, one_part, all_parts, filter_parts, parts_reversed, same_parts}
+use Rattle.fx_ring.proofs.NumberedParts.{number_within, one_part, all_parts, filter_parts, parts_reversed, same_parts}
 use Rattle.std.proofs.lemmas.List.Folds.{flat_map-map}
 use Rattle.fx_ring.proofs.CompletionPlaces.{place_key}
 use Rattle.fx_ring.proofs.Rings.{ring_as}
-use Rattle.fx_ring.proofs.Parts.{none_kept}
+use Rattle.fx_ring.proofs.Parts.{few_by_key, none_kept}
 use Rattle.fx_ring.proofs.PartsExplained.{IsShort, one_of_each_request, in_order_explained}
 
 abbrev pub pass_of : WorkerState → PassView
@@ -47,8 +47,8 @@ pub record HavePlayed (catalogue : List FileEntry) (submission : ℕ) (runs : Li
   pub numbers : map number_of crew ≡ reverse (range_with_len 1 o.passes)
   pub closing : ClosesTable o passes left
 
-module _ (catalogue : List FileEntry) (submission : ℕ) (runs : List (List Asked)) (o : Opening) (crew : List WorkerState)
-    (passes : List PassView) (left : Contents) (played : HavePlayed catalogue submission runs o crew passes left) where
+module _ {catalogue : List FileEntry} {submission : ℕ} {runs : List (List Asked)} {o : Opening} {crew : List WorkerState}
+    {passes : List PassView} {left : Contents} (played : HavePlayed catalogue submission runs o crew passes left) where
   abbrev closing : ClosesTable o passes left
   closing = played.closing
 
@@ -142,7 +142,7 @@ module _ (catalogue : List FileEntry) (submission : ℕ) (runs : List (List Aske
   -- the files that the workers closed are those of the history
   pub closes_joined : IsPermutation (closes_of closing.history) (flat_map closed_by_worker crew)
   closes_joined =
-      let part : ℕ → List Closed = closes_with (λ e. e.pass) closing.history in
+      let part : ℕ → List Closed = λ k. closes_of (filter (λ e. e.pass == k) closing.history) in
       let by_pass = closes_by_key (λ e. e.pass) 1 o.passes closing.history passes_inside in
       let back = parts_reversed part (range_with_len 1 o.passes) in
       let of_crew : flat_map part (reverse (range_with_len 1 o.passes)) ≡ flat_map closed_by_worker crew =
@@ -162,44 +162,33 @@ module _ (catalogue : List FileEntry) (submission : ℕ) (runs : List (List Aske
   -- and no more than the requests weigh
   pub closes_weigh : length (flat_map closed_by_worker crew) ≤ sum_by all_weights runs
   closes_weigh =
-      let part : ℕ → List Closed = closes_with (λ e. e.chain) closing.history in
       let all = each_all (λ e. (1 ≤ e.chain) × (e.chain < 1 + length runs)) closing.history
       (λ e h. let r = events_inside e h in let low = r.0 in let high = r.1 in (omega arith, omega arith)) in
-      let a = length_permutation (closes_of closing.history) (flat_map part (range_with_len 1 (length runs)))
-      (closes_by_key (λ e. e.chain) 1 (length runs) closing.history all) in
-      let b = length_permutation (closes_of closing.history) (flat_map closed_by_worker crew) closes_joined in
-      let few = few_in_parts all_weights [] part 1 runs weighed in
+      let few = few_by_key (λ e. e.chain) (λ e. length (closed_by e.action)) all_weights [] 1 runs closing.history all
+      (λ i lt. let one = weighed i lt in let sum = closes_sum (part_of_chain (1 + i) closing.history) in omega arith) in
+      let sum = closes_sum closing.history in
+      let same = length_permutation (closes_of closing.history) (flat_map closed_by_worker crew) closes_joined in
       omega arith
 
 -- the headline, once the completions are in order of place and the closes in order of mark
-module _ (catalogue : List FileEntry) (submissions : ℕ) (requests : List Asked) (o : Opening) (crew : List WorkerState)
-    (passes : List PassView) (left : Contents) (played : HavePlayed catalogue (submissions + 1) (runs_of requests) o crew passes left)
-    (sorted : List Completed) (closes : CloseListView) where
-  abbrev runs : List (List Asked)
-  runs = runs_of requests
-
-  abbrev history : List Event
-  history = played.closing.history
-
-  pub one_history : IsPermutation (flat_map completed_by crew) sorted → IsNonDecreasingBy place_key sorted
-      → IsPermutation (flat_map closed_by_worker crew) closes.files → IsInOrderOfMark closes.files → (registrations : ℕ)
-      → IsOneHistory (ring_with catalogue o.contents submissions registrations) requests
-      (record { submission = submissions + 1; completions = sorted; closes = closes })
-      (ring_with catalogue left (submissions + 1) registrations)
-  one_history same rises closed in_order registrations = record {
-    history = history;
-    end = state_at o history;
-    legal = subst (λ (n : ℕ). IsLegal (opening (state_of o.contents) (numbers_for n)) history (state_at o history))
-        played.chains played.closing.legal;
-    settled = played.closing.settled;
-    chains = events_inside catalogue (submissions + 1) runs o crew passes left played;
-    explained = in_order_explained catalogue (size_of o) (submissions + 1) history (flat_map completed_by crew) runs played.short
-        (inside catalogue (submissions + 1) runs o crew passes left played)
-        (explained catalogue (submissions + 1) runs o crew passes left played) same rises;
-    closed = record {
-      same_files = IsPermutation-trans _ _ _ (closes_joined catalogue (submissions + 1) runs o crew passes left played) closed;
-      in_order = in_order;
-    };
-    submission = refl;
-    after = ring_as (ring_with catalogue o.contents (submissions + 1) registrations) left played.closing.files;
-  }
+pub one_history : {catalogue : List FileEntry} {submissions : ℕ} {requests : List Asked} {o : Opening} {crew : List WorkerState} {passes : List PassView}
+    {left : Contents} {sorted : List Completed} {closes : CloseListView} (registrations : ℕ)
+    → HavePlayed catalogue (submissions + 1) (runs_of requests) o crew passes left
+    → IsPermutation (flat_map completed_by crew) sorted → IsNonDecreasingBy place_key sorted
+    → IsPermutation (flat_map closed_by_worker crew) closes.files → IsInOrderOfMark closes.files
+    → IsOneHistory (ring_with catalogue o.contents submissions registrations) requests
+    (record { submission = submissions + 1; completions = sorted; closes = closes }) (ring_with catalogue left (submissions + 1) registrations)
+one_history {catalogue} {submissions} {requests} {o} {crew} {left} registrations played same rises closed in_order =
+    let history = played.closing.history in
+    record {
+      history = history;
+      end = state_at o history;
+      legal = subst (λ (n : ℕ). IsLegal (opening (state_of o.contents) (numbers_for n)) history (state_at o history)) played.chains played.closing.legal;
+      settled = played.closing.settled;
+      chains = events_inside played;
+      explained = in_order_explained catalogue (size_of o) (submissions + 1) history (flat_map completed_by crew) (runs_of requests) played.short
+          (inside played) (explained played) same rises;
+      closed = record { same_files = IsPermutation-trans _ _ _ (closes_joined played) closed; in_order = in_order };
+      submission = refl;
+      after = ring_as (ring_with catalogue o.contents (submissions + 1) registrations) left played.closing.files;
+    }

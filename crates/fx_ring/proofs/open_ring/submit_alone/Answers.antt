@@ -1,5 +1,5 @@
 use Rattle.fx_ring.proofs.Words.{arith, ◌+◌, length, sym, ap, subst, PassView, all_asked, Reported, IsOneHistory}
-use Rattle.fx_ring.specs.OpenRings.{ring_led_by, chains_to}
+use Rattle.fx_ring.specs.OpenRings.{ring_led_by}
 use Rattle.fx_ring.proofs.Words.{asked_of, length-map}
 use Rattle.fx_ring.proofs.NewCrew.{runs_have_all}
 use Rattle.fx_ring.proofs.Runs.{as_many}
@@ -17,8 +17,7 @@ returns-clause-played g c registrations =
     let p = c.play_alone.ensures.played in
     let alone = c.requires.alone in
     let count = as_many s.requests.now c.args.chains.now c.requires.members in
-    let one = part_is_one_history s.catalogue.now o before (V c.play_alone.new.pass) (chains_to (length c.args.chains.now)) p.since s.earlier asked _ _
-    alone.few_slots (runs_within c.args.chains.now c.requires.members c.requires.within) alone.settled
+    let one = part_is_one_history p.since s.earlier asked alone.few_slots (runs_within c.args.chains.now c.requires.members c.requires.within) alone.settled
     (subst (λ (v : PassView). Rattle.fx_table.specs.Settling.IsSettledSoFar o v) c.settle.ensures.same c.settle.ensures.settled)
     (authors_of alone.settled ((g.met.T.FileTable g.world.𝓛 g.world.𝓜 g.world.𝓡 ((λ s x. x), (λ x. x), (λ x. x), λ x. x)).fronts _ _ alone.fits)) p.own p.worked
     (λ chain low high. all_drawn (length c.args.chains.now) chain low (let same = count in omega (arith, high, same))) registrations c.sort.ensures.completions c.sort.ensures.in_order

@@ -1,6 +1,8 @@
-use Rattle.fx_ring.proofs.Words.{◌+◌, List, length, sym, ap, subst, ◌∙◌, arith, PassView, IsIdle, size_of, all_asked, runs_of, Completed}
+use Rattle.fx_ring.proofs.Words.{◌+◌, List, length, sym, ap, subst, ◌∙◌, arith, PassView, IsIdle, all_asked, runs_of, Completed}
 use Rattle.fx_ring.proofs.Words.{all_completed, HasRoomFor, ring_with, IsOneHistory, Reported, Worker, Completion, CloseListView, Closed, map}
 use Rattle.std.specs.List.Sorted.{IsPermutation}
+use Rattle.fx_chain.proofs.Accepted.{accepted-length}
+use Rattle.fx_table.specs.declared.limits.TheConstants.{PASS_LOOKS}
 use Rattle.fx_ring.proofs.NewCrew.{IsNew, all_gathered, all_scattered, all_new, as_many_passes, new_has_worked, new_has_room, runs_have_all}
 use Rattle.fx_ring.proofs.NewCrew.{runs_weigh_all}
 use Rattle.fx_ring.proofs.WorkersTogether.{HavePlayed, one_of_each, closes_weigh, one_history}
@@ -22,16 +24,16 @@ pub work_crew-requires-clause-ready : goal.work_crew-requires-clause-ready
 work_crew-requires-clause-ready g c κs within =
     let V : g.row.T-Pass.Denot → PassView = λ p. g.T.FileTable.view p in
     let ready = all_gathered (λ p. g.T.FileTable.fits c.args.table p × IsIdle (V p)) _ _ _ c.gather.ensures.passes c.requires.ready in
-    let new = all_gathered (λ p. IsNew (V p)) _ _ _ c.gather.ensures.passes (all_new V c.args.passes.items _ c.requires.new) in
+    let few = accepted-length (all_asked c.args.submission.now.requests.now) c.args.submission.now.accepted in
+    let new = all_gathered (λ p. IsNew PASS_LOOKS (V p)) _ _ _ c.gather.ensures.passes (all_new V c.args.passes.items _ c.requires.new) in
     let room = all_gathered (HasRoomFor (all_asked c.args.submission.now.requests.now)) _ _ _ c.gather.ensures.outcomes c.requires.room.outcomes in
     λ k d l. record {
       between = record {
         fits = (ready k d l).0;
         idle = (ready k d l).1;
-        worked = new_has_worked c.args.submission.now.catalogue.now (size_of (g.T.FileTable.opening c.args.table)) (c.args.submission.now.earlier + 1)
-            (runs_of (all_asked c.args.submission.now.requests.now)) (new k d l) (room k d l);
+        worked = new_has_worked (new k d l) (room k d l);
       };
-      room = new_has_room c.args.submission.now.accepted (new k d l) (room k d l);
+      room = new_has_room (new k d l) (room k d l) (omega arith);
     }
 
 pub close-left-requires-clause-ready : goal.close-left-requires-clause-ready
@@ -49,15 +51,14 @@ module _ (g : Over) (c : After-close-left g) where
 
   played : HavePlayed c.args.submission.now.catalogue.now (c.args.submission.now.earlier + 1) (runs_of (all_asked c.args.submission.now.requests.now))
       (g.T.FileTable.opening c.args.table) (states V ws) (map V c.scatter.new.passes.items) c.close-left.result
-  played = crew_has_played V c.args.submission.now.catalogue.now (c.args.submission.now.earlier + 1) c.args.submission.now.requests.now c.args.chains.now
-      (g.T.FileTable.opening c.args.table) c.args.passes.items c.gather.new.crew.items ws c.scatter.new.passes.items c.close-left.result
+  played = crew_has_played V c.args.submission.now.requests.now c.args.chains.now c.args.passes.items c.gather.new.crew.items ws
       c.requires.members c.requires.within c.requires.chains c.requires.new c.gather.ensures.passes c.work_crew.ensures.numbers c.scatter.ensures.passes
       (λ k d l. (c.work_crew.ensures.done k d l).between.worked) (λ k d l. (c.work_crew.ensures.done k d l).all_drawn) c.close-left.ensures
 
 pub joined-all-requires-clause-completions : goal.joined-all-requires-clause-completions
 joined-all-requires-clause-completions g c =
-    let all = one_of_each _ _ _ _ _ _ _ (played g c) in
-    let sum = as_many_completions (V g c) (ws g c) c.scatter.new.outcomes.items c.scatter.ensures.outcomes in
+    let all = one_of_each (played g c) in
+    let sum = as_many_completions (V g c) (ws g c) c.scatter.ensures.outcomes in
     let have = runs_have_all (all_asked c.args.submission.now.requests.now) in
     let room = c.requires.room.all.room in
     let none = ap (λ (l : List Completion). length l) c.requires.room.all.no_completions in
@@ -66,8 +67,8 @@ joined-all-requires-clause-completions g c =
 
 pub joined-all-requires-clause-closes : goal.joined-all-requires-clause-closes
 joined-all-requires-clause-closes g c =
-    let few = closes_weigh _ _ _ _ _ _ _ (played g c) in
-    let sum = as_many_files (V g c) (ws g c) c.scatter.new.outcomes.items c.scatter.ensures.outcomes in
+    let few = closes_weigh (played g c) in
+    let sum = as_many_files (V g c) (ws g c) c.scatter.ensures.outcomes in
     let weigh = runs_weigh_all (all_asked c.args.submission.now.requests.now) in
     let room = ap (λ (l : CloseListView). l.room) c.requires.room.all.closes in
     omega arith
@@ -77,13 +78,12 @@ returns-clause-played g c registrations =
     let a = (goal.at.returns-clause-played g c).After-close-left in
     let s = c.args.submission.now in
     let asked = all_asked s.requests.now in
-    let one = one_history _ _ asked _ _ _ _ (played g a) (all_completed c.sort.new.self.completions.items) c.sort.new.self.closes
+    subst (λ (r : Reported). IsOneHistory (ring_with s.catalogue.now (g.T.FileTable.opening c.args.table).contents s.earlier registrations) asked r
+    (ring_with s.catalogue.now c.close-left.result (s.earlier + 1) registrations)) (sym c.report.ensures)
+    (one_history registrations (played g a)
     (subst (λ (l : List Completed). IsPermutation l (all_completed c.sort.new.self.completions.items))
-    (ap all_completed c.joined-all.ensures.completions ∙ completions_joined (V g a) (ws g a) c.scatter.new.outcomes.items c.scatter.ensures.outcomes)
-    c.sort.ensures.completions)
+    (ap all_completed c.joined-all.ensures.completions ∙ completions_joined (V g a) (ws g a) c.scatter.ensures.outcomes) c.sort.ensures.completions)
     c.sort.ensures.in_order
     (subst (λ (l : List Closed). IsPermutation l c.sort.new.self.closes.files)
-    (c.joined-all.ensures.closes ∙ files_joined (V g a) (ws g a) c.scatter.new.outcomes.items c.scatter.ensures.outcomes) c.sort.ensures.closes)
-    c.sort.ensures.in_order_of_mark registrations in
-    subst (λ (r : Reported). IsOneHistory (ring_with s.catalogue.now (g.T.FileTable.opening c.args.table).contents s.earlier registrations) asked r
-    (ring_with s.catalogue.now c.close-left.result (s.earlier + 1) registrations)) (sym c.report.ensures) one
+    (c.joined-all.ensures.closes ∙ files_joined (V g a) (ws g a) c.scatter.ensures.outcomes) c.sort.ensures.closes)
+    c.sort.ensures.in_order_of_mark)
