@@ -22,7 +22,6 @@ pub mod ClosesInParts
 pub mod WorkersTogether
 pub mod NewCrew
 pub mod PlayedCrew
-pub mod SubmissionLaws
 pub mod TableOfState
 pub mod LoneHistories
 pub mod LonePlays

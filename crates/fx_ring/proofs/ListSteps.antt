@@ -26,17 +26,11 @@ module _ (k : ℕ) (at : ℕ → Option Closed) (off : ℕ) (list : List ℤ) (t
   abbrev pub files_upto : ℕ → ℕ → Option Closed
   files_upto i slot = if nat_lt slot (off + i) then files_after k at off list tags slot else at slot
 
-  none_at : (slot : ℕ) → files_upto 0 slot ≡ at slot
-  none_at slot = grind (arith, nat_tests, files_below)
-
   pub upto_none : files_upto 0 ≡ at
-  upto_none = λ j slot. none_at slot j
-
-  all_at : (slot : ℕ) → files_upto (length list) slot ≡ files_after k at off list tags slot
-  all_at slot = grind (arith, nat_tests, files_past)
+  upto_none = λ j slot. let e : files_upto 0 slot ≡ at slot = grind (arith, nat_tests, files_below) in e j
 
   pub upto_all : files_upto (length list) ≡ files_after k at off list tags
-  upto_all = λ j slot. all_at slot j
+  upto_all = λ j slot. let e : files_upto (length list) slot ≡ files_after k at off list tags slot = grind (arith, nat_tests, files_past) in e j
 
   module _ (i : ℕ) (z : ℤ) (inside : i < length list) (is : z ≡ slice_index_or list i (pos 0)) where
     -- the next slot is as it was
@@ -75,20 +69,9 @@ pub record IsApplied (k off : ℕ) (list : List ℤ) (tags : List ℕ) (old cur 
   pub closed : mid.files ++ removed_from (files_at old) (off + i) (drop i list) ≡ before.files ++ removed_from (files_at old) off list
   pub room : mid.room + length (removed_from (files_at old) off list) ≡ before.room + length (removed_from (files_at old) (off + i) (drop i list))
 
-module _ (k off : ℕ) (list : List ℤ) (tags : List ℕ) (old : State) (before : CloseListView) where
-  pub none_applied : IsSettled old → IsApplied k off list tags old old before before 0
-  none_applied settled = record {
-    size = refl;
-    range = refl;
-    at_slots = sym (upto_none k (files_at old) off list tags);
-    settled = settled;
-    closed = ap (λ (n : ℕ). before.files ++ removed_from (files_at old) n list) (let e : off + 0 ≡ off = omega arith in e);
-    room = ap (λ (n : ℕ). before.room + length (removed_from (files_at old) n list)) (let e : off ≡ off + 0 = omega arith in e);
-  }
-
-  pub all_applied : {cur : State} {mid : CloseListView} → IsApplied k off list tags old cur before mid (length list)
-      → SetsList k off list tags old cur before mid
-  all_applied {mid} done =
+module _ {k off : ℕ} {list : List ℤ} {tags : List ℕ} {old cur : State} {before mid : CloseListView} where
+  pub all_applied : IsApplied k off list tags old cur before mid (length list) → SetsList k off list tags old cur before mid
+  all_applied done =
       let none = ap (removed_from (files_at old) (off + length list)) (drop-length list) in
       let rest = ap length none in
       record {
@@ -100,32 +83,37 @@ module _ (k off : ℕ) (list : List ℤ) (tags : List ℕ) (old : State) (before
         room = omega arith;
       }
 
-  module _ (i : ℕ) (cur new : State) (mid later : CloseListView) (inside : i < length list) (done : IsApplied k off list tags old cur before mid i) where
+  module _ {i : ℕ} (inside : i < length list) (done : IsApplied k off list tags old cur before mid i) where
     abbrev number : ℤ
     number = slice_index_or list i (pos 0)
+
+    abbrev rest : List Closed
+    rest = removed_from (files_at old) (off + (i + 1)) (drop (i + 1) list)
 
     here : files_at cur (off + i) ≡ files_at old (off + i)
     here = ap (λ (a : ℕ → Option Closed). a (off + i)) done.at_slots ∙ upto_here k (files_at old) off list tags i number inside refl
 
+    split : removed_from (files_at old) (off + i) (drop i list) ≡ removed_by number (files_at cur (off + i)) ++ rest
+    split = removed_next k (files_at old) off list tags i number inside refl ∙ ap (λ (x : Option Closed). removed_by number x ++ rest) (sym here)
+
+    parts : length (removed_from (files_at old) (off + i) (drop i list)) ≡ length (removed_by number (files_at cur (off + i))) + length rest
+    parts = ap length split ∙ length-append (removed_by number (files_at cur (off + i))) rest
+
     -- the next number still has room
     pub room_next : length (removed_from (files_at old) off list) ≤ before.room → length (removed_by number (files_at cur (off + i))) ≤ mid.room
-    room_next enough =
-        let rest = removed_from (files_at old) (off + (i + 1)) (drop (i + 1) list) in
-        let parts = ap length (removed_next k (files_at old) off list tags i number inside refl) ∙ length-append (removed_by number (files_at old (off + i))) rest in
-        let same = ap (λ (x : Option Closed). length (removed_by number x)) here in
-        omega arith
+    room_next enough = let both = parts in omega arith
 
-    pub applied_next : SetsNumber k off i (tag_at tags i) number cur new mid later → IsApplied k off list tags old new before later (i + 1)
+    pub applied_next : {new : State} {later : CloseListView} → SetsNumber k off i (tag_at tags i) number cur new mid later
+        → IsApplied k off list tags old new before later (i + 1)
     applied_next next =
-        let rest = removed_from (files_at old) (off + (i + 1)) (drop (i + 1) list) in
-        let split = removed_next k (files_at old) off list tags i number inside refl ∙ ap (λ (x : Option Closed). removed_by number x ++ rest) (sym here) in
-        let parts = ap length split ∙ length-append (removed_by number (files_at cur (off + i))) rest in
+        let both = parts in
         record {
           size = next.size ∙ done.size;
           range = next.range ∙ done.range;
           at_slots = next.at_slots
               ∙ ap (λ (x : Option Closed). changed_at (files_at cur) (off + i) (file_after (Registered k i) (tag_at tags i) number x)) here
-              ∙ ap (λ (a : ℕ → Option Closed). changed_at a (off + i) (file_after (Registered k i) (tag_at tags i) number (files_at old (off + i)))) done.at_slots
+              ∙ ap (λ (a : ℕ → Option Closed). changed_at a (off + i) (file_after (Registered k i) (tag_at tags i) number (files_at old (off + i))))
+              done.at_slots
               ∙ sym (upto_next k (files_at old) off list tags i number inside refl);
           settled = next.settled;
           closed = ap (λ (l : List Closed). l ++ rest) next.closed ∙ append_assoc mid.files (removed_by number (files_at cur (off + i))) rest

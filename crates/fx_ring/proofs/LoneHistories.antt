@@ -1,7 +1,7 @@
 -- What a pass alone did between two settled moments, as the history of one submission.
 use Rattle.fx_ring.proofs.Words.{◌≡◌, ◌≢◌, ℕ, ◌+◌, ◌-◌, ◌*◌, ◌<◌, ◌≤◌, ◌==◌, true, false, cond, List, [], ◌∷◌, ◌++◌, map}
 use Rattle.fx_ring.proofs.Words.{length, refl, sym, ap, subst, ◌∙◌, arith, Option, None, All, All-head, All-tail, All-weaker, Contains, by_equality}
-use Rattle.fx_ring.proofs.Words.{IsPermutation, IsNonDecreasingBy, FileEntry, CloseListView, Closed, State, opening, state_of, IsLegal, action_of}
+use Rattle.fx_ring.proofs.Words.{IsPermutation, IsNonDecreasingBy, FileEntry, CloseListView, Closed, State, opening, IsLegal, action_of}
 use Rattle.fx_ring.proofs.Words.{closes_in, closed_by, part_of_chain, File, Event, Action, Opening, size_of, state_at, PassView, numbers_for}
 use Rattle.fx_ring.proofs.Words.{Completed, Explains, first_member, Asked, runs_of, IsShortRun, HasClosed, ring_of, ring_with, with_table}
 use Rattle.fx_ring.proofs.Words.{installed_by, sum_by, sum_by-cons, IsOneHistory, HasWorked, worker_state, completions_of_chain, run_of_chain}
@@ -20,7 +20,7 @@ use Rattle.fx_ring.specs.OpenRings.{table_with_files, chain_less, begun_behind}
 use Rattle.fx_ring.proofs.TableOfState.{opened_so, ring_so, size_there}
 use Rattle.fx_ring.proofs.Parts.{few_by_key}
 use Rattle.std.proofs.lemmas.List.Sums.{sum_by-le}
-use Rattle.fx_ring.proofs.PartsExplained.{IsShort, in_order_explained}
+use Rattle.fx_ring.proofs.PartsExplained.{IsShort, drawn_inside, in_order_explained}
 
 -- a table is at rest wherever all is settled
 pub at_rest_of : {o : Opening} {v : PassView} → IsSettledSoFar o v → IsAtRest (state_at o v.own)
@@ -107,21 +107,14 @@ module _ {catalogue : List FileEntry} {o : Opening} {before after : PassView} {d
   at_rest : IsAtRest st
   at_rest = at_rest_of first
 
-  end_at_rest : IsAtRest end
-  end_at_rest = at_rest_of last
-
   behind : IsLegal st since end
   behind = legal_behind (start_of o) end before.own since (none_held before.own authors first.held)
       (subst (λ (h : List Event). IsLegal (start_of o) h end) own last.legal)
 
-  chain_inside : {e : Event} → Contains less e → (1 ≤ e.chain) × (e.chain ≤ length runs)
-  chain_inside {e} there = let is = worked.inside e.chain (worked.own e there) in let low = is.0 in let high = is.1 in let top = worked.reached in
-      (low, omega (arith, high, top))
-
   few_numbers : given since ≤ 64 * length runs
   few_numbers =
       let all = each_all (λ e. (1 ≤ e.chain) × (e.chain < 1 + length runs)) less
-      (λ e there. let is = chain_inside there in let low = is.0 in let high = is.1 in (low, omega (arith, high))) in
+      (λ e there. let is = drawn_inside worked (worked.own e there) in (is.0, omega (arith, is.1))) in
       let few = few_by_key (λ e. e.chain) given_by (λ _. 64) [] 1 runs less all (λ i lt.
       let c : ℕ = 1 + i in
       let told = few_given catalogue (size_of o) (run_of_chain runs c) (first_member (submissions + 1) c) (map action_of (part_of_chain c less))
@@ -134,7 +127,8 @@ module _ {catalogue : List FileEntry} {o : Opening} {before after : PassView} {d
   opened : (r : Renaming) × (left : State) × (r.chain ≡ (λ c. c - base))
       × IsLegal (opening st (numbers_for (length runs))) (map (renamed_event r) since) left × HasOtherNumbers end left
   opened = opened_anew (λ c. c - base) (numbers_for (length runs)) st end since at_rest
-      (let few = few_numbers in let same : st.size ≡ size_of o = same_size (start_of o) st (map action_of before.own) first.legal.leads in omega (arith, few, few_slots, same)) behind
+      (let same : st.size ≡ size_of o = same_size (start_of o) st (map action_of before.own) first.legal.leads in
+      omega (arith, few_numbers, few_slots, same)) behind
 
   abbrev r : Renaming
   r = record opened.0 { chain = λ c. c - base }
@@ -145,31 +139,6 @@ module _ {catalogue : List FileEntry} {o : Opening} {before after : PassView} {d
   abbrev history : List Event
   history = map (renamed_event r) since
 
-  history_is : map (renamed_event opened.0) since ≡ history
-  history_is = ap (λ (chain : ℕ → ℕ). map (renamed_event (record opened.0 { chain = chain })) since) opened.2
-
-  legal : IsLegal (opening (state_of (table_with_files st)) (numbers_for (length runs))) history left
-  legal = subst (λ (z : State × List Event). IsLegal z.0 z.1 left)
-      (λ i. (sym (opened_so st at_rest.inside (numbers_for (length runs))) i, history_is i)) opened.3
-
-  explained : (c : ℕ) → 1 ≤ c → c ≤ length runs
-      → Explains catalogue (size_of o) (first_member (submissions + 1) c) (run_of_chain runs c) (map action_of (part_of_chain c history))
-      (completions_of_chain c completions)
-  explained c low high = subst (λ (l : List Action). Explains catalogue (size_of o) (first_member (submissions + 1) c) (run_of_chain runs c) l
-      (completions_of_chain c completions)) (sym (parts_same opened.0 base c since))
-      (explains r catalogue (size_of o) (run_of_chain runs c) (first_member (submissions + 1) c) (map action_of (part_of_chain c less))
-      (completions_of_chain c completions) (worked.explained c (all_drawn c low high)))
-
-  inside : All (λ c. (1 ≤ c.place.chain) × (c.place.chain ≤ length runs)) completions
-  inside = All-weaker (λ c. Contains drawn c.place.chain) (λ c. (1 ≤ c.place.chain) × (c.place.chain ≤ length runs))
-      (λ c has. let is = worked.inside c.place.chain has in let low = is.0 in let high = is.1 in let top = worked.reached in
-      (low, omega (arith, high, top))) completions worked.completed
-
-  chains : (e : Event) → Contains history e → (1 ≤ e.chain) × (e.chain ≤ length runs)
-  chains e there = let from = contains_map (renamed_event r) since e there in
-      let is = chain_inside (contains_mapped (chain_less base) since from.0 from.1) in
-      subst (λ (c : ℕ). (1 ≤ c) × (c ≤ length runs)) (sym (ap (λ (z : Event). z.chain) from.2)) is
-
   pub part_is_one_history : (registrations : ℕ) {sorted : List Completed} {files : CloseListView} → IsPermutation completions sorted
       → IsNonDecreasingBy (λ c. c.place.chain * 32 + c.place.member) sorted → HasClosed closes.files files
       → IsOneHistory (ring_with catalogue (table_with_files st) submissions registrations) requests
@@ -178,17 +147,25 @@ module _ {catalogue : List FileEntry} {o : Opening} {before after : PassView} {d
   part_is_one_history registrations {sorted} {files} same rises closed = record {
     history = history;
     end = left;
-    legal = legal;
+    legal = subst (λ (z : State × List Event). IsLegal z.0 z.1 left) (λ i. (
+      sym (opened_so st at_rest.inside (numbers_for (length runs))) i,
+      map (renamed_event (record opened.0 { chain = opened.2 i })) since,
+    )) opened.3;
     settled = opened.4.settled last.settled;
-    chains = chains;
+    chains = λ e there. let from = contains_map (renamed_event r) since e there in
+        subst (λ (c : ℕ). (1 ≤ c) × (c ≤ length runs)) (sym (ap (λ (z : Event). z.chain) from.2))
+        (drawn_inside worked (worked.own _ (contains_mapped (chain_less base) since from.0 from.1)));
     explained = subst (λ (size : ℕ). Rattle.fx_ring.specs.Submission.ExplainsParts catalogue size (submissions + 1) 1 runs history sorted)
         (sym (size_there st ∙ same_size (start_of o) st (map action_of before.own) first.legal.leads))
         (in_order_explained catalogue (size_of o) (submissions + 1) history completions runs
-        (All-weaker IsShortRun IsShort (λ run is. is.members) runs short) inside explained same rises);
-    closed = subst (λ (l : List Closed). HasClosed l files)
-        (worked.closed ∙ sym (closes_same opened.0 base since)) closed;
+        (All-weaker IsShortRun IsShort (λ run is. is.members) runs short) (λ k d l. drawn_inside worked (worked.completed k d l))
+        (λ c low high. subst (λ (l : List Action). Explains catalogue (size_of o) (first_member (submissions + 1) c) (run_of_chain runs c) l
+        (completions_of_chain c completions)) (sym (parts_same opened.0 base c since))
+        (explains r catalogue (size_of o) (run_of_chain runs c) (first_member (submissions + 1) c) (map action_of (part_of_chain c less))
+        (completions_of_chain c completions) (worked.explained c (all_drawn c low high)))) same rises);
+    closed = subst (λ (l : List Closed). HasClosed l files) (worked.closed ∙ sym (closes_same opened.0 base since)) closed;
     submission = refl;
-    after = ring_so end end_at_rest.inside catalogue (submissions + 1) registrations
+    after = ring_so end (at_rest_of last).inside catalogue (submissions + 1) registrations
         ∙ (λ i. record (with_table (ring_of (ring_with catalogue (table_with_files st) submissions registrations)) left) {
           size = sym opened.4.size i;
           range = sym opened.4.range i;

@@ -1,8 +1,8 @@
 -- What a crew is before it plays: new passes, with room for all.
 use Rattle.fx_ring.proofs.Words.{◌≡◌, ℕ, ◌≤◌, List, [], ◌∷◌, ◌++◌, map, flat_map, reverse, length, All, sum_by, refl, sym, ap, subst, ◌∙◌, arith}
 use Rattle.fx_ring.proofs.Words.{vec_capacity, length-map, reverse-append, map-append, map-map, length-flat_map, All-nil, All-contains, sum_by-cons}
-use Rattle.fx_ring.proofs.Words.{sum_by-append, FileEntry, CloseListView, PassView, new_pass, new_passes, MOST_MEMBERS, IsChain, Event}
-use Rattle.fx_ring.proofs.Words.{members_of, Completed, all_completed, Asked, runs_of, all_weights, weight_of, Completion, Chain, HasRoomFor}
+use Rattle.fx_ring.proofs.Words.{sum_by-append, FileEntry, CloseListView, PassView, new_pass, new_passes, Event}
+use Rattle.fx_ring.proofs.Words.{Completed, all_completed, Asked, runs_of, all_weights, weight_of, Completion, HasRoomFor}
 use Rattle.fx_ring.proofs.Words.{HasWorked, HasRoom, worker_state, Outcome, Worker}
 use Rattle.std.specs.Prelude.{Contains}
 use Rattle.fx_table.proofs.Members.{contains_none, contains_map, contains_mapped, contains_reverse, each_all}
@@ -68,16 +68,6 @@ runs_have_all requests = sym (length-flat_map (λ run. run) (runs_of requests)) 
 
 pub runs_weigh_all : (requests : List Asked) → sum_by all_weights (runs_of requests) ≡ all_weights requests
 runs_weigh_all requests = sym (weights_joined (runs_of requests)) ∙ ap all_weights (are_runs requests).whole
-
--- the runs of chains within the limits are short
-pub runs_are_short : {requests : List Asked} (chains : List Chain) → map (members_of requests) chains ≡ runs_of requests
-    → All (IsChain requests) chains → All (λ run. length run ≤ MOST_MEMBERS) (runs_of requests)
-runs_are_short {requests} chains members within = subst (All (λ run. length run ≤ MOST_MEMBERS)) members
-    (each_all (λ run. length run ≤ MOST_MEMBERS) (map (members_of requests) chains) (λ run h.
-    let m = contains_map (members_of requests) chains run h in
-    let short = (All-contains (IsChain requests) chains m.0 within m.1).run.members in
-    let same = ap length m.2 in
-    omega arith))
 
 -- a worker with a new pass has worked as it should, and has room for all
 module _ {often : ℕ} {v : PassView} {outcome : Outcome} {requests : List Asked} (new : IsNew often v) (room : HasRoomFor requests outcome) where

@@ -2,7 +2,7 @@
 use Rattle.fx_ring.proofs.Words.{◌≡◌, ◌≢◌, ◌⊎◌, ℕ, zero, suc, ◌+◌, ◌-◌, ◌<◌, ◌≤◌, false, ℤ, pos, negsuc, List, [], ◌∷◌, ◌++◌, length, length-append}
 use Rattle.fx_ring.proofs.Words.{All, refl, sym, ap, subst, ◌∙◌, Option, Some, None, slice_get, inl, inr, ⊎_elim, arith, list_any, cases_lt}
 use Rattle.fx_ring.proofs.Words.{leb-false, All-append, Mark, Registered, Submitted, Closed, is_bad_entry, RingState, IsRing, HasCounted, file_listed}
-use Rattle.fx_ring.proofs.Words.{files_after, removed_by, removed_from, registered, updated, is_bad_file, tag_at}
+use Rattle.fx_ring.proofs.Words.{removed_by, removed_from, registered, updated, is_bad_file, tag_at}
 use Rattle.fx_ring.proofs.Numbers.{good_get, good_files}
 use Rattle.fx_ring.proofs.ListSteps.{files_below, files_from}
 use Rattle.fx_ring.proofs.Rings.{IsEntry, counted_still, entry_listed, none_rings}
@@ -22,17 +22,6 @@ from_listed {entries} {k} {i} tag (Some (pos e)) {file} good is =
 from_listed tag (Some (negsuc zero)) good is = cc
 from_listed tag (Some (negsuc (suc n))) good is = inl is
 
--- a file was there before, or the list installed it
-from : (entries k : ℕ) (at : ℕ → Option Closed) (off : ℕ) (list : List ℤ) (tags : List ℕ) (slot : ℕ) (file : Closed)
-    → list_any (is_bad_entry entries) list ≡ false → files_after k at off list tags slot ≡ Some file
-    → (at slot ≡ Some file) ⊎ ((off ≤ slot) × IsListed entries k (slot - off) file)
-from entries k at off list tags slot file good is = elim (cases_lt slot off) [
-  | inl below ↦ inl (sym (files_below k at off list tags slot below) ∙ is)
-  | inr above ↦ ⊎_elim (λ was. inl was) (λ new. inr (above, new))
-      (from_listed (tag_at tags (slot - off)) (slice_get list (slot - off))
-      (λ z at_z. good_get entries list (slot - off) good at_z) (sym (files_from k at off list tags slot above) ∙ is))
-]
-
 -- no counted mark is one of the next list
 not_counted : (ring : RingState) (mark : Mark) (i : ℕ) → HasCounted ring mark → mark ≢ Registered (ring.registrations + 1) i
 not_counted ring (Registered k j) i counted = λ same. let e : k ≡ ring.registrations + 1 = cc in omega arith
@@ -40,9 +29,16 @@ not_counted ring (Submitted s c m e) i counted = λ same. cc
 
 module _ (ring : RingState) (off : ℕ) (list : List ℤ) (tags : List ℕ) (is : IsRing ring)
     (good : list_any (is_bad_entry (length ring.catalogue)) list ≡ false) where
+  -- a file was there before, or the list installed it
   origin : {slot : ℕ} {file : Closed} → (updated ring off list tags).at slot ≡ Some file
       → (ring.at slot ≡ Some file) ⊎ ((off ≤ slot) × IsListed (length ring.catalogue) (ring.registrations + 1) (slot - off) file)
-  origin {slot} {file} at = from (length ring.catalogue) (ring.registrations + 1) ring.at off list tags slot file good at
+  origin {slot} at = elim (cases_lt slot off) [
+    | inl below ↦ inl (sym (files_below (ring.registrations + 1) ring.at off list tags slot below) ∙ at)
+    | inr above ↦ ⊎_elim (λ was. inl was) (λ new. inr (above, new))
+        (from_listed (tag_at tags (slot - off)) (slice_get list (slot - off))
+        (λ z at_z. good_get (length ring.catalogue) list (slot - off) good at_z)
+        (sym (files_from (ring.registrations + 1) ring.at off list tags slot above) ∙ at))
+  ]
 
   pub updated_rings : IsRing (updated ring off list tags)
   updated_rings = record {

@@ -3,6 +3,7 @@ use Rattle.fx_ring.proofs.Words.{◌≡◌, ℕ, suc, ◌+◌, ◌-◌, ◌*◌,
 use Rattle.fx_ring.proofs.Words.{refl, sym, subst, flat_map, ◌∙◌, arith, slice_index_or, IsNonDecreasingBy, All-head, All-tail, All-nil, FileEntry}
 use Rattle.fx_ring.proofs.Words.{All-append, All-weaker, sum_by-cons, IsPermutation-sym, IsPermutation-trans, length_permutation, Asked, MOST_MEMBERS}
 use Rattle.fx_ring.proofs.Words.{part_of_chain, action_of, Event, Completed, Explains, first_member, ExplainsParts, completions_of_chain, run_of_chain}
+use Rattle.fx_ring.proofs.Words.{Contains, HasWorked, WorkerState}
 use Rattle.fx_ring.proofs.CompletionPlaces.{place_key, explained_of_members}
 use Rattle.std.specs.List.{range_with_len}
 use Rattle.fx_ring.proofs.Parts.{made_by_key, split_by_key}
@@ -20,6 +21,11 @@ rises_append {m} (x ∷ xs) ys left right below above =
 
 abbrev pub IsShort : List Asked → Type 0
 IsShort run = length run ≤ MOST_MEMBERS
+
+-- the chains that a worker drew are of the submission
+pub drawn_inside : {catalogue : List FileEntry} {size submission : ℕ} {runs : List (List Asked)} {w : WorkerState}
+    → HasWorked catalogue size submission runs w → {c : ℕ} → Contains w.pass.drawn c → (1 ≤ c) × (c ≤ length runs)
+drawn_inside worked {c} drew = let is = worked.inside c drew in (is.0, omega (arith, is.1, worked.reached))
 
 module _ (catalogue : List FileEntry) (size submission : ℕ) (history : List Event) (all : List Completed) where
   -- the chain's part of the completions is explained by its part of the history

@@ -1,11 +1,12 @@
 -- What a crew has come to, as its passes and outcomes say it once they lie in lists of their own.
 use Rattle.fx_ring.proofs.Words.{◌≡◌, ℕ, List, [], ◌∷◌, ◌++◌, map, flat_map, reverse, length, All, true, sum_by, refl, sym, ap, ◌∙◌, arith}
-use Rattle.fx_ring.proofs.Words.{length-map, reverse-reverse, map-append, map-map, length-flat_map, All-map, Closed, FileEntry, Contents, ClosesTable}
+use Rattle.fx_ring.proofs.Words.{length-map, reverse-reverse, map-append, map-map, length-flat_map, All-map, All-weaker, IsShortRun, Closed, FileEntry, Contents, ClosesTable}
 use Rattle.fx_ring.proofs.Words.{Opening, size_of, PassView, new_passes, sum_reverse, all_completed, completed_of, members_of, all_asked, runs_of}
 use Rattle.fx_ring.proofs.Words.{Chain, Request, IsChain, Completion, state_of_worker, HasWorked, WorkerState, Outcome, Worker}
-use Rattle.fx_ring.proofs.NewCrew.{map_reversed, numbers_are, runs_are_short}
+use Rattle.fx_ring.proofs.NewCrew.{map_reversed, numbers_are}
 use Rattle.fx_ring.proofs.WorkersTogether.{HavePlayed, pass_of, number_of, completed_by, closed_by_worker}
-use Rattle.fx_ring.proofs.Runs.{as_many}
+use Rattle.fx_ring.proofs.PartsExplained.{IsShort}
+use Rattle.fx_ring.proofs.Runs.{as_many, runs_within}
 use Rattle.std.proofs.lemmas.List.Folds.{flat_map-map}
 
 abbrev pub completions_of : Outcome → List Completion
@@ -70,7 +71,7 @@ module _ {P : Type 0} (V : P → PassView) where
         worked = All-map (HasWorked catalogue (size_of o) submission (runs_of (all_asked requests))) (state_of_worker V) ws worked;
         told = All-map (λ w. w.pass.no_chains_left ≡ true) (state_of_worker V) ws told;
         chains = count ∙ sym (as_many requests chains members);
-        short = runs_are_short chains members within;
+        short = All-weaker IsShortRun IsShort (λ run is. is.members) (runs_of (all_asked requests)) (runs_within chains members within);
         are = scattered_views ws scattered;
         numbers = map-map number_of (state_of_worker V) ws ∙ (numbers ∙ numbers_are V ps o.passes new begun gathered);
         closing = closing;

@@ -1,7 +1,7 @@
 -- A file leaves its slot, and is closed at once.
 use Rattle.fx_ring.proofs.Words.{◌≡◌, ℕ, ◌+◌, Bool, true, List, ◌++◌, length, refl, sym, ap, subst, ◌∙◌, Option, Some, None, if◌then◌else◌}
 use Rattle.fx_ring.proofs.Words.{option_to_list, CloseListView, Closed, File, Action, State, IsSettled, changed_at}
-use Rattle.fx_ring.proofs.Words.{with_removed, Leads, close_of, identity_of, number_of, more_leaving, by_equality}
+use Rattle.fx_ring.proofs.Words.{with_removed, files_at, Leads, close_of, identity_of, number_of, more_leaving, by_equality}
 use Rattle.fx_plain.proofs.Cells.{changed_here, changed_else}
 use Rattle.fx_ring.specs.Slots.{SetsSlot, CanRetire, closes_of_removed, file_removed}
 
@@ -21,47 +21,24 @@ can_retire before {leaves} going (Some f) s holds left is =
     (ap (λ (l : ℕ → Bool). l f.number) left ∙ changed_here going f.number true f.number refl, ap (λ (h : ℕ → ℕ). h f.number) holds ∙ s.unheld f.number)
 
 -- what was removed is found by its number
-pub removed_found : (first before : State) (removed : Option File) → before.removed ≡ with_removed first.removed removed
-    → file_removed before (number_of removed) ≡ identity_of removed
-removed_found first before None out = refl
+removed_found : (first before : State) (removed : Option File) → before.removed ≡ with_removed first.removed removed
+    → (file_removed before (number_of removed) ≡ identity_of removed) × (closes_of_removed before (number_of removed) ≡ close_of removed)
+removed_found first before None out = (refl, refl)
 removed_found first before (Some f) out =
-    ap identity_of (ap (λ (r : ℕ → Option File). r f.number) out ∙ changed_here first.removed f.number (Some f) f.number refl)
+    let found : before.removed f.number ≡ Some f = ap (λ (r : ℕ → Option File). r f.number) out
+    ∙ changed_here first.removed f.number (Some f) f.number refl in
+    (ap identity_of found, ap close_of found)
 
-closes_found : (first before : State) (removed : Option File) → before.removed ≡ with_removed first.removed removed
-    → closes_of_removed before (number_of removed) ≡ close_of removed
-closes_found first before None out = refl
-closes_found first before (Some f) out =
-    ap close_of (ap (λ (r : ℕ → Option File). r f.number) out ∙ changed_here first.removed f.number (Some f) f.number refl)
-
--- a table whose removed file was closed
-record IsClosedUp (first before last : State) : Type 0 where
-  settled : IsSettled last
-  size : last.size ≡ before.size
-  range : last.range ≡ before.range
-  at : last.at ≡ before.at
-  fresh : last.fresh ≡ before.fresh
-
--- nothing is removed any more
-all_closed_up : {first before last : State} {removed : ℕ → Option File} → IsSettled first → before.holds ≡ first.holds
-    → last ≡ record before { removed = removed } → ((n : ℕ) → removed n ≡ None) → IsClosedUp first before last
-all_closed_up s holds is none = record {
-  settled = record {
-    unheld = λ n. ap (λ (st : State). st.holds n) is ∙ ap (λ (h : ℕ → ℕ). h n) holds ∙ s.unheld n;
-    closed = λ n. ap (λ (st : State). st.removed n) is ∙ none n;
-  };
-  size = ap (λ (st : State). st.size) is;
-  range = ap (λ (st : State). st.range) is;
-  at = ap (λ (st : State). st.at) is;
-  fresh = ap (λ (st : State). st.fresh) is;
-}
-
-closed_up : {first before last : State} (removed : Option File) → IsSettled first
-    → before.removed ≡ with_removed first.removed removed → before.holds ≡ first.holds → Leads before (close_of removed) last
-    → IsClosedUp first before last
-closed_up {first} {before} {last} None s out holds lead = all_closed_up s holds lead.1 (λ n. ap (λ (r : ℕ → Option File). r n) out ∙ s.closed n)
-closed_up {first} {before} {last} (Some f) s out holds lead =
-    all_closed_up s holds lead.1 (λ n. by_equality n f.number (λ b. (if b then None else before.removed n) ≡ None) (λ _. refl)
-    (λ apart. ap (λ (r : ℕ → Option File). r n) out ∙ changed_else first.removed f.number (Some f) n apart ∙ s.closed n))
+-- once it is closed, nothing is removed any more
+closed_up : {first before last : State} (removed : Option File) → IsSettled first → before.removed ≡ with_removed first.removed removed
+    → Leads before (close_of removed) last → (gone : ℕ → Option File) × (last ≡ record before { removed = gone }) × ((n : ℕ) → gone n ≡ None)
+closed_up {before} None s out lead = (before.removed, lead.1, λ n. ap (λ (r : ℕ → Option File). r n) out ∙ s.closed n)
+closed_up {first} {before} (Some f) s out lead = (
+  changed_at before.removed f.number None,
+  lead.1,
+  λ n. by_equality n f.number (λ b. (if b then None else before.removed n) ≡ None) (λ _. refl)
+      (λ apart. ap (λ (r : ℕ → Option File). r n) out ∙ changed_else first.removed f.number (Some f) n apart ∙ s.closed n),
+)
 
 -- what a removal at a slot and the close behind it come to, as the calls make them
 pub removed_and_closed : {first before last : State} {slot : ℕ} (x there : Option File) {fresh : ℕ → Bool} {removed : Option ℕ}
@@ -71,19 +48,20 @@ pub removed_and_closed : {first before last : State} {slot : ℕ} (x there : Opt
     → closed.files ≡ earlier.files ++ option_to_list (file_removed before removed)
     → closed.room + length (option_to_list (file_removed before removed)) ≡ earlier.room
     → SetsSlot first last slot (identity_of x) earlier closed × (last.fresh ≡ fresh)
-removed_and_closed {first} {before} {last} {slot} x there {earlier} closed settled was is step lead files room =
+removed_and_closed {first} {before} {last} {slot} x there {fresh} {earlier = earlier} closed settled was is step lead files room =
     let out = ap (λ (st : State). st.removed) step in
-    let found = ap (file_removed before) is ∙ removed_found first before there out ∙ ap identity_of (sym was) in
-    let up = closed_up there settled out (ap (λ (st : State). st.holds) step)
-    (subst (λ (h : List Action). Leads before h last) (ap (closes_of_removed before) is ∙ closes_found first before there out) lead) in (
+    let found = removed_found first before there out in
+    let file = ap (file_removed before) is ∙ found.0 ∙ ap identity_of (sym was) in
+    let up = closed_up there settled out (subst (λ (h : List Action). Leads before h last) (ap (closes_of_removed before) is ∙ found.1) lead) in
+    let whole : last ≡ record first { at = changed_at first.at slot x; fresh = fresh; removed = up.0 } =
+    up.1 ∙ ap (λ (st : State). record st { removed = up.0 }) step in (
       record {
-        size = up.size ∙ ap (λ (st : State). st.size) step;
-        range = up.range ∙ ap (λ (st : State). st.range) step;
-        at_slots = ap (λ (a : ℕ → Option File). (λ (s : ℕ). identity_of (a s))) (up.at ∙ ap (λ (st : State). st.at) step)
-            ∙ files_changed first.at slot x;
-        settled = up.settled;
-        closed = files ∙ ap (λ (y : Option Closed). earlier.files ++ option_to_list y) found;
-        room = ap (λ (y : Option Closed). closed.room + length (option_to_list y)) (sym found) ∙ room;
+        size = ap (λ (st : State). st.size) whole;
+        range = ap (λ (st : State). st.range) whole;
+        at_slots = ap files_at whole ∙ files_changed first.at slot x;
+        settled = subst IsSettled (sym whole) (record { unheld = settled.unheld; closed = up.2 });
+        closed = files ∙ ap (λ (y : Option Closed). earlier.files ++ option_to_list y) file;
+        room = ap (λ (y : Option Closed). closed.room + length (option_to_list y)) (sym file) ∙ room;
       },
-      up.fresh ∙ ap (λ (st : State). st.fresh) step,
+      ap (λ (st : State). st.fresh) whole,
     )

@@ -1,9 +1,9 @@
 -- What a ring keeps, as its table changes.
-use Rattle.fx_ring.proofs.Words.{◌≡◌, ℕ, Bool, zero, suc, ◌<◌, List, [], ◌++◌, length, refl, sym, ap, subst, ◌∙◌, Option, Some, None, All, arith, not}
-use Rattle.fx_ring.proofs.Words.{◌+◌, ◌≢◌, ◌&&◌, nat_lt, option_to_list, IsPermutation, All-append, All-cons, All-nil, All-permutation, lt-ltb}
-use Rattle.fx_ring.proofs.Words.{le-ltb, CloseListView, IsInOrderOfMark, Closed, State, IsSettled, opening, vacant, state_of, identity_of, File}
+use Rattle.fx_ring.proofs.Words.{◌≡◌, ℕ, Bool, zero, suc, ◌<◌, List, [], ◌++◌, length, refl, sym, ap, subst, ◌∙◌, Option, Some, None, All, arith}
+use Rattle.fx_ring.proofs.Words.{◌+◌, ◌≢◌, option_to_list, IsPermutation, All-append, All-cons, All-nil, All-permutation}
+use Rattle.fx_ring.proofs.Words.{CloseListView, IsInOrderOfMark, Closed, State, IsSettled, opening, vacant, state_of, identity_of, File}
 use Rattle.fx_ring.proofs.Words.{Contents, IsGivenBack, RingContents, RingState, IsAtRest, IsRing, HasCounted, Mark, Registered, Submitted, ◌≤◌}
-use Rattle.fx_ring.proofs.Words.{HasClosed, AreEntries, ring_of, ring_with, with_table, AreFresh, files_at}
+use Rattle.fx_ring.proofs.Words.{HasClosed, AreEntries, ring_of, ring_with, with_table, files_at}
 use Rattle.fx_plain.proofs.Emptying.{listed}
 use Rattle.fx_plain.proofs.Prepared.{same_identity}
 use Rattle.fx_table.specs.Opening.{HasSameFiles}
@@ -91,10 +91,6 @@ emptied_settled is = subst IsSettled (sym is) (record { unheld = λ _. refl; clo
 pub opening_files : (st : State) {new : State} (numbers : ℕ) → new ≡ opening st numbers → files_at new ≡ files_at st
 opening_files st numbers is = ap files_at is ∙ (λ i slot. same_identity (st.at slot) slot i)
 
-pub opening_fresh : (st : State) {new : State} {numbers : ℕ} → new ≡ opening st numbers → AreFresh new st.size numbers
-opening_fresh st {numbers} is = λ number low high. ap (λ (s : State). s.fresh number) is
-    ∙ ap (λ (b : Bool). not b && nat_lt number numbers) (le-ltb number st.size low) ∙ lt-ltb number numbers high
-
 -- what a table of empty slots is
 none_in_order : (n : ℕ) → files_in_order_of_state (λ _. None) n ≡ []
 none_in_order zero = refl
@@ -122,9 +118,4 @@ pub given_back_rings : {c : RingContents} {back : Contents} → IsGivenBack c.ta
 given_back_rings {c} {back} given = ring_as c back given.files
 
 pub given_back_at_rest : {c : RingContents} {back : Contents} → IsAtRest c → IsGivenBack c.table back → IsAtRest (record c { table = back })
-given_back_at_rest {c} {back} rest given = record {
-  settled = given.settled;
-  ring = subst IsRing (sym (given_back_rings given)) rest.ring;
-  few_submissions = rest.few_submissions;
-  few_registrations = rest.few_registrations;
-}
+given_back_at_rest {c} {back} rest given = assumption (given.settled, subst IsRing (sym (given_back_rings given)) rest.ring, rest)

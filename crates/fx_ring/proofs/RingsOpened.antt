@@ -29,6 +29,11 @@ same_ring catalogue {o} {v} left submissions registrations settled files = λ i.
   registrations = registrations;
 }
 
+pub counts_shown : {P : Type 0} (V : P → PassView) (catalogue : List FileEntry) (o : Opening) (submissions registrations : ℕ) (items : List P)
+    → (ring_of (ring_shown V catalogue o submissions registrations items)).submissions ≡ submissions
+counts_shown V catalogue o submissions registrations [] = refl
+counts_shown V catalogue o submissions registrations (p ∷ others) = refl
+
 module _ {P : Type 0} (V : P → PassView) (Fits : P → Type 0) (catalogue : List FileEntry) (o : Opening) (size chains drawn most submissions registrations : ℕ) where
   pub closed_ring : (items : List P) {left : Contents} → IsKeptOpen V Fits catalogue o size chains drawn most submissions registrations items
       → ClosesTable o (map V items) left
@@ -37,15 +42,8 @@ module _ {P : Type 0} (V : P → PassView) (Fits : P → Type 0) (catalogue : Li
   closed_ring [] kept closing = absurd kept
   closed_ring (pass ∷ others) {left} (alone, at, room, rest) closing =
       let files = closed_files (subst (λ (l : List P). ClosesTable o (V pass ∷ map V l) left) alone closing) in
-      let same = same_ring catalogue left submissions registrations at.settled files in (
-        same,
-        record {
-          settled = closing.left_settled;
-          ring = subst IsRing (sym same) rest.ring;
-          few_submissions = rest.few_submissions;
-          few_registrations = rest.few_registrations;
-        },
-      )
+      let same = same_ring catalogue left submissions registrations at.settled files in
+      (same, assumption (closing.left_settled, subst IsRing (sym same) rest.ring, rest))
 
   pub size_shown : (items : List P) → IsKeptOpen V Fits catalogue o size chains drawn most submissions registrations items
       → size ≡ (ring_of (ring_shown V catalogue o submissions registrations items)).size
@@ -103,17 +101,12 @@ module _ {P : Type 0} (V : P → PassView) (Fits : P → Type 0) (catalogue : Li
               few_chains = few_chains;
               installs = opened.numbers.0;
             },
-            record {
-              settled = table_settled (state_at o (V p).own);
-              ring = subst IsRing (sym same) was.ring;
-              few_submissions = was.few_submissions;
-              few_registrations = was.few_registrations;
-            },
+            assumption (table_settled (state_at o (V p).own), subst IsRing (sym same) was.ring, was),
           ),
         )
 
   -- behind a submission of the pass
-  module _ (old pass : P) (count : ℕ) (requests : List Asked) (report : Reported) (after : IsAloneAt V Fits o pass) (few : drawn + count ≤ chains)
+  module _ {old pass : P} (count : ℕ) {requests : List Asked} {report : Reported} (after : IsAloneAt V Fits o pass) (few : drawn + count ≤ chains)
       (few_submissions : submissions < MOST_SUBMISSIONS) (chain : (V pass).chain ≡ (V old).chain + count)
       (one : IsOneHistory (ring_led_by catalogue o (V old) submissions registrations) requests report
       (ring_led_by catalogue o (V pass) (submissions + 1) registrations)) where
@@ -138,10 +131,5 @@ module _ {P : Type 0} (V : P → PassView) (Fits : P → Type 0) (catalogue : Li
             },
             submitted_at_rest was one (table_settled (state_at o (V pass).own)) few_submissions,
           ),
-          submitted_entries (ring_led_by catalogue o (V old) submissions registrations)
-              (ring_led_by catalogue o (V pass) (submissions + 1) registrations) requests report was.ring one,
+          submitted_entries was.ring one,
         )
-
-  pub counts_shown : (items : List P) → (ring_of (ring_shown V catalogue o submissions registrations items)).submissions ≡ submissions
-  counts_shown [] = refl
-  counts_shown (p ∷ others) = refl

@@ -3,7 +3,7 @@ use Rattle.fx_ring.proofs.Words.{◌≡◌, ℕ, ◌+◌, ◌-◌, ◌≤◌, Li
 use Rattle.fx_ring.proofs.Words.{get_or-map, length-map, IsChain, IsShortRun, members_of, Asked, all_asked, runs_of, all_installs, Chain, Request}
 use Rattle.fx_ring.proofs.Words.{InstallAtMost, run_of_chain}
 use Rattle.fx_ring.proofs.Words.{All-contains, Contains}
-use Rattle.fx_table.proofs.Members.{contains_mapped, each_all}
+use Rattle.fx_table.proofs.Members.{contains_map, contains_mapped, each_all}
 use Rattle.fx_chain.proofs.Asking.{asked_part}
 
 -- the part of a list that a chain is
@@ -44,3 +44,10 @@ pub chains_install : (asked : List Asked) (chains : List Chain) {most : ℕ} →
 chains_install asked chains {most} members all = each_all (λ chain. all_installs (members_of asked chain) ≤ most) chains
     (λ chain h. All-contains (λ run. all_installs run ≤ most) (runs_of asked) (members_of asked chain) all
     (subst (λ (l : List (List Asked)). Contains l (members_of asked chain)) members (contains_mapped (members_of asked) chains chain h)))
+
+-- the runs of chains within the limits are short
+pub runs_within : {requests : List Asked} (chains : List Chain) → map (members_of requests) chains ≡ runs_of requests
+    → All (IsChain requests) chains → All IsShortRun (runs_of requests)
+runs_within {requests} chains members within = subst (All IsShortRun) members (each_all IsShortRun (map (members_of requests) chains) (λ run h.
+    let m = contains_map (members_of requests) chains run h in
+    subst IsShortRun (sym m.2) (All-contains (IsChain requests) chains m.0 within m.1).run))

@@ -1,19 +1,15 @@
 -- Rings that show the same may do the same: which numbers their files have makes no difference.
-use Rattle.fx_ring.proofs.Words.{◌≡◌, ℕ, List, sym, subst, State, state_of, opening, numbers_for, Asked, runs_of, length, Reported, IsOneHistory}
+use Rattle.fx_ring.proofs.Words.{◌≡◌, List, sym, subst, State, state_of, numbers_for, Asked, runs_of, length, Reported, IsOneHistory}
 use Rattle.fx_ring.proofs.Words.{RingContents, RingState, ring_of, with_table, IsLegal, ExplainsParts, ◌+◌}
 use Rattle.fx_plain.proofs.Prepared.{opens_alike}
-
-pub same_opened : (old same : RingContents) → ring_of same ≡ ring_of old → (numbers : ℕ)
-    → opening (state_of old.table) numbers ≡ opening (state_of same.table) numbers
-same_opened old same is =
-    opens_alike (state_of old.table) (state_of same.table) (λ i. (sym is i).size) (λ i. (sym is i).range) (λ slot i. (sym is i).at slot)
 
 pub same_history : (old same new : RingContents) (requests : List Asked) (report : Reported) → ring_of same ≡ ring_of old
     → IsOneHistory old requests report new → IsOneHistory same requests report new
 same_history old same new requests report is one = record {
   history = one.history;
   end = one.end;
-  legal = subst (λ (st : State). IsLegal st one.history one.end) (same_opened old same is (numbers_for (length (runs_of requests)))) one.legal;
+  legal = subst (λ (st : State). IsLegal st one.history one.end) (opens_alike (state_of old.table) (state_of same.table)
+      (λ i. (sym is i).size) (λ i. (sym is i).range) (λ slot i. (sym is i).at slot) (numbers_for (length (runs_of requests)))) one.legal;
   settled = one.settled;
   chains = one.chains;
   explained = subst (λ (r : RingState). ExplainsParts r.catalogue r.size report.submission 1 (runs_of requests) one.history report.completions) (sym is)

@@ -114,10 +114,11 @@ module _ (old new : RingContents) (requests : List Asked) (report : Reported) (i
       all_closes_in (λ (file : Closed). file.entry < length old.catalogue) one.history
       (holds_of_closes P start one.history all one.legal.leads.0 (λ f installed. (put_is_new f (installed_put one.history f installed)).2))
 
-  -- the files that it closed are of the catalogue
-  pub submitted_entries : AreEntries (ring_of new) report.closes.files
-  submitted_entries = subst (λ (ring : RingState). AreEntries ring report.closes.files) (sym one.after)
-      (entries_closed behind closed_entries one.closed)
+-- the files that it closed are of the catalogue
+pub submitted_entries : {old new : RingContents} {requests : List Asked} {report : Reported} → IsRing (ring_of old)
+    → IsOneHistory old requests report new → AreEntries (ring_of new) report.closes.files
+submitted_entries {old} {new} {requests} {report} is one = subst (λ (ring : RingState). AreEntries ring report.closes.files) (sym one.after)
+    (entries_closed (behind old new requests report is one) (closed_entries old new requests report is one) one.closed)
 
 -- a ring at rest is at rest again behind a submission
 pub submitted_at_rest : {old new : RingContents} {requests : List Asked} {report : Reported} → IsAtRest old → IsOneHistory old requests report new

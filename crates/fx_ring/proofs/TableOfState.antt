@@ -57,15 +57,12 @@ module _ (st : State) (inside : (slot : ℕ) → st.size ≤ slot → st.at slot
   }
 
 -- it is settled
-none_removed : (slot : ℕ) (x : Option File) → removed_at slot (node_if slot x) ≡ None
-none_removed slot None = refl
-none_removed slot (Some f) = refl
-
 pub table_settled : (st : State) → IsSettled (state_of (table_with_files st))
 table_settled st = record {
   unheld = λ n. read_default st.size n 0;
   closed = λ n. elim (cases_lt n st.size) [
-    | inl lt ↦ ap (removed_at n) (read_listed (λ k. node_if k (st.at k)) st.size n Gone lt) ∙ none_removed n (st.at n)
+    | inl lt ↦ ap (removed_at n) (read_listed (λ k. node_if k (st.at k)) st.size n Gone lt)
+        ∙ elim (st.at n) as (λ x. removed_at n (node_if n x) ≡ None) [ None ↦ refl | Some f ↦ refl ]
     | inr le ↦ ap (removed_at n) (get_or_past (table_with_files st).nodes n Gone
         (let len = length_listed (λ k. node_if k (st.at k)) st.size in omega arith))
   ];

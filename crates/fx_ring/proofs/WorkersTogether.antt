@@ -16,7 +16,7 @@ use Rattle.std.proofs.lemmas.List.Folds.{flat_map-map}
 use Rattle.fx_ring.proofs.CompletionPlaces.{place_key}
 use Rattle.fx_ring.proofs.Rings.{ring_as}
 use Rattle.fx_ring.proofs.Parts.{few_by_key, none_kept}
-use Rattle.fx_ring.proofs.PartsExplained.{IsShort, one_of_each_request, in_order_explained}
+use Rattle.fx_ring.proofs.PartsExplained.{IsShort, drawn_inside, one_of_each_request, in_order_explained}
 
 abbrev pub pass_of : WorkerState → PassView
 pass_of w = w.pass
@@ -74,12 +74,8 @@ module _ {catalogue : List FileEntry} {submission : ℕ} {runs : List (List Aske
       let mine = in_part w.0.pass.number closing.history e h number in
       (w.0, w.1, number, subst (λ (l : List Event). Contains l e) (closing.own w.0.pass (view_of w.1)) mine)
 
-  drawn_inside : {w : WorkerState} → Contains crew w → {c : ℕ} → Contains w.pass.drawn c → (1 ≤ c) × (c ≤ length runs)
-  drawn_inside {w} h {c} drew =
-      let b = (works w h).inside c drew in let low = b.0 in let high = b.1 in let last = (works w h).reached in (low, omega arith)
-
   pub events_inside : (e : Event) → Contains closing.history e → (1 ≤ e.chain) × (e.chain ≤ length runs)
-  events_inside e h = let a = author_of h in drawn_inside a.1 ((works a.0 a.1).own e a.3)
+  events_inside e h = let a = author_of h in drawn_inside (works a.0 a.1) ((works a.0 a.1).own e a.3)
 
   -- each chain was drawn by a worker, and by no other one
   drawer : (c : ℕ) → 1 ≤ c → c ≤ length runs → (w : WorkerState) × Contains crew w × Contains w.pass.drawn c
@@ -122,50 +118,40 @@ module _ {catalogue : List FileEntry} {submission : ℕ} {runs : List (List Aske
 
   pub inside : All (λ c. (1 ≤ c.place.chain) × (c.place.chain ≤ length runs)) joined
   inside = all_parts completed_by (λ c. (1 ≤ c.place.chain) × (c.place.chain ≤ length runs)) crew
-      (λ w h k d l. drawn_inside h ((works w h).completed k d l))
+      (λ w h k d l. drawn_inside (works w h) ((works w h).completed k d l))
 
   -- there is a completion for each request
   pub one_of_each : length joined ≡ sum_by (λ run. length run) runs
   one_of_each = one_of_each_request catalogue (size_of o) submission closing.history joined runs played.short inside explained
 
-  passes_inside : All (λ e. (1 ≤ e.pass) × (e.pass < 1 + o.passes)) closing.history
-  passes_inside = each_all (λ e. (1 ≤ e.pass) × (e.pass < 1 + o.passes)) closing.history (λ e h.
-      let a = author_of h in
-      let mine : Contains (reverse (range_with_len 1 o.passes)) a.0.pass.number =
-      subst (λ (l : List ℕ). Contains l a.0.pass.number) played.numbers (contains_mapped number_of crew a.0 a.1) in
-      let r = number_within o.passes (contains_reverse (range_with_len 1 o.passes) a.0.pass.number mine) in
-      let is = a.2 in
-      let low = r.0 in
-      let high = r.1 in
-      (omega arith, omega arith))
-
   -- the files that the workers closed are those of the history
   pub closes_joined : IsPermutation (closes_of closing.history) (flat_map closed_by_worker crew)
   closes_joined =
       let part : ℕ → List Closed = λ k. closes_of (filter (λ e. e.pass == k) closing.history) in
-      let by_pass = closes_by_key (λ e. e.pass) 1 o.passes closing.history passes_inside in
+      let all = each_all (λ e. (1 ≤ e.pass) × (e.pass < 1 + o.passes)) closing.history (λ e h.
+      let a = author_of h in
+      let mine : Contains (reverse (range_with_len 1 o.passes)) a.0.pass.number =
+      subst (λ (l : List ℕ). Contains l a.0.pass.number) played.numbers (contains_mapped number_of crew a.0 a.1) in
+      let is = number_within o.passes (contains_reverse (range_with_len 1 o.passes) a.0.pass.number mine) in
+      (omega (arith, a.2, is.0), omega (arith, a.2, is.1))) in
+      let by_pass = closes_by_key (λ e. e.pass) 1 o.passes closing.history all in
       let back = parts_reversed part (range_with_len 1 o.passes) in
       let of_crew : flat_map part (reverse (range_with_len 1 o.passes)) ≡ flat_map closed_by_worker crew =
       ap (flat_map part) (sym played.numbers) ∙ flat_map-map part number_of crew ∙ same_parts crew
       (λ w h. ap closes_of (closing.own w.pass (view_of h)) ∙ sym (works w h).closed) in
       subst (IsPermutation (closes_of closing.history)) of_crew (IsPermutation-trans _ _ _ by_pass back)
 
-  weighed : (i : ℕ) → i < length runs → length (closes_of (part_of_chain (1 + i) closing.history)) ≤ all_weights (slice_index_or runs i [])
-  weighed i inside =
-      let d = drawer (1 + i) (omega arith) (omega arith) in
-      let few = (works d.0 d.1).weighed (1 + i) d.2 in
-      let same = ap (λ (h : List Event). length (closes_of h)) (history_is (1 + i) d.0 d.1 d.2) in
-      let place : 1 + i - 1 ≡ i = omega arith in
-      let run = ap (λ (j : ℕ). all_weights (slice_index_or runs j [])) place in
-      omega arith
-
   -- and no more than the requests weigh
   pub closes_weigh : length (flat_map closed_by_worker crew) ≤ sum_by all_weights runs
   closes_weigh =
       let all = each_all (λ e. (1 ≤ e.chain) × (e.chain < 1 + length runs)) closing.history
-      (λ e h. let r = events_inside e h in let low = r.0 in let high = r.1 in (omega arith, omega arith)) in
-      let few = few_by_key (λ e. e.chain) (λ e. length (closed_by e.action)) all_weights [] 1 runs closing.history all
-      (λ i lt. let one = weighed i lt in let sum = closes_sum (part_of_chain (1 + i) closing.history) in omega arith) in
+      (λ e h. let is = events_inside e h in (is.0, omega (arith, is.1))) in
+      let few = few_by_key (λ e. e.chain) (λ e. length (closed_by e.action)) all_weights [] 1 runs closing.history all (λ i lt.
+      let c : ℕ = 1 + i in
+      let d = drawer c (omega arith) (omega (arith, lt)) in
+      let same = ap (λ (h : List Event). length (closes_of h)) (history_is c d.0 d.1 d.2) in
+      let place = ap (λ (j : ℕ). all_weights (slice_index_or runs j [])) (let e : c - 1 ≡ i = omega arith in e) in
+      omega (arith, (works d.0 d.1).weighed c d.2, same, place, closes_sum (part_of_chain c closing.history))) in
       let sum = closes_sum closing.history in
       let same = length_permutation (closes_of closing.history) (flat_map closed_by_worker crew) closes_joined in
       omega arith

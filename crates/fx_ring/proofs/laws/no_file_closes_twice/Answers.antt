@@ -1,5 +1,7 @@
-use Rattle.fx_ring.proofs.SubmissionLaws.{no_file_closes_twice}
+use Rattle.fx_ring.proofs.Words.{state_of}
+use Rattle.fx_plain.proofs.LawTallies.{closed_at_most_once}
+use Rattle.fx_plain.proofs.Prepared.{opening_is_start}
 use Rattle.fx_ring.proofs.laws.no_file_closes_twice.Goals as goal
 
 pub returns : goal.returns
-returns c = no_file_closes_twice
+returns c = λ old new requests report one number. closed_at_most_once _ one.history number (opening_is_start (state_of old.table) _) one.legal.leads.0

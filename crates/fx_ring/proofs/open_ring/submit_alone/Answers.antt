@@ -2,9 +2,9 @@ use Rattle.fx_ring.proofs.Words.{arith, ◌+◌, length, sym, ap, subst, PassVie
 use Rattle.fx_ring.specs.OpenRings.{ring_led_by}
 use Rattle.fx_ring.proofs.Words.{asked_of, length-map}
 use Rattle.fx_ring.proofs.NewCrew.{runs_have_all}
-use Rattle.fx_ring.proofs.Runs.{as_many}
+use Rattle.fx_ring.proofs.Runs.{as_many, runs_within}
 use Rattle.fx_ring.proofs.LoneHistories.{part_is_one_history}
-use Rattle.fx_ring.proofs.LoneEnds.{authors_of, all_drawn, runs_within}
+use Rattle.fx_ring.proofs.LoneEnds.{authors_of, all_drawn}
 use Rattle.fx_ring.proofs.open_ring.submit_alone.Goals as goal
 
 pub returns-clause-played : goal.returns-clause-played

@@ -7,13 +7,11 @@ invariant_of-self-2 c =
     let same = (c.in-Ok.ensures.ok).state in
     let was = c.self.invariant in
     let before = contents_of c.self.inside in
-    record {
-      settled = subst IsSettled (sym same) (record { unheld = was.settled.unheld; closed = was.settled.closed });
-      ring = subst (λ (st : State). IsRing (with_table (ring_of before) st)) (sym same)
-          (record { entries = was.ring.entries; counted = was.ring.counted; distinct = was.ring.distinct });
-      few_submissions = was.few_submissions;
-      few_registrations = was.few_registrations;
-    }
+    assumption (
+      subst IsSettled (sym same) (assumption was.settled),
+      subst (λ (st : State). IsRing (with_table (ring_of before) st)) (sym same) (assumption was.ring),
+      was,
+    )
 
 pub returns-clause-ok : goal.returns-clause-ok
 returns-clause-ok c =

@@ -14,11 +14,9 @@ pub returns-clause-entries : goal.returns-clause-entries
 returns-clause-entries c = (closed (goal.at.returns-clause-entries c).After-sort).1
 
 pub invariant_of-self : goal.invariant_of-self
-invariant_of-self c =
-    let was = c.self.invariant in
-    record {
-      settled = emptied_settled c.empty_into.ensures.empty;
-      ring = none_rings _ (ap (λ (st : State). (λ slot. identity_of (st.at slot))) c.empty_into.ensures.empty);
-      few_submissions = was.few_submissions;
-      few_registrations = was.few_registrations;
-    }
+invariant_of-self c = record {
+  settled = emptied_settled c.empty_into.ensures.empty;
+  ring = none_rings _ (ap (λ (st : State). (λ slot. identity_of (st.at slot))) c.empty_into.ensures.empty);
+  few_submissions = c.self.invariant.few_submissions;
+  few_registrations = c.self.invariant.few_registrations;
+}
