@@ -1,16 +1,10 @@
 -- A worker goes on by one chain that its pass drew.
-use Rattle.fx_ring.proofs.Words.{◌≡◌, ◌≢◌, ℕ, ◌+◌, ◌-◌, ◌<◌, ◌≤◌, List, [], ◌∷◌, ◌++◌, map, length, refl, sym, ap, subst, ◌∙◌, All, Contains}
-use Rattle.fx_ring.proofs.Words.{Some, None, ⊎_elim, length-append, arith, map-append, All-append, FileEntry, CloseListView, Closed, Event, Action}
-use Rattle.fx_ring.proofs.Words.{action_of, closes_in, part_of_chain, ◌▷◌, Opening, size_of, PassView, event_of, Completed}
-use Rattle.fx_ring.proofs.Words.{Explains, first_member, Asked, all_weights, worker_state, run_of_chain, completions_of_chain, HasWorked, HasRoom}
-use Rattle.fx_ring.proofs.Words.{drop, slice_index_or, sum_by, sum_by-drop_more}
-use Rattle.std.proofs.lemmas.List.{drop-drop}
-use Rattle.std.proofs.lemmas.List.Elements.{Contains-append_cases}
-use Rattle.std.proofs.lemmas.List.Sums.{sum_by-take-drop}
-use Rattle.fx_plain.proofs.Leading.{closes_in-then}
-use Rattle.fx_table.specs.Calls.{Draws, Use}
-use Rattle.fx_table.proofs.Members.{contains_head, contains_tail, contains_cases, contains_map, each_all}
-use Rattle.fx_chain.specs.Performs.{PlaysChain, player}
+use Rattle.fx_ring.proofs.Words.{◌≡◌, ◌≢◌, ℕ, ◌+◌, ◌-◌, ◌<◌, ◌≤◌, List, [], ◌∷◌, ◌++◌, map, length, refl, sym, ap, subst, ◌∙◌, All, Contains, Some}
+use Rattle.fx_ring.proofs.Words.{None, ⊎_elim, length-append, arith, map-append, All-append, FileEntry, CloseListView, Closed, Event, Action}
+use Rattle.fx_ring.proofs.Words.{action_of, closes_in, part_of_chain, ◌▷◌, Opening, size_of, PassView, event_of, Completed, Explains, first_member}
+use Rattle.fx_ring.proofs.Words.{Asked, all_weights, worker_state, run_of_chain, completions_of_chain, HasWorked, HasRoom, drop, slice_index_or}
+use Rattle.fx_ring.proofs.Words.{sum_by, sum_by-drop_more, drop-drop, Contains-append_cases, sum_by-take-drop, closes_in-then, Draws, Use}
+use Rattle.fx_ring.proofs.Words.{contains_head, contains_tail, contains_cases, contains_map, each_all, PlaysChain, player}
 use Rattle.fx_chain.proofs.ChainGoesOn.{explained_count}
 use Rattle.fx_ring.proofs.Parts.{only_first, only_second, not_first, not_second}
 use Rattle.fx_ring.proofs.CompletionPlaces.{explained_of_members}

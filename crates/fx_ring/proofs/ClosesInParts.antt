@@ -1,9 +1,8 @@
 -- The files that a history closed, in parts by a key of its events.
-use Rattle.fx_ring.proofs.Words.{◌≡◌, ℕ, ◌+◌, ◌<◌, ◌≤◌, ◌==◌, true, false, not, cond, List, [], ◌∷◌, ◌++◌, map, filter, flat_map, length, All, refl, sym}
-use Rattle.fx_ring.proofs.Words.{subst, arith, append_assoc, length-append, sum_by, sum_by-cons, IsPermutation, IsPermutation-refl, IsPermutation-trans}
-use Rattle.fx_ring.proofs.Words.{IsPermutation-append_left, IsPermutation-append_right, IsPermutation-append_comm, Closed, action_of, closed_by}
-use Rattle.fx_ring.proofs.Words.{closes_in, Event}
-use Rattle.std.specs.List.{range_with_len}
+use Rattle.fx_ring.proofs.Words.{◌≡◌, ℕ, ◌+◌, ◌<◌, ◌≤◌, ◌==◌, true, false, not, cond, List, [], ◌∷◌, ◌++◌, map, filter, flat_map, length, All, refl}
+use Rattle.fx_ring.proofs.Words.{sym, subst, arith, append_assoc, length-append, sum_by, sum_by-cons, IsPermutation, IsPermutation-refl}
+use Rattle.fx_ring.proofs.Words.{IsPermutation-trans, IsPermutation-append_left, IsPermutation-append_right, IsPermutation-append_comm, Closed}
+use Rattle.fx_ring.proofs.Words.{action_of, closed_by, closes_in, Event, range_with_len}
 use Rattle.fx_ring.proofs.Parts.{has, lacks, made_by_key}
 
 abbrev pub closes_of : List Event → List Closed

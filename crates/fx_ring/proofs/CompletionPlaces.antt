@@ -1,7 +1,6 @@
 -- Where the completions of a chain stand.
 use Rattle.fx_ring.proofs.Words.{◌≡◌, ℕ, ◌+◌, ◌*◌, ◌<◌, ◌≤◌, List, [], ◌∷◌, length, refl, sym, ap, subst, arith, All, All-nil, All-cons, All-weaker}
-use Rattle.fx_ring.proofs.Words.{FileEntry, Action, Completed, next_member, Explains, canceled, severs, Asked, Place}
-use Rattle.fx_chain.proofs.Cases.{either_way}
+use Rattle.fx_ring.proofs.Words.{FileEntry, Action, Completed, next_member, Explains, canceled, severs, Asked, Place, either_way}
 use Rattle.fx_ring.proofs.Installs.{answered}
 use Rattle.fx_ring.proofs.OneOrder.{Rises}
 

@@ -4,11 +4,9 @@ use Rattle.fx_ring.proofs.Words.{[], ◌∷◌, length, sym, ap, subst, ◌∙�
 use Rattle.fx_ring.proofs.Words.{Errno, ENOENT, ENXIO, EBADF, ENOMEM, EINVAL, ENFILE, Mark, Submitted, Closed, ◌▷◌, File, Action, Look, Release, Put}
 use Rattle.fx_ring.proofs.Words.{Clear, Take, Allocate, Full, Answers, OpensAt, ReadsFrom, Empties, UpdatesFrom, AppliesEntry, AppliesList, Refuses}
 use Rattle.fx_ring.proofs.Words.{installed, is_bad_entry, Completed, next_member, Explains, severs, Operation, Opens, Reads, Closes, Updates, Asked}
-use Rattle.fx_ring.proofs.Words.{Place, Target, Slot, Any}
+use Rattle.fx_ring.proofs.Words.{Place, Target, Slot, Any, either_way, or_parts}
 use Rattle.fx_ring.proofs.NewMarks.{Puts, puts_then, puts_so, puts_none, puts_one, puts_may_close}
 use Rattle.fx_base.proofs.Entries.{entry_named}
-use Rattle.fx_chain.proofs.Cases.{either_way}
-use Rattle.std.proofs.lemmas.Bool.{or_parts}
 
 -- a file of the catalogue, by its mark
 abbrev pub IsMarked : ℕ → Mark → File → Type 0

@@ -1,9 +1,8 @@
 -- What a list has done, one number further.
-use Rattle.fx_ring.proofs.Words.{◌≡◌, ℕ, suc, ◌+◌, ◌-◌, ◌<◌, ◌≤◌, if◌then◌else◌, ℤ, pos, List, ◌++◌, length, nat_lt}
-use Rattle.fx_ring.proofs.Words.{length-append, append_assoc, append-nil, refl, sym, ap, ◌∙◌, Option, Some, slice_get, drop}
-use Rattle.fx_ring.proofs.Words.{slice_index_or, arith, lt-ltb, le-ltb, slice_get_past, drop-cons, CloseListView, Registered, Closed, State}
-use Rattle.fx_ring.proofs.Words.{IsSettled, changed_at, by_equality, file_after, file_listed, files_after, removed_by, removed_from, tag_at, files_at}
-use Rattle.fx_ring.specs.Slots.{SetsList, SetsNumber}
+use Rattle.fx_ring.proofs.Words.{◌≡◌, ℕ, suc, ◌+◌, ◌-◌, ◌<◌, ◌≤◌, if◌then◌else◌, ℤ, pos, List, ◌++◌, length, nat_lt, length-append, append_assoc}
+use Rattle.fx_ring.proofs.Words.{append-nil, refl, sym, ap, ◌∙◌, Option, Some, slice_get, drop, slice_index_or, arith, lt-ltb, le-ltb, slice_get_past}
+use Rattle.fx_ring.proofs.Words.{drop-cons, CloseListView, Registered, Closed, State, IsSettled, changed_at, by_equality, file_after, file_listed}
+use Rattle.fx_ring.proofs.Words.{files_after, removed_by, removed_from, tag_at, files_at, SetsList, SetsNumber}
 use Rattle.std.proofs.Math.Seq.{drop-length}
 use Rattle.std.proofs.lemmas.Bool.Decides.{nat_tests}
 use Rattle.std.proofs.lemmas.Option.{slice_get-get_or}

@@ -1,14 +1,9 @@
 -- A submission of a pass alone begins and ends settled, and so does the table that is closed then.
 use Rattle.fx_ring.proofs.Words.{◌≡◌, ◌==◌, ℕ, zero, suc, ◌≤◌, true, List, [], ◌∷◌, sym, subst, arith, All, All-weaker, Contains, by_equality, Event}
-use Rattle.std.proofs.Common.{eqb-true}
-use Rattle.std.proofs.lemmas.List.Elements.{filter_passes}
-use Rattle.fx_ring.proofs.Words.{part_of_pass, ClosesTable, Contents, state_of, Opening, state_at, PassView}
-use Rattle.fx_table.specs.Opening.{HasSameFiles}
+use Rattle.fx_ring.proofs.Words.{part_of_pass, ClosesTable, Contents, state_of, Opening, state_at, PassView, eqb-true, filter_passes, HasSameFiles}
+use Rattle.fx_ring.proofs.Words.{IsSettledSoFar, contains_head, contains_tail, chains_to}
 use Rattle.fx_table.specs.Pass.{IsFront}
-use Rattle.fx_table.specs.Settling.{IsSettledSoFar}
-use Rattle.fx_table.proofs.Members.{contains_head, contains_tail}
 use Rattle.fx_table.proofs.Settling.{own_history}
-use Rattle.fx_ring.specs.OpenRings.{chains_to}
 
 -- the events of a pass are the pass's
 pub authors_of : {o : Opening} {v : PassView} → IsSettledSoFar o v → IsFront o v → All (λ e. e.pass ≡ v.number) v.own

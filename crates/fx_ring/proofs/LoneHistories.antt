@@ -1,25 +1,20 @@
 -- What a pass alone did between two settled moments, as the history of one submission.
-use Rattle.fx_ring.proofs.Words.{◌≡◌, ◌≢◌, ℕ, ◌+◌, ◌-◌, ◌*◌, ◌<◌, ◌≤◌, ◌==◌, true, false, cond, List, [], ◌∷◌, ◌++◌, map}
-use Rattle.fx_ring.proofs.Words.{length, refl, sym, ap, subst, ◌∙◌, arith, Option, None, All, All-head, All-tail, All-weaker, Contains, by_equality}
-use Rattle.fx_ring.proofs.Words.{IsPermutation, IsNonDecreasingBy, FileEntry, CloseListView, Closed, State, opening, IsLegal, action_of}
-use Rattle.fx_ring.proofs.Words.{closes_in, closed_by, part_of_chain, File, Event, Action, Opening, size_of, state_at, PassView, numbers_for}
-use Rattle.fx_ring.proofs.Words.{Completed, Explains, first_member, Asked, runs_of, IsShortRun, HasClosed, ring_of, ring_with, with_table}
-use Rattle.fx_ring.proofs.Words.{installed_by, sum_by, sum_by-cons, IsOneHistory, HasWorked, worker_state, completions_of_chain, run_of_chain}
-use Rattle.fx_plain.specs.declared.table.TheConstants.{MOST_SLOTS}
+use Rattle.fx_ring.proofs.Words.{◌≡◌, ◌≢◌, ℕ, ◌+◌, ◌-◌, ◌*◌, ◌<◌, ◌≤◌, ◌==◌, true, false, cond, List, [], ◌∷◌, ◌++◌, map, length, refl, sym, ap}
+use Rattle.fx_ring.proofs.Words.{subst, ◌∙◌, arith, Option, None, All, All-head, All-tail, All-weaker, Contains, by_equality, IsPermutation}
+use Rattle.fx_ring.proofs.Words.{IsNonDecreasingBy, FileEntry, CloseListView, Closed, State, opening, IsLegal, action_of, closes_in, closed_by}
+use Rattle.fx_ring.proofs.Words.{part_of_chain, File, Event, Action, Opening, size_of, state_at, PassView, numbers_for, Completed, Explains}
+use Rattle.fx_ring.proofs.Words.{first_member, Asked, runs_of, IsShortRun, HasClosed, ring_of, ring_with, with_table, installed_by, sum_by}
+use Rattle.fx_ring.proofs.Words.{sum_by-cons, IsOneHistory, HasWorked, worker_state, completions_of_chain, run_of_chain, MOST_SLOTS, same_size}
+use Rattle.fx_ring.proofs.Words.{start_of, IsSettledSoFar, contains_map, contains_mapped, each_all, table_with_files, chain_less, begun_behind}
+use Rattle.fx_ring.proofs.Words.{sum_by-le}
 use Rattle.fx_plain.specs.History.{held_by, ◌▷▷◌}
 use Rattle.fx_plain.specs.Reopening.{Renaming, renamed, renamed_event, numbers_given, with_number_of, IsAtRest, HasOtherNumbers}
 use Rattle.fx_plain.proofs.AtRest.{opening_is_at_rest, stays_at_rest}
-use Rattle.fx_plain.proofs.Leading.{same_size}
 use Rattle.fx_plain.proofs.Behind.{legal_behind}
 use Rattle.fx_plain.proofs.OpenedAnew.{opened_anew}
-use Rattle.fx_table.specs.Opening.{start_of}
-use Rattle.fx_table.specs.Settling.{IsSettledSoFar}
-use Rattle.fx_table.proofs.Members.{contains_map, contains_mapped, each_all}
 use Rattle.fx_chain.proofs.OtherNumbers.{explains, few_given, given_one}
-use Rattle.fx_ring.specs.OpenRings.{table_with_files, chain_less, begun_behind}
 use Rattle.fx_ring.proofs.TableOfState.{opened_so, ring_so, size_there}
 use Rattle.fx_ring.proofs.Parts.{few_by_key}
-use Rattle.std.proofs.lemmas.List.Sums.{sum_by-le}
 use Rattle.fx_ring.proofs.PartsExplained.{IsShort, drawn_inside, in_order_explained}
 
 -- a table is at rest wherever all is settled

@@ -1,12 +1,9 @@
 -- A pass alone plays the chains of a submission, one after another.
 use Rattle.fx_ring.proofs.Words.{◌≡◌, ℕ, ◌+◌, ◌-◌, ◌<◌, ◌≤◌, false, List, [], ◌∷◌, ◌++◌, map, length, refl, sym, ap, ◌∙◌, arith, Some, map-append}
 use Rattle.fx_ring.proofs.Words.{append_assoc, FileEntry, CloseListView, Event, Action, ◌▷◌, Opening, PassView, IsIdle, event_of, Completed, Asked}
-use Rattle.fx_ring.proofs.Words.{worker_state, run_of_chain, HasRoom, vec_capacity, runs_of, all_completed, HasRoomFor, Outcome}
-use Rattle.std.proofs.Common.{add-one}
+use Rattle.fx_ring.proofs.Words.{worker_state, run_of_chain, HasRoom, vec_capacity, runs_of, all_completed, HasRoomFor, Outcome, add-one, Draws}
+use Rattle.fx_ring.proofs.Words.{PlaysChain, player, HasPlayedAlone, chain_less, chains_to, begun_behind}
 use Rattle.fx_ring.proofs.NewCrew.{IsNew, new_has_worked, new_has_room}
-use Rattle.fx_table.specs.Calls.{Draws}
-use Rattle.fx_chain.specs.Performs.{PlaysChain, player}
-use Rattle.fx_ring.specs.OpenRings.{HasPlayedAlone, chain_less, chains_to, begun_behind}
 use Rattle.fx_ring.proofs.ChainPlayed.{GoesOn, drawing, worked_on, room_left, sum_behind}
 
 -- so many chains were played, and there is room for the others

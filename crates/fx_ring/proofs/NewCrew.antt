@@ -1,16 +1,11 @@
 -- What a crew is before it plays: new passes, with room for all.
 use Rattle.fx_ring.proofs.Words.{◌≡◌, ℕ, ◌≤◌, List, [], ◌∷◌, ◌++◌, map, flat_map, reverse, length, All, sum_by, refl, sym, ap, subst, ◌∙◌, arith}
 use Rattle.fx_ring.proofs.Words.{vec_capacity, length-map, reverse-append, map-append, map-map, length-flat_map, All-nil, All-contains, sum_by-cons}
-use Rattle.fx_ring.proofs.Words.{sum_by-append, FileEntry, CloseListView, PassView, new_pass, new_passes, Event}
-use Rattle.fx_ring.proofs.Words.{Completed, all_completed, Asked, runs_of, all_weights, weight_of, Completion, HasRoomFor}
-use Rattle.fx_ring.proofs.Words.{HasWorked, HasRoom, worker_state, Outcome, Worker}
-use Rattle.std.specs.Prelude.{Contains}
-use Rattle.fx_table.proofs.Members.{contains_none, contains_map, contains_mapped, contains_reverse, each_all}
-use Rattle.fx_table.specs.declared.limits.TheConstants.{PASS_LOOKS}
+use Rattle.fx_ring.proofs.Words.{sum_by-append, FileEntry, CloseListView, PassView, new_pass, new_passes, Event, Completed, all_completed, Asked}
+use Rattle.fx_ring.proofs.Words.{runs_of, all_weights, weight_of, Completion, HasRoomFor, HasWorked, HasRoom, worker_state, Outcome, Worker, Contains}
+use Rattle.fx_ring.proofs.Words.{contains_none, contains_map, contains_mapped, contains_reverse, each_all, PASS_LOOKS, range_with_len, map-id}
+use Rattle.fx_ring.proofs.Words.{length-map-range_with_len}
 use Rattle.fx_chain.proofs.Runs.{are_runs}
-use Rattle.std.specs.List.{range_with_len}
-use Rattle.std.proofs.lemmas.List.{map-id}
-use Rattle.std.proofs.lemmas.List.FromFn.{length-map-range_with_len}
 
 pub map_reversed : {X Y : Type 0} (f : X → Y) (xs : List X) → map f (reverse xs) ≡ reverse (map f xs)
 map_reversed f [] = refl

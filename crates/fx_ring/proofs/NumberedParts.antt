@@ -1,13 +1,9 @@
 -- Lists with a part for each number from one on, and lists of which one element alone has a part.
-use Rattle.fx_ring.proofs.Words.{◌≡◌, ℕ, ◌+◌, ◌<◌, ◌≤◌, List, [], ◌∷◌, ◌++◌, flat_map, filter, reverse, Bool, All, sum_by}
-use Rattle.fx_ring.proofs.Words.{refl, sym, ap, subst, ◌∙◌, arith, append-nil, ⊎_elim, reverse-append, flat_map-append}
-use Rattle.fx_ring.proofs.Words.{All-nil, All-append, filter-append, IsPermutation-refl, IsPermutation-trans, IsPermutation-append_left}
-use Rattle.fx_ring.proofs.Words.{IsPermutation-append_comm, sum_by-cons, sum_of}
-use Rattle.std.specs.Prelude.{Contains}
-use Rattle.std.specs.List.{range_with_len}
-use Rattle.std.proofs.lemmas.List.FromFn.{length-range_with_len, get_or-range_with_len}
-use Rattle.std.specs.List.Sorted.{IsPermutation}
-use Rattle.fx_table.proofs.Members.{contains_none, contains_head, contains_tail, contains_cases}
+use Rattle.fx_ring.proofs.Words.{◌≡◌, ℕ, ◌+◌, ◌<◌, ◌≤◌, List, [], ◌∷◌, ◌++◌, flat_map, filter, reverse, Bool, All, sum_by, refl, sym, ap, subst, ◌∙◌}
+use Rattle.fx_ring.proofs.Words.{arith, append-nil, ⊎_elim, reverse-append, flat_map-append, All-nil, All-append, filter-append, IsPermutation-refl}
+use Rattle.fx_ring.proofs.Words.{IsPermutation-trans, IsPermutation-append_left, IsPermutation-append_comm, sum_by-cons, sum_of, Contains}
+use Rattle.fx_ring.proofs.Words.{range_with_len, length-range_with_len, get_or-range_with_len, IsPermutation, contains_none, contains_head}
+use Rattle.fx_ring.proofs.Words.{contains_tail, contains_cases}
 
 pub number_within : {first : ℕ} (n : ℕ) {k : ℕ} → Contains (range_with_len first n) k → (first ≤ k) × (k < first + n)
 number_within {first} n {k} (i, lt, is) =

@@ -1,7 +1,6 @@
 -- The numbers of a list, by their sign.
 use Rattle.fx_ring.proofs.Words.{◌≡◌, ℕ, zero, suc, false, ℤ, pos, negsuc, List, [], ◌∷◌, refl, sym, ap, Some, slice_get, ◌∙◌, arith, ltb-false}
-use Rattle.fx_ring.proofs.Words.{le-ltb, list_any, is_bad_entry, is_bad_file}
-use Rattle.std.proofs.lemmas.Bool.{or_from, or_parts}
+use Rattle.fx_ring.proofs.Words.{le-ltb, list_any, is_bad_entry, is_bad_file, or_from, or_parts}
 
 good_file : (entries : ℕ) (z : ℤ) → is_bad_file entries z ≡ false → is_bad_entry entries z ≡ false
 good_file entries (pos n) good = good

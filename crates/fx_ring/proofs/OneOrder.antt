@@ -1,8 +1,7 @@
 -- A list in strict order is the only one of its elements that is in order.
-use Rattle.fx_ring.proofs.Words.{◌≡◌, ℕ, suc, ◌<◌, ◌≤◌, cond, List, [], ◌∷◌, All, Contains, sum_by, IsPermutation, refl, sym, ap, subst}
-use Rattle.fx_ring.proofs.Words.{◌==◌, arith, ⊎_elim, slice_index_or, eq-eqb, ne_eqb, IsNonDecreasingBy, All-head, All-tail, All-contains}
-use Rattle.fx_ring.proofs.Words.{sum_by-cons, get_or-le-sum_by, Contains-permutation, IsPermutation-sym, sum_by-IsPermutation}
-use Rattle.fx_table.proofs.Members.{contains_cases}
+use Rattle.fx_ring.proofs.Words.{◌≡◌, ℕ, suc, ◌<◌, ◌≤◌, cond, List, [], ◌∷◌, All, Contains, sum_by, IsPermutation, refl, sym, ap, subst, ◌==◌, arith}
+use Rattle.fx_ring.proofs.Words.{⊎_elim, slice_index_or, eq-eqb, ne_eqb, IsNonDecreasingBy, All-head, All-tail, All-contains, sum_by-cons}
+use Rattle.fx_ring.proofs.Words.{get_or-le-sum_by, Contains-permutation, IsPermutation-sym, sum_by-IsPermutation, contains_cases}
 
 module _ {X : Type 0} (key : X → ℕ) where
   -- each element's key is below those behind it

@@ -1,9 +1,9 @@
 -- A list in parts, by a key of its elements.
 use Rattle.fx_ring.proofs.Words.{◌≡◌, ◌≢◌, ℕ, zero, suc, ◌+◌, ◌<◌, ◌≤◌, Bool, not, cond, List, [], ◌∷◌, ◌++◌, filter, flat_map, length, All, sum_by}
-use Rattle.fx_ring.proofs.Words.{IsPermutation, refl, sym, slice_index_or, sum_by-append, sum_by-cons, sum_by-IsPermutation}
-use Rattle.fx_ring.proofs.Words.{ap, subst, ◌∙◌, ◌==◌, arith, ne_eqb, All-head, All-tail, All-cons, All-nil, IsPermutation-refl, IsPermutation-trans}
+use Rattle.fx_ring.proofs.Words.{IsPermutation, refl, sym, slice_index_or, sum_by-append, sum_by-cons, sum_by-IsPermutation, ap, subst, ◌∙◌, ◌==◌}
+use Rattle.fx_ring.proofs.Words.{arith, ne_eqb, All-head, All-tail, All-cons, All-nil, IsPermutation-refl, IsPermutation-trans}
 use Rattle.fx_ring.proofs.Words.{IsPermutation-append_right, IsPermutation-filter_both, by_equality, append-nil, eq-eqb, filter-append}
-use Rattle.std.specs.List.{range_with_len}
+use Rattle.fx_ring.proofs.Words.{range_with_len}
 use Rattle.fx_ring.proofs.NumberedParts.{number_within, same_parts}
 
 module _ {X : Type 0} (key : X → ℕ) where

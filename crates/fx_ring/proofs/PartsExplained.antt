@@ -2,10 +2,9 @@
 use Rattle.fx_ring.proofs.Words.{◌≡◌, ℕ, suc, ◌+◌, ◌-◌, ◌*◌, ◌<◌, ◌≤◌, List, [], ◌∷◌, ◌++◌, length, length-append, map, All, sum_by, IsPermutation}
 use Rattle.fx_ring.proofs.Words.{refl, sym, subst, flat_map, ◌∙◌, arith, slice_index_or, IsNonDecreasingBy, All-head, All-tail, All-nil, FileEntry}
 use Rattle.fx_ring.proofs.Words.{All-append, All-weaker, sum_by-cons, IsPermutation-sym, IsPermutation-trans, length_permutation, Asked, MOST_MEMBERS}
-use Rattle.fx_ring.proofs.Words.{part_of_chain, action_of, Event, Completed, Explains, first_member, ExplainsParts, completions_of_chain, run_of_chain}
-use Rattle.fx_ring.proofs.Words.{Contains, HasWorked, WorkerState}
+use Rattle.fx_ring.proofs.Words.{part_of_chain, action_of, Event, Completed, Explains, first_member, ExplainsParts, completions_of_chain}
+use Rattle.fx_ring.proofs.Words.{run_of_chain, Contains, HasWorked, WorkerState, range_with_len}
 use Rattle.fx_ring.proofs.CompletionPlaces.{place_key, explained_of_members}
-use Rattle.std.specs.List.{range_with_len}
 use Rattle.fx_ring.proofs.Parts.{made_by_key, split_by_key}
 use Rattle.fx_ring.proofs.OneOrder.{Rises, one_list_in_order}
 

@@ -1,9 +1,8 @@
 -- A file leaves its slot, and is closed at once.
 use Rattle.fx_ring.proofs.Words.{◌≡◌, ℕ, ◌+◌, Bool, true, List, ◌++◌, length, refl, sym, ap, subst, ◌∙◌, Option, Some, None, if◌then◌else◌}
-use Rattle.fx_ring.proofs.Words.{option_to_list, CloseListView, Closed, File, Action, State, IsSettled, changed_at}
-use Rattle.fx_ring.proofs.Words.{with_removed, files_at, Leads, close_of, identity_of, number_of, more_leaving, by_equality}
-use Rattle.fx_plain.proofs.Cells.{changed_here, changed_else}
-use Rattle.fx_ring.specs.Slots.{SetsSlot, CanRetire, closes_of_removed, file_removed}
+use Rattle.fx_ring.proofs.Words.{option_to_list, CloseListView, Closed, File, Action, State, IsSettled, changed_at, with_removed, files_at, Leads}
+use Rattle.fx_ring.proofs.Words.{close_of, identity_of, number_of, more_leaving, by_equality, changed_here, changed_else, SetsSlot, CanRetire}
+use Rattle.fx_ring.proofs.Words.{closes_of_removed, file_removed}
 
 -- the files of changed slots, their numbers aside
 files_changed : (at : ℕ → Option File) (slot : ℕ) (x : Option File)

@@ -1,14 +1,11 @@
 -- What a ring keeps, as its table changes.
-use Rattle.fx_ring.proofs.Words.{◌≡◌, ℕ, Bool, zero, suc, ◌<◌, List, [], ◌++◌, length, refl, sym, ap, subst, ◌∙◌, Option, Some, None, All, arith}
-use Rattle.fx_ring.proofs.Words.{◌+◌, ◌≢◌, option_to_list, IsPermutation, All-append, All-cons, All-nil, All-permutation}
-use Rattle.fx_ring.proofs.Words.{CloseListView, IsInOrderOfMark, Closed, State, IsSettled, opening, vacant, state_of, identity_of, File}
-use Rattle.fx_ring.proofs.Words.{Contents, IsGivenBack, RingContents, RingState, IsAtRest, IsRing, HasCounted, Mark, Registered, Submitted, ◌≤◌}
-use Rattle.fx_ring.proofs.Words.{HasClosed, AreEntries, ring_of, ring_with, with_table, files_at}
+use Rattle.fx_ring.proofs.Words.{◌≡◌, ℕ, Bool, zero, suc, ◌<◌, List, [], ◌++◌, length, refl, sym, ap, subst, ◌∙◌, Option, Some, None, All, arith, ◌+◌}
+use Rattle.fx_ring.proofs.Words.{◌≢◌, option_to_list, IsPermutation, All-append, All-cons, All-nil, All-permutation, CloseListView, IsInOrderOfMark}
+use Rattle.fx_ring.proofs.Words.{Closed, State, IsSettled, opening, vacant, state_of, identity_of, File, Contents, IsGivenBack, RingContents}
+use Rattle.fx_ring.proofs.Words.{RingState, IsAtRest, IsRing, HasCounted, Mark, Registered, Submitted, ◌≤◌, HasClosed, AreEntries, ring_of, ring_with}
+use Rattle.fx_ring.proofs.Words.{with_table, files_at, same_identity, HasSameFiles, files_in_order, files_of}
 use Rattle.fx_plain.proofs.Emptying.{listed}
-use Rattle.fx_plain.proofs.Prepared.{same_identity}
-use Rattle.fx_table.specs.Opening.{HasSameFiles}
 use Rattle.fx_plain.specs.State.{files_in_order as files_in_order_of_state, files_of as files_of_state}
-use Rattle.fx_ring.specs.Ring.{files_in_order, files_of}
 use Rattle.fx_ring.specs.declared.ring.Ring.TheInside.{Inside}
 
 -- what a ring keeps, by its fields

@@ -1,17 +1,10 @@
 -- A ring whose table is opened or closed has the same files.
 use Rattle.fx_ring.proofs.Words.{◌≡◌, ℕ, ◌+◌, ◌<◌, ◌≤◌, List, [], ◌∷◌, map, length, refl, sym, ap, subst, ◌∙◌, arith, All, All-head, FileEntry}
 use Rattle.fx_ring.proofs.Words.{Contents, state_of, identity_of, Opening, state_at, PassView, IsIdle, new_pass, new_passes, slice_index_or, Asked}
-use Rattle.fx_ring.proofs.Words.{Reported, IsOneHistory, AreEntries, MOST_SUBMISSIONS, ClosesTable, IsRing, IsAtRest, ring_of, ring_with}
-use Rattle.std.proofs.Common.{slice_set}
+use Rattle.fx_ring.proofs.Words.{Reported, IsOneHistory, AreEntries, MOST_SUBMISSIONS, ClosesTable, IsRing, IsAtRest, ring_of, ring_with, slice_set}
+use Rattle.fx_ring.proofs.Words.{same_size, MOST_SLOTS, MAX_CHAINS, IsOpenedFor, HasSameFiles, start_of, IsSettledSoFar, contains_none, same_identity}
+use Rattle.fx_ring.proofs.Words.{ring_led_by, ring_shown, IsKeptOpen, IsAloneAt}
 use Rattle.fx_ring.proofs.SubmittedRing.{submitted_at_rest, submitted_entries}
-use Rattle.fx_plain.proofs.Leading.{same_size}
-use Rattle.fx_plain.specs.declared.table.TheConstants.{MOST_SLOTS}
-use Rattle.fx_table.specs.declared.limits.TheConstants.{MAX_CHAINS}
-use Rattle.fx_table.specs.Opening.{IsOpenedFor, HasSameFiles, start_of}
-use Rattle.fx_table.specs.Settling.{IsSettledSoFar}
-use Rattle.fx_table.proofs.Members.{contains_none}
-use Rattle.fx_plain.proofs.Prepared.{same_identity}
-use Rattle.fx_ring.specs.OpenRings.{ring_led_by, ring_shown, IsKeptOpen, IsAloneAt}
 use Rattle.fx_ring.proofs.LoneHistories.{at_rest_of}
 use Rattle.fx_ring.proofs.TableOfState.{told_at, size_there, table_settled}
 use Rattle.fx_ring.proofs.LoneEnds.{closed_files}

@@ -1,9 +1,7 @@
 -- Where the members of a chain stand in the list of requests.
 use Rattle.fx_ring.proofs.Words.{◌≡◌, ℕ, ◌+◌, ◌-◌, ◌≤◌, List, [], length, map, take, drop, slice_index_or, sym, ap, subst, ◌∙◌, All, arith}
 use Rattle.fx_ring.proofs.Words.{get_or-map, length-map, IsChain, IsShortRun, members_of, Asked, all_asked, runs_of, all_installs, Chain, Request}
-use Rattle.fx_ring.proofs.Words.{InstallAtMost, run_of_chain}
-use Rattle.fx_ring.proofs.Words.{All-contains, Contains}
-use Rattle.fx_table.proofs.Members.{contains_map, contains_mapped, each_all}
+use Rattle.fx_ring.proofs.Words.{InstallAtMost, run_of_chain, All-contains, Contains, contains_map, contains_mapped, each_all}
 use Rattle.fx_chain.proofs.Asking.{asked_part}
 
 -- the part of a list that a chain is

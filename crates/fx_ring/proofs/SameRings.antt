@@ -1,7 +1,6 @@
 -- Rings that show the same may do the same: which numbers their files have makes no difference.
-use Rattle.fx_ring.proofs.Words.{◌≡◌, List, sym, subst, State, state_of, numbers_for, Asked, runs_of, length, Reported, IsOneHistory}
-use Rattle.fx_ring.proofs.Words.{RingContents, RingState, ring_of, with_table, IsLegal, ExplainsParts, ◌+◌}
-use Rattle.fx_plain.proofs.Prepared.{opens_alike}
+use Rattle.fx_ring.proofs.Words.{◌≡◌, List, sym, subst, State, state_of, numbers_for, Asked, runs_of, length, Reported, IsOneHistory, RingContents}
+use Rattle.fx_ring.proofs.Words.{RingState, ring_of, with_table, IsLegal, ExplainsParts, ◌+◌, opens_alike}
 
 pub same_history : (old same new : RingContents) (requests : List Asked) (report : Reported) → ring_of same ≡ ring_of old
     → IsOneHistory old requests report new → IsOneHistory same requests report new

@@ -1,17 +1,11 @@
 -- A table that is made with the files of a state.
 use Rattle.fx_ring.proofs.Words.{◌≡◌, ℕ, zero, suc, ◌<◌, ◌≤◌, List, [], ◌∷◌, ◌++◌, map, length, refl, sym, ap, ◌∙◌, arith, Option, Some, None}
 use Rattle.fx_ring.proofs.Words.{slice_index_or, cases_lt, inl, inr, FileEntry, State, IsSettled, opening, Contents, state_of, identity_of, File}
-use Rattle.fx_ring.proofs.Words.{ring_of, ring_with, with_table}
+use Rattle.fx_ring.proofs.Words.{ring_of, ring_with, with_table, read_default, opens_alike, listed, number_if, node_if, table_with_files}
+use Rattle.fx_ring.proofs.Words.{range_with_len, add-one, get_or_past, map-range_with_len_more, length-map-range_with_len, get_or-map-range_with_len}
 use Rattle.fx_plain.specs.Contents.{file_at, placed_at, removed_at, slot_at}
 use Rattle.fx_plain.specs.declared.node.Node.{Node}
 use Rattle.fx_plain.specs.declared.node.Node.TheVariants.{Gone}
-use Rattle.fx_plain.proofs.Cells.{read_default}
-use Rattle.fx_plain.proofs.Prepared.{opens_alike}
-use Rattle.fx_ring.specs.OpenRings.{listed, number_if, node_if, table_with_files}
-use Rattle.std.specs.List.{range_with_len}
-use Rattle.std.proofs.Common.{add-one}
-use Rattle.std.proofs.lemmas.List.{get_or_past}
-use Rattle.std.proofs.lemmas.List.FromFn.{map-range_with_len_more, length-map-range_with_len, get_or-map-range_with_len}
 
 listed_is : {X : Type 0} (at : ℕ → X) (n : ℕ) → listed at n ≡ map at (range_with_len 0 n)
 listed_is at zero = refl

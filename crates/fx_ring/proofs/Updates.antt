@@ -1,8 +1,7 @@
 -- What an update comes to, as its calls make it.
-use Rattle.fx_ring.proofs.Words.{◌≡◌, ℕ, ◌+◌, ℤ, List, [], ◌++◌, length, false, sym, ap, subst, ◌∙◌, Option, IsPermutation, list_any}
-use Rattle.fx_ring.proofs.Words.{CloseListView, IsInOrderOfMark, Closed, State, opening, state_of, is_bad_entry, RingContents, IsRing, HasClosed}
-use Rattle.fx_ring.proofs.Words.{AreEntries, ring_of, with_table, files_after, removed_from, updated, files_at}
-use Rattle.fx_ring.specs.Slots.{SetsList}
+use Rattle.fx_ring.proofs.Words.{◌≡◌, ℕ, ◌+◌, ℤ, List, [], ◌++◌, length, false, sym, ap, subst, ◌∙◌, Option, IsPermutation, list_any, CloseListView}
+use Rattle.fx_ring.proofs.Words.{IsInOrderOfMark, Closed, State, opening, state_of, is_bad_entry, RingContents, IsRing, HasClosed, AreEntries}
+use Rattle.fx_ring.proofs.Words.{ring_of, with_table, files_after, removed_from, updated, files_at, SetsList}
 use Rattle.fx_ring.proofs.Origins.{updated_rings, removed_entries}
 use Rattle.fx_ring.proofs.Rings.{ring_is, list_closed, opening_files, entries_closed}
 

@@ -1,6 +1,6 @@
 -- The names that most proofs of this crate use.
 pub use Rattle.fx_base.specs.AddFault.{has_name}
-pub use Rattle.fx_base.specs.Catalogue.{FileEntry, name_at}
+pub use Rattle.fx_base.specs.Catalogue.{FileEntry}
 pub use Rattle.fx_base.specs.CloseList.{IsInOrderOfMark}
 pub use Rattle.fx_base.specs.CloseListView.{CloseListView}
 pub use Rattle.fx_base.specs.declared.errno.Errno.{Errno}
@@ -8,12 +8,15 @@ pub use Rattle.fx_base.specs.declared.errno.Errno.TheVariants.{EBADF, EINVAL, EN
 pub use Rattle.fx_base.specs.declared.mark.Mark.{Mark}
 pub use Rattle.fx_base.specs.declared.mark.Mark.TheVariants.{Registered, Submitted}
 pub use Rattle.fx_base.specs.declared.open_file.Closed.{Closed}
+pub use Rattle.fx_chain.proofs.Accepted.{accepted-each, accepted-length, all_weights-small}
+pub use Rattle.fx_chain.proofs.Cases.{either_way}
 pub use Rattle.fx_chain.specs.Accepted.{IsAccepted, IsChain, IsShortRun, members_of}
 pub use Rattle.fx_chain.specs.Answers.{Answers, AppliesEntry, AppliesList, Empties, MayClose, OpensAt, ReadsFrom, Refuses, UpdatesFrom, installed}
 pub use Rattle.fx_chain.specs.Answers.{is_bad_entry}
 pub use Rattle.fx_chain.specs.Completed.{Completed, all_completed, completed_of, next_member}
 pub use Rattle.fx_chain.specs.Explains.{Explains, canceled, first_member, severs}
 pub use Rattle.fx_chain.specs.Operation.{Asked, Closes, Opens, Operation, Reads, Updates, all_asked, asked_of, operation_of}
+pub use Rattle.fx_chain.specs.Performs.{PlaysChain, player}
 pub use Rattle.fx_chain.specs.Runs.{runs_of}
 pub use Rattle.fx_chain.specs.Weights.{all_installs, all_weights, installs_of, weight_of}
 pub use Rattle.fx_chain.specs.declared.chain.Chain.{Chain}
@@ -23,51 +26,65 @@ pub use Rattle.fx_chain.specs.declared.fault.TheConstants.{MOST_MEMBERS}
 pub use Rattle.fx_chain.specs.declared.request.Request.{Request}
 pub use Rattle.fx_chain.specs.declared.request.Target.{Target}
 pub use Rattle.fx_chain.specs.declared.request.Target.TheVariants.{Any, Slot}
-pub use Rattle.fx_plain.proofs.Cells.{by_equality}
-pub use Rattle.fx_plain.proofs.Prepared.{settled_at_opening}
+pub use Rattle.fx_plain.proofs.Cells.{by_equality, changed_else, changed_here, read_default}
+pub use Rattle.fx_plain.proofs.Leading.{closes_in-then, same_size}
+pub use Rattle.fx_plain.proofs.Prepared.{opening_is_start, opens_alike, same_identity}
 pub use Rattle.fx_plain.specs.Contents.{Contents, leaving, state_of}
 pub use Rattle.fx_plain.specs.History.{IsLegal, Leads, action_of, close_of, closed_by, closes_in, part_of_chain, part_of_pass, state_after, ◌▷▷◌, ◌▷◌}
-pub use Rattle.fx_plain.specs.Laws.{IsInstalled, IsStart, installed_by}
-pub use Rattle.fx_plain.specs.State.{IsSettled, State, file_numbered, opening, vacant}
+pub use Rattle.fx_plain.specs.Laws.{IsInstalled, installed_by}
+pub use Rattle.fx_plain.specs.State.{IsSettled, State, opening, vacant}
 pub use Rattle.fx_plain.specs.Step.{after, changed_at, with_removed}
 pub use Rattle.fx_plain.specs.Table.{identity_of, more_leaving, number_of, numbered}
 pub use Rattle.fx_plain.specs.declared.event.Action.{Action}
 pub use Rattle.fx_plain.specs.declared.event.Action.TheVariants.{Allocate, Clear, Close, Full, Look, Put, Release, Take}
 pub use Rattle.fx_plain.specs.declared.event.Event.{Event}
 pub use Rattle.fx_plain.specs.declared.event.File.{File}
+pub use Rattle.fx_plain.specs.declared.table.TheConstants.{MOST_SLOTS}
+pub use Rattle.fx_ring.specs.OpenRings.{HasPlayedAlone, IsAloneAt, IsKeptOpen, OpenRingContents, begun_behind, chain_less, chains_to, listed, node_if}
+pub use Rattle.fx_ring.specs.OpenRings.{number_if, ring_led_by, ring_shown, table_with_files}
 pub use Rattle.fx_ring.specs.Outcomes.{HasRoomFor}
 pub use Rattle.fx_ring.specs.Playing.{IsReady, number_of_worker, setting_of, state_of_worker}
 pub use Rattle.fx_ring.specs.Registration.{file_after, file_listed, files_after, is_bad_file, registered, removed_by, removed_from, updated}
-pub use Rattle.fx_ring.specs.Ring.{AreEntries, HasClosed, HasCounted, IsAtRest, IsRing, RingContents, RingState, ring_of, ring_with, with_table}
-pub use Rattle.fx_ring.specs.Slots.{AreFresh, files_at}
-pub use Rattle.fx_ring.specs.Submission.{ExplainsParts, IsOneHistory, Reported, reported}
+pub use Rattle.fx_ring.specs.Ring.{AreEntries, HasClosed, HasCounted, IsAtRest, IsRing, RingContents, RingState, files_in_order, files_of, ring_of}
+pub use Rattle.fx_ring.specs.Ring.{ring_with, with_table}
+pub use Rattle.fx_ring.specs.Slots.{AreFresh, CanRetire, SetsList, SetsNumber, SetsSlot, closes_of_removed, file_removed, files_at}
+pub use Rattle.fx_ring.specs.Submission.{ExplainsParts, IsOneHistory, Reported}
 pub use Rattle.fx_ring.specs.Tags.{are_bad_tags, is_bad_tag, no_tags, tag_at, tags_for}
 pub use Rattle.fx_ring.specs.Work.{HasRoom, HasWorked, InstallAtMost, WorkerState, completions_of_chain, run_of_chain, worker_state}
 pub use Rattle.fx_ring.specs.declared.outcome.Outcome.{Outcome}
 pub use Rattle.fx_ring.specs.declared.ring.TheConstants.{MOST_SUBMISSIONS}
 pub use Rattle.fx_ring.specs.declared.worker.Worker.{Worker}
-pub use Rattle.fx_table.proofs.Chains.{keeps_drawn_chains, part_of_drawn, some_times}
+pub use Rattle.fx_table.proofs.Chains.{part_of_drawn, some_times}
+pub use Rattle.fx_table.proofs.Members.{contains_cases, contains_head, contains_map, contains_mapped, contains_none, contains_reverse}
+pub use Rattle.fx_table.proofs.Members.{contains_reversed, contains_tail, each_all}
 pub use Rattle.fx_table.proofs.SumLemmas.{sum_map, sum_of, sum_reverse}
+pub use Rattle.fx_table.specs.Calls.{Draws, Use}
 pub use Rattle.fx_table.specs.Closing.{ClosesTable, times_drawn}
 pub use Rattle.fx_table.specs.Numbers.{numbers_for}
-pub use Rattle.fx_table.specs.Opening.{IsGivenBack, Opening, size_of, state_at}
-pub use Rattle.fx_table.specs.Pass.{IsIdle, IsOfDrawnChains, PassView, event_of, new_pass, new_passes, new_passes_from}
-pub use Rattle.std.proofs.Common.{All, Bool, Contains, IsPermutation, List, MatchBool, None, Option, Some, [], ap, append-nil, append_assoc, arith}
-pub use Rattle.std.proofs.Common.{cond, count_by, drop, eq-eqb, eqb, false, filter, flat_map, get_or, if◌then◌else◌, inl, inr, length, length-append}
-pub use Rattle.std.proofs.Common.{map, nat_le, nat_lt, ne_eqb, negsuc, not, option_map, option_to_list, pos, refl, reverse, rules, slice_get}
-pub use Rattle.std.proofs.Common.{slice_index_or, subst, suc, sum_by, sym, take, true, vec_capacity, vec_len, zero, ℕ, ℤ, ⊎_elim, ◌&&◌, ◌*◌, ◌++◌}
-pub use Rattle.std.proofs.Common.{◌+◌, ◌-◌, ◌<◌, ◌==◌, ◌||◌, ◌∙◌, ◌∷◌, ◌≡◌, ◌≢◌, ◌≤◌, ◌⊎◌}
+pub use Rattle.fx_table.specs.Opening.{HasSameFiles, IsGivenBack, IsOpenedFor, Opening, size_of, start_of, state_at}
+pub use Rattle.fx_table.specs.Pass.{IsIdle, IsOfDrawnChains, PassView, event_of, new_pass, new_passes}
+pub use Rattle.fx_table.specs.Settling.{IsSettledSoFar}
+pub use Rattle.fx_table.specs.declared.limits.TheConstants.{MAX_CHAINS, PASS_LOOKS}
+pub use Rattle.std.proofs.Common.{All, Bool, Contains, IsPermutation, List, None, Option, Some, [], add-one, ap, append-nil, append_assoc, arith}
+pub use Rattle.std.proofs.Common.{cond, count_by, drop, eq-eqb, eqb, eqb-true, false, filter, flat_map, get_or, if◌then◌else◌, inl, inr, length}
+pub use Rattle.std.proofs.Common.{length-append, map, nat_le, nat_lt, ne_eqb, negsuc, not, option_to_list, pos, refl, reverse, rules, slice_get}
+pub use Rattle.std.proofs.Common.{slice_index_or, slice_set, subst, suc, sum_by, sym, take, true, vec_capacity, vec_len, zero, ℕ, ℤ, ⊎_elim, ◌*◌}
+pub use Rattle.std.proofs.Common.{◌++◌, ◌+◌, ◌-◌, ◌<◌, ◌==◌, ◌||◌, ◌∙◌, ◌∷◌, ◌≡◌, ◌≢◌, ◌≤◌, ◌⊎◌}
 pub use Rattle.std.proofs.Math.Seq.{drop-cons}
-pub use Rattle.std.proofs.lemmas.Bool.{cases_lt, le-ltb, leb-false, lt-ltb, ltb-false}
-pub use Rattle.std.proofs.lemmas.List.{get_or-map, length-map, map-append, reverse-append, reverse-reverse, take_all}
+pub use Rattle.std.proofs.lemmas.Bool.{cases_lt, le-ltb, leb-false, lt-ltb, ltb-false, or_from, or_parts}
+pub use Rattle.std.proofs.lemmas.List.{drop-drop, get_or-map, get_or_past, length-map, map-append, map-id, reverse-append, reverse-reverse, take_all}
 pub use Rattle.std.proofs.lemmas.List.Concat.{flat_map-append, length-flat_map}
 pub use Rattle.std.proofs.lemmas.List.Elements.{All-append, All-cons, All-contains, All-head, All-map, All-more, All-nil, All-tail, All-weaker}
-pub use Rattle.std.proofs.lemmas.List.Elements.{filter-append}
+pub use Rattle.std.proofs.lemmas.List.Elements.{Contains-append_cases, filter-append, filter_passes}
+pub use Rattle.std.proofs.lemmas.List.Folds.{flat_map-map}
+pub use Rattle.std.proofs.lemmas.List.FromFn.{get_or-map-range_with_len, get_or-range_with_len, length-map-range_with_len, length-range_with_len}
+pub use Rattle.std.proofs.lemmas.List.FromFn.{map-range_with_len_more}
 pub use Rattle.std.proofs.lemmas.List.Sorted.{All-permutation, Contains-permutation, IsNonDecreasingBy-from_sort_by_key, IsPermutation-append_comm}
 pub use Rattle.std.proofs.lemmas.List.Sorted.{IsPermutation-append_left, IsPermutation-append_right, IsPermutation-filter_both, IsPermutation-map}
 pub use Rattle.std.proofs.lemmas.List.Sorted.{IsPermutation-refl, IsPermutation-sym, IsPermutation-trans, length_permutation, sum_by-IsPermutation}
-pub use Rattle.std.proofs.lemmas.List.Sums.{get_or-le-sum_by, sum_by-append, sum_by-cons, sum_by-drop_more, sum_by_more_le}
+pub use Rattle.std.proofs.lemmas.List.Sums.{get_or-le-sum_by, sum_by-append, sum_by-cons, sum_by-drop_more, sum_by-le, sum_by-take-drop}
+pub use Rattle.std.proofs.lemmas.List.Sums.{sum_by_more_le}
 pub use Rattle.std.proofs.lemmas.Option.{slice_get_past}
 pub use Rattle.std.proofs.lemmas.Simd.{map-map}
-pub use Rattle.std.specs.List.{list_any, zip}
+pub use Rattle.std.specs.List.{list_any, range_with_len, zip}
 pub use Rattle.std.specs.List.Sorted.{IsNonDecreasingBy}

@@ -1,18 +1,15 @@
 -- What the workers of a submission did, taken together.
 use Rattle.fx_ring.proofs.Words.{◌≡◌, ℕ, ◌+◌, ◌-◌, ◌<◌, ◌≤◌, ◌==◌, true, List, [], map, flat_map, reverse, length, All, sum_by, count_by}
-use Rattle.fx_ring.proofs.Words.{slice_index_or, closed_by, filter, refl, sym, ap, subst, ◌∙◌, arith, eqb, IsNonDecreasingBy, All-contains, IsPermutation-trans}
-use Rattle.fx_ring.proofs.Words.{length_permutation, FileEntry, IsInOrderOfMark, CloseListView, Closed, opening, Contents, state_of, IsLegal}
-use Rattle.fx_ring.proofs.Words.{action_of, part_of_chain, Event, ClosesTable, times_drawn, numbers_for, Opening, size_of, state_at, PassView}
-use Rattle.fx_ring.proofs.Words.{IsOfDrawnChains, some_times, part_of_drawn, sum_reverse, sum_map, Completed, Explains, first_member, Asked, runs_of}
-use Rattle.fx_ring.proofs.Words.{all_weights, ring_with, IsOneHistory, WorkerState, HasWorked, run_of_chain, completions_of_chain}
-use Rattle.std.specs.Prelude.{Contains}
-use Rattle.std.specs.List.Sorted.{IsPermutation}
-use Rattle.fx_table.proofs.Members.{contains_map, contains_mapped, contains_reverse, contains_reversed, each_all}
+use Rattle.fx_ring.proofs.Words.{slice_index_or, closed_by, filter, refl, sym, ap, subst, ◌∙◌, arith, eqb, IsNonDecreasingBy, All-contains}
+use Rattle.fx_ring.proofs.Words.{IsPermutation-trans, length_permutation, FileEntry, IsInOrderOfMark, CloseListView, Closed, opening, Contents}
+use Rattle.fx_ring.proofs.Words.{state_of, IsLegal, action_of, part_of_chain, Event, ClosesTable, times_drawn, numbers_for, Opening, size_of}
+use Rattle.fx_ring.proofs.Words.{state_at, PassView, IsOfDrawnChains, some_times, part_of_drawn, sum_reverse, sum_map, Completed, Explains}
+use Rattle.fx_ring.proofs.Words.{first_member, Asked, runs_of, all_weights, ring_with, IsOneHistory, WorkerState, HasWorked, run_of_chain}
+use Rattle.fx_ring.proofs.Words.{completions_of_chain, Contains, IsPermutation, contains_map, contains_mapped, contains_reverse, contains_reversed}
+use Rattle.fx_ring.proofs.Words.{each_all, range_with_len, flat_map-map}
 use Rattle.fx_ring.proofs.ClosesInParts.{closes_of, closes_by_key, closes_sum}
 use Rattle.fx_table.proofs.Chains.{in_part}
-use Rattle.std.specs.List.{range_with_len}
 use Rattle.fx_ring.proofs.NumberedParts.{number_within, one_part, all_parts, filter_parts, parts_reversed, same_parts}
-use Rattle.std.proofs.lemmas.List.Folds.{flat_map-map}
 use Rattle.fx_ring.proofs.CompletionPlaces.{place_key}
 use Rattle.fx_ring.proofs.Rings.{ring_as}
 use Rattle.fx_ring.proofs.Parts.{few_by_key, none_kept}

@@ -1,6 +1,4 @@
-use Rattle.fx_ring.proofs.Words.{arith, ◌+◌, length, sym, ap, subst, PassView, all_asked, Reported, IsOneHistory}
-use Rattle.fx_ring.specs.OpenRings.{ring_led_by}
-use Rattle.fx_ring.proofs.Words.{asked_of, length-map}
+use Rattle.fx_ring.proofs.Words.{arith, ◌+◌, length, sym, ap, subst, PassView, all_asked, Reported, IsOneHistory, asked_of, length-map, ring_led_by}
 use Rattle.fx_ring.proofs.NewCrew.{runs_have_all}
 use Rattle.fx_ring.proofs.Runs.{as_many, runs_within}
 use Rattle.fx_ring.proofs.LoneHistories.{part_is_one_history}

@@ -1,6 +1,5 @@
-use Rattle.fx_ring.proofs.Words.{ℕ, ◌+◌, ◌<◌, ◌≤◌, ◌≡◌, List, length, take, get_or, sum_by, ap, arith, sum_by_more_le, IsAccepted, all_asked, asked_of}
-use Rattle.fx_ring.proofs.Words.{operation_of, weight_of, Request, sum_map}
-use Rattle.fx_chain.proofs.Accepted.{accepted-each, accepted-length, all_weights-small}
+use Rattle.fx_ring.proofs.Words.{ℕ, ◌+◌, ◌<◌, ◌≤◌, ◌≡◌, List, length, take, get_or, sum_by, ap, arith, sum_by_more_le, IsAccepted, all_asked}
+use Rattle.fx_ring.proofs.Words.{asked_of, operation_of, weight_of, Request, sum_map, accepted-each, accepted-length, all_weights-small}
 use Rattle.fx_ring.proofs.outcome.weight_of_all.Goals as goal
 
 abbrev weight_of_one : Request → ℕ

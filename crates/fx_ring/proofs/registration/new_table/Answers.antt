@@ -1,5 +1,4 @@
-use Rattle.fx_ring.proofs.Words.{◌≡◌, ◌*◌, ℕ, Option, length, ap, ◌∙◌, arith, Closed, state_of, files_after, removed_from, tags_for, files_at}
-use Rattle.fx_ring.proofs.Words.{None}
+use Rattle.fx_ring.proofs.Words.{◌≡◌, ◌*◌, ℕ, Option, length, ap, ◌∙◌, arith, Closed, state_of, files_after, removed_from, tags_for, files_at, None}
 use Rattle.fx_ring.proofs.Numbers.{good_files}
 use Rattle.fx_ring.proofs.Origins.{none_removed}
 use Rattle.fx_ring.proofs.Rings.{opening_files, vacant_empty, vacant_files}

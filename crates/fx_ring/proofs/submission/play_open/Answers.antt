@@ -1,8 +1,6 @@
-use Rattle.fx_ring.proofs.Words.{◌+◌, List, length, sym, ap, subst, ◌∙◌, arith, PassView, IsIdle, all_asked, runs_of, Completed}
-use Rattle.fx_ring.proofs.Words.{all_completed, HasRoomFor, ring_with, IsOneHistory, Reported, Worker, Completion, CloseListView, Closed, map}
-use Rattle.std.specs.List.Sorted.{IsPermutation}
-use Rattle.fx_chain.proofs.Accepted.{accepted-length}
-use Rattle.fx_table.specs.declared.limits.TheConstants.{PASS_LOOKS}
+use Rattle.fx_ring.proofs.Words.{◌+◌, List, length, sym, ap, subst, ◌∙◌, arith, PassView, IsIdle, all_asked, runs_of, Completed, all_completed}
+use Rattle.fx_ring.proofs.Words.{HasRoomFor, ring_with, IsOneHistory, Reported, Worker, Completion, CloseListView, Closed, map, IsPermutation}
+use Rattle.fx_ring.proofs.Words.{accepted-length, PASS_LOOKS}
 use Rattle.fx_ring.proofs.NewCrew.{IsNew, all_gathered, all_scattered, all_new, as_many_passes, new_has_worked, new_has_room, runs_have_all}
 use Rattle.fx_ring.proofs.NewCrew.{runs_weigh_all}
 use Rattle.fx_ring.proofs.WorkersTogether.{HavePlayed, one_of_each, closes_weigh, one_history}

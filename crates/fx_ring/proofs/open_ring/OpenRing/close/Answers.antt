@@ -1,5 +1,4 @@
-use Rattle.fx_ring.proofs.Words.{◌∙◌, ap, ring_of}
-use Rattle.fx_ring.specs.OpenRings.{OpenRingContents}
+use Rattle.fx_ring.proofs.Words.{◌∙◌, ap, ring_of, OpenRingContents}
 use Rattle.fx_ring.proofs.RingsOpened.{closed_ring}
 use Rattle.fx_ring.proofs.open_ring.OpenRing.close.Goals as goal
 

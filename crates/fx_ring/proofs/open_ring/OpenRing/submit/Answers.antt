@@ -1,5 +1,5 @@
 use Rattle.fx_ring.proofs.Words.{◌≡◌, ◌∙◌, ap, refl, sym, subst, arith, rules, ring_of, all_asked, List, map, members_of, runs_of, Chain}
-use Rattle.fx_ring.specs.OpenRings.{OpenRingContents}
+use Rattle.fx_ring.proofs.Words.{OpenRingContents}
 use Rattle.fx_ring.proofs.Runs.{chains_install}
 use Rattle.fx_ring.proofs.RingsOpened.{kept_behind, counts_shown}
 use Rattle.fx_ring.proofs.open_ring.OpenRing.submit.Goals as goal

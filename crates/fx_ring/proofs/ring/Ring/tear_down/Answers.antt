@@ -1,5 +1,4 @@
-use Rattle.fx_ring.proofs.Words.{rules, AreEntries, HasClosed, ring_of}
-use Rattle.fx_ring.specs.Ring.{files_of}
+use Rattle.fx_ring.proofs.Words.{rules, AreEntries, HasClosed, ring_of, files_of}
 use Rattle.fx_ring.proofs.Rings.{all_closed, emptied_settled}
 use Rattle.fx_ring.proofs.ring.Ring.tear_down.Goals.{After-sort}
 use Rattle.fx_ring.proofs.ring.Ring.tear_down.Goals as goal

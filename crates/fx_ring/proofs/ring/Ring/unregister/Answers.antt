@@ -1,5 +1,4 @@
-use Rattle.fx_ring.proofs.Words.{ap, rules, State, identity_of, AreEntries, HasClosed, ring_of}
-use Rattle.fx_ring.specs.Ring.{files_of}
+use Rattle.fx_ring.proofs.Words.{ap, rules, State, identity_of, AreEntries, HasClosed, ring_of, files_of}
 use Rattle.fx_ring.proofs.Rings.{all_closed, emptied_settled, none_rings}
 use Rattle.fx_ring.proofs.ring.Ring.unregister.Goals.{After-sort}
 use Rattle.fx_ring.proofs.ring.Ring.unregister.Goals as goal
