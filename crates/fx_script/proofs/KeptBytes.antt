@@ -1,17 +1,14 @@
 -- What the bytes that are kept of an input say of it.
-use Rattle.std.proofs.Common.{◌≡◌, ℕ, ◌+◌, ◌<◌, true, nat_lt, List, length, take, refl, sym, ap, ◌∙◌, inl, inr, arith, Option, Some, None}
-use Rattle.std.specs.Prelude.{IfSome, Err}
+use Rattle.fx_script.proofs.Words.{◌≡◌, ℕ, ◌+◌, ◌<◌, true, nat_lt, List, length, take, refl, sym, ap, ◌∙◌, inl, inr, arith, Option, Some, None}
+use Rattle.fx_script.proofs.Words.{IfSome, Err, length-take, take_all, IsInput, IsInputFault, LONGEST_SCRIPT}
 use Rattle.std.proofs.lemmas.Bool.{cases_lt}
 use Rattle.std.proofs.lemmas.Bool.Decides.{nat_tests}
-use Rattle.std.proofs.lemmas.List.{length-take, take_all}
-use Rattle.fx_script.specs.Run.{IsInput, IsInputFault}
 use Rattle.fx_script.specs.RunView.{fault_told}
 use Rattle.fx_language.specs.Script.{Meaning, LineFault, IsScript, reading_of}
 use Rattle.fx_language.specs.ScriptError.{IsFaultOf}
 use Rattle.fx_language.specs.declared.fault.ScriptError.{ScriptError}
 use Rattle.fx_language.specs.declared.fault.ScriptError.TheVariants.{Fault, NoMemory}
 use Rattle.fx_language.specs.declared.fault.ScriptFault.TheVariants.{LongScript}
-use Rattle.fx_language.specs.declared.limits.TheConstants.{LONGEST_SCRIPT}
 
 abbrev too_long : LineFault
 too_long = record { line = 0; kind = LongScript }

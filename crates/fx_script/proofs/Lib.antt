@@ -1,3 +1,4 @@
+pub mod Words
 pub mod Turns
 pub mod KeptBytes
 pub mod SameRings

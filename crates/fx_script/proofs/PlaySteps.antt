@@ -1,20 +1,13 @@
 -- A play goes on by some commands.
-use Rattle.std.proofs.Common.{◌≡◌, ℕ, ◌+◌, ◌<◌, ◌≤◌, List, [], ◌∷◌, ◌++◌, length, refl, sym, ap, subst, ◌∙◌, Option, Some, None, append_assoc, drop}
-use Rattle.std.proofs.Common.{take, slice_index_or, inl, inr, arith}
-use Rattle.std.proofs.lemmas.List.{append-nil, map-append, take-append-drop, take_all}
+use Rattle.fx_script.proofs.Words.{◌≡◌, ℕ, ◌+◌, ◌<◌, ◌≤◌, List, [], ◌∷◌, ◌++◌, length, refl, sym, ap, subst, ◌∙◌, Option, Some, None, append_assoc}
+use Rattle.fx_script.proofs.Words.{drop, take, slice_index_or, inl, inr, arith, append-nil, map-append, take-append-drop, take_all, IfErr-weaker}
+use Rattle.fx_script.proofs.Words.{Appends, IfErr, Result, RingContents, RingState, files_in_order, ring_of, Instruction, instruction_of}
+use Rattle.fx_script.proofs.Words.{instructions_of, Prints, PrintsAll, PrintsEnd, PrintsFirst, PrintsUpTo, IsPlayFault, Writes, PlayFault}
 use Rattle.std.proofs.lemmas.List.Sorted.{IsPermutation-refl}
-use Rattle.std.proofs.lemmas.Result.{IfErr-weaker}
 use Rattle.std.proofs.Math.Seq.{drop-cons, take-add}
-use Rattle.std.specs.Io.KnownBytes.{Appends}
-use Rattle.std.specs.Prelude.{IfErr, Result}
 use Rattle.std.specs.List.Sorted.{IsPermutation}
-use Rattle.fx_ring.specs.Ring.{RingContents, RingState, files_in_order, ring_of}
-use Rattle.fx_language.specs.Instruction.{Instruction, instruction_of, instructions_of}
-use Rattle.fx_script.specs.Play.{Prints, PrintsAll, PrintsEnd, PrintsFirst, PrintsUpTo}
-use Rattle.fx_script.specs.Run.{IsPlayFault, Writes}
 use Rattle.fx_script.proofs.SameRings.{up_to_same, all_same, first_same}
 use Rattle.fx_language.specs.declared.command.Command.{Command}
-use Rattle.fx_script.specs.declared.play_fault.PlayFault.{PlayFault}
 use Rattle.fx_script.specs.declared.play_fault.PlayFault.TheVariants.{Read, Script, Write, NoMemory}
 
 Appends-nothing : (known : Option (List ℕ)) → Appends known known []

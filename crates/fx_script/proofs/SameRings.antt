@@ -1,19 +1,18 @@
 -- What commands print on a ring, they print on one that shows the same.
-use Rattle.std.proofs.Common.{◌≡◌, ℕ, pos, List, [], ◌∷◌, length, sym, subst, ◌∙◌, Option, Some, None, Bool, true, false, nat_le, inl, inr, codes}
+use Rattle.fx_script.proofs.Words.{◌≡◌, ℕ, pos, List, [], ◌∷◌, length, sym, subst, ◌∙◌, Option, Some, None, Bool, true, false, nat_le, inl, inr}
+use Rattle.fx_script.proofs.Words.{codes, Asked, RingContents, RingState, files_of, ring_of, without_table, Instruction, MakesSparse, RegistersList}
+use Rattle.fx_script.proofs.Words.{Unregisters, SetsRange, UpdatesRing, SubmitsAll, Answers, IsRefused, Prints, PrintsAll, PrintsClosed, PrintsEnd}
+use Rattle.fx_script.proofs.Words.{PrintsFirst, PrintsReport, PrintsUpTo}
 use Rattle.std.specs.Bool.{MatchBool}
 use Rattle.std.specs.Option.{MatchOption}
 use Rattle.fx_chain.specs.Faults.{fault_of}
-use Rattle.fx_chain.specs.Operation.{Asked}
 use Rattle.fx_chain.specs.declared.fault.CutFault.{CutFault}
 use Rattle.fx_ring.proofs.SameRings.{same_history}
 use Rattle.fx_ring.specs.Registration.{range_refusal, register_refusal, registered, registered_sparse, removed_from, sparse_refusal}
 use Rattle.fx_ring.specs.Registration.{unregister_refusal, update_refusal, updated}
-use Rattle.fx_ring.specs.Ring.{RingContents, RingState, files_of, ring_of, without_table}
 use Rattle.fx_ring.specs.Tags.{tags_given}
 use Rattle.fx_ring.specs.declared.ring.TheConstants.{MOST_SUBMISSIONS}
-use Rattle.fx_language.specs.Instruction.{Instruction, MakesSparse, RegistersList, Unregisters, SetsRange, UpdatesRing, SubmitsAll}
 use Rattle.fx_print.specs.Text.{result_line, refused_line, too_many_line}
-use Rattle.fx_script.specs.Play.{Answers, IsRefused, Prints, PrintsAll, PrintsClosed, PrintsEnd, PrintsFirst, PrintsReport, PrintsUpTo}
 use Rattle.fx_script.specs.Text.{report_text}
 
 module _ (old same next : RingContents) (line : List ℕ) (is : ring_of same ≡ ring_of old) where

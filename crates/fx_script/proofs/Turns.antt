@@ -1,9 +1,6 @@
 -- What was read and kept, turn by turn.
-use Rattle.std.proofs.Common.{◌≡◌, ℕ, zero, suc, ◌-◌, ◌≤◌, List, [], ◌∷◌, ◌++◌, length, take, refl}
-use Rattle.std.proofs.Common.{sym, ap, ◌∙◌, append_assoc, length-append, Option, Some, None, arith}
-use Rattle.std.specs.Prelude.{IfSome}
-use Rattle.std.specs.Io.KnownBytes.{Consumes, IsAtEnd}
-use Rattle.std.proofs.lemmas.List.{append-nil, length-take}
+use Rattle.fx_script.proofs.Words.{◌≡◌, ℕ, zero, suc, ◌-◌, ◌≤◌, List, [], ◌∷◌, ◌++◌, length, take, refl, sym, ap, ◌∙◌, append_assoc, length-append}
+use Rattle.fx_script.proofs.Words.{Option, Some, None, arith, IfSome, Consumes, IsAtEnd, append-nil, length-take}
 
 -- what was read is gone from the reader, and the first n bytes of it were kept
 pub record Kept (n : ℕ) (old now : Option (List ℕ)) (input : List ℕ) : Type 0 where

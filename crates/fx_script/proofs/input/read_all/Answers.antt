@@ -1,5 +1,4 @@
-use Rattle.std.proofs.Common.{rules, ◌≡◌, ◌++◌, ◌+◌, ◌-◌, ℕ, List, length, take}
-use Rattle.fx_language.specs.declared.limits.TheConstants.{LONGEST_SCRIPT}
+use Rattle.fx_script.proofs.Words.{rules, ◌≡◌, ◌++◌, ◌+◌, ◌-◌, ℕ, List, length, take, LONGEST_SCRIPT}
 use Rattle.fx_script.proofs.Turns.{one_read, at_end, few_kept}
 use Rattle.fx_script.proofs.input.read_all.Goals as goal
 

@@ -1,5 +1,4 @@
-use Rattle.std.proofs.Common.{◌+◌, ◌≤◌, length}
-use Rattle.fx_language.specs.declared.limits.TheConstants.{LONGEST_SCRIPT}
+use Rattle.fx_script.proofs.Words.{◌+◌, ◌≤◌, length, LONGEST_SCRIPT}
 use Rattle.fx_script.proofs.Turns.{Kept}
 use Rattle.fx_script.proofs.input.read_all.Given as goal
 

@@ -1,5 +1,4 @@
-use Rattle.std.proofs.Common.{◌≤◌}
-use Rattle.fx_table.specs.declared.limits.TheConstants.{CHAIN_NUMBERS, MAX_CHAINS}
+use Rattle.fx_script.proofs.Words.{◌≤◌, CHAIN_NUMBERS, MAX_CHAINS}
 use Rattle.fx_script.proofs.needs.needs_together.Given as goal
 
 abbrev pub invariant-loop-command : goal.invariant-loop-command

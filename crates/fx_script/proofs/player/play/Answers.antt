@@ -1,7 +1,4 @@
-use Rattle.std.proofs.Common.{◌∙◌, ap}
-use Rattle.std.proofs.lemmas.Result.{on_ok_weaker}
-use Rattle.fx_ring.specs.Ring.{new_ring}
-use Rattle.fx_language.specs.Instruction.{instructions_of}
+use Rattle.fx_script.proofs.Words.{◌∙◌, ap, on_ok_weaker, new_ring, instructions_of}
 use Rattle.fx_script.proofs.PlaySteps.{written_as, fails_as}
 use Rattle.fx_script.proofs.player.play.Goals as goal
 

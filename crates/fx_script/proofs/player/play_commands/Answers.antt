@@ -1,6 +1,4 @@
-use Rattle.std.proofs.Common.{length-drop, arith}
-use Rattle.std.proofs.lemmas.List.{take_rest}
-use Rattle.std.proofs.lemmas.Result.{IfErr-weaker, on_ok_weaker}
+use Rattle.fx_script.proofs.Words.{length-drop, arith, take_rest, IfErr-weaker, on_ok_weaker}
 use Rattle.fx_script.proofs.PlaySteps.{some_more, ends, ends_early, fails}
 use Rattle.fx_script.proofs.player.play_commands.Goals as goal
 

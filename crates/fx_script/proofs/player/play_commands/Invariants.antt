@@ -1,4 +1,4 @@
-use Rattle.std.proofs.Common.{◌≤◌, ◌-◌, length}
+use Rattle.fx_script.proofs.Words.{◌≤◌, ◌-◌, length}
 use Rattle.fx_script.proofs.PlaySteps.{HasPlayed}
 use Rattle.fx_script.proofs.player.play_commands.Given as goal
 

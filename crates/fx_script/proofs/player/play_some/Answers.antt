@@ -1,4 +1,4 @@
-use Rattle.std.proofs.Common.{rules, ◌<◌, ◌+◌, length}
+use Rattle.fx_script.proofs.Words.{rules, ◌<◌, ◌+◌, length}
 use Rattle.fx_script.proofs.PlaySteps.{HasPlayed, one_more, fails}
 use Rattle.fx_script.proofs.player.play_some.Goals as goal
 

@@ -1,6 +1,4 @@
-use Rattle.std.proofs.Common.{rules, ◌≡◌, [], string_bytes, subst, sym}
-use Rattle.fx_ring.specs.Ring.{ring_of}
-use Rattle.fx_script.specs.Play.{PrintsEnd}
+use Rattle.fx_script.proofs.Words.{rules, ◌≡◌, [], string_bytes, subst, sym, ring_of, PrintsEnd}
 use Rattle.fx_script.proofs.PlaySteps.{nothing_left}
 use Rattle.fx_script.proofs.prints.end_text.Goals as goal
 

@@ -1,6 +1,4 @@
-use Rattle.std.proofs.Common.{subst, sym}
-use Rattle.std.proofs.lemmas.Result.{err_from_is_err_and}
-use Rattle.fx_script.specs.Run.{IsInputFault}
+use Rattle.fx_script.proofs.Words.{subst, sym, err_from_is_err_and, IsInputFault}
 use Rattle.fx_script.proofs.KeptBytes.{IsKept, script_kept, fault_kept}
 use Rattle.fx_script.proofs.runner.read_script.Goals as goal
 

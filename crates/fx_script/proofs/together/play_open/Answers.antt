@@ -1,11 +1,5 @@
-use Rattle.std.proofs.Common.{rules, ap, subst, sym, ◌≡◌, ◌∙◌, refl, string_bytes}
-use Rattle.std.proofs.lemmas.Result.{err_from_is_err_and}
-use Rattle.std.specs.Io.KnownBytes.{Appends}
-use Rattle.fx_chain.specs.Operation.{all_asked}
-use Rattle.fx_language.specs.Instruction.{Instruction, SubmitsAll, instruction_of}
-use Rattle.fx_script.specs.Play.{Prints}
-use Rattle.fx_script.specs.Run.{IsPlayFault}
-use Rattle.fx_script.specs.declared.play_fault.PlayFault.{PlayFault}
+use Rattle.fx_script.proofs.Words.{rules, ap, subst, sym, ◌≡◌, ◌∙◌, refl, string_bytes, err_from_is_err_and, Appends, all_asked, Instruction}
+use Rattle.fx_script.proofs.Words.{SubmitsAll, instruction_of, Prints, IsPlayFault, PlayFault}
 use Rattle.fx_script.proofs.PlaySteps.{one_more, fails}
 use Rattle.fx_script.proofs.together.play_open.Goals as goal
 

@@ -1,6 +1,4 @@
-use Rattle.std.proofs.Common.{sym}
-use Rattle.std.proofs.lemmas.Result.{IfOk-weaker}
-use Rattle.fx_language.specs.Instruction.{instructions_of}
+use Rattle.fx_script.proofs.Words.{sym, IfOk-weaker, instructions_of}
 use Rattle.fx_script.proofs.PlaySteps.{written_as, fails_as}
 use Rattle.fx_script.proofs.SameRings.{up_to_same, up_to_other, first_same}
 use Rattle.fx_script.proofs.together.play_together.Goals as goal
