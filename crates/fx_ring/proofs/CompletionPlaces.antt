@@ -1,6 +1,6 @@
 -- Where the completions of a chain stand.
 use Rattle.fx_ring.proofs.Words.{◌≡◌, ℕ, ◌+◌, ◌*◌, ◌<◌, ◌≤◌, List, [], ◌∷◌, length, refl, sym, ap, subst, arith, All, All-nil, All-cons, All-weaker}
-use Rattle.fx_ring.proofs.Words.{FileEntry, Action, Completed, next_member, Explains, canceled, severs, Asked, Place, either_way}
+use Rattle.fx_ring.proofs.Words.{FileEntry, Action, Completed, next_member, Explains, canceled, severs, Asked, Place, either_case}
 use Rattle.fx_ring.proofs.Installs.{answered}
 use Rattle.fx_ring.proofs.OneOrder.{Rises}
 
@@ -46,7 +46,6 @@ pub explained_of_members : (catalogue : List FileEntry) (size : ℕ) (place : Pl
     → AreOfMembers place requests completions
 explained_of_members catalogue size place [] events it = subst (AreOfMembers place []) (sym it.1) (none_of_members place)
 explained_of_members catalogue size place (request ∷ requests) events (own, others, c, cs, parts, are, answers, behind) =
-    subst (AreOfMembers place (request ∷ requests)) (sym are) (more_of_members request (answered catalogue size request.operation own c answers).0
-    (either_way (severs request c)
-    (λ _ cut. subst (AreOfMembers (next_member place) requests) (sym cut.1) (canceled_of_members (next_member place) requests))
-    (λ _ more. explained_of_members catalogue size (next_member place) requests others more) behind))
+    subst (AreOfMembers place (request ∷ requests)) (sym are) (more_of_members request (answered catalogue place size request.operation answers).at
+    (either_case (severs request c) (λ cut. subst (AreOfMembers (next_member place) requests) (sym cut.1) (canceled_of_members (next_member place) requests))
+    (λ more. explained_of_members catalogue size (next_member place) requests others more) behind))

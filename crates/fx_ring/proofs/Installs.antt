@@ -2,9 +2,9 @@
 use Rattle.fx_ring.proofs.Words.{refl, installed_by, ◌≡◌, ◌≢◌, ℕ, zero, suc, ◌+◌, ◌<◌, ◌≤◌, ◌==◌, ◌||◌, nat_le, nat_lt, ℤ, pos, negsuc, false, List}
 use Rattle.fx_ring.proofs.Words.{[], ◌∷◌, length, sym, ap, subst, ◌∙◌, ⊎_elim, Option, Some, None, arith, list_any, leb-false, has_name, FileEntry}
 use Rattle.fx_ring.proofs.Words.{Errno, ENOENT, ENXIO, EBADF, ENOMEM, EINVAL, ENFILE, Mark, Submitted, Closed, ◌▷◌, File, Action, Look, Release, Put}
-use Rattle.fx_ring.proofs.Words.{Clear, Take, Allocate, Full, Answers, OpensAt, ReadsFrom, Empties, UpdatesFrom, AppliesEntry, AppliesList, Refuses}
+use Rattle.fx_ring.proofs.Words.{Clear, Take, Allocate, Full, Answers, OpensAt, AppliesEntry, AppliesList, Refuses}
 use Rattle.fx_ring.proofs.Words.{installed, is_bad_entry, Completed, next_member, Explains, severs, Operation, Opens, Reads, Closes, Updates, Asked}
-use Rattle.fx_ring.proofs.Words.{Place, Target, Slot, Any, either_way, or_parts}
+use Rattle.fx_ring.proofs.Words.{Place, Target, Slot, Any, either_way, either_case, or_parts}
 use Rattle.fx_ring.proofs.NewMarks.{Puts, puts_then, puts_so, puts_none, puts_one, puts_may_close}
 use Rattle.fx_base.proofs.Entries.{entry_named}
 
@@ -27,12 +27,19 @@ abbrev place_of : Completed → Place
 place_of c = c.place
 
 -- the completion stands at the place, and the steps install such files
-abbrev Gives : Place → (File → Type 0) → List Action → Completed → Type 0
-Gives place P events c = (c.place ≡ place) × Puts P events
+pub record Gives (place : Place) (P : File → Type 0) (events : List Action) (c : Completed) : Type 0 where
+  pub at : c.place ≡ place
+  pub puts : Puts P events
 
-module _ (entries : ℕ) (place : Place) where
+module _ (catalogue : List FileEntry) (place : Place) where
+  abbrev entries : ℕ
+  entries = length catalogue
+
   abbrev Here : ℕ → File → Type 0
   Here j f = IsMarked entries (Submitted place.submission place.chain place.member j) f
+
+  abbrev Listed : ℕ → File → Type 0
+  Listed low f = IsListed entries place low f
 
   -- the step that installs it
   installs_here : {j entry : ℕ} {f : File} (a : Action) → installed_by a ≡ Some f → f.identity ≡ installed place j entry → entry < entries
@@ -41,43 +48,22 @@ module _ (entries : ℕ) (place : Place) where
       (λ g now. let both : Some f ≡ Some g = sym new ∙ now in let e : f ≡ g = cc both in subst (Here j) e
       (ap (λ (x : Closed). x.mark) is, let same : f.identity.entry ≡ entry = ap (λ (x : Closed). x.entry) is in omega arith))
 
-  refuses : (P : File → Type 0) (errno : Errno) {events : List Action} {c : Completed} → Refuses place errno events c → Gives place P events c
-  refuses P errno it = (ap place_of it.1, subst (Puts P) (sym it.0) (puts_none P [] (λ f is. is)))
+  refuses : {P : File → Type 0} (errno : Errno) {events : List Action} {c : Completed} → Refuses place errno events c → Gives place P events c
+  refuses {P} errno it = record { at = ap place_of it.1; puts = subst (Puts P) (sym it.0) (puts_none P [] (λ f is. is)) }
 
-  opens : (size : ℕ) {entry : ℕ} (target : Target) (events : List Action) (c : Completed) → entry < entries → OpensAt size place entry target events c
-      → Gives place (Here 0) events c
-  opens size {entry} (Slot slot) events c inside it =
-      either_way (size == 0) (λ _. refuses (Here 0) ENXIO) (λ _. either_way (nat_le size slot) (λ _. refuses (Here 0) EINVAL) (λ _ put. (
-        ap place_of put.4,
-        puts_may_close (Here 0) ([] ▷ Put slot put.0 put.1) put.1 events put.3 (installs_here (Put slot put.0 put.1) refl put.2 inside),
-      ))) it
-  opens size {entry} Any events c inside it =
-      either_way (size == 0) (λ _. refuses (Here 0) ENFILE) (λ _. ⊎_elim
-      (λ found. (ap place_of found.4, subst (Puts (Here 0)) (sym found.3) (installs_here (Allocate found.0 found.1) refl found.2 inside)))
-      (λ full. (ap place_of full.1, subst (Puts (Here 0)) (sym full.0) (puts_one (Here 0) Full (no_file (Here 0)))))) it
-
-  module _ (P : File → Type 0) where
-    reads : (catalogue : List FileEntry) (size slot off len : ℕ) (events : List Action) (c : Completed)
-        → ReadsFrom catalogue size place slot off len events c → Gives place P events c
-    reads catalogue size slot off len events c it =
-        either_way (nat_le size slot) (λ _. refuses P EBADF) (λ _. ⊎_elim (λ large. refuses P ENOMEM large.1) (⊎_elim
-        (λ none. (ap place_of none.1, subst (Puts P) (sym none.0) (puts_one P (Look slot None) (no_file P))))
-        (λ found. (
-          ap place_of found.2,
-          puts_may_close P ([] ▷ Look slot (Some found.0) ▷ Release found.0) (Some found.0) events found.1
-              (puts_none P ([] ▷ Look slot (Some found.0) ▷ Release found.0)
-              (λ f. ⊎_elim (⊎_elim (λ before. before) (no_file (λ _. ⊥) f)) (no_file (λ _. ⊥) f))),
-        )))) it
-
-    empties : (size slot : ℕ) (events : List Action) (c : Completed) → Empties size place slot events c → Gives place P events c
-    empties size slot events c it =
-        either_way (size == 0) (λ _. refuses P ENXIO) (λ _. either_way (nat_le size slot) (λ _. refuses P EINVAL) (λ _. ⊎_elim
-        (λ none. (ap place_of none.1, subst (Puts P) (sym none.0) (puts_one P (Take slot None) (no_file P))))
-        (λ taken. (
-          ap place_of taken.2,
-          puts_may_close P ([] ▷ Take slot (Some taken.0)) (Some taken.0) events taken.1
-              (puts_one P (Take slot (Some taken.0)) (no_file P)),
-        )))) it
+  opens : (size : ℕ) {entry : ℕ} (target : Target) {events : List Action} {c : Completed} → entry < entries
+      → OpensAt size place entry target events c → Gives place (Here 0) events c
+  opens size (Slot slot) {events} inside it =
+      either_case (size == 0) (refuses ENXIO) (either_case (nat_le size slot) (refuses EINVAL) (λ put. record {
+        at = ap place_of put.4;
+        puts = puts_may_close (Here 0) ([] ▷ Put slot put.0 put.1) put.1 events put.3 (installs_here (Put slot put.0 put.1) refl put.2 inside);
+      })) it
+  opens size Any inside it = either_case (size == 0) (refuses ENFILE) (⊎_elim
+      (λ found. record {
+        at = ap place_of found.4;
+        puts = subst (Puts (Here 0)) (sym found.3) (installs_here (Allocate found.0 found.1) refl found.2 inside);
+      })
+      (λ full. record { at = ap place_of full.1; puts = subst (Puts (Here 0)) (sym full.0) (puts_one (Here 0) Full (no_file (Here 0))) })) it
 
   applies_entry : {j : ℕ} (slot : ℕ) (z : ℤ) (events : List Action) → is_bad_entry entries z ≡ false → AppliesEntry place j slot z events
       → Puts (Here j) events
@@ -87,7 +73,7 @@ module _ (entries : ℕ) (place : Place) where
       puts_may_close (Here j) ([] ▷ Clear slot removed) removed events may (puts_one (Here j) (Clear slot removed) (no_file (Here j)))
   applies_entry {j} slot (negsuc (suc n)) events good is = subst (Puts (Here j)) (sym is) (puts_none (Here j) [] (λ f it. it))
 
-  later_place : {j : ℕ} (f g : File) → IsListed entries place (j + 1) f → Here j g → f.identity.mark ≢ g.identity.mark
+  later_place : {j : ℕ} (f g : File) → Listed (j + 1) f → Here j g → f.identity.mark ≢ g.identity.mark
   later_place {j} f g (k, le, of) at same =
       let e : Submitted place.submission place.chain place.member k ≡ Submitted place.submission place.chain place.member j =
       sym of.0 ∙ (same ∙ at.0) in
@@ -95,36 +81,41 @@ module _ (entries : ℕ) (place : Place) where
       omega arith
 
   applies_list : (j slot : ℕ) (list : List ℤ) (events : List Action) → list_any (is_bad_entry entries) list ≡ false
-      → AppliesList place j slot list events → Puts (IsListed entries place j) events
-  applies_list j slot [] events good is = subst (Puts (IsListed entries place j)) (sym is) (puts_none (IsListed entries place j) [] (λ f it. it))
+      → AppliesList place j slot list events → Puts (Listed j) events
+  applies_list j slot [] events good is = subst (Puts (Listed j)) (sym is) (puts_none (Listed j) [] (λ f it. it))
   applies_list j slot (z ∷ list) events good (own, others, is, one, more) =
-      subst (Puts (IsListed entries place j)) (sym is)
-      (puts_then (Here j) (IsListed entries place (j + 1)) (IsListed entries place j) own others
-      (λ f at. (j, omega arith, at))
-      (λ f at. (at.0, let le = at.1 in omega arith, at.2)) (later_place) (applies_entry slot z own (or_parts _ _ good).0 one)
+      subst (Puts (Listed j)) (sym is) (puts_then (Here j) (Listed (j + 1)) (Listed j) own others (λ f at. (j, omega arith, at))
+      (λ f at. (at.0, let le = at.1 in omega arith, at.2)) later_place (applies_entry slot z own (or_parts _ _ good).0 one)
       (applies_list (j + 1) (slot + 1) list others (or_parts _ _ good).1 more))
 
-  updates : (size off : ℕ) (list : List ℤ) (events : List Action) (c : Completed) → UpdatesFrom entries size place off list events c
-      → Gives place (IsListed entries place 0) events c
-  updates size off list events c it =
-      either_way (size == 0) (λ _. refuses (IsListed entries place 0) ENXIO)
-      (λ _. either_way (length list == 0 || nat_lt size (off + length list)) (λ _. refuses (IsListed entries place 0) EINVAL)
-      (λ _. either_way (list_any (is_bad_entry entries) list) (λ _. refuses (IsListed entries place 0) EBADF)
-      (λ good applied. (ap place_of applied.1, applies_list 0 off list events good applied.0)))) it
+  pub answered : (size : ℕ) (operation : Operation) {events : List Action} {c : Completed} → Answers catalogue size place operation events c
+      → Gives place (Listed 0) events c
+  answered size (Opens name target) {events} it = either_case (has_name name catalogue)
+      (λ found. let o = opens size target (entry_named catalogue found.0 name found.1) found.2 in
+      record { at = o.at; puts = puts_so (Here 0) (Listed 0) events (λ f at. (0, omega arith, at)) o.puts }) (refuses ENOENT) it
+  answered size (Reads slot off len) {events} it =
+      either_case (nat_le size slot) (refuses EBADF) (⊎_elim (λ large. refuses ENOMEM large.1) (⊎_elim
+      (λ none. record { at = ap place_of none.1; puts = subst (Puts (Listed 0)) (sym none.0) (puts_one (Listed 0) (Look slot None) (no_file (Listed 0))) })
+      (λ found. record {
+        at = ap place_of found.2;
+        puts = puts_may_close (Listed 0) ([] ▷ Look slot (Some found.0) ▷ Release found.0) (Some found.0) events found.1
+            (puts_none (Listed 0) ([] ▷ Look slot (Some found.0) ▷ Release found.0)
+            (λ f. ⊎_elim (⊎_elim (λ before. before) (no_file (λ _. ⊥) f)) (no_file (λ _. ⊥) f)));
+      }))) it
+  answered size (Closes slot) {events} it =
+      either_case (size == 0) (refuses ENXIO) (either_case (nat_le size slot) (refuses EINVAL) (⊎_elim
+      (λ none. record { at = ap place_of none.1; puts = subst (Puts (Listed 0)) (sym none.0) (puts_one (Listed 0) (Take slot None) (no_file (Listed 0))) })
+      (λ taken. record {
+        at = ap place_of taken.2;
+        puts = puts_may_close (Listed 0) ([] ▷ Take slot (Some taken.0)) (Some taken.0) events taken.1
+            (puts_one (Listed 0) (Take slot (Some taken.0)) (no_file (Listed 0)));
+      }))) it
+  answered size (Updates off list) {events} it = either_case (size == 0) (refuses ENXIO)
+      (either_case (length list == 0 || nat_lt size (off + length list)) (refuses EINVAL)
+      (either_way (list_any (is_bad_entry entries) list) (λ _. refuses EBADF)
+      (λ good applied. record { at = ap place_of applied.1; puts = applies_list 0 off list events good applied.0 }))) it
 
 module _ (catalogue : List FileEntry) (size : ℕ) where
-  pub answered : {place : Place} (operation : Operation) (events : List Action) (c : Completed) → Answers catalogue size place operation events c
-      → Gives place (IsListed (length catalogue) place 0) events c
-  answered {place} (Opens name target) events c it =
-      either_way (has_name name catalogue)
-      (λ _ found. let o = opens (length catalogue) place size target events c (entry_named catalogue found.0 name found.1) found.2 in
-      (o.0, puts_so (Here (length catalogue) place 0) (IsListed (length catalogue) place 0) events (λ f at. (0, omega arith, at)) o.1))
-      (λ _. refuses (length catalogue) place (IsListed (length catalogue) place 0) ENOENT) it
-  answered {place} (Reads slot off len) events c it =
-      reads (length catalogue) place (IsListed (length catalogue) place 0) catalogue size slot off len events c it
-  answered {place} (Closes slot) events c it = empties (length catalogue) place (IsListed (length catalogue) place 0) size slot events c it
-  answered {place} (Updates off list) events c it = updates (length catalogue) place size off list events c it
-
   later_member : {place : Place} (f g : File) → IsOfMembers (length catalogue) (next_member place) f → IsListed (length catalogue) place 0 g
       → f.identity.mark ≢ g.identity.mark
   later_member {place} f g (m, j, le, of) (k, low, at) same =
@@ -141,9 +132,7 @@ module _ (catalogue : List FileEntry) (size : ℕ) where
       let P : File → Type 0 = IsOfMembers (length catalogue) (next_member place) in
       subst (Puts (IsOfMembers (length catalogue) place)) (sym is)
       (puts_then (IsListed (length catalogue) place 0) P (IsOfMembers (length catalogue) place) own others
-      (λ f at. (place.member, at.0, omega arith, at.2))
-      (λ f at. (at.0, at.1, let le = at.2 in omega arith, at.3)) (later_member) (answered request.operation own c answers).1
-      (either_way (severs request c)
-      (λ _ cut. subst (Puts P) (sym cut.0) (puts_none P [] (λ f it. it)))
-      (λ _ more. explained_puts (next_member place) requests others cs more)
-      behind))
+      (λ f at. (place.member, at.0, omega arith, at.2)) (λ f at. (at.0, at.1, let le = at.2 in omega arith, at.3)) later_member
+      (answered catalogue place size request.operation answers).puts
+      (either_case (severs request c) (λ cut. subst (Puts P) (sym cut.0) (puts_none P [] (λ f it. it)))
+      (λ more. explained_puts (next_member place) requests others cs more) behind))

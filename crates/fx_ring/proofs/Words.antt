@@ -9,7 +9,7 @@ pub use Rattle.fx_base.specs.declared.mark.Mark.{Mark}
 pub use Rattle.fx_base.specs.declared.mark.Mark.TheVariants.{Registered, Submitted}
 pub use Rattle.fx_base.specs.declared.open_file.Closed.{Closed}
 pub use Rattle.fx_chain.proofs.Accepted.{accepted-each, accepted-length, all_weights-small}
-pub use Rattle.fx_chain.proofs.Cases.{either_way}
+pub use Rattle.fx_chain.proofs.Cases.{either_case, either_way}
 pub use Rattle.fx_chain.specs.Accepted.{IsAccepted, IsChain, IsShortRun, members_of}
 pub use Rattle.fx_chain.specs.Answers.{Answers, AppliesEntry, AppliesList, Empties, MayClose, OpensAt, ReadsFrom, Refuses, UpdatesFrom, installed}
 pub use Rattle.fx_chain.specs.Answers.{is_bad_entry}
