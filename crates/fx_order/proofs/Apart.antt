@@ -1,7 +1,14 @@
 -- Where no mark is placed twice, and none that is in the table, what was removed isn't there afterwards, and was removed once.
-use Rattle.fx_order.proofs.Words.{◌≡◌, ◌≢◌, ◌⊎◌, inl, inr, ⊎_elim, ℕ, List, [], ◌∷◌, ◌++◌, sym, ◌∙◌, Some, Closed, Table, Looks, Puts, Clears, Takes}
-use Rattle.fx_order.proofs.Words.{Allocates, FindsFull, Permits, PermitsAll, table_with, table_after, removed_by, Access}
-use Rattle.fx_order.proofs.Placed.{Has, Removes, emptied, has_left, has_right, left_from, placed, placed_by, removed_from, step_from}
+use Rattle.fx_order.proofs.Words.{◌≡◌, ◌≢◌, ◌⊎◌, inl, inr, ⊎_elim, ℕ, List, [], ◌∷◌, ◌++◌, sym, ◌∙◌, Some, Closed, Table, Puts, Allocates, Permits}
+use Rattle.fx_order.proofs.Words.{PermitsAll, table_with, table_after, removed_by, Access, removed_in, Bool, None, Option, false, refl}
+use Rattle.fx_order.proofs.Words.{slice_index_or, option_to_list}
+use Rattle.fx_order.proofs.Placed.{Has, Removes, emptied, has_left, has_right, left_from, placed, placed_by, removed_from, removes_contained, step_from}
+use Rattle.fx_order.proofs.SameFiles.{decides_mark, same_mark}
+use Rattle.std.proofs.lemmas.Bool.{not-true}
+use Rattle.std.proofs.lemmas.Bool.Decides.{Decides-not}
+use Rattle.std.proofs.lemmas.List.Elements.{Contains-get_or, recursion_from_All}
+use Rattle.std.proofs.lemmas.Map.Keys.{IsDistinct-cons}
+use Rattle.std.specs.List.{IsDistinct}
 
 -- no mark is placed twice
 abbrev pub PlacesOnce : List (ℕ × Closed) → Type 0
@@ -20,16 +27,13 @@ once_between (x ∷ xs) ys s o f g once (inr first) later same = once_between xs
 
 -- an access places one file at most
 one_placed : (x : Access) {s o : ℕ} (f g : Closed) → Has (placed_by x) s f → Has (placed_by x) o g → s ≡ o
-one_placed (Looks slot found) f g one other = absurd one
 one_placed (Puts slot file removed) f g (inl one) (inl other) = (λ i. (sym one i).0) ∙ (λ i. (other i).0)
 one_placed (Puts slot file removed) f g (inl one) (inr none) = absurd none
 one_placed (Puts slot file removed) f g (inr none) other = absurd none
-one_placed (Clears slot removed) f g one other = absurd one
-one_placed (Takes slot removed) f g one other = absurd one
 one_placed (Allocates slot file) f g (inl one) (inl other) = (λ i. (sym one i).0) ∙ (λ i. (other i).0)
 one_placed (Allocates slot file) f g (inl one) (inr none) = absurd none
 one_placed (Allocates slot file) f g (inr none) other = absurd none
-one_placed FindsFull f g one other = absurd one
+one_placed x f g one other = absurd one
 
 -- no two slots have one mark, none of them has one that is to be placed, and that is placed once
 pub record IsApart (t : Table) (l : List (ℕ × Closed)) : Type 0 where
@@ -72,14 +76,19 @@ removed_is_gone t [] g apart may none s f at = absurd none
 removed_is_gone t (x ∷ xs) g apart may (inl now) s f at = gone t x xs apart g may.0 now s f (left_from (table_with t x) xs s f at)
 removed_is_gone t (x ∷ xs) g apart may (inr later) s f at = removed_is_gone (table_with t x) xs g (apart_then t x xs apart) may.1 later s f at
 
--- no mark is removed twice
-abbrev pub RemovesOnce : List Access → Type 0
-RemovesOnce [] = Unit {0}
-RemovesOnce (x ∷ xs) = RemovesOnce xs × ((f g : Closed) → removed_by x ≡ Some f → Removes xs g → f.mark ≢ g.mark)
+-- two files have one mark
+abbrev pub alike : Closed → Closed → Bool
+alike f g = same_mark f.mark g.mark
 
-pub removes_once : (t : Table) (xs : List Access) → IsApart t (placed xs) → PermitsAll t xs → RemovesOnce xs
+-- no mark is removed twice
+pub removes_once : (t : Table) (xs : List Access) → IsApart t (placed xs) → PermitsAll t xs → IsDistinct alike (removed_in xs)
+unfolding IsDistinct
 removes_once t [] apart may = tt
-removes_once t (x ∷ xs) apart may = (
-  removes_once (table_with t x) xs (apart_then t x xs apart) may.1,
-  λ f g now later. let w = removed_from (table_with t x) xs g may.1 later in gone t x xs apart f may.0 now w.slot g w.was,
-)
+removes_once t (x ∷ xs) apart may = first (removed_by x) refl (removes_once (table_with t x) xs (apart_then t x xs apart) may.1)
+  where
+    first : (found : Option Closed) → removed_by x ≡ found → IsDistinct alike (removed_in xs) → IsDistinct alike (option_to_list found ++ removed_in xs)
+    first None now rest = rest
+    first (Some f) now rest = IsDistinct-cons alike f (removed_in xs) (recursion_from_All (λ g. alike f g ≡ false) (removed_in xs) (λ k d lt.
+        let g = slice_index_or (removed_in xs) k d in
+        let w = removed_from (table_with t x) xs g may.1 (removes_contained xs g (Contains-get_or (removed_in xs) k d lt)) in
+        not-true _ ((Decides-not _ (decides_mark f.mark g.mark)).1 (gone t x xs apart f may.0 now w.slot g w.was)))) rest

@@ -1,17 +1,20 @@
 -- One report of a submission leads to one ring, and what it closes is known.
-use Rattle.fx_order.proofs.Words.{◌≡◌, ◌≢◌, inl, inr, ⊎_elim, ℕ, zero, suc, ◌+◌, ◌≤◌, Bool, true, false, cond, List, [], ◌∷◌, ◌++◌, length, refl, sym}
-use Rattle.fx_order.proofs.Words.{ap, subst, ◌∙◌, arith, Option, Some, None, All, Contains, slice_get, slice_index_or, sum_by, All-map, All-weaker}
-use Rattle.fx_order.proofs.Words.{option_to_list, sum_by-cons, sum_by-IsPermutation, Contains-permutation, IsPermutation-sym, IsCatalogue, Mark}
+use Rattle.fx_order.proofs.Words.{◌≡◌, ◌≢◌, inl, inr, ⊎_elim, ℕ, ◌+◌, ◌≤◌, List, length, refl, sym, ap, subst, ◌∙◌, arith, Option, Some, None, All}
+use Rattle.fx_order.proofs.Words.{Contains, slice_get, slice_index_or, All-map, All-weaker, Contains-permutation, IsPermutation-sym, IsCatalogue}
 use Rattle.fx_order.proofs.Words.{Submitted, Closed, IsAccepted, IsChain, members_of, chains_of, first_member, Asked, runs_of, Chain, accepted-chains}
-use Rattle.fx_order.proofs.Words.{members-are-runs, RingState, IsRing, HasCounted, Reported, table_after, removed_by, removed_in, accesses_of}
-use Rattle.fx_order.proofs.Words.{accesses_of_chain, AreKnown, IsOfNext, IsOneOrder, IsOrderOf, table_of, Access, ChainAccess}
-use Rattle.fx_order.proofs.Apart.{IsApart, RemovesOnce, removed_is_gone, removes_once}
+use Rattle.fx_order.proofs.Words.{members-are-runs, RingState, IsRing, HasCounted, Reported, table_after, removed_in, accesses_of, accesses_of_chain}
+use Rattle.fx_order.proofs.Words.{AreKnown, IsOfNext, IsOneOrder, IsOrderOf, table_of, Access, ChainAccess, ◌<◌, cases_lt, false≢true, Decides-like}
+use Rattle.fx_order.proofs.Apart.{IsApart, alike, removed_is_gone, removes_once}
 use Rattle.fx_order.proofs.Placed.{Has, Removes, contains_removed, left_from, left_or_removed, placed, removed_from, removes_contained}
 use Rattle.fx_order.proofs.PlacedNew.{AnyPlace, InLimits, IsOfMembers, OwnOf, ReachesAll, chain_places, has_in_chain, has_of_chain, order_places_once}
 use Rattle.fx_order.proofs.PlacedNew.{reaches_all_any, reaches_all_limits}
-use Rattle.fx_order.proofs.PlacedSame.{PlaceSame, chains_same}
+use Rattle.fx_order.proofs.PlacedSame.{chains_same}
 use Rattle.fx_ring.proofs.Rings.{not_yet}
-use Rattle.fx_order.proofs.SameFiles.{same_mark, decides_mark}
+use Rattle.fx_order.proofs.SameFiles.{decides_mark}
+use Rattle.std.proofs.lemmas.Bool.Decides.{same_from_decides}
+use Rattle.std.proofs.lemmas.Map.Keys.{IsDistinct-IsPermutation, apart_from_distinct}
+use Rattle.std.proofs.lemmas.Option.{get_or_from_slice_get, slice_get_within}
+use Rattle.std.specs.List.{IsDistinct}
 
 module _ (old : RingState) (requests : List Asked) (report : Reported) (is : IsRing old) where
   abbrev chains : ℕ
@@ -47,21 +50,23 @@ module _ (old : RingState) (requests : List Asked) (report : Reported) (is : IsR
       once = order_places_once (length old.catalogue) AnyPlace report.submission chains order o.chains (each AnyPlace any);
     }
 
+    closed_is_removed : (f : Closed) → Contains report.closes.files f → Removes (accesses_of order) f
+    closed_is_removed f closed = removes_contained (accesses_of order) f (Contains-permutation report.closes.files (removed_in (accesses_of order)) f
+        (IsPermutation-sym (removed_in (accesses_of order)) report.closes.files o.closed.same_files) closed)
+
     -- a file that the order leaves isn't closed
     left_stays : (s : ℕ) (f : Closed) → (table_after (table_of old) (accesses_of order)).at s ≡ Some f → Contains report.closes.files f → ⊥
     left_stays s f at closed =
-        removed_is_gone (table_of old) (accesses_of order) f apart o.permitted
-        (removes_contained (accesses_of order) f (Contains-permutation report.closes.files (removed_in (accesses_of order)) f
-        (IsPermutation-sym (removed_in (accesses_of order)) report.closes.files o.closed.same_files) closed)) s f at refl
+        removed_is_gone (table_of old) (accesses_of order) f apart o.permitted (closed_is_removed f closed) s f at refl
 
   -- what one order leaves, another one leaves
   module _ (catalogue : IsCatalogue old.catalogue) (one other : List ChainAccess) (o : IsOrderOf one old requests report) (p : IsOrderOf other old requests report) where
     placed_too : (s : ℕ) (f : Closed) → Has (placed (accesses_of one)) s f → Has (placed (accesses_of other)) s f
     placed_too s f has =
         let r = has_in_chain (length old.catalogue) AnyPlace report.submission chains one o.chains s f has in
-        let same : PlaceSame (accesses_of_chain r.0 one) (accesses_of_chain r.0 other) =
-        (let high = r.2 in chains_same old.catalogue catalogue old.size report.submission 1 (runs_of requests) one other report.completions o.done p.done r.1 (omega arith)) in
-        has_of_chain r.0 other s f (subst (λ l. Has l s f) same r.3)
+        let high = r.2 in
+        has_of_chain r.0 other s f (subst (λ l. Has l s f)
+        (chains_same old.catalogue catalogue old.size report.submission 1 (runs_of requests) one other report.completions o.done p.done r.1 (omega arith)) r.3)
 
     left_too : (s : ℕ) {f : Closed} → (table_after (table_of old) (accesses_of one)).at s ≡ Some f → (table_after (table_of old) (accesses_of other)).at s ≡ Some f
     left_too s {f} at = ⊎_elim (λ left. left)
@@ -74,95 +79,28 @@ same_option None None to back = refl
 same_option None (Some f) to back = back f refl
 same_option (Some f) b to back = sym (to f refl)
 
-abbrev ring_with_files : RingState → (ℕ → Option Closed) → RingState
-ring_with_files old at = record old { at = at; submissions = old.submissions + 1 }
-
 pub each_report_leads_to_one_ring : (old : RingState) (requests : List Asked) (report : Reported) (left other : RingState) → IsCatalogue old.catalogue → IsRing old
     → IsOneOrder old requests report left → IsOneOrder old requests report other → left ≡ other
 each_report_leads_to_one_ring old requests report left other catalogue is o p =
-    let same : (table_after (table_of old) (accesses_of o.order)).at ≡ (table_after (table_of old) (accesses_of p.order)).at =
-    (λ i s. same_option ((table_after (table_of old) (accesses_of o.order)).at s) ((table_after (table_of old) (accesses_of p.order)).at s)
-    (λ f. left_too old requests report is catalogue o.order p.order o.is p.is s)
-    (λ f. left_too old requests report is catalogue p.order o.order p.is o.is s) i) in
-    o.after ∙ (ap (ring_with_files old) same ∙ sym p.after)
+    o.after ∙ ((λ i. record old {
+      at = λ s. same_option ((table_after (table_of old) (accesses_of o.order)).at s) ((table_after (table_of old) (accesses_of p.order)).at s)
+          (λ f. left_too old requests report is catalogue o.order p.order o.is p.is s)
+          (λ f. left_too old requests report is catalogue p.order o.order p.is o.is s) i;
+      submissions = old.submissions + 1;
+    }) ∙ sym p.after)
 
--- how often a mark is among files
-abbrev one_if_marked : Mark → Closed → ℕ
-one_if_marked mark x = cond (same_mark mark x.mark) 1 0
-
-marked_one : {mark : Mark} (x : Closed) → mark ≡ x.mark → one_if_marked mark x ≡ 1
-marked_one {mark} x is = ap (λ (b : Bool). cond b 1 0) ((decides_mark mark x.mark).1 is)
-
-none_marked : {mark : Mark} (x : Closed) (b : Bool) → same_mark mark x.mark ≡ b → mark ≢ x.mark → ◌≡◌ {A = ℕ} (cond b 1 0) 0
-none_marked {mark} x true is other = absurd (other ((decides_mark mark x.mark).0 is))
-none_marked x false is other = refl
-
-times_none : {mark : Mark} (xs : List Access) → ((g : Closed) → Removes xs g → mark ≢ g.mark) → sum_by (one_if_marked mark) (removed_in xs) ≡ 0
-times_none [] none = refl
-times_none {mark} (x ∷ xs) none = first (removed_by x) refl (times_none xs (λ g later. none g (inr later)))
+-- no two places of such files have one mark
+places_apart : (files : List Closed) → IsDistinct alike files → (i j : ℕ) (one other : Closed) → slice_get files i ≡ Some one
+    → slice_get files j ≡ Some other → one.mark ≡ other.mark → i ≡ j
+places_apart files distinct i j one other at too same = elim (cases_lt i j) [
+  | inl less ↦ absurd (never i j one other at too same less)
+  | inr from ↦ elim (cases_lt j i) [ inl less ↦ absurd (never j i other one too at (sym same) less) | inr to ↦ omega arith ]
+]
   where
-    first : (found : Option Closed) → removed_by x ≡ found → sum_by (one_if_marked mark) (removed_in xs) ≡ 0
-        → sum_by (one_if_marked mark) (option_to_list found ++ removed_in xs) ≡ 0
-    first None is rest = rest
-    first (Some f) is rest =
-        let head : one_if_marked mark f ≡ 0 = none_marked f (same_mark mark f.mark) refl (none f (inl is)) in
-        sum_by-cons (one_if_marked mark) f (removed_in xs) ∙ omega arith
-
-times_once : (mark : Mark) (xs : List Access) → RemovesOnce xs → sum_by (one_if_marked mark) (removed_in xs) ≤ 1
-times_once mark [] once = omega arith
-times_once mark (x ∷ xs) once = first (removed_by x) refl (times_once mark xs once.0)
-  where
-    first : (found : Option Closed) → removed_by x ≡ found → sum_by (one_if_marked mark) (removed_in xs) ≤ 1
-        → sum_by (one_if_marked mark) (option_to_list found ++ removed_in xs) ≤ 1
-    first None is few = few
-    first (Some f) is few = either (same_mark mark f.mark) refl
-      where
-        either : (b : Bool) → same_mark mark f.mark ≡ b → sum_by (one_if_marked mark) (f ∷ removed_in xs) ≤ 1
-        either true same =
-            let marks : mark ≡ f.mark = (decides_mark mark f.mark).0 same in
-            let rest : sum_by (one_if_marked mark) (removed_in xs) ≡ 0 = times_none xs (λ g later too. once.1 f g is later (sym marks ∙ too)) in
-            let head : one_if_marked mark f ≡ 1 = ap (λ (b : Bool). cond b 1 0) same in
-            let all = sum_by-cons (one_if_marked mark) f (removed_in xs) in
-            omega arith
-        either false other =
-            let head : one_if_marked mark f ≡ 0 = ap (λ (b : Bool). cond b 1 0) other in
-            let all = sum_by-cons (one_if_marked mark) f (removed_in xs) in
-            omega arith
-
--- a file is counted where it stands
-stands : (files : List Closed) (i : ℕ) {f : Closed} → slice_get files i ≡ Some f → 1 ≤ sum_by (one_if_marked f.mark) files
-stands [] i at = absurd (cc)
-stands (x ∷ files) zero {f} at =
-    let same : f.mark ≡ x.mark = (let e : x ≡ f = cc in ap (λ (y : Closed). y.mark) (sym e)) in
-    let head = marked_one x same in
-    let all = sum_by-cons (one_if_marked f.mark) x files in
-    omega arith
-stands (x ∷ files) (suc i) {f} at =
-    let rest = stands files i at in
-    let all = sum_by-cons (one_if_marked f.mark) x files in
-    omega arith
-
--- where each mark is counted once at most, no two places have one mark
-places_apart : (files : List Closed) → ((mark : Mark) → sum_by (one_if_marked mark) files ≤ 1)
-    → (i j : ℕ) (one other : Closed) → slice_get files i ≡ Some one → slice_get files j ≡ Some other → one.mark ≡ other.mark → i ≡ j
-places_apart [] few i j one other at too same = absurd (cc)
-places_apart (x ∷ files) few zero zero one other at too same = refl
-places_apart (x ∷ files) few zero (suc j) one other at too same =
-    let is : other.mark ≡ x.mark = (let e : x ≡ one = cc in sym same ∙ ap (λ (y : Closed). y.mark) (sym e)) in
-    let head = marked_one x is in
-    let rest = stands files j too in
-    let all = sum_by-cons (one_if_marked other.mark) x files in
-    let most = few other.mark in
-    absurd (omega arith)
-places_apart (x ∷ files) few (suc i) zero one other at too same =
-    let is : one.mark ≡ x.mark = (let e : x ≡ other = cc in same ∙ ap (λ (y : Closed). y.mark) (sym e)) in
-    let head = marked_one x is in
-    let rest = stands files i at in
-    let all = sum_by-cons (one_if_marked one.mark) x files in
-    let most = few one.mark in
-    absurd (omega arith)
-places_apart (x ∷ files) few (suc i) (suc j) one other at too same =
-    ap suc (places_apart files (λ mark. let all = sum_by-cons (one_if_marked mark) x files in let most = few mark in omega arith) i j one other at too same)
+    never : (i j : ℕ) (one other : Closed) → slice_get files i ≡ Some one → slice_get files j ≡ Some other → one.mark ≡ other.mark → i < j → ⊥
+    never i j one other at too same less =
+        false≢true (sym (apart_from_distinct alike files i j one distinct less (slice_get_within files j other too))
+        ∙ ((λ k. alike (get_or_from_slice_get files i one one at k) (get_or_from_slice_get files j other one too k)) ∙ (decides_mark one.mark other.mark).1 same))
 
 -- the members of an accepted submission are within their limits
 pub in_limits : (requests : List Asked) → IsAccepted requests → All (ReachesAll InLimits 1) (runs_of requests)
@@ -194,17 +132,14 @@ pub each_closed_file_is_known : (old : RingState) (requests : List Asked) (repor
     → IsAccepted requests → IsOneOrder old requests report left → AreKnown old requests report.closes.files
 each_closed_file_is_known old requests report left is accepted o =
     let xs : List Access = accesses_of o.order in
-    let far : IsApart (table_of old) (placed xs) = apart old requests report is o.order o.is in
     record {
       from = λ file closed.
-          let w = removed_from (table_of old) xs file o.is.permitted (removes_contained xs file
-          (Contains-permutation report.closes.files (removed_in xs) file (IsPermutation-sym (removed_in xs) report.closes.files o.is.closed.same_files) closed)) in
+          let w = removed_from (table_of old) xs file o.is.permitted (closed_is_removed old requests report is o.order o.is file closed) in
           ⊎_elim (λ was. inl (w.slot, w.inside, was)) (λ has. inr (of_next old report is o.is accepted w.slot has)) w.was;
-      distinct = places_apart report.closes.files
-          (λ mark.
-          let once = times_once mark xs (removes_once (table_of old) xs far o.is.permitted) in
-          let same = sum_by-IsPermutation (one_if_marked mark) (removed_in xs) report.closes.files o.is.closed.same_files in
-          omega arith);
+      distinct = places_apart report.closes.files (IsDistinct-IsPermutation alike
+          (λ x y. same_from_decides _ _ (decides_mark x.mark y.mark) (Decides-like _ (λ e. sym e) (λ e. sym e) (decides_mark y.mark x.mark)))
+          (removed_in xs) report.closes.files o.is.closed.same_files
+          (removes_once (table_of old) xs (apart old requests report is o.order o.is) o.is.permitted));
     }
 
 pub no_file_that_stays_is_closed : (old : RingState) (requests : List Asked) (report : Reported) (left : RingState) → IsRing old

@@ -1,7 +1,6 @@
 -- An order whose parts were looked through, and the ring that it leaves.
-use Rattle.fx_order.proofs.Words.{◌≡◌, ℕ, ◌+◌, List, length, map, sym, ap, ◌∙◌, length-map, FileEntry, members_of}
-use Rattle.fx_order.proofs.Words.{Asked, runs_of, Chain, table_after, accesses_of, ring_left, ring_of_slots}
-use Rattle.fx_order.proofs.Words.{table_of_slots, ChainAccess, Slots}
+use Rattle.fx_order.proofs.Words.{◌≡◌, ℕ, ◌+◌, List, length, map, sym, ap, ◌∙◌, length-map, FileEntry, members_of, Asked, runs_of, Chain, table_after}
+use Rattle.fx_order.proofs.Words.{accesses_of, ring_left, ring_of_slots, table_of_slots, ChainAccess, Slots}
 use Rattle.fx_order.proofs.Ordered.{ring_after, same_outline}
 
 pub ring_left_is : (catalogue : List FileEntry) (old new : Slots) (submissions registrations : ℕ) (order : List ChainAccess)

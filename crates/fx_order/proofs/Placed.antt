@@ -1,19 +1,17 @@
 -- What accesses place at slots, what is at the slots then, and what they removed.
 use Rattle.fx_order.proofs.Words.{◌≡◌, ◌≢◌, ◌⊎◌, inl, inr, ⊎_elim, ℕ, ◌<◌, List, [], ◌∷◌, ◌++◌, Contains, refl, sym, ap, ◌∙◌, subst, append_assoc}
 use Rattle.fx_order.proofs.Words.{arith, Option, Some, None, if◌then◌else◌, option_to_list, Contains-append_right, Closed, by_equality, contains_none}
-use Rattle.fx_order.proofs.Words.{contains_head, contains_cases, Table, Looks, Puts, Clears, Takes, Allocates, FindsFull, Permits, PermitsAll}
-use Rattle.fx_order.proofs.Words.{table_with, table_after, removed_by, removed_in, Access, FileEntry, Place, Completed, IsReadDone, IsCloseDone}
+use Rattle.fx_order.proofs.Words.{contains_head, contains_cases, Table, Looks, Puts, Clears, Takes, Allocates, Permits, PermitsAll, table_with}
+use Rattle.fx_order.proofs.Words.{table_after, removed_by, removed_in, Access, FileEntry, Place, Completed, IsReadDone, IsCloseDone}
 use Rattle.fx_order.specs.Access.{IsAt, with_file}
+use Rattle.fx_order.proofs.Accesses.{at_itself}
 use Rattle.fx_order.proofs.RequestCases.{closes, reads}
 
 -- the file that an access places, with its slot
 abbrev pub placed_by : Access → List (ℕ × Closed)
-placed_by (Looks slot found) = []
 placed_by (Puts slot file removed) = (slot, file) ∷ []
-placed_by (Clears slot removed) = []
-placed_by (Takes slot removed) = []
 placed_by (Allocates slot file) = (slot, file) ∷ []
-placed_by FindsFull = []
+placed_by access = []
 
 -- the files that they place, one after another
 abbrev pub placed : List Access → List (ℕ × Closed)
@@ -92,13 +90,9 @@ step_kept t x may was = inl was
 
 -- what an access places is there afterwards
 step_placed : (t : Table) (x : Access) (s : ℕ) {f : Closed} → Has (placed_by x) s f → (table_with t x).at s ≡ Some f
-step_placed t (Puts slot file removed) s {f} (inl here) =
-    by_equality s slot (λ b. ◌≡◌ {A = Option Closed} (if b then Some file else t.at s) (Some f))
-    (λ _. λ i. Some ((here i).1)) (λ other. absurd (other (λ i. (sym here i).0)))
+step_placed t (Puts slot file removed) s {f} (inl here) = (λ i. (with_file t (here i).0 (Some (here i).1)).at s) ∙ at_itself s (Some f) (t.at s)
 step_placed t (Puts slot file removed) s (inr none) = absurd none
-step_placed t (Allocates slot file) s {f} (inl here) =
-    by_equality s slot (λ b. ◌≡◌ {A = Option Closed} (if b then Some file else t.at s) (Some f))
-    (λ _. λ i. Some ((here i).1)) (λ other. absurd (other (λ i. (sym here i).0)))
+step_placed t (Allocates slot file) s {f} (inl here) = (λ i. (with_file t (here i).0 (Some (here i).1)).at s) ∙ at_itself s (Some f) (t.at s)
 step_placed t (Allocates slot file) s (inr none) = absurd none
 step_placed t x s has = absurd has
 
@@ -107,7 +101,7 @@ pub left_or_removed : (t : Table) (xs : List Access) {s : ℕ} {f : Closed} → 
     → ((table_after t xs).at s ≡ Some f) ⊎ Removes xs f
 left_or_removed t [] may (inl was) = inl was
 left_or_removed t [] may (inr none) = absurd none
-left_or_removed t (x ∷ xs) {s} {f} may (inl was) = ⊎_elim
+left_or_removed t (x ∷ xs) may (inl was) = ⊎_elim
     (λ now. ⊎_elim (λ end. inl end) (λ gone. inr (inr gone)) (left_or_removed (table_with t x) xs may.1 (inl now))) (λ gone. inr (inl gone))
     (step_kept t x may.0 was)
 left_or_removed t (x ∷ xs) {s} {f} may (inr new) = ⊎_elim (λ end. inl end) (λ gone. inr (inr gone)) (left_or_removed (table_with t x) xs may.1
@@ -148,11 +142,9 @@ pub record WasAt (t : Table) (l : List (ℕ × Closed)) (g : Closed) : Type 0 wh
 
 pub removed_from : (t : Table) (xs : List Access) (g : Closed) → PermitsAll t xs → Removes xs g → WasAt t (placed xs) g
 removed_from t [] g may gone = absurd gone
-removed_from t (x ∷ xs) g may (inl now) =
-    let e = emptied t x g may.0 now in record { slot = e.slot; inside = e.inside; was = inl e.was }
+removed_from t (x ∷ xs) g may (inl now) = let e = emptied t x g may.0 now in record { slot = e.slot; inside = e.inside; was = inl e.was }
 removed_from t (x ∷ xs) g may (inr later) =
-    let w = removed_from (table_with t x) xs g may.1 later in
-    record {
+    let w = removed_from (table_with t x) xs g may.1 later in record {
       slot = w.slot;
       inside = let lt = w.inside in let same = same_size t x in omega arith;
       was = ⊎_elim (λ now. ⊎_elim (λ was. inl was) (λ new. inr (has_left (placed_by x) (placed xs) w.slot g new)) (step_from t x now))
@@ -163,11 +155,7 @@ removed_from t (x ∷ xs) g may (inr later) =
 -- the list of what was removed has exactly the removed files
 pub contains_removed : (xs : List Access) {g : Closed} → Removes xs g → Contains (removed_in xs) g
 contains_removed [] gone = absurd gone
-contains_removed (x ∷ xs) {g} (inl now) = first (removed_by x) now
-  where
-    first : (found : Option Closed) → found ≡ Some g → Contains (option_to_list found ++ removed_in xs) g
-    first None is = cc
-    first (Some h) is = let e : g ≡ h = cc in subst (λ (y : Closed). Contains (h ∷ removed_in xs) y) (sym e) (contains_head h (removed_in xs))
+contains_removed (x ∷ xs) {g} (inl now) = subst (λ (o : Option Closed). Contains (option_to_list o ++ removed_in xs) g) (sym now) (contains_head g (removed_in xs))
 contains_removed (x ∷ xs) {g} (inr later) = Contains-append_right (option_to_list (removed_by x)) (removed_in xs) g (contains_removed xs later)
 
 pub removes_contained : (xs : List Access) (g : Closed) → Contains (removed_in xs) g → Removes xs g

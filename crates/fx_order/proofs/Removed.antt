@@ -2,10 +2,9 @@
 use Rattle.fx_order.proofs.Words.{◌≡◌, ◌≢◌, ℕ, ◌<◌, ◌≤◌, ◌==◌, Bool, List, [], ◌∷◌, ◌++◌, map, refl, sym, ap, subst, ◌∙◌, append_assoc, Option, Some}
 use Rattle.fx_order.proofs.Words.{None, if◌then◌else◌, arith, IsPermutation, append-nil, IsPermutation-refl, IsPermutation-sym, IsPermutation-trans}
 use Rattle.fx_order.proofs.Words.{IsPermutation-cons, IsPermutation-to_front, IsPermutation-middle, IsPermutation-map, IsPermutation-pop_more}
-use Rattle.fx_order.proofs.Words.{option_to_list, Closed, File, Event, Action, Look, Put, Clear, Take, Close, State}
-use Rattle.fx_order.proofs.Words.{IsSettled, Allows, after, with_removed, state_after, AllowsAll, action_of, closes_in, closed_by, IsStart}
-use Rattle.fx_order.proofs.Words.{identity_of, by_equality, removed_by, removed_in, Access, named, named_same, present, placed_one, tally, tally_all}
-use Rattle.fx_order.proofs.Words.{tally_start}
+use Rattle.fx_order.proofs.Words.{option_to_list, Closed, File, Event, Action, Look, Put, Clear, Take, Close, State, IsSettled, Allows, after}
+use Rattle.fx_order.proofs.Words.{with_removed, state_after, AllowsAll, action_of, closes_in, closed_by, IsStart, identity_of, by_equality}
+use Rattle.fx_order.proofs.Words.{removed_by, removed_in, Access, named, named_same, present, placed_one, tally, tally_all, tally_start}
 use Rattle.fx_order.proofs.Accesses.{accesses_in, accesses_by}
 
 abbrev identity : File → Closed

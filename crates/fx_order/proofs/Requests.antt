@@ -17,65 +17,14 @@ accesses_may_close steps (Some f) events closes = elim closes [
   | inr is ↦ ap accesses_in is ∙ append-nil (accesses_in steps)
 ]
 
-refused : (place : Place) (errno : Errno) (events : List Action) (c : Completed) → Refuses place errno events c
-    → IsRefused place errno (accesses_in events) c
-refused place errno events c refuses = (ap accesses_in refuses.0, refuses.1)
-
-opened : (size : ℕ) (place : Place) (entry : ℕ) (target : Target) (events : List Action) (c : Completed)
-    → OpensAt size place entry target events c → IsOpenDone size place entry target (accesses_in events) c
-opened size place entry (Slot slot) events c =
-    same_cases (size == 0) (refused place ENXIO events c)
-    (same_cases (nat_le size slot) (refused place EINVAL events c)
-    (λ x. (
-      identity_of x.1,
-      (
-        accesses_may_close ([] ▷ Put slot x.0 x.1) x.1 events x.3
-            ∙ ap (λ (file : Closed). Puts slot file (identity_of x.1) ∷ []) x.2,
-        x.4,
-      ),
-    )))
-opened size place entry Any events c =
-    same_cases (size == 0) (refused place ENFILE events c)
-    (λ x. elim x [
-      | inl y ↦ inl (y.0, (ap accesses_in y.3 ∙ ap (λ (file : Closed). Allocates y.0 file ∷ []) y.2, y.4))
-      | inr y ↦ inr (ap accesses_in y.0, y.1)
-    ])
-
-read : (catalogue : List FileEntry) (size : ℕ) (place : Place) (slot off len : ℕ) (events : List Action) (c : Completed)
-    → ReadsFrom catalogue size place slot off len events c → IsReadDone catalogue size place slot off len (accesses_in events) c
-read catalogue size place slot off len events c =
-    same_cases (nat_le size slot) (refused place EBADF events c)
-    (λ x. elim x [
-      | inl y ↦ inl (y.0, refused place ENOMEM events c y.1)
-      | inr y ↦ elim y [
-        | inl z ↦ inr (inl (ap accesses_in z.0, z.1))
-        | inr z ↦ inr (inr (
-          z.0.identity,
-          (accesses_may_close ([] ▷ Look slot (Some z.0) ▷ Release z.0) (Some z.0) events z.1, z.2),
-        ))
-      ]
-    ])
-
-emptied : (size : ℕ) (place : Place) (slot : ℕ) (events : List Action) (c : Completed) → Empties size place slot events c
-    → IsCloseDone size place slot (accesses_in events) c
-emptied size place slot events c =
-    same_cases (size == 0) (refused place ENXIO events c)
-    (same_cases (nat_le size slot) (refused place EINVAL events c)
-    (λ x. elim x [
-      | inl y ↦ inl (ap accesses_in y.0, y.1)
-      | inr y ↦ inr (y.0.identity, (accesses_may_close ([] ▷ Take slot (Some y.0)) (Some y.0) events y.1, y.2))
-    ]))
-
-entry_applied : (place : Place) (in_list slot : ℕ) (entry : ℤ) (events : List Action) → AppliesEntry place in_list slot entry events
-    → IsEntryDone place in_list slot entry (accesses_in events)
-entry_applied place in_list slot (pos entry) events x = (
-  identity_of x.1,
-  accesses_may_close ([] ▷ Put slot x.0 x.1) x.1 events x.3
-      ∙ ap (λ (file : Closed). Puts slot file (identity_of x.1) ∷ []) x.2,
-)
-entry_applied place in_list slot (negsuc zero) events x =
-    (identity_of x.0, accesses_may_close ([] ▷ Clear slot x.0) x.0 events x.1)
-entry_applied place in_list slot (negsuc (suc n)) events x = ap accesses_in x
+module _ (place : Place) (in_list slot : ℕ) where
+  entry_applied : (entry : ℤ) (events : List Action) → AppliesEntry place in_list slot entry events → IsEntryDone place in_list slot entry (accesses_in events)
+  entry_applied (pos entry) events x = (
+    identity_of x.1,
+    accesses_may_close ([] ▷ Put slot x.0 x.1) x.1 events x.3 ∙ ap (λ (file : Closed). Puts slot file (identity_of x.1) ∷ []) x.2,
+  )
+  entry_applied (negsuc zero) events x = (identity_of x.0, accesses_may_close ([] ▷ Clear slot x.0) x.0 events x.1)
+  entry_applied (negsuc (suc n)) events x = ap accesses_in x
 
 list_applied : (place : Place) (in_list slot : ℕ) (list : List ℤ) (events : List Action) → AppliesList place in_list slot list events
     → AreEntriesDone place in_list slot list (accesses_in events)
@@ -88,50 +37,72 @@ list_applied place in_list slot (entry ∷ list) events x = (
   list_applied place (in_list + 1) (slot + 1) list x.1 x.4,
 )
 
-updated : (entries size : ℕ) (place : Place) (off : ℕ) (list : List ℤ) (events : List Action) (c : Completed)
-    → UpdatesFrom entries size place off list events c → IsUpdateDone entries size place off list (accesses_in events) c
-updated entries size place off list events c =
-    same_cases (size == 0) (refused place ENXIO events c)
-    (same_cases (length list == 0 || nat_lt size (off + length list)) (refused place EINVAL events c)
-    (same_cases (list_any (is_bad_entry entries) list) (refused place EBADF events c)
-    (λ x. (list_applied place 0 off list events x.0, x.1))))
+module _ (catalogue : List FileEntry) (size : ℕ) (place : Place) (events : List Action) (c : Completed) where
+  refused : (errno : Errno) → Refuses place errno events c → IsRefused place errno (accesses_in events) c
+  refused errno refuses = (ap accesses_in refuses.0, refuses.1)
 
-answered : (catalogue : List FileEntry) (size : ℕ) (place : Place) (operation : Operation) (events : List Action) (c : Completed)
-    → Answers catalogue size place operation events c → IsRequestDone catalogue size place operation (accesses_in events) c
-answered catalogue size place (Opens name target) events c =
-    same_cases (has_name name catalogue) (λ x. (x.0, x.1, opened size place x.0 target events c x.2)) (refused place ENOENT events c)
-answered catalogue size place (Reads slot off len) events c = read catalogue size place slot off len events c
-answered catalogue size place (Closes slot) events c = emptied size place slot events c
-answered catalogue size place (Updates off list) events c = updated (length catalogue) size place off list events c
+  opened : (entry : ℕ) (target : Target) → OpensAt size place entry target events c → IsOpenDone size place entry target (accesses_in events) c
+  opened entry (Slot slot) =
+      same_cases (size == 0) (refused ENXIO) (same_cases (nat_le size slot) (refused EINVAL)
+      (λ x. let put = entry_applied place 0 slot (pos entry) events (x.0, x.1, x.2, x.3) in (put.0, (put.1, x.4))))
+  opened entry Any = same_cases (size == 0) (refused ENFILE) (λ x. elim x [
+    | inl y ↦ inl (y.0, (ap accesses_in y.3 ∙ ap (λ (file : Closed). Allocates y.0 file ∷ []) y.2, y.4))
+    | inr y ↦ inr (ap accesses_in y.0, y.1)
+  ])
 
--- what explains a chain
-pub explained : (catalogue : List FileEntry) (size : ℕ) (place : Place) (requests : List Asked) (events : List Action)
-    (completions : List Completed) → Explains catalogue size place requests events completions
-    → IsChainDone catalogue size place requests (accesses_in events) completions
-explained catalogue size place [] events completions x = (ap accesses_in x.0, x.1)
-explained catalogue size place (request ∷ requests) events completions x = (
-  accesses_in x.0,
-  accesses_in x.1,
-  x.2,
-  x.3,
-  ap accesses_in x.4 ∙ accesses_in-then x.0 x.1,
-  x.5,
-  answered catalogue size place request.operation x.0 x.2 x.6,
-  same_cases (severs request x.2) (λ y. (ap accesses_in y.0, y.1))
-      (explained catalogue size (next_member place) requests x.1 x.3) x.7,
-)
+  read : (slot off len : ℕ) → ReadsFrom catalogue size place slot off len events c → IsReadDone catalogue size place slot off len (accesses_in events) c
+  read slot off len = same_cases (nat_le size slot) (refused EBADF) (λ x. elim x [
+    | inl y ↦ inl (y.0, refused ENOMEM y.1)
+    | inr y ↦ inr (elim y [
+      | inl z ↦ inl (ap accesses_in z.0, z.1)
+      | inr z ↦ inr (z.0.identity, (accesses_may_close ([] ▷ Look slot (Some z.0) ▷ Release z.0) (Some z.0) events z.1, z.2))
+    ])
+  ])
 
--- and all chains
-pub all_explained : (catalogue : List FileEntry) (size submission chain : ℕ) (runs : List (List Asked)) (h : List Event)
-    (completions : List Completed) → ExplainsParts catalogue size submission chain runs h completions
-    → AreChainsDone catalogue size submission chain runs (order_in h) completions
-all_explained catalogue size submission chain [] h completions x = x
-all_explained catalogue size submission chain (run ∷ runs) h completions x = (
-  x.0,
-  x.1,
-  x.2,
-  subst (λ (accesses : List Access). IsChainDone catalogue size (first_member submission chain) run accesses x.0)
-      (sym (accesses_of_chain-order_in chain h))
-      (explained catalogue size (first_member submission chain) run (map action_of (part_of_chain chain h)) x.0 x.3),
-  all_explained catalogue size submission (chain + 1) runs h x.1 x.4,
-)
+  emptied : (slot : ℕ) → Empties size place slot events c → IsCloseDone size place slot (accesses_in events) c
+  emptied slot = same_cases (size == 0) (refused ENXIO) (same_cases (nat_le size slot) (refused EINVAL) (λ x. elim x [
+    | inl y ↦ inl (ap accesses_in y.0, y.1)
+    | inr y ↦ inr (y.0.identity, (accesses_may_close ([] ▷ Take slot (Some y.0)) (Some y.0) events y.1, y.2))
+  ]))
+
+  updated : (off : ℕ) (list : List ℤ) → UpdatesFrom (length catalogue) size place off list events c
+      → IsUpdateDone (length catalogue) size place off list (accesses_in events) c
+  updated off list =
+      same_cases (size == 0) (refused ENXIO) (same_cases (length list == 0 || nat_lt size (off + length list)) (refused EINVAL)
+      (same_cases (list_any (is_bad_entry (length catalogue)) list) (refused EBADF) (λ x. (list_applied place 0 off list events x.0, x.1))))
+
+  answered : (operation : Operation) → Answers catalogue size place operation events c → IsRequestDone catalogue size place operation (accesses_in events) c
+  answered (Opens name target) = same_cases (has_name name catalogue) (λ x. (x.0, x.1, opened x.0 target x.2)) (refused ENOENT)
+  answered (Reads slot off len) = read slot off len
+  answered (Closes slot) = emptied slot
+  answered (Updates off list) = updated off list
+
+module _ (catalogue : List FileEntry) (size : ℕ) where
+  -- what explains a chain
+  explained : (place : Place) (requests : List Asked) (events : List Action) (cs : List Completed)
+      → Explains catalogue size place requests events cs → IsChainDone catalogue size place requests (accesses_in events) cs
+  explained place [] events cs x = (ap accesses_in x.0, x.1)
+  explained place (request ∷ requests) events cs x = (
+    accesses_in x.0,
+    accesses_in x.1,
+    x.2,
+    x.3,
+    ap accesses_in x.4 ∙ accesses_in-then x.0 x.1,
+    x.5,
+    answered catalogue size place x.0 x.2 request.operation x.6,
+    same_cases (severs request x.2) (λ y. (ap accesses_in y.0, y.1)) (explained (next_member place) requests x.1 x.3) x.7,
+  )
+
+  -- and all chains
+  pub all_explained : (submission chain : ℕ) (runs : List (List Asked)) (h : List Event) (cs : List Completed)
+      → ExplainsParts catalogue size submission chain runs h cs → AreChainsDone catalogue size submission chain runs (order_in h) cs
+  all_explained submission chain [] h cs x = x
+  all_explained submission chain (run ∷ runs) h cs x = (
+    x.0,
+    x.1,
+    x.2,
+    subst (λ (accesses : List Access). IsChainDone catalogue size (first_member submission chain) run accesses x.0)
+        (sym (accesses_of_chain-order_in chain h))
+        (explained (first_member submission chain) run (map action_of (part_of_chain chain h)) x.0 x.3),
+    all_explained submission (chain + 1) runs h x.1 x.4,
+  )

@@ -1,5 +1,5 @@
-use Rattle.fx_order.proofs.Words.{◌≡◌, ℕ, ◌≤◌, length, refl, sym, subst, ap, ◌∙◌, All, arith, false≢true, all_asked}
-use Rattle.fx_order.proofs.Words.{runs_of, Table, accesses_of, table_after}
+use Rattle.fx_order.proofs.Words.{◌≡◌, ℕ, ◌≤◌, length, refl, sym, subst, ap, ◌∙◌, All, arith, false≢true, all_asked, runs_of, Table, accesses_of}
+use Rattle.fx_order.proofs.Words.{table_after}
 use Rattle.fx_order.proofs.OrderOf.{as_many, ring_left_is}
 use Rattle.fx_order.proofs.report.slots_left.Goals as goal
 
