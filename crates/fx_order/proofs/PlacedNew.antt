@@ -1,15 +1,14 @@
 -- What a submission places: files of the catalogue without a tag, with marks of its own, and no mark twice.
-use Rattle.fx_order.proofs.Words.{◌≡◌, ◌≢◌, inl, inr, ⊎_elim, ℕ, zero, suc, ◌+◌, ◌<◌, ◌≤◌, ◌==◌, ℤ, pos, negsuc, Bool, true, false, cond, List, []}
-use Rattle.fx_order.proofs.Words.{◌∷◌, ◌++◌, filter, length, refl, sym, ap, subst, ◌∙◌, arith, All, list_any, leb-false, ltb-false, All-head}
-use Rattle.fx_order.proofs.Words.{All-tail, has_name, FileEntry, Errno, Submitted, Closed, IsWithinLimits, installed, is_bad_entry, Completed}
-use Rattle.fx_order.proofs.Words.{next_member, severs, first_member, is_long_update, MOST_MEMBERS, LONGEST_UPDATE, Operation, Opens, Reads, Closes}
-use Rattle.fx_order.proofs.Words.{Updates, Asked, Place, Target, Slot, Any, by_equality, accesses_of, accesses_of_chain, Access, ChainAccess}
-use Rattle.fx_order.proofs.Words.{IsOpenDone, IsEntryDone, AreEntriesDone, IsRequestDone, IsChainDone, AreChainsDone, refusal, Puts, Allocates}
-use Rattle.fx_order.proofs.Words.{FindsFull}
+use Rattle.fx_order.proofs.Words.{◌≡◌, ◌≢◌, inl, inr, ⊎_elim, ℕ, zero, suc, ◌+◌, ◌<◌, ◌≤◌, ℤ, pos, negsuc, false, List, [], ◌∷◌, ◌++◌, length, refl}
+use Rattle.fx_order.proofs.Words.{sym, ap, subst, ◌∙◌, arith, All, list_any, leb-false, ltb-false, All-head, All-tail, has_name, FileEntry, Errno}
+use Rattle.fx_order.proofs.Words.{Submitted, Closed, IsWithinLimits, installed, is_bad_entry, Completed, next_member, severs, first_member}
+use Rattle.fx_order.proofs.Words.{is_long_update, MOST_MEMBERS, LONGEST_UPDATE, Operation, Opens, Reads, Closes, Updates, Asked, Place, Target, Slot}
+use Rattle.fx_order.proofs.Words.{Any, by_equality, accesses_of, accesses_of_chain, Access, ChainAccess, IsOpenDone, IsEntryDone, AreEntriesDone}
+use Rattle.fx_order.proofs.Words.{IsRequestDone, IsChainDone, AreChainsDone, refusal, Puts, Allocates, FindsFull}
 use Rattle.fx_base.proofs.Entries.{entry_named}
-use Rattle.fx_order.proofs.Accesses.{own_first}
+use Rattle.fx_order.proofs.Accesses.{of_chain, own_first}
 use Rattle.fx_chain.proofs.Cases.{either_way}
-use Rattle.fx_order.proofs.Apart.{PlacesOnce, once_between}
+use Rattle.fx_order.proofs.Apart.{PlacesOnce, once_behind, once_between}
 use Rattle.fx_order.proofs.Placed.{Has, has_either, has_left, has_right, placed, placed_by, placed-append, close_none, read_none}
 use Rattle.fx_order.proofs.RequestCases.{allocates, puts, updates}
 use Rattle.std.proofs.lemmas.Bool.{or_parts}
@@ -26,28 +25,24 @@ once_then (x ∷ xs) ys first behind apart = (
   λ o g has. ⊎_elim (λ one. first.1 o g one) (λ later. apart x.0 o x.1 g (inl refl) later) (has_either xs ys o g has),
 )
 
-own_then : (P Q R : Closed → Type 0) (xs ys : List (ℕ × Closed)) → ((f : Closed) → P f → R f) → ((f : Closed) → Q f → R f)
-    → ((f g : Closed) → P f → Q g → f.mark ≢ g.mark) → Own P xs → Own Q ys → Own R (xs ++ ys)
-own_then P Q R xs ys left right apart first behind = (
-  λ s f has. ⊎_elim (λ one. left f (first.0 s f one)) (λ later. right f (behind.0 s f later)) (has_either xs ys s f has),
-  once_then xs ys first.1 behind.1 (λ s o f g one later. apart f g (first.0 s f one) (behind.0 o g later)),
-)
-
 -- what accesses place
 abbrev pub OwnOf : (Closed → Type 0) → List Access → Type 0
 OwnOf P accesses = Own P (placed accesses)
 
-own_none : (P : Closed → Type 0) (accesses : List Access) → placed accesses ≡ [] → OwnOf P accesses
-own_none P accesses is = subst (Own P) (sym is) (λ s f has. absurd has, tt)
+own_none : {P : Closed → Type 0} (accesses : List Access) → placed accesses ≡ [] → OwnOf P accesses
+own_none {P} accesses is = subst (Own P) (sym is) (λ s f has. absurd has, tt)
 
-own_one : (P : Closed → Type 0) (accesses : List Access) {slot : ℕ} {file : Closed} → placed accesses ≡ (slot, file) ∷ [] → P file → OwnOf P accesses
-own_one P accesses is p =
+own_one : {P : Closed → Type 0} (accesses : List Access) {slot : ℕ} {file : Closed} → placed accesses ≡ (slot, file) ∷ [] → P file → OwnOf P accesses
+own_one {P} accesses is p =
     subst (Own P) (sym is) (λ s f has. ⊎_elim (λ here. subst P (λ i. (here i).1) p) (λ none. absurd none) has, (tt, λ s g none. absurd none))
 
-own_both : (P Q R : Closed → Type 0) (xs ys : List Access) {accesses : List Access} → accesses ≡ xs ++ ys → ((f : Closed) → P f → R f) → ((f : Closed) → Q f → R f)
-    → ((f g : Closed) → P f → Q g → f.mark ≢ g.mark) → OwnOf P xs → OwnOf Q ys → OwnOf R accesses
-own_both P Q R xs ys is left right apart first behind =
-    subst (Own R) (sym (ap placed is ∙ placed-append xs ys)) (own_then P Q R (placed xs) (placed ys) left right apart first behind)
+own_both : {P Q R : Closed → Type 0} (xs ys : List Access) {accesses : List Access} → accesses ≡ xs ++ ys
+    → ((f : Closed) → P f → R f) → ((f : Closed) → Q f → R f) → ((f g : Closed) → P f → Q g → f.mark ≢ g.mark)
+    → OwnOf P xs → OwnOf Q ys → OwnOf R accesses
+own_both {R} xs ys is left right apart first behind = subst (Own R) (sym (ap placed is ∙ placed-append xs ys)) (
+  λ s f has. ⊎_elim (λ one. left f (first.0 s f one)) (λ later. right f (behind.0 s f later)) (has_either (placed xs) (placed ys) s f has),
+  once_then (placed xs) (placed ys) first.1 behind.1 (λ s o f g one later. apart f g (first.0 s f one) (behind.0 o g later)),
+)
 
 -- a file of the catalogue without a tag, of a place of a member's list
 pub record IsMarked (entries : ℕ) (place : Place) (j : ℕ) (f : Closed) : Type 0 where
@@ -115,41 +110,28 @@ module _ (entries : ℕ) (B : ℕ → Type 0) (place : Place) where
   Listed accesses c = OwnOf (IsListed entries B place 0) accesses
 
   none_listed : (errno : Errno) → Listed [] (refusal place errno)
-  none_listed errno = own_none (IsListed entries B place 0) [] refl
-
-  one_listed : {entry slot : ℕ} (access : Access) → placed_by access ≡ (slot, installed place 0 entry) ∷ [] → B 0 → entry < entries
-      → OwnOf (IsListed entries B place 0) (access ∷ [])
-  one_listed {entry} access is b inside =
-      own_one (IsListed entries B place 0) (access ∷ []) (ap (λ (l : List (ℕ × Closed)). l ++ []) is) (0, omega arith, b, marked 0 inside)
+  none_listed errno = own_none [] refl
 
   opens : (size entry : ℕ) (target : Target) (accesses : List Access) (c : Completed) → B 0 → entry < entries
-      → IsOpenDone size place entry target accesses c → OwnOf (IsListed entries B place 0) accesses
-  opens size entry (Slot slot) accesses c b inside =
-      puts size place Listed none_listed accesses c entry slot (λ removed. one_listed (Puts slot (installed place 0 entry) removed) refl b inside)
-  opens size entry Any accesses c b inside =
-      allocates size place Listed none_listed accesses c entry (λ slot. one_listed (Allocates slot (installed place 0 entry)) refl b inside)
-      (own_none (IsListed entries B place 0) (FindsFull ∷ []) refl)
+      → IsOpenDone size place entry target accesses c → Listed accesses c
+  opens size entry (Slot slot) accesses c b inside = puts size place Listed none_listed accesses c entry slot
+      (λ removed. own_one (Puts slot (installed place 0 entry) removed ∷ []) refl (0, omega arith, b, marked 0 inside))
+  opens size entry Any accesses c b inside = allocates size place Listed none_listed accesses c entry
+      (λ slot. own_one (Allocates slot (installed place 0 entry) ∷ []) refl (0, omega arith, b, marked 0 inside)) (own_none (FindsFull ∷ []) refl)
 
   entry : (in_list slot : ℕ) (z : ℤ) (accesses : List Access) → is_bad_entry entries z ≡ false → IsEntryDone place in_list slot z accesses
       → OwnOf (IsMarked entries place in_list) accesses
-  entry in_list slot (pos n) accesses good x =
-      own_one (IsMarked entries place in_list) accesses (ap placed x.1) (marked in_list (leb-false entries n good))
-  entry in_list slot (negsuc zero) accesses good x = own_none (IsMarked entries place in_list) accesses (ap placed x.1)
-  entry in_list slot (negsuc (suc n)) accesses good x = own_none (IsMarked entries place in_list) accesses (ap placed x)
+  entry in_list slot (pos n) accesses good x = own_one accesses (ap placed x.1) (marked in_list (leb-false entries n good))
+  entry in_list slot (negsuc zero) accesses good x = own_none accesses (ap placed x.1)
+  entry in_list slot (negsuc (suc n)) accesses good x = own_none accesses (ap placed x)
 
   list : (in_list slot : ℕ) (zs : List ℤ) (accesses : List Access) → ((j : ℕ) → in_list ≤ j → j < in_list + length zs → B j)
       → list_any (is_bad_entry entries) zs ≡ false → AreEntriesDone place in_list slot zs accesses → OwnOf (IsListed entries B place in_list) accesses
-  list in_list slot [] accesses reach good x = own_none (IsListed entries B place in_list) accesses (ap placed x)
+  list in_list slot [] accesses reach good x = own_none accesses (ap placed x)
   list in_list slot (z ∷ zs) accesses reach good x =
-      own_both (IsMarked entries place in_list) (IsListed entries B place (in_list + 1)) (IsListed entries B place in_list) x.0 x.1 x.2
-      (λ f is. (in_list, omega arith, reach in_list (omega arith) (omega arith), is))
-      (λ f is. (is.0, let le = is.1 in omega arith, is.2, is.3))
-      (λ f g is later same.
-      let e : Submitted place.submission place.chain place.member in_list ≡ Submitted place.submission place.chain place.member later.0 =
-      sym is.mark ∙ (same ∙ later.3.mark) in
-      let at : in_list ≡ later.0 = cc in
-      let le = later.1 in
-      omega arith)
+      own_both x.0 x.1 x.2
+      (λ f is. (in_list, omega arith, reach in_list (omega arith) (omega arith), is)) (λ f is. (is.0, let le = is.1 in omega arith, is.2, is.3))
+      (λ f g is later same. let at : in_list ≡ later.0 = cc (sym is.mark ∙ (same ∙ later.3.mark)) in let le = later.1 in omega arith)
       (entry in_list slot z x.0 (or_parts _ _ good).0 x.3)
       (list (in_list + 1) (slot + 1) zs x.1 (λ j low high. reach j (omega arith) (omega arith)) (or_parts _ _ good).1 x.4)
 
@@ -162,32 +144,22 @@ module _ (catalogue : List FileEntry) (size : ℕ) (B : ℕ → ℕ → Type 0) 
   request place (Opens name target) accesses c reach =
       either_way (has_name name catalogue)
       (λ _ x. opens entries (B place.member) place size x.0 target accesses c reach (entry_named catalogue x.0 name x.1) x.2)
-      (λ _ x. own_none (IsListed entries (B place.member) place 0) accesses (ap placed x.0))
-  request place (Reads slot off len) accesses c reach =
-      λ done. own_none (IsListed entries (B place.member) place 0) accesses (read_none catalogue size place slot off len accesses c done)
-  request place (Closes slot) accesses c reach =
-      λ done. own_none (IsListed entries (B place.member) place 0) accesses (close_none size place slot accesses c done)
+      (λ _ x. own_none accesses (ap placed x.0))
+  request place (Reads slot off len) accesses c reach = λ done. own_none accesses (read_none catalogue size place slot off len accesses c done)
+  request place (Closes slot) accesses c reach = λ done. own_none accesses (close_none size place slot accesses c done)
   request place (Updates off zs) accesses c reach =
       updates size place (Listed entries (B place.member) place) (none_listed entries (B place.member) place) accesses c entries off zs
       (λ inside good x. list entries (B place.member) place 0 off zs accesses (λ j low high. reach j (omega arith)) good x)
 
   chain : (place : Place) (requests : List Asked) (accesses : List Access) (cs : List Completed) → ReachesAll B place.member requests
       → IsChainDone catalogue size place requests accesses cs → OwnOf (IsOfMembers entries B place) accesses
-  chain place [] accesses cs reach x = own_none (IsOfMembers entries B place) accesses (ap placed x.0)
+  chain place [] accesses cs reach x = own_none accesses (ap placed x.0)
   chain place (r ∷ rs) accesses cs reach x =
-      own_both (IsListed entries (B place.member) place 0) (IsOfMembers entries B (next_member place)) (IsOfMembers entries B place) x.0 x.1 x.4
-      (λ f is. (place.member, is.0, omega arith, is.2, record { mark = is.3.mark; inside = is.3.inside; untagged = is.3.untagged }))
-      (λ f is. (is.0, is.1, let le = is.2 in omega arith, is.3, record { mark = is.4.mark; inside = is.4.inside; untagged = is.4.untagged }))
-      (λ f g is later same.
-      let e : Submitted place.submission place.chain place.member is.0 ≡ Submitted place.submission place.chain later.0 later.1 =
-      sym is.3.mark ∙ (same ∙ later.4.mark) in
-      let at : place.member ≡ later.0 = cc in
-      let le = later.2 in
-      omega arith)
+      own_both x.0 x.1 x.4
+      (λ f is. (place.member, is.0, omega arith, is.2, is.3)) (λ f is. (is.0, is.1, let le = is.2 in omega arith, is.3, is.4))
+      (λ f g is later same. let at : place.member ≡ later.0 = cc (sym is.3.mark ∙ (same ∙ later.4.mark)) in let le = later.2 in omega arith)
       (request place r.operation x.0 x.2 reach.0 x.6)
-      (either_way (severs r x.2)
-      (λ _ y. own_none (IsOfMembers entries B (next_member place)) x.1 (ap placed y.0))
-      (λ _ y. chain (next_member place) rs x.1 x.3 reach.1 y) x.7)
+      (either_way (severs r x.2) (λ _ y. own_none x.1 (ap placed y.0)) (λ _ y. chain (next_member place) rs x.1 x.3 reach.1 y) x.7)
 
   -- each chain's accesses place files of its own
   pub chain_places : (submission first : ℕ) (runs : List (List Asked)) (order : List ChainAccess) (cs : List Completed)
@@ -200,32 +172,23 @@ module _ (catalogue : List FileEntry) (size : ℕ) (B : ℕ → ℕ → Type 0) 
       (chain (first_member submission first) run (accesses_of_chain first order) x.0 (All-head (ReachesAll B 1) run runs reach) x.3))
       (λ other. chain_places submission (first + 1) runs order x.1 (All-tail (ReachesAll B 1) run runs reach) x.4 c (omega arith) (omega arith))
 
+-- what a chain's accesses place with one more in front
+parted : (x : ChainAccess) (order : List ChainAccess) (c : ℕ) → (front : List (ℕ × Closed))
+    × (placed (accesses_of_chain c (x ∷ order)) ≡ front ++ placed (accesses_of_chain c order))
+    × ((s : ℕ) (f : Closed) → Has front s f → Has (placed_by x.access) s f)
+parted x order c = elim (of_chain x order c) [
+  | inl same ↦ (placed_by x.access, ap placed same.1, λ s f has. has)
+  | inr other ↦ ([], ap placed other.1, λ s f has. absurd has)
+]
+
 -- what a chain's accesses place, the order places
 pub has_of_chain : (c : ℕ) (order : List ChainAccess) (s : ℕ) (f : Closed) → Has (placed (accesses_of_chain c order)) s f → Has (placed (accesses_of order)) s f
 has_of_chain c [] s f has = has
-has_of_chain c (x ∷ order) s f has = either (x.chain == c) (λ more. has_of_chain c order s f more) has
-  where
-    either : (b : Bool) → (Has (placed (accesses_of_chain c order)) s f → Has (placed (accesses_of order)) s f)
-        → Has (placed (accesses_of (cond b (x ∷ filter (λ y. y.chain == c) order) (filter (λ y. y.chain == c) order)))) s f
-        → Has (placed_by x.access ++ placed (accesses_of order)) s f
-    either true more h = ⊎_elim
-        (λ here. has_left (placed_by x.access) (placed (accesses_of order)) s f here)
-        (λ later. has_right (placed_by x.access) (placed (accesses_of order)) s f (more later))
-        (has_either (placed_by x.access) (placed (accesses_of_chain c order)) s f h)
-    either false more h = has_right (placed_by x.access) (placed (accesses_of order)) s f (more h)
-
--- the order's chain accesses, and those behind the first one
-of_rest : (P : Closed → Type 0) (c : ℕ) (x : ChainAccess) (order : List ChainAccess) → OwnOf P (accesses_of_chain c (x ∷ order)) → OwnOf P (accesses_of_chain c order)
-of_rest P c x order = either (x.chain == c)
-  where
-    behind : (front back : List (ℕ × Closed)) → Own P (front ++ back) → Own P back
-    behind [] back own = own
-    behind (p ∷ front) back own = behind front back (λ s f has. own.0 s f (inr has), own.1.0)
-
-    either : (b : Bool) → OwnOf P (accesses_of (cond b (x ∷ filter (λ y. y.chain == c) order) (filter (λ y. y.chain == c) order)))
-        → OwnOf P (accesses_of_chain c order)
-    either true own = behind (placed_by x.access) (placed (accesses_of_chain c order)) own
-    either false own = own
+has_of_chain c (x ∷ order) s f has =
+    let p = parted x order c in
+    ⊎_elim (λ here. has_left (placed_by x.access) (placed (accesses_of order)) s f (p.2 s f here))
+    (λ later. has_right (placed_by x.access) (placed (accesses_of order)) s f (has_of_chain c order s f later))
+    (has_either p.0 (placed (accesses_of_chain c order)) s f (subst (λ l. Has l s f) p.1 has))
 
 module _ (entries : ℕ) (B : ℕ → ℕ → Type 0) (submission chains : ℕ) where
   abbrev IsOfChain : ℕ → Closed → Type 0
@@ -238,31 +201,33 @@ module _ (entries : ℕ) (B : ℕ → ℕ → Type 0) (submission chains : ℕ) 
   IsInside x = (1 ≤ x.chain) × (x.chain ≤ chains)
 
   rest_places : (x : ChainAccess) (order : List ChainAccess) → EachPlaces (x ∷ order) → EachPlaces order
-  rest_places x order each c low high = of_rest (IsOfChain c) c x order (each c low high)
+  rest_places x order each c low high =
+      let p = parted x order c in
+      let own = subst (Own (IsOfChain c)) p.1 (each c low high) in
+      let rest = placed (accesses_of_chain c order) in
+      (λ s f has. own.0 s f (has_right p.0 rest s f has), once_behind p.0 rest own.1)
 
   -- what an order places, the chain of the access places
   pub has_in_chain : (order : List ChainAccess) → All IsInside order → (s : ℕ) (f : Closed) → Has (placed (accesses_of order)) s f
       → (c : ℕ) × (1 ≤ c) × (c ≤ chains) × Has (placed (accesses_of_chain c order)) s f
   has_in_chain [] inside s f has = absurd has
   has_in_chain (x ∷ order) inside s f has = ⊎_elim
-      (λ here. let at = All-head IsInside x order inside in
+      (λ here.
+      let at = All-head IsInside x order inside in
       let mine = has_left (placed_by x.access) (placed (accesses_of_chain x.chain order)) s f here in
       (x.chain, at.0, at.1, subst (λ l. Has (placed l) s f) (sym (own_first x order)) mine))
-      (λ later. let r = has_in_chain order (All-tail IsInside x order inside) s f later in (r.0, r.1, r.2, more r.0 (x.chain == r.0) r.3))
+      (λ later.
+      let r = has_in_chain order (All-tail IsInside x order inside) s f later in
+      let p = parted x order r.0 in
+      (r.0, r.1, r.2, subst (λ l. Has l s f) (sym p.1) (has_right p.0 (placed (accesses_of_chain r.0 order)) s f r.3)))
       (has_either (placed_by x.access) (placed (accesses_of order)) s f has)
-    where
-      more : (c : ℕ) (b : Bool) → Has (placed (accesses_of_chain c order)) s f
-          → Has (placed (accesses_of (cond b (x ∷ filter (λ y. y.chain == c) order) (filter (λ y. y.chain == c) order)))) s f
-      more c true h = has_right (placed_by x.access) (placed (accesses_of_chain c order)) s f h
-      more c false h = h
 
   -- and no mark is placed twice
   pub order_places_once : (order : List ChainAccess) → All IsInside order → EachPlaces order → PlacesOnce (placed (accesses_of order))
   order_places_once [] inside each = tt
   order_places_once (x ∷ order) inside each =
       let at = All-head IsInside x order inside in
-      let mine : OwnOf (IsOfChain x.chain) (x.access ∷ accesses_of_chain x.chain order) =
-      subst (OwnOf (IsOfChain x.chain)) (own_first x order) (each x.chain at.0 at.1) in
+      let mine = subst (OwnOf (IsOfChain x.chain)) (own_first x order) (each x.chain at.0 at.1) in
       once_then (placed_by x.access) (placed (accesses_of order))
       (first_once (placed_by x.access) (placed (accesses_of_chain x.chain order)) mine.1)
       (order_places_once order (All-tail IsInside x order inside) (rest_places x order each))
@@ -270,8 +235,7 @@ module _ (entries : ℕ) (B : ℕ → ℕ → Type 0) (submission chains : ℕ) 
       let r = has_in_chain order (All-tail IsInside x order inside) o g later in
       let own = mine.0 s f (has_left (placed_by x.access) (placed (accesses_of_chain x.chain order)) s f here) in
       let theirs = (rest_places x order each r.0 r.1 r.2).0 o g r.3 in
-      let marks : Submitted submission x.chain own.0 own.1 ≡ Submitted submission r.0 theirs.0 theirs.1 = sym own.4.mark ∙ (same ∙ theirs.4.mark) in
-      let chain : r.0 ≡ x.chain = cc in
+      let chain : r.0 ≡ x.chain = cc (sym own.4.mark ∙ (same ∙ theirs.4.mark)) in
       once_between (placed_by x.access) (placed (accesses_of_chain x.chain order)) s o f g mine.1 here
       (subst (λ c. Has (placed (accesses_of_chain c order)) o g) chain r.3) same)
     where
