@@ -1,9 +1,9 @@
 -- What one history leads to, the order of its accesses leads to.
 use Rattle.fx_order.proofs.Words.{◌≡◌, ℕ, ◌+◌, ◌≤◌, List, [], ◌∷◌, map, length, refl, sym, ap, subst, ◌∙◌, All, Contains, Option, IsPermutation}
-use Rattle.fx_order.proofs.Words.{All-nil, All-cons, All-append, IsPermutation-trans, Closed, Event, Action, State, opening, state_of, action_of}
-use Rattle.fx_order.proofs.Words.{closes_in, numbers_for, Asked, runs_of, RingContents, RingState, ring_of, IsOneHistory, Reported, Table, Looks}
-use Rattle.fx_order.proofs.Words.{PermitsAll, table_with, Access, ChainAccess, table_after, removed_in, accesses_of, IsOneOrder, table_of}
-use Rattle.fx_order.proofs.Words.{contains_head, contains_tail}
+use Rattle.fx_order.proofs.Words.{All-nil, All-append, IsPermutation-trans, Closed, Event, Action, State, opening, state_of, action_of, closes_in}
+use Rattle.fx_order.proofs.Words.{numbers_for, Asked, runs_of, RingContents, RingState, ring_of, IsOneHistory, Reported, Table, Looks, PermitsAll}
+use Rattle.fx_order.proofs.Words.{table_with, Access, ChainAccess, table_after, removed_in, accesses_of, IsOneOrder, table_of, contains_head}
+use Rattle.fx_order.proofs.Words.{contains_tail, All-map}
 use Rattle.fx_plain.proofs.Prepared.{opening_is_start}
 use Rattle.fx_order.proofs.Accesses.{shown, accesses_by, accesses_in, order_in, by_chain, accesses_of-order_in, permitted_along, shown-opening}
 use Rattle.fx_order.proofs.Requests.{all_explained}
@@ -12,16 +12,12 @@ use Rattle.fx_order.proofs.Removed.{removed_is_closed}
 abbrev pub IsWithin : ℕ → ℕ → Type 0
 IsWithin chains chain = (1 ≤ chain) × (chain ≤ chains)
 
-by_within : {chains chain : ℕ} (accesses : List Access) → IsWithin chains chain → All (λ x. IsWithin chains x.chain) (map (by_chain chain) accesses)
-by_within {chains} [] within = All-nil (λ x. IsWithin chains x.chain)
-by_within {chains} {chain} (access ∷ accesses) within =
-    All-cons (λ x. IsWithin chains x.chain) (by_chain chain access) (map (by_chain chain) accesses) within (by_within accesses within)
-
 order_within : {chains : ℕ} (h : List Event) → ((e : Event) → Contains h e → IsWithin chains e.chain) → All (λ x. IsWithin chains x.chain) (order_in h)
 order_within {chains} [] each = All-nil (λ x. IsWithin chains x.chain)
 order_within {chains} (e ∷ h) each =
     All-append (λ x. IsWithin chains x.chain) (order_in h) (map (by_chain e.chain) (accesses_by e.action))
-    (order_within h (λ f has. each f (contains_tail e h f has))) (by_within (accesses_by e.action) (each e (contains_head e h)))
+    (order_within h (λ f has. each f (contains_tail e h f has)))
+    (All-map (λ x. IsWithin chains x.chain) (by_chain e.chain) (accesses_by e.action) (λ _ _ _. each e (contains_head e h)))
 
 abbrev table_with_files : Table → (ℕ → Option Closed) → Table
 table_with_files table at = record table { at = at }
@@ -39,28 +35,25 @@ ring_after ring submissions table = record ring { size = table.size; range = tab
 pub each_history_is_an_order : (old new : RingContents) (requests : List Asked) (report : Reported) → IsOneHistory old requests report new
     → IsOneOrder (ring_of old) requests report (ring_of new)
 each_history_is_an_order old new requests report h =
-    let st : State = state_of old.table in
-    let start : State = opening st (numbers_for (length (runs_of requests))) in
+    let numbers : ℕ = numbers_for (length (runs_of requests)) in
+    let start : State = opening (state_of old.table) numbers in
     let acts : List Action = map action_of h.history in
     let order : List ChainAccess = order_in h.history in
     let are : accesses_of order ≡ accesses_in acts = accesses_of-order_in h.history in
     let along = permitted_along start acts h.legal.leads.0 in
-    let begins : shown start ≡ table_of (ring_of old) = shown-opening st (numbers_for (length (runs_of requests))) in
-    let table : shown h.end ≡ table_after (table_of (ring_of old)) (accesses_of order) =
-    ap shown h.legal.leads.1 ∙ (along.1 ∙ (λ i. table_after (begins i) (sym are i))) in
+    let begins : shown start ≡ table_of (ring_of old) = shown-opening (state_of old.table) numbers in
     let outline : shown h.end ≡ table_with_files (table_of (ring_of old)) (table_after (table_of (ring_of old)) (accesses_of order)).at =
-    table ∙ same_outline (table_of (ring_of old)) (accesses_of order) in
-    let same_files : IsPermutation (removed_in (accesses_of order)) (closes_in acts) =
-    subst (λ (l : List Access). IsPermutation (removed_in l) (closes_in acts)) (sym are)
-    (removed_is_closed h.history (opening_is_start st (numbers_for (length (runs_of requests)))) h.legal.leads.0 h.legal.leads.1 h.settled) in
+    ap shown h.legal.leads.1 ∙ (along.1 ∙ ((λ i. table_after (begins i) (sym are i)) ∙ same_outline (table_of (ring_of old)) (accesses_of order))) in
     record {
       order = order;
       is = record {
         permitted = subst (λ (t : Table). PermitsAll t (accesses_of order)) begins (subst (PermitsAll (shown start)) (sym are) along.0);
         chains = order_within h.history h.chains;
-        done = all_explained old.catalogue st.size report.submission 1 (runs_of requests) h.history report.completions h.explained;
+        done = all_explained old.catalogue (state_of old.table).size report.submission 1 (runs_of requests) h.history report.completions h.explained;
         closed = record {
-          same_files = IsPermutation-trans (removed_in (accesses_of order)) (closes_in acts) report.closes.files same_files h.closed.same_files;
+          same_files = IsPermutation-trans (removed_in (accesses_of order)) (closes_in acts) report.closes.files
+              (subst (λ (l : List Access). IsPermutation (removed_in l) (closes_in acts)) (sym are)
+              (removed_is_closed h.history (opening_is_start (state_of old.table) numbers) h.legal.leads.0 h.legal.leads.1 h.settled)) h.closed.same_files;
           in_order = h.closed.in_order;
         };
         submission = h.submission;
