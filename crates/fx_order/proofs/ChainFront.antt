@@ -1,7 +1,7 @@
 -- What the first member of a chain made stands at the front of what the chain made.
-use Rattle.fx_order.proofs.Words.{◌≡◌, ◌↔◌, ℕ, ◌+◌, Bool, false, IsTrue, List, [], ◌∷◌, ◌++◌, length, take, drop, refl, sym, ap, subst, ◌∙◌, arith}
-use Rattle.fx_order.proofs.Words.{min, MatchBool, when_false, take-append-drop, length-append, take-append_seam, drop-append_seam, FileEntry}
-use Rattle.fx_order.proofs.Words.{Completed, next_member, canceled, severs, Asked, Place, Access, IsChainDone, IsRequestDone}
+use Rattle.fx_order.proofs.Words.{◌≡◌, ◌↔◌, ℕ, ◌+◌, Bool, false, IsTrue, List, [], ◌∷◌, ◌++◌, length, take, drop, refl, sym, ap, ◌∙◌, arith, min}
+use Rattle.fx_order.proofs.Words.{MatchBool, when_false, take-append-drop, length-append, take-append_seam, drop-append_seam, FileEntry, Completed}
+use Rattle.fx_order.proofs.Words.{next_member, canceled, severs, Asked, Place, Access, IsChainDone, IsRequestDone}
 use Rattle.std.specs.List.{AllByRecursion}
 use Rattle.fx_chain.proofs.ChainGoesOn.{canceled_count}
 use Rattle.fx_chain.proofs.Cases.{either_way}
@@ -38,25 +38,16 @@ module _ (catalogue : List FileEntry) (size : ℕ) (place : Place) (request : As
   parts_of counts x =
       let same : c ≡ x.2 = cc (x.5) in
       let rest : cs ≡ x.3 = cc (x.5) in
-      let done : IsRequestDone catalogue size place request.operation x.0 c =
-      subst (IsRequestDone catalogue size place request.operation x.0) (sym same) x.6 in
       let long : length accesses ≡ length x.0 + length x.1 = ap length x.4 ∙ length-append x.0 x.1 in
-      let own : length x.0 ≡ made = counts x.0 done in
-      let n : length x.0 ≡ min made (length accesses) = omega arith in
-      let front = front_is x.0 x.1 accesses (min made (length accesses)) x.4 n in (
-        subst (λ (l : List Access). IsRequestDone catalogue size place request.operation l c) (sym front.0) done,
-        subst Behind (sym front.1)
-            (subst (λ (l : List Completed). MatchBool (severs request c) ((x.1 ≡ []) × (l ≡ canceled (next_member place) requests))
-            (IsChainDone catalogue size (next_member place) requests x.1 l)) (sym rest)
-            (subst (λ (d : Completed). MatchBool (severs request d) ((x.1 ≡ []) × (x.3 ≡ canceled (next_member place) requests))
-            (IsChainDone catalogue size (next_member place) requests x.1 x.3)) (sym same) x.7)),
-      )
+      let own : length x.0 ≡ made = counts x.0 (rw same x.6) in
+      let front = front_is x.0 x.1 accesses (min made (length accesses)) x.4 (omega arith) in
+      (rw (front.0, same) x.6, rw (front.1, same, rest) x.7)
 
   pub goes_on : (own others : List Access) (n : ℕ) → n ≡ min made (length accesses) → own ≡ take n accesses → others ≡ drop n accesses → IsMade
       → severs request c ≡ false → IsRequestDone catalogue size place request.operation own c → (b : Bool)
       → (IsTrue b ↔ IsChainDone catalogue size (next_member place) requests others cs) → IsTrue b ↔ IsDone
   goes_on own others n least front back counts cut done b same = (
-    λ yes. (own, others, c, cs, sym (take-append-drop n accesses) ∙ sym (ap (λ l. l ++ others) front ∙ ap (λ l. take n accesses ++ l) back), refl, done, rw cut (same.0 yes)),
+    λ yes. (own, others, c, cs, sym (take-append-drop n accesses) ∙ (λ i. sym front i ++ sym back i), refl, done, rw cut (same.0 yes)),
     λ x. same.1 (rw (back, least) (when_false _ _ cut (parts_of counts x).1)),
   )
 
@@ -65,8 +56,7 @@ pub length-done : (catalogue : List FileEntry) (size : ℕ) (place : Place) (req
     → IsChainDone catalogue size place requests accesses cs → length cs ≡ length requests
 length-done catalogue size place [] accesses cs x = ap length x.1
 length-done catalogue size place (request ∷ requests) accesses cs x =
-    let rest : length x.3 ≡ length requests =
-    either_way {R = length x.3 ≡ length requests} (severs request x.2)
+    let rest = either_way {R = length x.3 ≡ length requests} (severs request x.2)
     (λ _ y. ap length y.1 ∙ canceled_count (next_member place) requests)
     (λ _. length-done catalogue size (next_member place) requests x.1 x.3) x.7 in
     ap length x.5 ∙ omega arith

@@ -1,5 +1,5 @@
 -- What the first chain of a submission answered stands at the front of what its chains answered.
-use Rattle.fx_order.proofs.Words.{◌≡◌, ◌↔◌, ℕ, ◌+◌, ◌<◌, ◌≤◌, Bool, IsTrue, List, ◌∷◌, ◌++◌, length, map, take, drop, sym, ap, subst, ◌∙◌, arith, ◌-◌}
+use Rattle.fx_order.proofs.Words.{◌≡◌, ◌↔◌, ℕ, ◌+◌, ◌<◌, ◌≤◌, Bool, IsTrue, List, ◌∷◌, ◌++◌, length, map, take, drop, sym, ap, ◌∙◌, arith, ◌-◌}
 use Rattle.fx_order.proofs.Words.{slice_index_or, take-append-drop, length-append, length-map, take-map, drop-map, FileEntry, members_of, Completed}
 use Rattle.fx_order.proofs.Words.{all_completed, completed_of, first_member, Asked, all_asked, asked_of, Chain, Completion, Request, Access}
 use Rattle.fx_order.proofs.Words.{accesses_of_chain, ChainAccess, AreChainsDone, IsChainDone}
@@ -17,22 +17,16 @@ module _ (catalogue : List FileEntry) (size submission chain : ℕ) (run : List 
   abbrev AreOthersDone : Type 0
   AreOthersDone = AreChainsDone catalogue size submission (chain + 1) runs order (drop (length run) cs)
 
-  long_enough : AreDone → length run ≤ length cs
-  long_enough x =
-      let own : length x.0 ≡ length run = length-done catalogue size (first_member submission chain) run (accesses_of_chain chain order) x.0 x.3 in
-      let whole : length cs ≡ length x.0 + length x.1 = ap length x.2 ∙ length-append x.0 x.1 in
-      omega arith
-
   pub parts_of : AreDone → IsFirstDone × AreOthersDone
   parts_of x =
-      let own : length x.0 ≡ length run = length-done catalogue size (first_member submission chain) run (accesses_of_chain chain order) x.0 x.3 in
-      let front = front_is x.0 x.1 cs (length run) x.2 own in (
-        subst (IsChainDone catalogue size (first_member submission chain) run (accesses_of_chain chain order)) (sym front.0) x.3,
-        subst (AreChainsDone catalogue size submission (chain + 1) runs order) (sym front.1) x.4,
-      )
+      let own = length-done catalogue size (first_member submission chain) run (accesses_of_chain chain order) x.0 x.3 in
+      let front = front_is x.0 x.1 cs (length run) x.2 own in (rw front.0 x.3, rw front.1 x.4)
 
   pub too_few : length cs < length run → AreDone → ⊥
-  too_few few x = let long = long_enough x in absurd (omega arith)
+  too_few few x =
+      let own = length-done catalogue size (first_member submission chain) run (accesses_of_chain chain order) x.0 x.3 in
+      let whole = ap length x.2 ∙ length-append x.0 x.1 in
+      absurd (omega arith)
 
   module _ (accesses : List Access) (own others : List Completed) (are : accesses ≡ accesses_of_chain chain order) (front : own ≡ take (length run) cs)
       (back : others ≡ drop (length run) cs) where
@@ -42,7 +36,7 @@ module _ (catalogue : List FileEntry) (size submission chain : ℕ) (run : List 
     pub goes_on : IsChainDone catalogue size (first_member submission chain) run accesses own → (b : Bool)
         → (IsTrue b ↔ AreChainsDone catalogue size submission (chain + 1) runs order others) → IsTrue b ↔ AreDone
     goes_on first b same = (
-      λ yes. (own, others, sym (take-append-drop (length run) cs) ∙ sym (ap (λ l. l ++ others) front ∙ ap (λ l. take (length run) cs ++ l) back), rw (sym are) first, same.0 yes),
+      λ yes. (own, others, sym (take-append-drop (length run) cs) ∙ (λ i. sym front i ++ sym back i), rw (sym are) first, same.0 yes),
       λ x. same.1 (rw back (parts_of x).1),
     )
 
@@ -50,22 +44,19 @@ module _ (catalogue : List FileEntry) (size submission chain : ℕ) (run : List 
 pub own_completed : (members : List Request) (completions own : List Completion) → own ≡ take (length members) completions
     → all_completed own ≡ take (length (all_asked members)) (all_completed completions)
 own_completed members completions own front =
-    ap all_completed front ∙ sym (take-map completed_of (length members) completions)
-    ∙ ap (λ (n : ℕ). take n (all_completed completions)) (sym (length-map members asked_of))
+    rw (front, length-map members asked_of) (sym (take-map completed_of (length members) completions))
 
 pub others_completed : (members : List Request) (completions others : List Completion) → others ≡ drop (length members) completions
     → all_completed others ≡ drop (length (all_asked members)) (all_completed completions)
 others_completed members completions others back =
-    ap all_completed back ∙ sym (drop-map completed_of (length members) completions)
-    ∙ ap (λ (n : ℕ). drop n (all_completed completions)) (sym (length-map members asked_of))
+    rw (back, length-map members asked_of) (sym (drop-map completed_of (length members) completions))
 
 -- the chains of a submission by their members
 pub first_run : (asked : List Asked) (chains : List Chain) (d : Chain) (members : List Request) → 1 ≤ length chains
     → all_asked members ≡ members_of asked (slice_index_or chains 0 d)
     → map (members_of asked) chains ≡ all_asked members ∷ map (members_of asked) (take (length chains - 1) (drop 1 chains))
 first_run asked chains d members some run =
-    ap (map (members_of asked)) (first_and_rest chains d some)
-    ∙ ap (λ (r : List Asked). r ∷ map (members_of asked) (take (length chains - 1) (drop 1 chains))) (sym run)
+    ap (map (members_of asked)) (first_and_rest chains d some) ∙ (λ i. sym run i ∷ map (members_of asked) (take (length chains - 1) (drop 1 chains)))
 
 pub few_completions : (catalogue : List FileEntry) (size submission chain : ℕ) (asked : List Asked) (chains : List Chain) (d : Chain)
     → 1 ≤ length chains → (members : List Request) → all_asked members ≡ members_of asked (slice_index_or chains 0 d) → (order : List ChainAccess)
@@ -74,6 +65,5 @@ pub few_completions : (catalogue : List FileEntry) (size submission chain : ℕ)
 few_completions catalogue size submission chain asked chains d some members run order completions few x =
     let asks = length-map members asked_of in
     let says = length-map completions completed_of in
-    too_few catalogue size submission chain (all_asked members) (map (members_of asked) (take (length chains - 1) (drop 1 chains))) order (all_completed completions) (omega arith)
-    (subst (λ (runs : List (List Asked)). AreChainsDone catalogue size submission chain runs order (all_completed completions))
-    (first_run asked chains d members some run) x)
+    too_few catalogue size submission chain (all_asked members) (map (members_of asked) (take (length chains - 1) (drop 1 chains))) order
+    (all_completed completions) (omega arith) (rw (first_run asked chains d members some run) at x)

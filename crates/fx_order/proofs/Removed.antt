@@ -1,11 +1,12 @@
 -- The files that a history closes are those that its accesses took from their slots.
-use Rattle.fx_order.proofs.Words.{◌≡◌, ◌≢◌, ℕ, ◌<◌, ◌≤◌, ◌==◌, Bool, List, [], ◌∷◌, ◌++◌, map, refl, sym, ap, subst, ◌∙◌, append_assoc, Option, Some}
-use Rattle.fx_order.proofs.Words.{None, if◌then◌else◌, arith, IsPermutation, append-nil, IsPermutation-refl, IsPermutation-sym, IsPermutation-trans}
-use Rattle.fx_order.proofs.Words.{IsPermutation-cons, IsPermutation-to_front, IsPermutation-middle, IsPermutation-map, IsPermutation-pop_more}
-use Rattle.fx_order.proofs.Words.{option_to_list, Closed, File, Event, Action, Look, Put, Clear, Take, Close, State, IsSettled, Allows, after}
-use Rattle.fx_order.proofs.Words.{with_removed, state_after, AllowsAll, action_of, closes_in, closed_by, IsStart, identity_of, by_equality}
-use Rattle.fx_order.proofs.Words.{removed_by, removed_in, Access, named, named_same, present, placed_one, tally, tally_all, tally_start}
-use Rattle.fx_order.proofs.Accesses.{accesses_in, accesses_by}
+use Rattle.fx_order.proofs.Words.{◌≡◌, ◌≢◌, ℕ, ◌<◌, ◌≤◌, ◌==◌, List, [], ◌∷◌, ◌++◌, map, refl, sym, ap, subst, ◌∙◌, append_assoc, Option, Some, None}
+use Rattle.fx_order.proofs.Words.{if◌then◌else◌, arith, IsPermutation, append-nil, IsPermutation-refl, IsPermutation-sym, IsPermutation-trans}
+use Rattle.fx_order.proofs.Words.{IsPermutation-cons, IsPermutation-middle, IsPermutation-map, IsPermutation-pop_more, option_to_list, Closed, File}
+use Rattle.fx_order.proofs.Words.{Event, Action, Look, Put, Clear, Take, Close, State, IsSettled, Allows, after, with_removed, state_after, AllowsAll}
+use Rattle.fx_order.proofs.Words.{action_of, closes_in, closed_by, IsStart, by_equality, removed_by, removed_in, Access, named, named_same, present}
+use Rattle.fx_order.proofs.Words.{placed_one, tally, tally_all, tally_start, changed_at, nat_tests}
+use Rattle.fx_order.proofs.Accesses.{accesses_in, accesses_by, at_itself}
+use Rattle.std.proofs.lemmas.List.Sorted.{IsPermutation-push_more}
 
 abbrev identity : File → Closed
 identity f = f.identity
@@ -27,19 +28,11 @@ AreApart (f ∷ files) = (found_in f.number files ≡ None) × AreApart files
 
 found_without_other : {k n : ℕ} (files : List File) → k ≢ n → found_in k (without n files) ≡ found_in k files
 found_without_other [] other = refl
-found_without_other {k} {n} (f ∷ files) other =
-    by_equality n f.number (λ b. found_in k (if b then files else f ∷ without n files) ≡ found_in k (f ∷ files))
-    (λ same. by_equality k f.number (λ b. found_in k files ≡ (if b then Some f else found_in k files))
-    (λ too. absurd (other (too ∙ sym same))) (λ _. refl))
-    (λ _. ap (λ (x : Option File). if k == f.number then Some f else x) (found_without_other files other))
+found_without_other {k} {n} (f ∷ files) other = let rest = found_without_other files other in grind (arith, nat_tests)
 
 found_without : (n : ℕ) (files : List File) → AreApart files → found_in n (without n files) ≡ None
 found_without n [] apart = refl
-found_without n (f ∷ files) apart =
-    by_equality n f.number (λ b. (n == f.number) ≡ b → found_in n (if b then files else f ∷ without n files) ≡ None)
-    (λ same _. ap (λ (k : ℕ). found_in k files) same ∙ apart.0)
-    (λ _ is. ap (λ (b : Bool). if b then Some f else found_in n (without n files)) is ∙ found_without n files apart.1)
-    refl
+found_without n (f ∷ files) apart = let rest = found_without n files apart.1 in grind (arith, nat_tests)
 
 apart_without : (n : ℕ) (files : List File) → AreApart files → AreApart (without n files)
 apart_without n [] apart = tt
@@ -56,61 +49,47 @@ moved_to_front n {f} (g ∷ files) =
     (λ _ is. IsPermutation-trans (g ∷ files) (g ∷ f ∷ without n files) (f ∷ g ∷ without n files)
     (IsPermutation-cons g files (f ∷ without n files) (moved_to_front n files is)) (IsPermutation-middle (g ∷ []) f (without n files)))
 
--- the files that wait for their close
-record Waits (st : State) (waiting : List File) : Type 0 where
-  found : (n : ℕ) → st.removed n ≡ found_in n waiting
-  apart : AreApart waiting
-
--- what was removed is what was closed, and what waits
-record Accounts (st : State) (removed closed : List Closed) : Type 0 where
+-- what was removed is what was closed, and what waits for its close
+record Accounts (left : ℕ → Option File) (removed closed : List Closed) : Type 0 where
   waiting : List File
-  waits : Waits st waiting
+  found : (n : ℕ) → left n ≡ found_in n waiting
+  apart : AreApart waiting
   same_files : IsPermutation removed (closed ++ map identity waiting)
 
 -- where nothing is removed or closed
-kept : (st next : State) (removed closed : List Closed) → next.removed ≡ st.removed → Accounts st removed closed
-    → Accounts next (removed ++ []) (closed ++ [])
-kept st next removed closed same a = record {
+kept : {left : ℕ → Option File} (removed closed : List Closed) → Accounts left removed closed → Accounts left (removed ++ []) (closed ++ [])
+kept removed closed a = record {
   waiting = a.waiting;
-  waits = record { found = λ n. ap (λ (r : ℕ → Option File). r n) same ∙ a.waits.found n; apart = a.waits.apart };
-  same_files = subst (λ (l : List Closed). IsPermutation l ((closed ++ []) ++ map identity a.waiting)) (sym (append-nil removed))
-      (subst (λ (l : List Closed). IsPermutation removed (l ++ map identity a.waiting)) (sym (append-nil closed)) a.same_files);
+  found = a.found;
+  apart = a.apart;
+  same_files = rw (append-nil removed, append-nil closed) a.same_files;
 }
 
 -- where a file leaves its slot
-left : (st next : State) (removed closed : List Closed) (f : File) → st.removed f.number ≡ None → next.removed ≡ with_removed st.removed (Some f)
-    → Accounts st removed closed → Accounts next (removed ++ f.identity ∷ []) (closed ++ [])
-left st next removed closed f not_yet same a = record {
-  waiting = f ∷ a.waiting;
-  waits = record {
-    found = λ n. ap (λ (r : ℕ → Option File). r n) same ∙ ap (λ (x : Option File). if n == f.number then Some f else x) (a.waits.found n);
-    apart = (sym (a.waits.found f.number) ∙ not_yet, a.waits.apart);
-  };
-  same_files = subst (λ (l : List Closed). IsPermutation (removed ++ f.identity ∷ []) (l ++ f.identity ∷ map identity a.waiting)) (sym (append-nil closed))
-      (IsPermutation-trans (removed ++ f.identity ∷ []) (f.identity ∷ removed) (closed ++ f.identity ∷ map identity a.waiting)
-      (IsPermutation-to_front removed f.identity)
-      (IsPermutation-trans (f.identity ∷ removed) (f.identity ∷ (closed ++ map identity a.waiting)) (closed ++ f.identity ∷ map identity a.waiting)
-      (IsPermutation-cons f.identity removed (closed ++ map identity a.waiting) a.same_files)
-      (IsPermutation-sym (closed ++ f.identity ∷ map identity a.waiting) (f.identity ∷ (closed ++ map identity a.waiting))
-      (IsPermutation-middle closed f.identity (map identity a.waiting)))));
-}
+leaves : {left : ℕ → Option File} (removed closed : List Closed) (f : File) → left f.number ≡ None → Accounts left removed closed
+    → Accounts (with_removed left (Some f)) (removed ++ f.identity ∷ []) (closed ++ [])
+leaves removed closed f not_yet a =
+    let theirs : List Closed = map identity a.waiting in record {
+      waiting = f ∷ a.waiting;
+      found = λ n. ap (λ (x : Option File). if n == f.number then Some f else x) (a.found n);
+      apart = (sym (a.found f.number) ∙ not_yet, a.apart);
+      same_files = rw (append-nil closed) (IsPermutation-push_more removed (closed ++ theirs) (closed ++ f.identity ∷ theirs) f.identity a.same_files
+          (IsPermutation-sym (closed ++ f.identity ∷ theirs) (f.identity ∷ (closed ++ theirs)) (IsPermutation-middle closed f.identity theirs)));
+    }
 
 -- where a file is closed
-closed_one : {st : State} {removed : List Closed} (closed : List Closed) {f : File} → st.removed f.number ≡ Some f → Accounts st removed closed
-    → Accounts (after st (Close f)) (removed ++ []) (closed ++ f.identity ∷ [])
-closed_one {st} {removed} closed {f} is a = record {
-  waiting = without f.number a.waiting;
-  waits = record {
-    found = λ n. by_equality n f.number (λ b. (if b then None else st.removed n) ≡ found_in n (without f.number a.waiting))
-        (λ same. sym (ap (λ (k : ℕ). found_in k (without f.number a.waiting)) same ∙ found_without f.number a.waiting a.waits.apart))
-        (λ other. a.waits.found n ∙ sym (found_without_other a.waiting other));
-    apart = apart_without f.number a.waiting a.waits.apart;
-  };
-  same_files = subst (λ (l : List Closed). IsPermutation l ((closed ++ f.identity ∷ []) ++ map identity (without f.number a.waiting))) (sym (append-nil removed))
-      (IsPermutation-pop_more removed closed (map identity a.waiting) (map identity (without f.number a.waiting)) f.identity a.same_files
-      (IsPermutation-map identity a.waiting (f ∷ without f.number a.waiting)
-      (moved_to_front f.number a.waiting (sym (a.waits.found f.number) ∙ is))));
-}
+closed_one : {left : ℕ → Option File} (removed closed : List Closed) (f : File) → left f.number ≡ Some f → Accounts left removed closed
+    → Accounts (changed_at left f.number None) (removed ++ []) (closed ++ f.identity ∷ [])
+closed_one {left} removed closed f is a =
+    let rest : List File = without f.number a.waiting in record {
+      waiting = rest;
+      found = λ n. by_equality n f.number (λ b. (if b then None else left n) ≡ found_in n rest)
+          (λ same. sym (ap (λ (k : ℕ). found_in k rest) same ∙ found_without f.number a.waiting a.apart))
+          (λ other. a.found n ∙ sym (found_without_other a.waiting other));
+      apart = apart_without f.number a.waiting a.apart;
+      same_files = rw (append-nil removed) (IsPermutation-pop_more removed closed (map identity a.waiting) (map identity rest) f.identity a.same_files
+          (IsPermutation-map identity a.waiting (f ∷ rest) (moved_to_front f.number a.waiting (sym (a.found f.number) ∙ is))));
+    }
 
 none_present : (x : Option File) → present x ≡ 0 → x ≡ None
 none_present None is = refl
@@ -123,21 +102,17 @@ not_waiting st {slot} {f} lt is few =
     let at_least = placed_one f.number st.at slot st.size lt in
     none_present (st.removed f.number) (omega arith)
 
--- what an access takes is left by its step
-emptied : (st next : State) (removed closed : List Closed) (slot : ℕ) (found : Option File) → slot < st.size → found ≡ st.at slot
-    → ((n : ℕ) → tally n st ≤ 1) → next.removed ≡ with_removed st.removed found → Accounts st removed closed
-    → Accounts next (removed ++ (option_to_list (identity_of found) ++ [])) (closed ++ [])
-emptied st next removed closed slot None lt is few same a = kept st next removed closed same a
-emptied st next removed closed slot (Some f) lt is few same a = left st next removed closed f (not_waiting st lt is (few f.number)) same a
-
-accounts_after : {st : State} (a : Action) {removed : List Closed} (closed : List Closed) → Allows st a → ((n : ℕ) → tally n st ≤ 1) → Accounts st removed closed
-    → Accounts (after st a) (removed ++ removed_in (accesses_by a)) (closed ++ closed_by a)
-accounts_after {st} (Look slot None) {removed} closed may few a = kept st st removed closed refl a
-accounts_after {st} (Put slot f found) {removed} closed may few a = emptied st (after st (Put slot f found)) removed closed slot found may.0 may.2 few refl a
-accounts_after {st} (Clear slot found) {removed} closed may few a = emptied st (after st (Clear slot found)) removed closed slot found may.0 may.1 few refl a
-accounts_after {st} (Take slot found) {removed} closed may few a = emptied st (after st (Take slot found)) removed closed slot found may.0 may.1 few refl a
-accounts_after {st} (Close f) {removed} closed may few a = closed_one closed may.0 a
-accounts_after {st} action {removed} closed may few a = kept st (after st action) removed closed refl a
+accounts_after : (st : State) (a : Action) {removed : List Closed} (closed : List Closed) → Allows st a → ((n : ℕ) → tally n st ≤ 1)
+    → Accounts st.removed removed closed → Accounts (after st a).removed (removed ++ removed_in (accesses_by a)) (closed ++ closed_by a)
+accounts_after st (Look slot None) {removed} closed may few so_far = kept removed closed so_far
+accounts_after st (Put slot f (Some g)) {removed} closed may few so_far =
+    leaves removed closed g (not_waiting st may.0 may.2 (few g.number)) so_far
+accounts_after st (Clear slot (Some g)) {removed} closed may few so_far =
+    leaves removed closed g (not_waiting st may.0 may.1 (few g.number)) so_far
+accounts_after st (Take slot (Some g)) {removed} closed may few so_far =
+    leaves removed closed g (not_waiting st may.0 may.1 (few g.number)) so_far
+accounts_after st (Close f) {removed} closed may few so_far = closed_one removed closed f may.0 so_far
+accounts_after st a {removed} closed may few so_far = kept removed closed so_far
 
 pub removed_in-append : (xs ys : List Access) → removed_in (xs ++ ys) ≡ removed_in xs ++ removed_in ys
 removed_in-append [] ys = refl
@@ -145,35 +120,27 @@ removed_in-append (x ∷ xs) ys = ap (λ (l : List Closed). option_to_list (remo
     ∙ sym (append_assoc (option_to_list (removed_by x)) (removed_in xs) (removed_in ys))
 
 accounts_along : {start : State} (h : List Event) → IsStart start → AllowsAll start (map action_of h)
-    → Accounts (state_after start (map action_of h)) (removed_in (accesses_in (map action_of h))) (closes_in (map action_of h))
-accounts_along [] begins may = record {
-  waiting = [];
-  waits = record { found = begins.settled.closed; apart = tt };
-  same_files = IsPermutation-refl [];
-}
+    → Accounts (state_after start (map action_of h)).removed (removed_in (accesses_in (map action_of h))) (closes_in (map action_of h))
+accounts_along [] begins may =
+    record { waiting = []; found = begins.settled.closed; apart = tt; same_files = IsPermutation-refl [] }
 accounts_along {start} (e ∷ h) begins may =
     let st : State = state_after start (map action_of h) in
     let few : (n : ℕ) → tally n st ≤ 1 = λ n. let once = tally_start start n begins in let all = tally_all start h n once may.0 in omega arith in
-    subst (λ (l : List Closed). Accounts (after st e.action) l (closes_in (map action_of (e ∷ h))))
-    (sym (removed_in-append (accesses_in (map action_of h)) (accesses_by e.action))) (accounts_after e.action (closes_in (map action_of h)) may.1 few
-    (accounts_along h begins may.0))
+    subst (λ (l : List Closed). Accounts (after st e.action).removed l (closes_in (map action_of (e ∷ h))))
+    (sym (removed_in-append (accesses_in (map action_of h)) (accesses_by e.action)))
+    (accounts_after st e.action (closes_in (map action_of h)) may.1 few (accounts_along h begins may.0))
 
-none_waits : {st : State} (waiting : List File) → IsSettled st → Waits st waiting → waiting ≡ []
-none_waits [] settled waits = refl
-none_waits (f ∷ waiting) settled waits =
-    let here : found_in f.number (f ∷ waiting) ≡ Some f =
-    by_equality f.number f.number (λ b. (if b then Some f else found_in f.number waiting) ≡ Some f) (λ _. refl) (λ other. absurd (other refl)) in
-    let is : None ≡ Some f = sym (settled.closed f.number) ∙ (waits.found f.number ∙ here) in
-    absurd (cc)
+none_waits : {left : ℕ → Option File} (waiting : List File) → ((n : ℕ) → left n ≡ None) → ((n : ℕ) → left n ≡ found_in n waiting) → waiting ≡ []
+none_waits [] settled found = refl
+none_waits (f ∷ waiting) settled found =
+    let is : None ≡ Some f = sym (settled f.number) ∙ (found f.number ∙ at_itself f.number (Some f) (found_in f.number waiting)) in absurd (cc)
 
 -- at a settled end, what was taken from the slots was closed
 pub removed_is_closed : {start end : State} (h : List Event) → IsStart start → AllowsAll start (map action_of h)
     → end ≡ state_after start (map action_of h) → IsSettled end
     → IsPermutation (removed_in (accesses_in (map action_of h))) (closes_in (map action_of h))
-removed_is_closed {start} h begins may is settled =
+removed_is_closed h begins may is settled =
     let all = accounts_along h begins may in
-    let none : all.waiting ≡ [] =
-    none_waits all.waiting (subst IsSettled is settled) all.waits in
+    let none : all.waiting ≡ [] = none_waits all.waiting (subst IsSettled is settled).closed all.found in
     subst (IsPermutation (removed_in (accesses_in (map action_of h))))
-    (ap (λ (l : List File). closes_in (map action_of h) ++ map identity l) none ∙ append-nil (closes_in (map action_of h)))
-    all.same_files
+    (ap (λ (l : List File). closes_in (map action_of h) ++ map identity l) none ∙ append-nil (closes_in (map action_of h))) all.same_files
