@@ -1,6 +1,6 @@
 -- An order whose parts were looked through, and the ring that it leaves.
 use Rattle.fx_order.proofs.Words.{◌≡◌, ℕ, ◌+◌, List, length, map, sym, ap, ◌∙◌, length-map, FileEntry, members_of, Asked, runs_of, Chain, table_after}
-use Rattle.fx_order.proofs.Words.{accesses_of, ring_left, ring_of_slots, table_of_slots, ChainAccess, Slots}
+use Rattle.fx_order.proofs.Words.{accesses_of, ring_left, ring_of_slots, table_of_slots, ChainAccess, Slots, IsTrue, false, ◌↔◌, false≢true}
 use Rattle.fx_order.proofs.Ordered.{ring_after, same_outline}
 
 pub ring_left_is : (catalogue : List FileEntry) (old new : Slots) (submissions registrations : ℕ) (order : List ChainAccess)
@@ -13,3 +13,7 @@ ring_left_is catalogue old new submissions registrations order made =
 -- there are as many chains as runs
 pub as_many : (asked : List Asked) (cut : List Chain) (n : ℕ) → n ≡ length cut → map (members_of asked) cut ≡ runs_of asked → n ≡ length (runs_of asked)
 as_many asked cut n count members = count ∙ (sym (length-map cut (members_of asked)) ∙ ap length members)
+
+-- the answer is no where there is no such order
+pub never : {P : Type 0} → (P → ⊥) → IsTrue false ↔ P
+never none = (λ yes. absurd (false≢true yes), λ p. absurd (none p))

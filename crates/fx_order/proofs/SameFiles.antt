@@ -1,9 +1,11 @@
 -- Which lists have the same files: how often a file stands in each of them.
-use Rattle.fx_order.proofs.Words.{◌≡◌, ◌≢◌, ℕ, suc, ◌+◌, ◌<◌, ◌≤◌, ◌==◌, ◌&&◌, Bool, true, false, cond, List, [], ◌∷◌, ◌++◌, length, take, drop}
-use Rattle.fx_order.proofs.Words.{IsTrue, ◌↔◌, subst, refl, sym, ap, ◌∙◌, arith, slice_index_or, Decides, IsPermutation, sum_by, remove, false≢true}
+use Rattle.fx_order.proofs.Words.{◌≡◌, ◌≢◌, ℕ, suc, ◌+◌, ◌<◌, ◌≤◌, ◌==◌, ◌&&◌, Bool, false, cond, List, [], ◌∷◌, ◌++◌, length, take, drop, IsTrue}
+use Rattle.fx_order.proofs.Words.{◌↔◌, subst, refl, sym, ap, ◌∙◌, arith, slice_index_or, Decides, IsPermutation, sum_by, remove, false≢true}
 use Rattle.fx_order.proofs.Words.{Decides-eqb, Decides-and, Decides-like, append-nil, length-append, take_all, take_more, split_at}
 use Rattle.fx_order.proofs.Words.{sum_by-IsPermutation, length_permutation, IsPermutation-more, sum_by-append, sum_by-cons, Mark, Registered}
 use Rattle.fx_order.proofs.Words.{Submitted, Closed}
+use Rattle.std.proofs.lemmas.Bool.{not-true}
+use Rattle.std.proofs.lemmas.Bool.Decides.{Decides-not}
 use Rattle.std.proofs.lemmas.List.{nil_from_length}
 
 abbrev pub same_mark : Mark → Mark → Bool
@@ -40,27 +42,22 @@ decides_file a b =
 abbrev one_if_same : Closed → Closed → ℕ
 one_if_same file x = cond (same_file file x) 1 0
 
-one_of_same : {file x : Closed} (b : Bool) → same_file file x ≡ b → file ≢ x → ◌≡◌ {A = ℕ} (cond b 1 0) 0
-one_of_same {file} {x} true is other = absurd (other ((decides_file file x).0 is))
-one_of_same false is other = refl
-
 times-none : {file : Closed} (files : List Closed) → ((i : ℕ) (d : Closed) → i < length files → slice_index_or files i d ≢ file)
     → sum_by (one_if_same file) files ≡ 0
 times-none [] none = refl
 times-none {file} (x ∷ files) none =
-    let head : one_if_same file x ≡ 0 = one_of_same (same_file file x) refl (λ is. none 0 x (omega arith) (sym is)) in
-    let rest : sum_by (one_if_same file) files ≡ 0 = times-none files (λ i d lt. none (suc i) d (omega arith)) in
+    let head : one_if_same file x ≡ 0 =
+    ap (λ (b : Bool). cond b 1 0) (not-true _ ((Decides-not _ (decides_file file x)).1 (λ is. none 0 x (omega arith) (sym is)))) in
+    let rest = times-none files (λ i d lt. none (suc i) d (omega arith)) in
     sum_by-cons (one_if_same file) x files ∙ omega arith
 
 -- where the file is next, it is one of those that are left
 is_left : {files : List Closed} (done rest left : List Closed) {file : Closed} → IsPermutation files (done ++ left)
     → IsPermutation files (done ++ file ∷ rest) → ((i : ℕ) (d : Closed) → i < length left → slice_index_or left i d ≢ file) → ⊥
 is_left {files} done rest left {file} one other none =
-    let f : Closed → ℕ = one_if_same file in
     let here : one_if_same file file ≡ 1 = ap (λ (b : Bool). cond b 1 0) ((decides_file file file).1 refl) in
-    let first : sum_by (one_if_same file) (done ++ left) ≡ sum_by (one_if_same file) files = sum_by-IsPermutation (one_if_same file) files (done ++ left) one in
-    let second : sum_by (one_if_same file) (done ++ file ∷ rest) ≡ sum_by (one_if_same file) files =
-    sum_by-IsPermutation (one_if_same file) files (done ++ file ∷ rest) other in
+    let first = sum_by-IsPermutation (one_if_same file) files (done ++ left) one in
+    let second = sum_by-IsPermutation (one_if_same file) files (done ++ file ∷ rest) other in
     let parts = sum_by-append (one_if_same file) done left in
     let others = sum_by-append (one_if_same file) done (file ∷ rest) in
     let head = sum_by-cons (one_if_same file) file rest in
@@ -78,17 +75,15 @@ module _ (files others left : List Closed) (i : ℕ) (so_far : IsPermutation fil
       → slice_index_or left j (slice_index_or others i d) ≡ slice_index_or others i d
       → IsPermutation files (take (i + 1) others ++ remove left j)
   one_more d j within inside is =
-      subst (λ (l : List Closed). IsPermutation files (l ++ remove left j)) (sym (take_more others i d within))
-      (IsPermutation-more files (take i others) left j (slice_index_or others i d) inside (sym is) so_far)
+      rw (take_more others i d within) (IsPermutation-more files (take i others) left j (slice_index_or others i d) inside (sym is) so_far)
 
   pub none_over : {n : ℕ} → length others ≤ i → n ≡ length left → IsTrue (n == 0) ↔ IsPermutation files others
   none_over {n} all count =
-      let whole : take i others ≡ others = take_all i others all in
-      let now : IsPermutation files (others ++ left) = subst (λ (l : List Closed). IsPermutation files (l ++ left)) whole so_far in
-      let long : length (others ++ left) ≡ length files = length_permutation files (others ++ left) now in
-      let parts : length (others ++ left) ≡ length others + length left = length-append others left in (
+      let now : IsPermutation files (others ++ left) = rw (take_all i others all) at so_far in
+      let long = length_permutation files (others ++ left) now in
+      let parts = length-append others left in (
         λ yes. let none : n ≡ 0 = (Decides-eqb n 0).0 yes in
             subst (IsPermutation files) (append-nil others)
             (subst (λ (l : List Closed). IsPermutation files (others ++ l)) (nil_from_length left (omega arith)) now),
-        λ same. (Decides-eqb n 0).1 (let short : length others ≡ length files = length_permutation files others same in omega arith),
+        λ same. (Decides-eqb n 0).1 (let short = length_permutation files others same in omega arith),
       )

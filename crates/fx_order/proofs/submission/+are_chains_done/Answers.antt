@@ -1,38 +1,33 @@
-use Rattle.fx_order.proofs.Words.{IfOk-weaker, ◌∙◌, rules, false≢true, sym, IsChain, all_asked, Chain}
+use Rattle.fx_order.proofs.Words.{IfOk-weaker, ◌∙◌, rules, IsChain, all_asked, Chain}
 use Rattle.fx_order.proofs.ChainsFront.{few_completions, first_run, goes_on, not_first, others_completed, own_completed}
 use Rattle.fx_order.proofs.FirstAndRest.{all_of_rest}
+use Rattle.fx_order.proofs.OrderOf.{never}
+use Rattle.std.proofs.lemmas.Bool.Decides.{not_from_Decides}
 use Rattle.fx_order.proofs.submission.+are_chains_done.Goals as goal
 
 abbrev none : Chain
 none = record { first = 0; len = 0 }
 
 pub returns-then-completions-members : goal.returns-then-completions-members
-returns-then-completions-members t c = (
-  λ no. absurd (false≢true no),
-  λ x. absurd (few_completions c.args.ordered.now.catalogue.now c.args.ordered.now.size c.args.ordered.now.submission c.args.chain
-      (all_asked c.args.ordered.now.requests.now) c.args.chains.now none c.in-len1-up.len_at_least c.members-members.result.now
-      c.members-members.ensures.members c.args.ordered.now.order.now c.args.completions.now c.if-completions-members.true x),
-)
+returns-then-completions-members t c =
+    never (few_completions c.args.ordered.now.catalogue.now c.args.ordered.now.size c.args.ordered.now.submission c.args.chain
+    (all_asked c.args.ordered.now.requests.now) c.args.chains.now none c.in-len1-up.len_at_least c.members-members.result.now
+    c.members-members.ensures.members c.args.ordered.now.order.now c.args.completions.now c.if-completions-members.true)
 
 pub returns-then-not-branch : goal.returns-then-not-branch
 returns-then-not-branch t c =
     rw (first_run (all_asked c.args.ordered.now.requests.now) c.args.chains.now none c.members-members.result.now c.in-len1-up.len_at_least
-    c.members-members.ensures.members) (
-      λ no. absurd (false≢true no),
-      λ x. absurd (not_first c.args.ordered.now.catalogue.now c.args.ordered.now.size c.args.ordered.now.submission c.args.chain
-          _ _ c.args.ordered.now.order.now _ c.deref.result.now _ _ (c.deref.ensures.value ∙ c.in_ok-accesses.ensures)
-          (own_completed c.members-members.result.now c.args.completions.now _ c.split_at.ensures.front)
-          (others_completed c.members-members.result.now c.args.completions.now _ c.split_at.ensures.back)
-          (λ done. false≢true (sym c.if-not-branch.true ∙ c.in_ok-is_chain_done.ensures.1 done)) x),
-    )
+    c.members-members.ensures.members)
+    (never (not_first c.args.ordered.now.catalogue.now c.args.ordered.now.size c.args.ordered.now.submission c.args.chain
+    _ _ c.args.ordered.now.order.now _ c.deref.result.now _ _ (c.deref.ensures.value ∙ c.in_ok-accesses.ensures)
+    (own_completed c.members-members.result.now c.args.completions.now _ c.split_at.ensures.front)
+    (others_completed c.members-members.result.now c.args.completions.now _ c.split_at.ensures.back)
+    (not_from_Decides _ c.in_ok-is_chain_done.ensures c.if-not-branch.true)))
 
 pub are_chains_done-requires : goal.are_chains_done-requires
 are_chains_done-requires t c = (
   search rules,
-  (
-    all_of_rest (IsChain (all_asked c.args.ordered.now.requests.now)) c.args.chains.now none c.in-len1-up.len_at_least c.requires.within,
-    search rules,
-  ),
+  (all_of_rest (IsChain (all_asked c.args.ordered.now.requests.now)) c.args.chains.now none c.in-len1-up.len_at_least c.requires.within, search rules),
 )
 
 pub returns : goal.returns
