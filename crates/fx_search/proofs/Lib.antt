@@ -1,8 +1,6 @@
 pub mod Words
 pub mod SlotsKept
 pub mod Lists
-pub mod Writing
-pub mod Unpacking
 pub mod Reaching
 pub mod Hopeless
 pub mod Uneven

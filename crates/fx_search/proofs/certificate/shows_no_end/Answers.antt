@@ -1,6 +1,5 @@
-use Rattle.fx_search.proofs.Words.{◌≡◌, refl, sym, ap, subst, ◌∙◌, ℕ, List, All, Contains, IsTrue, option_copied, Packing, Standing, Vec, HasNoEnd, IfOk-weaker}
-use Rattle.fx_search.proofs.Words.{IsLookedThrough, all_unpacked, starting, unpacked}
-use Rattle.fx_search.proofs.Lists.{at_inside}
+use Rattle.fx_search.proofs.Words.{◌≡◌, refl, sym, ap, subst, ◌∙◌, ℕ, List, IsTrue, option_copied, Packing, Standing, Vec, HasNoEnd, IfOk-weaker}
+use Rattle.fx_search.proofs.Words.{starting, unpacked}
 use Rattle.fx_search.proofs.Reaching.{never_reached}
 use Rattle.fx_search.proofs.certificate.shows_no_end.Goals as goal
 
@@ -11,8 +10,6 @@ returns c =
     let rows : List (Vec ℕ) = c.args.web.now.rows.keys in
     let is : unpacked packing c.in-Some.first.now.items ≡ start =
     sym (c.in_ok-node.ensures ∙ ap (unpacked packing) c.deref.ensures.value) ∙ (c.if-not-is_same.ensures refl ∙ c.in_ok-start.ensures) in
-    let begins : Contains (all_unpacked packing rows) start = subst (Contains (all_unpacked packing rows)) is
-    (at_inside (λ (row : Vec ℕ). unpacked packing row.items) rows 0 c.in-Some.first.now (sym c.get_index.ensures.key ∙ ap option_copied c.in-Some.is)) in
-    IfOk-weaker c.is_closed.result (λ yes. IsTrue yes → All (λ row. IsLookedThrough c.args.strands.now (all_unpacked packing rows) (unpacked packing row.items)) rows)
-    (λ yes. IsTrue yes → HasNoEnd c.args.strands.now start)
-    (λ yes closed done. never_reached c.args.strands.now start packing rows (closed done) begins) c.is_closed.ensures
+    IfOk-weaker c.is_closed.result _ (λ yes. IsTrue yes → HasNoEnd c.args.strands.now start)
+    (λ yes closed done. subst (HasNoEnd c.args.strands.now) is (never_reached c.args.strands.now packing rows 0 c.in-Some.first.now
+    (sym c.get_index.ensures.key ∙ ap option_copied c.in-Some.is) (closed done))) c.is_closed.ensures
