@@ -41,7 +41,8 @@ past_none xs i k x le is none = let lt = slice_get_within xs k x is in let some 
 abbrev Unfit : List Cell → ℕ → Claim → Option Resident → Type 0
 Unfit cells slot claim now = (now ≡ cell_at cells slot) ⊎ ((may_find claim now ≡ false) × (may_leave (cell_at cells slot) ≡ true))
 
-changed : (cells : List Cell) (slot : ℕ) (claim : Claim) (s : ℕ) (x : Option Resident) (wanted : Bool) → (wanted && (false || may_leave (cell_at cells s))) ≡ true
+changed : (cells : List Cell) (slot : ℕ) (claim : Claim) (s : ℕ) (x : Option Resident) (wanted : Bool)
+    → (wanted && (false || may_leave (cell_at cells s))) ≡ true
     → (may_leave (cell_at cells slot) ≡ false) ⊎ ((not (s == slot) || not (may_find claim x)) ≡ true)
     → (cell_at (with_cell cells s x) slot ≡ cell_at cells slot) ⊎ ((s ≡ slot) × (cell_at (with_cell cells s x) slot ≡ x))
     → Unfit cells slot claim (cell_at (with_cell cells s x) slot)
@@ -117,16 +118,17 @@ module _ (strands : List Strand) (c k slot : ℕ) (strand : Strand) (wants : Wan
   never_ends at early hopeless = none_ends strands
       (λ x. (slice_index x.places c ≤ k) × IsHopeless strands x slot (At slot wants leaves))
       (λ x so end. past_none strand.claims.items (slice_index x.places c) k (At slot wants leaves) so.0 waits (sym (at_place x.places) ∙ end.over c))
-      (λ x d step is_next may so. (still x d step is_next may so.0 so.1.unfit, hopeless_then strands x d step is_next may slot (At slot wants leaves) so.1))
-      at (early, hopeless)
+      (λ x d step is_next may so.
+      (still x d step is_next may so.0 so.1.unfit, hopeless_then strands x d step is_next may slot (At slot wants leaves) so.1)) at (early, hopeless)
 
 -- the element that was read at a place
 pub get_at : {X : Type 0} (xs : List X) (k : ℕ) (x : X) → k < length xs → x ≡ slice_index_or xs k x → slice_get xs k ≡ Some x
 get_at xs k x lt is = slice_get_read xs (length xs) k x refl lt is
 
 -- a claim of a slot that is still to be made, and hopeless
-pub vain : (strands : List Strand) (at : Standing) (c k slot : ℕ) (strand : Strand) (claim : Claim) → slot_of claim ≡ Some slot → slice_get strands c ≡ Some strand
-    → slice_index at.places c ≤ k → slice_get strand.claims.items k ≡ Some claim → IsHopeless strands at slot claim → HasNoEnd strands at
+pub vain : (strands : List Strand) (at : Standing) (c k slot : ℕ) (strand : Strand) (claim : Claim) → slot_of claim ≡ Some slot
+    → slice_get strands c ≡ Some strand → slice_index at.places c ≤ k → slice_get strand.claims.items k ≡ Some claim
+    → IsHopeless strands at slot claim → HasNoEnd strands at
 vain strands at c k slot strand (At s wants leaves) of is early waits hopeless =
     let same : s ≡ slot = cc in
     never_ends strands c k s strand wants leaves is waits at early

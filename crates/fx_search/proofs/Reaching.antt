@@ -45,7 +45,7 @@ skipped at c = standing (slice_set at.places c (slice_index at.places c + 1)) at
 
 claim_other : (strands : List Strand) (places : List ℕ) (c d x : ℕ) → d ≢ c → claim_at strands (slice_set places c x) d ≡ claim_at strands places d
 claim_other strands places c d x other =
-    ap (λ (n : ℕ). option_and_then (λ (strand : Strand). slice_get strand.claims.items n) (slice_get strands d)) (get_or-set_other places c d x 0 other)
+    ap (λ (n : ℕ). option_and_then (λ (s : Strand). slice_get s.claims.items n) (slice_get strands d)) (get_or-set_other places c d x 0 other)
 
 -- from where the test was made, an end is reached in one step less
 test_first : (strands : List Strand) (c : ℕ) (claim : Claim) (order : List ℕ) (at : Standing)
@@ -79,34 +79,33 @@ test_first strands c claim (d ∷ order) at is test ends =
     (d ∷ rest.0, (after (skipped at c) d own.0, next_is, subst (λ (x : Standing). Ends strands x rest.0) (sym joined) rest.1), ap suc rest.2))
 
 -- from a list that was looked through no order of this length leads to an end
-none_of_length : (strands : List Strand) (standings : List Standing) → All (IsLookedThrough strands standings) standings
-    → (n : ℕ) (order : List ℕ) (at : Standing) → length order ≡ n → Contains standings at → Ends strands at order → ⊥
-unfolding IsExplored LeadsInside HasNoEnd
-none_of_length strands standings looked n [] at few inside ends = (All-contains (IsLookedThrough strands standings) standings at looked inside).no_end ends
-none_of_length strands standings looked zero (c ∷ order) at few inside ends = absurd (omega arith)
-none_of_length strands standings looked (suc n) (c ∷ order) at few inside ends =
-    elim (All-contains (IsLookedThrough strands standings) standings at looked inside).explored [
-      | inl leads ↦ elim (leads c ends.0 ends.1) [
-        | inl there ↦ none_of_length strands standings looked n order ends.0 (omega arith) there ends.2
-        | inr dead ↦ dead order ends.2
+module _ (strands : List Strand) (standings : List Standing) (looked : All (IsLookedThrough strands standings) standings) where
+  none_of_length : (n : ℕ) (order : List ℕ) (at : Standing) → length order ≡ n → Contains standings at → Ends strands at order → ⊥
+  unfolding IsExplored LeadsInside HasNoEnd
+  none_of_length n [] at few inside ends = (All-contains (IsLookedThrough strands standings) standings at looked inside).no_end ends
+  none_of_length zero (c ∷ order) at few inside ends = absurd (omega arith)
+  none_of_length (suc n) (c ∷ order) at few inside ends =
+      elim (All-contains (IsLookedThrough strands standings) standings at looked inside).explored [
+        | inl leads ↦ elim (leads c ends.0 ends.1) [
+          | inl there ↦ none_of_length n order ends.0 (omega arith) there ends.2
+          | inr dead ↦ dead order ends.2
+        ]
+        | inr test ↦
+            let t = test.1 in
+            let less = test_first strands test.0 t.claim (c ∷ order) at t.claims t.test ends in
+            let made_is = chosen (allows at.cells t.claim) _ t.mid (sym (ap (option_and_then (made at test.0)) t.claims) ∙ t.leads) in
+            let mid_is : t.mid ≡ skipped at test.0 =
+            sym made_is.1 ∙ ap (standing (skipped at test.0).places) (test_keeps at.cells t.claim t.test) in
+            let fewer = less.2 in
+            none_of_length n less.0 (skipped at test.0) (omega arith) (subst (Contains standings) mid_is t.inside) less.1
       ]
-      | inr test ↦
-          let less = test_first strands test.0 test.1.claim (c ∷ order) at test.1.claims test.1.test ends in
-          let made_is = chosen (allows at.cells test.1.claim) _ test.1.mid
-          (sym (ap (option_and_then (made at test.0)) test.1.claims) ∙ test.1.leads) in
-          let mid_is : test.1.mid ≡ skipped at test.0 =
-          sym made_is.1 ∙ ap (standing (skipped at test.0).places) (test_keeps at.cells test.1.claim test.1.test) in
-          let fewer = less.2 in
-          none_of_length strands standings looked n less.0 (skipped at test.0) (omega arith)
-          (subst (λ (x : Standing). Contains standings x) mid_is test.1.inside) less.1
-    ]
 
 pub never_reached : (strands : List Strand) (packing : Packing) (rows : List (Vec ℕ)) (k : ℕ) (row : Vec ℕ) → slice_get rows k ≡ Some row
-    → All (λ row. IsLookedThrough strands (all_unpacked packing rows) (unpacked packing row.items)) rows → HasNoEnd strands (unpacked packing row.items)
+    → All (λ r. IsLookedThrough strands (all_unpacked packing rows) (unpacked packing r.items)) rows → HasNoEnd strands (unpacked packing row.items)
 unfolding HasNoEnd
 never_reached strands packing rows k row is looked = λ order ends.
     let state : Vec ℕ → Standing = λ row. unpacked packing row.items in
     let within = slice_get_within rows k row is in
+    let here = get_or-map state rows k row (state row) within ∙ ap state (get_or_from_slice_get rows k row row is) in
     none_of_length strands (all_unpacked packing rows) (All-map (IsLookedThrough strands (all_unpacked packing rows)) state rows looked)
-    (length order) order (state row) refl
-    (k, omega (arith, length-map rows state), get_or-map state rows k row (state row) within ∙ ap state (get_or_from_slice_get rows k row row is)) ends
+    (length order) order (state row) refl (k, omega (arith, length-map rows state), here) ends

@@ -39,7 +39,8 @@ record Does (slot : ℕ) (step : Claim) (now after : Option Resident) : Type 0 w
   leaves : leaving after + one Takes slot step ≤ leaving now + one Leaving slot step
   some : 1 ≤ leaving now + one Leaving slot step → 1 ≤ leaving after + one Empties slot step + one Staying slot step
 
-keeps : (slot : ℕ) (step : Claim) {now after : Option Resident} → after ≡ now → ((change : Change) → one change slot step ≡ 0) → Does slot step now after
+keeps : (slot : ℕ) (step : Claim) {now after : Option Resident} → after ≡ now → ((change : Change) → one change slot step ≡ 0)
+    → Does slot step now after
 keeps slot step same none =
     let stay = ap staying same in
     let leave = ap leaving same in
