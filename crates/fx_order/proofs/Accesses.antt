@@ -100,7 +100,8 @@ pub table_after-append : (table : Table) (xs ys : List Access) → table_after t
 table_after-append table [] ys = refl
 table_after-append table (x ∷ xs) ys = table_after-append (table_with table x) xs ys
 
-pub PermitsAll-append : (table : Table) (xs ys : List Access) → PermitsAll table xs → PermitsAll (table_after table xs) ys → PermitsAll table (xs ++ ys)
+pub PermitsAll-append : (table : Table) (xs ys : List Access) → PermitsAll table xs → PermitsAll (table_after table xs) ys
+    → PermitsAll table (xs ++ ys)
 PermitsAll-append table [] ys first second = second
 PermitsAll-append table (x ∷ xs) ys first second = (first.0, PermitsAll-append (table_with table x) xs ys first.1 second)
 

@@ -63,7 +63,8 @@ list_applied accesses events all place in_list slot (entry ∷ list) x =
       list_applied x.1 two.last two.do_last place (in_list + 1) (slot + 1) list x.4,
     )
 
-module _ (catalogue : List FileEntry) (size : ℕ) (place : Place) (accesses : List Access) (events : List Action) (all : AllDo accesses events) (c : Completed) where
+module _ (catalogue : List FileEntry) (size : ℕ) (place : Place) (accesses : List Access) (events : List Action) (all : AllDo accesses events)
+    (c : Completed) where
   refused : (errno : Errno) → IsRefused place errno accesses c → Refuses place errno events c
   refused errno x = (none_done x.0 all, x.1)
 
@@ -109,7 +110,8 @@ module _ (catalogue : List FileEntry) (size : ℕ) (place : Place) (accesses : L
       → UpdatesFrom (length catalogue) size place off list events c
   updated off list =
       same_cases (size == 0) (refused ENXIO) (same_cases (length list == 0 || nat_lt size (off + length list)) (refused EINVAL)
-      (same_cases (list_any (is_bad_entry (length catalogue)) list) (refused EBADF) (λ x. (list_applied accesses events all place 0 off list x.0, x.1))))
+      (same_cases (list_any (is_bad_entry (length catalogue)) list) (refused EBADF)
+      (λ x. (list_applied accesses events all place 0 off list x.0, x.1))))
 
   answered : (operation : Operation) → IsRequestDone catalogue size place operation accesses c → Answers catalogue size place operation events c
   answered (Opens name target) = same_cases (has_name name catalogue) (λ x. (x.0, x.1, opened x.0 target x.2)) (refused ENOENT)
@@ -119,8 +121,8 @@ module _ (catalogue : List FileEntry) (size : ℕ) (place : Place) (accesses : L
 
 module _ (catalogue : List FileEntry) (size : ℕ) where
   -- a chain
-  chain_explained : (accesses : List Access) (events : List Action) → AllDo accesses events → (place : Place) (requests : List Asked) (cs : List Completed)
-      → IsChainDone catalogue size place requests accesses cs → Explains catalogue size place requests events cs
+  chain_explained : (accesses : List Access) (events : List Action) → AllDo accesses events
+      → (place : Place) (requests : List Asked) (cs : List Completed) → IsChainDone catalogue size place requests accesses cs → Explains catalogue size place requests events cs
   chain_explained accesses events all place [] cs x = (none_done x.0 all, x.1)
   chain_explained accesses events all place (request ∷ requests) cs x =
       let two : Parted x.0 x.1 events = parted x.0 (subst (λ (l : List Access). AllDo l events) x.4 all) in (

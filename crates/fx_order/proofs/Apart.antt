@@ -2,7 +2,8 @@
 use Rattle.fx_order.proofs.Words.{◌≡◌, ◌≢◌, ◌⊎◌, inl, inr, ⊎_elim, ℕ, List, [], ◌∷◌, ◌++◌, sym, ◌∙◌, Some, Closed, Table, Puts, Allocates, Permits}
 use Rattle.fx_order.proofs.Words.{PermitsAll, table_with, table_after, removed_by, Access, removed_in, Bool, None, Option, false, refl}
 use Rattle.fx_order.proofs.Words.{slice_index_or, option_to_list}
-use Rattle.fx_order.proofs.Placed.{Has, Removes, emptied, has_left, has_right, left_from, placed, placed_by, removed_from, removes_contained, step_from}
+use Rattle.fx_order.proofs.Placed.{Has, Removes, emptied, has_left, has_right, left_from, placed, placed_by, removed_from, removes_contained}
+use Rattle.fx_order.proofs.Placed.{step_from}
 use Rattle.fx_order.proofs.SameFiles.{decides_mark, same_mark}
 use Rattle.std.proofs.lemmas.Bool.{not-true}
 use Rattle.std.proofs.lemmas.Bool.Decides.{Decides-not}
@@ -25,14 +26,14 @@ once_between (x ∷ xs) ys s o f g once (inl here) later same =
     once.1 o g (has_right xs ys o g later) ((λ i. (here i).1.mark) ∙ same)
 once_between (x ∷ xs) ys s o f g once (inr first) later same = once_between xs ys s o f g once.0 first later same
 
+slot_of : {slot s : ℕ} {file f : Closed} → Has ((slot, file) ∷ []) s f → s ≡ slot
+slot_of (inl here) = λ i. (sym here i).0
+slot_of (inr none) = absurd none
+
 -- an access places one file at most
 one_placed : (x : Access) {s o : ℕ} (f g : Closed) → Has (placed_by x) s f → Has (placed_by x) o g → s ≡ o
-one_placed (Puts slot file removed) f g (inl one) (inl other) = (λ i. (sym one i).0) ∙ (λ i. (other i).0)
-one_placed (Puts slot file removed) f g (inl one) (inr none) = absurd none
-one_placed (Puts slot file removed) f g (inr none) other = absurd none
-one_placed (Allocates slot file) f g (inl one) (inl other) = (λ i. (sym one i).0) ∙ (λ i. (other i).0)
-one_placed (Allocates slot file) f g (inl one) (inr none) = absurd none
-one_placed (Allocates slot file) f g (inr none) other = absurd none
+one_placed (Puts slot file removed) f g one other = slot_of one ∙ sym (slot_of other)
+one_placed (Allocates slot file) f g one other = slot_of one ∙ sym (slot_of other)
 one_placed x f g one other = absurd one
 
 -- no two slots have one mark, none of them has one that is to be placed, and that is placed once
@@ -86,7 +87,8 @@ unfolding IsDistinct
 removes_once t [] apart may = tt
 removes_once t (x ∷ xs) apart may = first (removed_by x) refl (removes_once (table_with t x) xs (apart_then t x xs apart) may.1)
   where
-    first : (found : Option Closed) → removed_by x ≡ found → IsDistinct alike (removed_in xs) → IsDistinct alike (option_to_list found ++ removed_in xs)
+    first : (found : Option Closed) → removed_by x ≡ found → IsDistinct alike (removed_in xs)
+        → IsDistinct alike (option_to_list found ++ removed_in xs)
     first None now rest = rest
     first (Some f) now rest = IsDistinct-cons alike f (removed_in xs) (recursion_from_All (λ g. alike f g ≡ false) (removed_in xs) (λ k d lt.
         let g = slice_index_or (removed_in xs) k d in

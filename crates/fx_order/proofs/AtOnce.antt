@@ -94,7 +94,8 @@ module _ (st : State) (number : ℕ) (settled : IsSettled st) where
         allowed = ((tt, (lt, is)), omega arith);
         shows = refl;
         settled = record {
-          unheld = λ n. by_equality n k (λ b. (if b then (if k == k then st.holds k + 1 else st.holds k) - 1 else (if b then st.holds k + 1 else st.holds n)) ≡ 0)
+          unheld = λ n. by_equality n k
+              (λ b. (if b then (if k == k then st.holds k + 1 else st.holds k) - 1 else (if b then st.holds k + 1 else st.holds n)) ≡ 0)
               (λ _. omega arith) (λ _. settled.unheld n);
           closed = settled.closed;
         };
@@ -114,7 +115,8 @@ module _ (st : State) (number : ℕ) (settled : IsSettled st) where
   done (Looks slot found) fresh may = looked_up (st.at slot) may.0 refl (sym may.1)
   done (Puts slot file removed) fresh may =
       let x = st.at slot in
-      at_once (Put slot (new file) x) x (new file, x, refl, sym may.1, refl) (may.0, fresh (omega arith), refl) refl refl refl fresh_behind (λ _. tt) refl (sym may.1)
+      at_once (Put slot (new file) x) x (new file, x, refl, sym may.1, refl) (may.0, fresh (omega arith), refl)
+      refl refl refl fresh_behind (λ _. tt) refl (sym may.1)
   done (Clears slot removed) fresh may =
       let x = st.at slot in at_once (Clear slot x) x (x, sym may.1, refl) (may.0, refl) refl refl refl (λ n _. refl) (λ _. tt) refl (sym may.1)
   done (Takes slot removed) fresh may =

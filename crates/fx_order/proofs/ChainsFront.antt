@@ -28,8 +28,8 @@ module _ (catalogue : List FileEntry) (size submission chain : ℕ) (run : List 
       let whole = ap length x.2 ∙ length-append x.0 x.1 in
       absurd (omega arith)
 
-  module _ (accesses : List Access) (own others : List Completed) (are : accesses ≡ accesses_of_chain chain order) (front : own ≡ take (length run) cs)
-      (back : others ≡ drop (length run) cs) where
+  module _ (accesses : List Access) (own others : List Completed) (are : accesses ≡ accesses_of_chain chain order)
+      (front : own ≡ take (length run) cs) (back : others ≡ drop (length run) cs) where
     pub not_first : (IsChainDone catalogue size (first_member submission chain) run accesses own → ⊥) → AreDone → ⊥
     not_first other x = other (rw (are, front) (parts_of x).0)
 

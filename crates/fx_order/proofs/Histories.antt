@@ -24,17 +24,19 @@ history_of_order {old} {requests} {report} few accepted o =
     o.is.chains (subst (λ (t : Table). PermitsAll t (accesses_of o.order)) (sym begins) o.is.permitted) in
     let acts : List Action = map action_of m.history in
     let table : shown (state_after start acts) ≡ table_after (table_of (ring_of old)) (accesses_of o.order) =
-    m.shows ∙ ap (λ (t : Table). table_after t (accesses_of o.order)) begins in
+    m.shows ∙ (λ i. table_after (begins i) (accesses_of o.order)) in
+    let outline = same_outline (table_of (ring_of old)) (accesses_of o.order) in
     record {
       history = m.history;
       end = state_after start acts;
       legal = record { leads = (m.allowed, refl); releases = subst AllReleaseTheirOwn (append-nil m.history) (m.releases [] tt) };
       settled = m.settled;
       chains = m.authors;
-      explained = all_chains_explained old.catalogue st.size report.submission 1 (runs_of requests) o.order m.history report.completions m.parts o.is.done;
+      explained = all_chains_explained old.catalogue st.size report.submission 1 (runs_of requests) o.order m.history report.completions
+          m.parts o.is.done;
       closed = subst (λ (l : List Closed). HasClosed l report.closes) (sym m.closes) o.is.closed;
       submission = o.is.submission;
-      after = o.after ∙ sym (ap (ring_after (ring_of old) (old.submissions + 1)) (table ∙ same_outline (table_of (ring_of old)) (accesses_of o.order)));
+      after = o.after ∙ sym (ap (ring_after (ring_of old) (old.submissions + 1)) (table ∙ outline));
     }
 
 -- and there is a table that has the files which the order leaves

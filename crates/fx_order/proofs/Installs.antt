@@ -1,11 +1,10 @@
 -- An order of a submission without a fault installs no more files than its chains have numbers.
 use Rattle.fx_order.proofs.Words.{◌≡◌, ℕ, zero, suc, ◌+◌, ◌*◌, ◌<◌, ◌≤◌, ◌==◌, ℤ, pos, negsuc, true, false, not, cond, List, [], ◌∷◌, ◌++◌, filter}
-use Rattle.fx_order.proofs.Words.{length, sym, ap, subst, arith, All, All-head, All-tail, All-map, All-weaker, sum_by-cons, FileEntry, has_name}
-use Rattle.fx_order.proofs.Words.{IsAccepted, IsChain, members_of, Completed, next_member, severs, first_member, Operation, Opens, Reads, Closes}
-use Rattle.fx_order.proofs.Words.{Updates, Asked, runs_of, Chain, Place, Slot, Any, by_equality, accesses_of, accesses_of_chain, Access, ChainAccess}
-use Rattle.fx_order.proofs.Words.{IsEntryDone, AreEntriesDone, IsRequestDone, IsChainDone, AreChainsDone, chains_of, entry_installs, list_installs}
-use Rattle.fx_order.proofs.Words.{installs_of, all_installs, accepted-chains, members-are-runs, list_installs-cons, has, lacks, kept_lacking}
-use Rattle.fx_order.proofs.Words.{within_lacking, none_within}
+use Rattle.fx_order.proofs.Words.{length, sym, ap, subst, arith, All, All-head, All-tail, All-map, sum_by-cons, FileEntry, has_name, IsAccepted}
+use Rattle.fx_order.proofs.Words.{members_of, Completed, next_member, severs, first_member, Operation, Opens, Reads, Closes, Updates, Asked, runs_of}
+use Rattle.fx_order.proofs.Words.{Place, Slot, Any, by_equality, accesses_of, accesses_of_chain, Access, ChainAccess, IsEntryDone, AreEntriesDone}
+use Rattle.fx_order.proofs.Words.{IsRequestDone, IsChainDone, AreChainsDone, chains_of, entry_installs, list_installs, installs_of, all_installs}
+use Rattle.fx_order.proofs.Words.{accepted-chains, members-are-runs, list_installs-cons, has, lacks, kept_lacking, within_lacking, none_within}
 use Rattle.fx_order.proofs.AtOnce.{installs}
 use Rattle.fx_order.proofs.Made.{installs_in}
 use Rattle.fx_chain.proofs.Cases.{either_case}
@@ -111,12 +110,12 @@ few_a_chain : (requests : List Asked) → IsAccepted requests → All (λ run. a
 few_a_chain requests accepted =
     subst (All (λ (run : List Asked). all_installs run ≤ 64)) (members-are-runs requests)
     (All-map (λ (run : List Asked). all_installs run ≤ 64) (members_of requests) (chains_of (runs_of requests))
-    (All-weaker (IsChain requests) (λ (chain : Chain). all_installs (members_of requests chain) ≤ 64) (λ chain is. is.run.installs)
-    (chains_of (runs_of requests)) (accepted-chains requests accepted)))
+    (λ k d lt. (accepted-chains requests accepted k d lt).run.installs))
 
 pub few_installs : (catalogue : List FileEntry) (size submission : ℕ) (requests : List Asked) (order : List ChainAccess) (cs : List Completed)
     → IsAccepted requests → All (λ x. (1 ≤ x.chain) × (x.chain ≤ length (runs_of requests))) order
     → AreChainsDone catalogue size submission 1 (runs_of requests) order cs → installs_in (accesses_of order) ≤ 64 * length (runs_of requests)
 few_installs catalogue size submission requests order cs accepted within chains =
-    order_few 1 (length (runs_of requests)) 64 order (λ k d lt. let low = (within k d lt).0 in let high = (within k d lt).1 in (omega arith, omega arith))
+    order_few 1 (length (runs_of requests)) 64 order
+    (λ k d lt. let low = (within k d lt).0 in let high = (within k d lt).1 in (omega arith, omega arith))
     (chains_few catalogue size submission 1 (runs_of requests) order cs 64 (few_a_chain requests accepted) chains)

@@ -39,24 +39,27 @@ module _ (chains : ℕ) (st : State) (number : ℕ) (x : ChainAccess) (order : L
   whole : map action_of (rest.history ++ mine) ≡ map action_of rest.history ++ one.own
   whole = map-append action_of rest.history mine ∙ (λ i. map action_of rest.history ++ of_all (by x.chain) action_of (λ _. refl) one.own i)
 
-  leads : Leads st (map action_of rest.history ++ one.own) (state_after (state_after st one.own) (map action_of rest.history))
-  leads = leads_then st (state_after st one.own) (state_after (state_after st one.own) (map action_of rest.history)) one.own (map action_of rest.history)
-      (one.allowed, refl) (rest.allowed, refl)
+  abbrev theirs : List Action
+  theirs = map action_of rest.history
 
-  end : state_after (state_after st one.own) (map action_of rest.history) ≡ state_after st (map action_of (rest.history ++ mine))
+  leads : Leads st (theirs ++ one.own) (state_after (state_after st one.own) theirs)
+  leads = leads_then st (state_after st one.own) (state_after (state_after st one.own) theirs) one.own theirs (one.allowed, refl) (rest.allowed, refl)
+
+  end : state_after (state_after st one.own) theirs ≡ state_after st (map action_of (rest.history ++ mine))
   end = leads.1 ∙ ap (state_after st) (sym whole)
 
   part_does : (chain : ℕ) → AllDo (accesses_of_chain chain (x ∷ order)) (map action_of (part_of_chain chain (rest.history ++ mine)))
   part_does chain =
-      let theirs : List Action = map action_of (part_of_chain chain rest.history) in
+      let part : List Action = map action_of (part_of_chain chain rest.history) in
       let own = of_author (by x.chain) action_of (λ e. e.chain == chain) (x.chain == chain) (λ _. refl) (λ _. refl) one.own in
-      let part : map action_of (part_of_chain chain (rest.history ++ mine)) ≡ theirs ++ cond (x.chain == chain) one.own [] =
+      let all : map action_of (part_of_chain chain (rest.history ++ mine)) ≡ part ++ cond (x.chain == chain) one.own [] =
       ap (map action_of) (filter-append (λ e. e.chain == chain) rest.history mine)
-      ∙ (map-append action_of (part_of_chain chain rest.history) (part_of_chain chain mine) ∙ (λ i. theirs ++ own i)) in
-      subst (AllDo (accesses_of_chain chain (x ∷ order))) (sym part) (by_equality x.chain chain
-      (λ b. AllDo (map access_of (cond b (x ∷ filter (λ y. y.chain == chain) order) (filter (λ y. y.chain == chain) order))) (theirs ++ cond b one.own []))
-      (λ _. (one.own, theirs, refl, one.does, rest.parts chain))
-      (λ _. subst (AllDo (accesses_of_chain chain order)) (sym (append-nil theirs)) (rest.parts chain)))
+      ∙ (map-append action_of (part_of_chain chain rest.history) (part_of_chain chain mine) ∙ (λ i. part ++ own i)) in
+      let others : List ChainAccess = filter (λ y. y.chain == chain) order in
+      subst (AllDo (accesses_of_chain chain (x ∷ order))) (sym all)
+      (by_equality x.chain chain (λ b. AllDo (map access_of (cond b (x ∷ others) others)) (part ++ cond b one.own []))
+      (λ _. (one.own, part, refl, one.does, rest.parts chain))
+      (λ _. subst (AllDo (accesses_of_chain chain order)) (sym (append-nil part)) (rest.parts chain)))
 
   one_more : Made chains st (x ∷ order)
   one_more = record {
@@ -67,7 +70,7 @@ module _ (chains : ℕ) (st : State) (number : ℕ) (x : ChainAccess) (order : L
     shows = ap shown (sym end) ∙ (rest.shows ∙ ap (λ (t : Table). table_after t (accesses_of order)) one.shows);
     settled = subst IsSettled end rest.settled;
     authors = λ e has. ⊎_elim (λ theirs. rest.authors e theirs)
-        (λ own. All-contains (λ e. IsWithin chains e.chain) mine e (All-map (λ e. IsWithin chains e.chain) (by x.chain) one.own (λ _ _ _. within)) own)
+        (All-contains (λ e. IsWithin chains e.chain) mine e (All-map (λ e. IsWithin chains e.chain) (by x.chain) one.own (λ _ _ _. within)))
         (Contains-append_cases rest.history mine e has);
     parts = part_does;
     closes = ap closes_in whole ∙ (closes_in-then one.own (map action_of rest.history) ∙ (λ i. one.closes i ++ rest.closes i));

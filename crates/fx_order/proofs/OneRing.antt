@@ -1,9 +1,9 @@
 -- One report of a submission leads to one ring, and what it closes is known.
-use Rattle.fx_order.proofs.Words.{◌≡◌, ◌≢◌, inl, inr, ⊎_elim, ℕ, ◌+◌, ◌≤◌, List, length, refl, sym, ap, subst, ◌∙◌, arith, Option, Some, None, All}
-use Rattle.fx_order.proofs.Words.{Contains, slice_get, slice_index_or, All-map, All-weaker, Contains-permutation, IsPermutation-sym, IsCatalogue}
-use Rattle.fx_order.proofs.Words.{Submitted, Closed, IsAccepted, IsChain, members_of, chains_of, first_member, Asked, runs_of, Chain, accepted-chains}
-use Rattle.fx_order.proofs.Words.{members-are-runs, RingState, IsRing, HasCounted, Reported, table_after, removed_in, accesses_of, accesses_of_chain}
-use Rattle.fx_order.proofs.Words.{AreKnown, IsOfNext, IsOneOrder, IsOrderOf, table_of, Access, ChainAccess, ◌<◌, cases_lt, false≢true, Decides-like}
+use Rattle.fx_order.proofs.Words.{◌≡◌, inl, inr, ⊎_elim, ℕ, ◌+◌, ◌≤◌, List, length, refl, sym, ap, subst, ◌∙◌, arith, Option, Some, None, All}
+use Rattle.fx_order.proofs.Words.{Contains, slice_get, slice_index_or, All-map, Contains-permutation, IsPermutation-sym, IsCatalogue, Submitted}
+use Rattle.fx_order.proofs.Words.{Closed, IsAccepted, members_of, chains_of, first_member, Asked, runs_of, accepted-chains, members-are-runs}
+use Rattle.fx_order.proofs.Words.{RingState, IsRing, Reported, table_after, removed_in, accesses_of, accesses_of_chain, AreKnown, IsOfNext}
+use Rattle.fx_order.proofs.Words.{IsOneOrder, IsOrderOf, table_of, Access, ChainAccess, ◌<◌, cases_lt, false≢true, Decides-like}
 use Rattle.fx_order.proofs.Apart.{IsApart, alike, removed_is_gone, removes_once}
 use Rattle.fx_order.proofs.Placed.{Has, Removes, contains_removed, left_from, left_or_removed, placed, removed_from, removes_contained}
 use Rattle.fx_order.proofs.PlacedNew.{AnyPlace, InLimits, IsOfMembers, OwnOf, ReachesAll, chain_places, has_in_chain, has_of_chain, order_places_once}
@@ -24,7 +24,8 @@ module _ (old : RingState) (requests : List Asked) (report : Reported) (is : IsR
     abbrev IsOf : (ℕ → ℕ → Type 0) → ℕ → Closed → Type 0
     IsOf B c = IsOfMembers (length old.catalogue) B (first_member report.submission c)
 
-    each : (B : ℕ → ℕ → Type 0) → All (ReachesAll B 1) (runs_of requests) → (c : ℕ) → 1 ≤ c → c ≤ chains → OwnOf (IsOf B c) (accesses_of_chain c order)
+    each : (B : ℕ → ℕ → Type 0) → All (ReachesAll B 1) (runs_of requests) → (c : ℕ) → 1 ≤ c → c ≤ chains
+        → OwnOf (IsOf B c) (accesses_of_chain c order)
     each B reach c low high =
         chain_places old.catalogue old.size B report.submission 1 (runs_of requests) order report.completions reach o.done c low (omega arith)
 
@@ -38,15 +39,12 @@ module _ (old : RingState) (requests : List Asked) (report : Reported) (is : IsR
     any : All (ReachesAll AnyPlace 1) (runs_of requests)
     any = λ k d lt. reaches_all_any 1 (slice_index_or (runs_of requests) k d)
 
-    not_counted : (s : ℕ) (f g : Closed) → HasCounted old f.mark → Has (placed (accesses_of order)) s g → f.mark ≢ g.mark
-    not_counted s f g counted has same =
-        let (c, few, (m, j, low, b, n)) = of_chain AnyPlace any s g has in
-        not_yet old f.mark c m j counted (same ∙ (n.mark ∙ ap (λ k. Submitted k c m j) o.submission))
-
     apart : IsApart (table_of old) (placed (accesses_of order))
     apart = record {
       distinct = λ s other f g at too same. is.distinct s other f g at too same;
-      unlike = λ s other f g at has. not_counted other f g (is.counted s f at) has;
+      unlike = λ s other f g at has same.
+          let (c, few, (m, j, low, b, n)) = of_chain AnyPlace any other g has in
+          not_yet old f.mark c m j (is.counted s f at) (same ∙ (n.mark ∙ ap (λ k. Submitted k c m j) o.submission));
       once = order_places_once (length old.catalogue) AnyPlace report.submission chains order o.chains (each AnyPlace any);
     }
 
@@ -60,17 +58,21 @@ module _ (old : RingState) (requests : List Asked) (report : Reported) (is : IsR
         removed_is_gone (table_of old) (accesses_of order) f apart o.permitted (closed_is_removed f closed) s f at refl
 
   -- what one order leaves, another one leaves
-  module _ (catalogue : IsCatalogue old.catalogue) (one other : List ChainAccess) (o : IsOrderOf one old requests report) (p : IsOrderOf other old requests report) where
+  module _ (catalogue : IsCatalogue old.catalogue) (one other : List ChainAccess) (o : IsOrderOf one old requests report)
+      (p : IsOrderOf other old requests report) where
     placed_too : (s : ℕ) (f : Closed) → Has (placed (accesses_of one)) s f → Has (placed (accesses_of other)) s f
     placed_too s f has =
         let r = has_in_chain (length old.catalogue) AnyPlace report.submission chains one o.chains s f has in
         let high = r.2 in
-        has_of_chain r.0 other s f (subst (λ l. Has l s f)
-        (chains_same old.catalogue catalogue old.size report.submission 1 (runs_of requests) one other report.completions o.done p.done r.1 (omega arith)) r.3)
+        let same = chains_same old.catalogue catalogue old.size report.submission 1 (runs_of requests) one other report.completions o.done p.done
+        r.1 (omega arith) in
+        has_of_chain r.0 other s f (subst (λ l. Has l s f) same r.3)
 
-    left_too : (s : ℕ) {f : Closed} → (table_after (table_of old) (accesses_of one)).at s ≡ Some f → (table_after (table_of old) (accesses_of other)).at s ≡ Some f
+    left_too : (s : ℕ) {f : Closed} → (table_after (table_of old) (accesses_of one)).at s ≡ Some f
+        → (table_after (table_of old) (accesses_of other)).at s ≡ Some f
     left_too s {f} at = ⊎_elim (λ left. left)
-        (λ gone. absurd (left_stays one o s f at (Contains-permutation (removed_in (accesses_of other)) report.closes.files f p.closed.same_files (contains_removed (accesses_of other) gone))))
+        (λ gone. absurd (left_stays one o s f at (Contains-permutation (removed_in (accesses_of other)) report.closes.files f p.closed.same_files
+        (contains_removed (accesses_of other) gone))))
         (left_or_removed (table_of old) (accesses_of other) p.permitted
         (⊎_elim (λ was. inl was) (λ new. inr (placed_too s f new)) (left_from (table_of old) (accesses_of one) s f at)))
 
@@ -79,8 +81,8 @@ same_option None None to back = refl
 same_option None (Some f) to back = back f refl
 same_option (Some f) b to back = sym (to f refl)
 
-pub each_report_leads_to_one_ring : (old : RingState) (requests : List Asked) (report : Reported) (left other : RingState) → IsCatalogue old.catalogue → IsRing old
-    → IsOneOrder old requests report left → IsOneOrder old requests report other → left ≡ other
+pub each_report_leads_to_one_ring : (old : RingState) (requests : List Asked) (report : Reported) (left other : RingState)
+    → IsCatalogue old.catalogue → IsRing old → IsOneOrder old requests report left → IsOneOrder old requests report other → left ≡ other
 each_report_leads_to_one_ring old requests report left other catalogue is o p =
     o.after ∙ ((λ i. record old {
       at = λ s. same_option ((table_after (table_of old) (accesses_of o.order)).at s) ((table_after (table_of old) (accesses_of p.order)).at s)
@@ -99,21 +101,23 @@ places_apart files distinct i j one other at too same = elim (cases_lt i j) [
   where
     never : (i j : ℕ) (one other : Closed) → slice_get files i ≡ Some one → slice_get files j ≡ Some other → one.mark ≡ other.mark → i < j → ⊥
     never i j one other at too same less =
-        false≢true (sym (apart_from_distinct alike files i j one distinct less (slice_get_within files j other too))
-        ∙ ((λ k. alike (get_or_from_slice_get files i one one at k) (get_or_from_slice_get files j other one too k)) ∙ (decides_mark one.mark other.mark).1 same))
+        let apart = apart_from_distinct alike files i j one distinct less (slice_get_within files j other too) in
+        false≢true (sym apart ∙ ((λ k. alike (get_or_from_slice_get files i one one at k) (get_or_from_slice_get files j other one too k))
+        ∙ (decides_mark one.mark other.mark).1 same))
 
 -- the members of an accepted submission are within their limits
 pub in_limits : (requests : List Asked) → IsAccepted requests → All (ReachesAll InLimits 1) (runs_of requests)
 in_limits requests accepted =
     subst (All (ReachesAll InLimits 1)) (members-are-runs requests)
-    (All-map (ReachesAll InLimits 1) (members_of requests) (chains_of (runs_of requests))
-    (All-weaker (IsChain requests) (λ (chain : Chain). ReachesAll InLimits 1 (members_of requests chain))
-    (λ chain of. let few = of.run.members in reaches_all_limits 1 (members_of requests chain) of.run.each (omega arith))
-    (chains_of (runs_of requests)) (accepted-chains requests accepted)))
+    (All-map (ReachesAll InLimits 1) (members_of requests) (chains_of (runs_of requests)) (λ k d lt.
+    let run = (accepted-chains requests accepted k d lt).run in
+    let few = run.members in
+    reaches_all_limits 1 (members_of requests (slice_index_or (chains_of (runs_of requests)) k d)) run.each (omega arith)))
 
 -- what an order places is of the next submission
-of_next : (old : RingState) {requests : List Asked} (report : Reported) (is : IsRing old) {order : List ChainAccess} (o : IsOrderOf order old requests report)
-    → IsAccepted requests → (s : ℕ) {f : Closed} → Has (placed (accesses_of order)) s f → IsOfNext old requests f
+of_next : (old : RingState) {requests : List Asked} (report : Reported) (is : IsRing old) {order : List ChainAccess}
+    (o : IsOrderOf order old requests report) → IsAccepted requests → (s : ℕ) {f : Closed} → Has (placed (accesses_of order)) s f
+    → IsOfNext old requests f
 of_next old {requests} report is {order} o accepted s {f} has =
     let (c, few, (m, j, low, b, n)) = of_chain old requests report is order o InLimits (in_limits requests accepted) s f has in
     record {

@@ -11,7 +11,8 @@ ring_left_is catalogue old new submissions registrations order made =
     (made ∙ same_outline (table_of_slots old) (accesses_of order))
 
 -- there are as many chains as runs
-pub as_many : (asked : List Asked) (cut : List Chain) (n : ℕ) → n ≡ length cut → map (members_of asked) cut ≡ runs_of asked → n ≡ length (runs_of asked)
+pub as_many : (asked : List Asked) (cut : List Chain) (n : ℕ) → n ≡ length cut → map (members_of asked) cut ≡ runs_of asked
+    → n ≡ length (runs_of asked)
 as_many asked cut n count members = count ∙ (sym (length-map cut (members_of asked)) ∙ ap length members)
 
 -- the answer is no where there is no such order

@@ -1,36 +1,29 @@
 -- An order with one more access.
-use Rattle.fx_order.proofs.Words.{◌≡◌, ℕ, ◌+◌, ◌<◌, List, [], ◌∷◌, ◌++◌, length, take, sym, ap, subst, ◌∙◌, slice_index_or, Option, zero, suc, arith}
+use Rattle.fx_order.proofs.Words.{◌≡◌, ℕ, ◌+◌, ◌<◌, List, [], ◌∷◌, ◌++◌, length, take, sym, ap, ◌∙◌, slice_index_or, Option, zero, suc, arith}
 use Rattle.fx_order.proofs.Words.{append-nil, map-append, take_more, option_to_list, Closed, Table, Permits, PermitsAll, table_with, table_after}
-use Rattle.fx_order.proofs.Words.{removed_by, removed_in, access_of, accesses_of, ChainAccess}
+use Rattle.fx_order.proofs.Words.{removed_by, removed_in, access_of, accesses_of, ChainAccess, Access}
 use Rattle.fx_order.proofs.Accesses.{PermitsAll-append, table_after-append}
 use Rattle.fx_order.proofs.Removed.{removed_in-append}
 
 module _ (order : List ChainAccess) (i : ℕ) (d : ChainAccess) (within : i < length order) where
-  accesses_more : accesses_of (take (i + 1) order) ≡ accesses_of (take i order) ++ (slice_index_or order i d).access ∷ []
+  abbrev x : Access
+  x = (slice_index_or order i d).access
+
+  accesses_more : accesses_of (take (i + 1) order) ≡ accesses_of (take i order) ++ x ∷ []
   accesses_more = ap accesses_of (take_more order i d within) ∙ map-append access_of (take i order) (slice_index_or order i d ∷ [])
 
   pub make_one : (start at next : Table) → PermitsAll start (accesses_of (take i order)) → at ≡ table_after start (accesses_of (take i order))
-      → Permits at (slice_index_or order i d).access → next ≡ table_with at (slice_index_or order i d).access
+      → Permits at x → next ≡ table_with at x
       → PermitsAll start (accesses_of (take (i + 1) order)) × (next ≡ table_after start (accesses_of (take (i + 1) order)))
-  make_one start at next before is may made = (
-    subst (PermitsAll start) (sym accesses_more)
-        (PermitsAll-append start (accesses_of (take i order)) ((slice_index_or order i d).access ∷ []) before
-        (subst (λ (t : Table). Permits t (slice_index_or order i d).access) is may, tt)),
-    made ∙ (ap (λ (t : Table). table_with t (slice_index_or order i d).access) is
-        ∙ (sym (table_after-append start (accesses_of (take i order)) ((slice_index_or order i d).access ∷ []))
-        ∙ ap (table_after start) (sym accesses_more))),
+  make_one start at next before is may made = rw accesses_more (
+    PermitsAll-append start (accesses_of (take i order)) (x ∷ []) before (rw is at may, tt),
+    made ∙ ((λ j. table_with (is j) x) ∙ sym (table_after-append start (accesses_of (take i order)) (x ∷ []))),
   )
 
-  removed_one : removed_in (accesses_of (take (i + 1) order))
-      ≡ removed_in (accesses_of (take i order)) ++ option_to_list (removed_by (slice_index_or order i d).access)
-  removed_one = ap removed_in accesses_more
-      ∙ (removed_in-append (accesses_of (take i order)) ((slice_index_or order i d).access ∷ [])
-      ∙ ap (λ (l : List Closed). removed_in (accesses_of (take i order)) ++ l) (append-nil (option_to_list (removed_by (slice_index_or order i d).access))))
-
   pub more_removed : {before now : List Closed} {found : Option Closed} → before ≡ removed_in (accesses_of (take i order))
-      → found ≡ removed_by (slice_index_or order i d).access → now ≡ before ++ option_to_list found
-      → now ≡ removed_in (accesses_of (take (i + 1) order))
-  more_removed so_far is grown = grown ∙ ((λ j. so_far j ++ option_to_list (is j)) ∙ sym removed_one)
+      → found ≡ removed_by x → now ≡ before ++ option_to_list found → now ≡ removed_in (accesses_of (take (i + 1) order))
+  more_removed so_far is grown = rw (accesses_more, removed_in-append (accesses_of (take i order)) (x ∷ []), append-nil (option_to_list (removed_by x)))
+      (grown ∙ (λ j. so_far j ++ option_to_list (is j)))
 
 -- each access of an order may be made where it stands
 permitted_at : (start : Table) (order : List ChainAccess) (i : ℕ) (d : ChainAccess) → i < length order → PermitsAll start (accesses_of order)
@@ -42,4 +35,4 @@ permitted_at start (x ∷ order) (suc i) d within all = permitted_at (table_with
 pub permitted_here : (order : List ChainAccess) {i : ℕ} (d : ChainAccess) → i < length order → (start at : Table)
     → at ≡ table_after start (accesses_of (take i order)) → PermitsAll start (accesses_of order) → Permits at (slice_index_or order i d).access
 permitted_here order {i} d within start at is all =
-    subst (λ (t : Table). Permits t (slice_index_or order i d).access) (sym is) (permitted_at start order i d within all)
+    rw is (permitted_at start order i d within all)

@@ -12,7 +12,8 @@ use Rattle.fx_order.proofs.Removed.{removed_is_closed}
 abbrev pub IsWithin : ℕ → ℕ → Type 0
 IsWithin chains chain = (1 ≤ chain) × (chain ≤ chains)
 
-order_within : {chains : ℕ} (h : List Event) → ((e : Event) → Contains h e → IsWithin chains e.chain) → All (λ x. IsWithin chains x.chain) (order_in h)
+order_within : {chains : ℕ} (h : List Event) → ((e : Event) → Contains h e → IsWithin chains e.chain)
+    → All (λ x. IsWithin chains x.chain) (order_in h)
 order_within {chains} [] each = All-nil (λ x. IsWithin chains x.chain)
 order_within {chains} (e ∷ h) each =
     All-append (λ x. IsWithin chains x.chain) (order_in h) (map (by_chain e.chain) (accesses_by e.action))
@@ -53,7 +54,8 @@ each_history_is_an_order old new requests report h =
         closed = record {
           same_files = IsPermutation-trans (removed_in (accesses_of order)) (closes_in acts) report.closes.files
               (subst (λ (l : List Access). IsPermutation (removed_in l) (closes_in acts)) (sym are)
-              (removed_is_closed h.history (opening_is_start (state_of old.table) numbers) h.legal.leads.0 h.legal.leads.1 h.settled)) h.closed.same_files;
+              (removed_is_closed h.history (opening_is_start (state_of old.table) numbers) h.legal.leads.0 h.legal.leads.1 h.settled))
+              h.closed.same_files;
           in_order = h.closed.in_order;
         };
         submission = h.submission;

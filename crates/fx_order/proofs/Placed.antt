@@ -1,6 +1,6 @@
 -- What accesses place at slots, what is at the slots then, and what they removed.
-use Rattle.fx_order.proofs.Words.{◌≡◌, ◌≢◌, ◌⊎◌, inl, inr, ⊎_elim, ℕ, ◌<◌, List, [], ◌∷◌, ◌++◌, Contains, refl, sym, ap, ◌∙◌, subst, append_assoc}
-use Rattle.fx_order.proofs.Words.{arith, Option, Some, None, if◌then◌else◌, option_to_list, Contains-append_right, Closed, by_equality, contains_none}
+use Rattle.fx_order.proofs.Words.{◌≡◌, ◌≢◌, ◌⊎◌, inl, inr, ⊎_elim, ℕ, ◌<◌, List, [], ◌∷◌, ◌++◌, Contains, refl, sym, ap, ◌∙◌, append_assoc, arith}
+use Rattle.fx_order.proofs.Words.{Option, Some, None, if◌then◌else◌, option_to_list, Contains-append_right, Closed, by_equality, contains_none}
 use Rattle.fx_order.proofs.Words.{contains_head, contains_cases, Table, Looks, Puts, Clears, Takes, Allocates, Permits, PermitsAll, table_with}
 use Rattle.fx_order.proofs.Words.{table_after, removed_by, removed_in, Access, FileEntry, Place, Completed, IsReadDone, IsCloseDone}
 use Rattle.fx_order.specs.Access.{IsAt, with_file}
@@ -51,7 +51,8 @@ Removes (access ∷ accesses) file = (removed_by access ≡ Some file) ⊎ Remov
 written : (t : Table) {slot : ℕ} {new : Option Closed} {s : ℕ} {f : Closed} → (with_file t slot new).at s ≡ Some f
     → ((s ≢ slot) × (t.at s ≡ Some f)) ⊎ ((s ≡ slot) × (new ≡ Some f))
 written t {slot} {new} {s} {f} =
-    by_equality s slot (λ b. ◌≡◌ {A = Option Closed} (if b then new else t.at s) (Some f) → ((s ≢ slot) × (t.at s ≡ Some f)) ⊎ ((s ≡ slot) × (new ≡ Some f)))
+    by_equality s slot
+    (λ b. ◌≡◌ {A = Option Closed} (if b then new else t.at s) (Some f) → ((s ≢ slot) × (t.at s ≡ Some f)) ⊎ ((s ≡ slot) × (new ≡ Some f)))
     (λ same is. inr (same, is)) (λ other is. inl (other, is))
 
 is_placed : {slot : ℕ} {file : Closed} {s : ℕ} {f : Closed} → (s ≡ slot) × (Some file ≡ Some f) → Has ((slot, file) ∷ []) s f
@@ -155,7 +156,7 @@ removed_from t (x ∷ xs) g may (inr later) =
 -- the list of what was removed has exactly the removed files
 pub contains_removed : (xs : List Access) {g : Closed} → Removes xs g → Contains (removed_in xs) g
 contains_removed [] gone = absurd gone
-contains_removed (x ∷ xs) {g} (inl now) = subst (λ (o : Option Closed). Contains (option_to_list o ++ removed_in xs) g) (sym now) (contains_head g (removed_in xs))
+contains_removed (x ∷ xs) {g} (inl now) = rw now (contains_head g (removed_in xs))
 contains_removed (x ∷ xs) {g} (inr later) = Contains-append_right (option_to_list (removed_by x)) (removed_in xs) g (contains_removed xs later)
 
 pub removes_contained : (xs : List Access) (g : Closed) → Contains (removed_in xs) g → Removes xs g
@@ -165,7 +166,8 @@ removes_contained (x ∷ xs) g has = either (removed_by x) refl (λ later. remov
     either : (found : Option Closed) → removed_by x ≡ found → (Contains (removed_in xs) g → Removes xs g)
         → Contains (option_to_list found ++ removed_in xs) g → (removed_by x ≡ Some g) ⊎ Removes xs g
     either None is more h = inr (more h)
-    either (Some f) is more h = ⊎_elim (λ here. inl (is ∙ ap (λ y. Some y) (sym here))) (λ later. inr (more later)) (contains_cases f (removed_in xs) g h)
+    either (Some f) is more h =
+        ⊎_elim (λ here. inl (is ∙ ap (λ y. Some y) (sym here))) (λ later. inr (more later)) (contains_cases f (removed_in xs) g h)
 
 -- a read and a close place nothing
 pub read_none : (catalogue : List FileEntry) (size : ℕ) (place : Place) (slot off len : ℕ) (accesses : List Access) (c : Completed)

@@ -182,7 +182,8 @@ parted x order c = elim (of_chain x order c) [
 ]
 
 -- what a chain's accesses place, the order places
-pub has_of_chain : (c : ℕ) (order : List ChainAccess) (s : ℕ) (f : Closed) → Has (placed (accesses_of_chain c order)) s f → Has (placed (accesses_of order)) s f
+pub has_of_chain : (c : ℕ) (order : List ChainAccess) (s : ℕ) (f : Closed) → Has (placed (accesses_of_chain c order)) s f
+    → Has (placed (accesses_of order)) s f
 has_of_chain c [] s f has = has
 has_of_chain c (x ∷ order) s f has =
     let p = parted x order c in

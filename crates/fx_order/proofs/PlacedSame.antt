@@ -1,10 +1,9 @@
 -- What answers of a submission tell of what was placed: two orders with one list of completions place the same files at the same slots.
 use Rattle.fx_order.proofs.Words.{◌≡◌, inl, inr, ℕ, zero, suc, ◌+◌, ◌<◌, ◌≤◌, ◌==◌, ◌||◌, nat_le, nat_lt, ℤ, pos, negsuc, Bool, true, false, List, []}
-use Rattle.fx_order.proofs.Words.{◌∷◌, ◌++◌, length, sym, ap, subst, ◌∙◌, arith, MatchBool, list_any, false≢true, has_name, FileEntry, IsCatalogue}
-use Rattle.fx_order.proofs.Words.{installed, is_bad_entry, Completed, next_member, severs, first_member, canceled, Operation, Opens, Reads, Closes}
-use Rattle.fx_order.proofs.Words.{Updates, Asked, Place, Target, Slot, Any, by_equality, accesses_of_chain, Access, ChainAccess, IsOpenDone}
-use Rattle.fx_order.proofs.Words.{IsEntryDone, AreEntriesDone, IsUpdateDone, IsRequestDone, IsChainDone, AreChainsDone, drop-append_seam}
-use Rattle.fx_order.proofs.Words.{take-append_seam}
+use Rattle.fx_order.proofs.Words.{◌∷◌, ◌++◌, length, sym, ap, subst, ◌∙◌, arith, list_any, false≢true, has_name, FileEntry, IsCatalogue, installed}
+use Rattle.fx_order.proofs.Words.{is_bad_entry, Completed, next_member, severs, first_member, Operation, Opens, Reads, Closes, Updates, Asked, Place}
+use Rattle.fx_order.proofs.Words.{Target, Slot, Any, by_equality, accesses_of_chain, Access, ChainAccess, IsOpenDone, IsEntryDone, AreEntriesDone}
+use Rattle.fx_order.proofs.Words.{IsUpdateDone, IsRequestDone, IsChainDone, AreChainsDone, drop-append_seam, take-append_seam}
 use Rattle.fx_chain.proofs.Cases.{both_ways}
 use Rattle.fx_order.proofs.ChainFront.{front_is, length-done}
 use Rattle.fx_order.proofs.Placed.{placed, placed-append, close_none, read_none}
@@ -62,7 +61,8 @@ module _ (size : ℕ) (place : Place) (one other : List Access) (c : Completed) 
       (both_ways (list_any (is_bad_entry entries) zs) refused (λ x y. list_same place 0 off zs one other x.0 y.0)))
 
 -- lists whose first parts are as long have the same parts
-same_halves : {X : Type 0} (xs : List X) {ys : List X} (us : List X) {vs : List X} → length xs ≡ length us → xs ++ ys ≡ us ++ vs → (us ≡ xs) × (vs ≡ ys)
+same_halves : {X : Type 0} (xs : List X) {ys : List X} (us : List X) {vs : List X} → length xs ≡ length us → xs ++ ys ≡ us ++ vs
+    → (us ≡ xs) × (vs ≡ ys)
 same_halves xs {ys} us {vs} long same =
     let front = front_is xs ys (us ++ vs) (length us) (sym same) long in
     (sym (take-append_seam us vs) ∙ front.0, sym (drop-append_seam us vs) ∙ front.1)
@@ -86,11 +86,9 @@ module _ (catalogue : List FileEntry) (is : IsCatalogue catalogue) (size : ℕ) 
       let c : y.2 ≡ x.2 = cc (sym x.5 ∙ y.5) in
       let rest : y.3 ≡ x.3 = cc (sym x.5 ∙ y.5) in
       same_parts x.0 x.1 y.0 y.1 x.4 y.4
-      (request_same place r.operation x.0 y.0 x.2 x.6 (subst (IsRequestDone catalogue size place r.operation y.0) c y.6))
-      (both_ways (severs r x.2)
-      (λ p q. ap placed (p.0 ∙ sym q.0))
-      (λ p q. chain_same (next_member place) rs x.1 y.1 x.3 p (subst (IsChainDone catalogue size (next_member place) rs y.1) rest q))
-      x.7 (subst (λ d. MatchBool (severs r d) ((y.1 ≡ []) × (y.3 ≡ canceled (next_member place) rs)) (IsChainDone catalogue size (next_member place) rs y.1 y.3)) c y.7))
+      (request_same place r.operation x.0 y.0 x.2 x.6 (rw c at y.6))
+      (both_ways (severs r x.2) (λ p q. ap placed (p.0 ∙ sym q.0)) (λ p q. chain_same (next_member place) rs x.1 y.1 x.3 p (rw rest at q))
+      x.7 (rw c at y.7))
 
   -- each chain of two orders with the same completions
   pub chains_same : (submission first : ℕ) (runs : List (List Asked)) (one other : List ChainAccess) (cs : List Completed)
@@ -104,6 +102,5 @@ module _ (catalogue : List FileEntry) (is : IsCatalogue catalogue) (size : ℕ) 
       by_equality c first (λ _. PlaceSame (accesses_of_chain c one) (accesses_of_chain c other))
       (λ at. subst (λ k. PlaceSame (accesses_of_chain k one) (accesses_of_chain k other)) (sym at)
       (chain_same (first_member submission first) run (accesses_of_chain first one) (accesses_of_chain first other) x.0 x.3
-      (subst (IsChainDone catalogue size (first_member submission first) run (accesses_of_chain first other)) same.0 y.3)))
-      (λ apart. chains_same submission (first + 1) runs one other x.1 x.4
-      (subst (AreChainsDone catalogue size submission (first + 1) runs other) same.1 y.4) (omega arith) (omega arith))
+      (rw same.0 at y.3)))
+      (λ apart. chains_same submission (first + 1) runs one other x.1 x.4 (rw same.1 at y.4) (omega arith) (omega arith))

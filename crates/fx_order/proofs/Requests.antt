@@ -18,7 +18,8 @@ accesses_may_close steps (Some f) events closes = elim closes [
 ]
 
 module _ (place : Place) (in_list slot : ℕ) where
-  entry_applied : (entry : ℤ) (events : List Action) → AppliesEntry place in_list slot entry events → IsEntryDone place in_list slot entry (accesses_in events)
+  entry_applied : (entry : ℤ) (events : List Action) → AppliesEntry place in_list slot entry events
+      → IsEntryDone place in_list slot entry (accesses_in events)
   entry_applied (pos entry) events x = (
     identity_of x.1,
     accesses_may_close ([] ▷ Put slot x.0 x.1) x.1 events x.3 ∙ ap (λ (file : Closed). Puts slot file (identity_of x.1) ∷ []) x.2,
@@ -50,7 +51,8 @@ module _ (catalogue : List FileEntry) (size : ℕ) (place : Place) (events : Lis
     | inr y ↦ inr (ap accesses_in y.0, y.1)
   ])
 
-  read : (slot off len : ℕ) → ReadsFrom catalogue size place slot off len events c → IsReadDone catalogue size place slot off len (accesses_in events) c
+  read : (slot off len : ℕ) → ReadsFrom catalogue size place slot off len events c
+      → IsReadDone catalogue size place slot off len (accesses_in events) c
   read slot off len = same_cases (nat_le size slot) (refused EBADF) (λ x. elim x [
     | inl y ↦ inl (y.0, refused ENOMEM y.1)
     | inr y ↦ inr (elim y [
@@ -71,7 +73,8 @@ module _ (catalogue : List FileEntry) (size : ℕ) (place : Place) (events : Lis
       same_cases (size == 0) (refused ENXIO) (same_cases (length list == 0 || nat_lt size (off + length list)) (refused EINVAL)
       (same_cases (list_any (is_bad_entry (length catalogue)) list) (refused EBADF) (λ x. (list_applied place 0 off list events x.0, x.1))))
 
-  answered : (operation : Operation) → Answers catalogue size place operation events c → IsRequestDone catalogue size place operation (accesses_in events) c
+  answered : (operation : Operation) → Answers catalogue size place operation events c
+      → IsRequestDone catalogue size place operation (accesses_in events) c
   answered (Opens name target) = same_cases (has_name name catalogue) (λ x. (x.0, x.1, opened x.0 target x.2)) (refused ENOENT)
   answered (Reads slot off len) = read slot off len
   answered (Closes slot) = emptied slot

@@ -2,4 +2,5 @@ use Rattle.fx_order.proofs.Words.{◌≡◌, ℕ, ◌+◌, ◌<◌, false, slice
 use Rattle.fx_order.proofs.order.is_in_order.Given as goal
 
 abbrev pub invariant-loop-i : goal.invariant-loop-i
-invariant-loop-i l = (k : ℕ) (d : Closed) → k + 1 < l.i → is_lt (mark_cmp (slice_index_or l.files (k + 1) d).mark (slice_index_or l.files k d).mark) ≡ false
+invariant-loop-i l = (k : ℕ) (d : Closed) → k + 1 < l.i
+    → is_lt (mark_cmp (slice_index_or l.files (k + 1) d).mark (slice_index_or l.files k d).mark) ≡ false

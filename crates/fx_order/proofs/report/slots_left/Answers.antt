@@ -1,4 +1,4 @@
-use Rattle.fx_order.proofs.Words.{◌≡◌, length, ap, ◌∙◌, arith, all_asked, Table, accesses_of, table_after}
+use Rattle.fx_order.proofs.Words.{◌≡◌, length, ◌∙◌, arith, all_asked, accesses_of, table_after}
 use Rattle.fx_order.proofs.OrderOf.{as_many, never, ring_left_is}
 use Rattle.std.proofs.lemmas.Bool.Decides.{not_from_Decides}
 use Rattle.fx_order.proofs.report.slots_left.Goals as goal
@@ -12,7 +12,8 @@ returns-then-not-are_within-clause-order c = never (λ o.
 pub returns-then-not-branch-clause-order : goal.returns-then-not-branch-clause-order
 returns-then-not-branch-clause-order c = never (λ o.
     let size : c.len-2.result ≡ length c.args.slots.now.at.items = omega (arith, c.args.slots.now.at.ok.0) in
-    not_from_Decides _ c.in_ok-are_chains_done.ensures c.if-not-branch.true (rw (size, c.deref.ensures.value, c.in_ok-chains.ensures.members) (o 0 0).done))
+    not_from_Decides _ c.in_ok-are_chains_done.ensures c.if-not-branch.true
+    (rw (size, c.deref.ensures.value, c.in_ok-chains.ensures.members) (o 0 0).done))
 
 pub returns-then-not-branch-2-clause-order : goal.returns-then-not-branch-2-clause-order
 returns-then-not-branch-2-clause-order c = never (λ o.
@@ -24,5 +25,5 @@ returns-then-not-make_all-clause-order c = never (λ o.
 
 pub returns-clause-left : goal.returns-clause-left
 returns-clause-left c = λ registrations.
-    ring_left_is c.args.submitted.now.catalogue.now c.args.slots.now c.make_all.new.slots c.args.submitted.now.submissions registrations c.args.order.now
-    (c.make_all.ensures.made c.if-not-make_all.false ∙ ap (λ (t : Table). table_after t (accesses_of c.args.order.now)) c.in_ok-left.ensures)
+    ring_left_is c.args.submitted.now.catalogue.now c.args.slots.now c.make_all.new.slots c.args.submitted.now.submissions registrations
+    c.args.order.now (c.make_all.ensures.made c.if-not-make_all.false ∙ (λ i. table_after (c.in_ok-left.ensures i) (accesses_of c.args.order.now)))

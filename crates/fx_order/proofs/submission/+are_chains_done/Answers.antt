@@ -25,10 +25,9 @@ returns-then-not-branch t c =
     (not_from_Decides _ c.in_ok-is_chain_done.ensures c.if-not-branch.true)))
 
 pub are_chains_done-requires : goal.are_chains_done-requires
-are_chains_done-requires t c = (
-  search rules,
-  (all_of_rest (IsChain (all_asked c.args.ordered.now.requests.now)) c.args.chains.now none c.in-len1-up.len_at_least c.requires.within, search rules),
-)
+are_chains_done-requires t c =
+    let rest = all_of_rest (IsChain (all_asked c.args.ordered.now.requests.now)) c.args.chains.now none c.in-len1-up.len_at_least c.requires.within in
+    (search rules, (rest, search rules))
 
 pub returns : goal.returns
 returns t c =
