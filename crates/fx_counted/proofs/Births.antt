@@ -1,14 +1,13 @@
 -- A birth keeps the rule, and so does a rest.
 use Rattle.fx_counted.proofs.Words.{◌≡◌, ◌≢◌, ℕ, ◌+◌, ◌*◌, ◌<◌, ◌≤◌, List, [], ◌∷◌, set, length, sym, refl, ap, ◌∙◌, subst, arith, Option, Some, None}
-use Rattle.fx_counted.proofs.Words.{inr, ⊎_elim, some, none, get_elem?, takes, gives, rest, step, set_here, set_else}
-use Rattle.fx_counted.proofs.Words.{Closed, File, changed_at, no_use, next_number, born, Home, NodeAgrees, OwnerAgrees, WorkAgrees, PlacesNext}
-use Rattle.fx_counted.proofs.Words.{word_of, place_of, opening_of, chain_in, chain_numbers, first_log, pass_of, IsNumber, state_after_all}
-use Rattle.fx_counted.proofs.Words.{end_in, next_in, held_in, placing, holding, Phase, spare, placed, emptied, closed, owner, file_in}
-use Rattle.fx_counted.proofs.Words.{Stepped, Start, View, Idle, Placing, Holding, Emptying, looks, mul-le-mul_left, BirthsKeep, RestsKeep, Births}
-use Rattle.fx_counted.proofs.Words.{Rests, inl, Between, Work}
-use Rattle.fx_counted.proofs.Steps.{grows_none, each_changed, changed_here, changed_else, busy, does_now, Turn, turn_of, word_at, its_log, its_work, by_turn, went}
-use Rattle.fx_counted.proofs.Steps.{tells_none, one_same, near, far, MayTurn, NodeStep, node_agrees, in_phase}
-use Rattle.std.proofs.Common.{length-set}
+use Rattle.fx_counted.proofs.Words.{inr, ⊎_elim, some, none, get_elem?, takes, gives, rest, step, set_here, set_else, Closed, File, changed_at}
+use Rattle.fx_counted.proofs.Words.{no_use, next_number, born, Home, NodeAgrees, OwnerAgrees, WorkAgrees, PlacesNext, word_of, place_of, opening_of}
+use Rattle.fx_counted.proofs.Words.{chain_in, chain_numbers, first_log, pass_of, IsNumber, state_after_all, end_in, next_in, held_in, placing}
+use Rattle.fx_counted.proofs.Words.{holding, Phase, spare, placed, closed, owner, file_in, Stepped, Start, View, Idle, Placing, Holding, Emptying}
+use Rattle.fx_counted.proofs.Words.{looks, mul-le-mul_left, BirthsKeep, RestsKeep, Births, Rests, inl, Between, Work, changed_here, changed_else}
+use Rattle.fx_counted.proofs.Words.{length-set}
+use Rattle.fx_counted.proofs.Steps.{grows_none, each_changed, busy, does_now, Turn, turn_of, word_at, its_log, its_work, by_turn, went, tells_none}
+use Rattle.fx_counted.proofs.Steps.{one_same, near, far, MayTurn, NodeStep, node_agrees, in_phase}
 use mathlib.Core.Option as maybe
 
 -- the file that a pass holds is open

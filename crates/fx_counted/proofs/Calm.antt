@@ -1,7 +1,7 @@
 -- A step that changes no slot and no number, and leaves the pass at its work.
-use Rattle.fx_counted.proofs.Words.{◌≡◌, ℕ, List, set, length, sym, refl, ap, ◌∙◌, arith, held_by, State, Event, range_of}
-use Rattle.fx_counted.proofs.Words.{PlacesNext, Agrees, ControlCounts, looks, all_looks, word_of, control_place, draw_place}
-use Rattle.fx_counted.proofs.Words.{slot_place, opening_of, IsNumber, state_after_all, next_in, Change, Log, Start, View, Work, Placing}
+use Rattle.fx_counted.proofs.Words.{◌≡◌, ℕ, List, set, length, sym, refl, ap, ◌∙◌, arith, held_by, State, Event, range_of, PlacesNext, Agrees}
+use Rattle.fx_counted.proofs.Words.{ControlCounts, looks, all_looks, word_of, control_place, draw_place, slot_place, opening_of, IsNumber}
+use Rattle.fx_counted.proofs.Words.{state_after_all, next_in, Change, Log, Start, View, Work, Placing}
 use Rattle.fx_counted.proofs.Steps.{stays_same, owner_same, Grows, grows_none, IsHistory, Turn, word_at, now, logged, its_log, its_work, Step}
 use Rattle.fx_counted.proofs.Steps.{step_kept, log_now, slot_same, draws_same}
 

@@ -1,16 +1,13 @@
 -- A draw keeps the rule.
-use Rattle.fx_counted.proofs.Words.{sum_by, ◌≡◌, ◌≢◌, ℕ, ◌+◌, ◌*◌, ◌%◌, ◌^◌, ◌<◌, ◌≤◌, Bool, true, false, cond, nat_lt, List, [], ◌∷◌, set, length, sym, refl}
-use Rattle.fx_counted.proofs.Words.{ap, ◌∙◌, subst, arith, eqb, lt-ltb, le-ltb, get_or-set_other, get_or-set_same, Option, ◌⊎◌, inl, inr}
-use Rattle.fx_counted.proofs.Words.{⊎_elim, dite, none, ℕ_discrete, dec_le, keeps, step, Closed, numbers_up_to, sum_by-cons, sum_set}
-use Rattle.fx_counted.proofs.Words.{sum_at, sum_le_at, OwnerAgrees, lengths, PlacesNext, WorkAgrees, DrawsCount, word_of}
-use Rattle.fx_counted.proofs.Words.{control_place, draw_place, slot_place, opening_of, chain_in, shown, first_log, drawn_of, told_of}
-use Rattle.fx_counted.proofs.Words.{once, placing, Phase, unborn, spare, owner, file_in, Log, View, Idle, mul-add, mul-le-mul_left, Draws}
-use Rattle.fx_counted.proofs.Words.{DrawsKeep, first_or, DrawTells, next_in, end_in, chain_given, Between}
+use Rattle.fx_counted.proofs.Words.{sum_by, ◌≡◌, ◌≢◌, ℕ, ◌+◌, ◌*◌, ◌%◌, ◌^◌, ◌<◌, ◌≤◌, Bool, true, false, cond, nat_lt, List, [], ◌∷◌, set, length}
+use Rattle.fx_counted.proofs.Words.{sym, refl, ap, ◌∙◌, subst, arith, eqb, lt-ltb, le-ltb, get_or-set_other, get_or-set_same, Option, ◌⊎◌, inl, inr}
+use Rattle.fx_counted.proofs.Words.{⊎_elim, dite, none, ℕ_discrete, dec_le, keeps, step, Closed, numbers_up_to, sum_by-cons, sum_set, sum_at}
+use Rattle.fx_counted.proofs.Words.{sum_le_at, OwnerAgrees, lengths, PlacesNext, WorkAgrees, DrawsCount, word_of, control_place, draw_place}
+use Rattle.fx_counted.proofs.Words.{slot_place, opening_of, chain_in, shown, first_log, drawn_of, told_of, once, placing, Phase, unborn, spare, owner}
+use Rattle.fx_counted.proofs.Words.{file_in, Log, View, Idle, mul-add, mul-le-mul_left, Draws, DrawsKeep, first_or, DrawTells, next_in, end_in}
+use Rattle.fx_counted.proofs.Words.{chain_given, Between, one_if, times, bit_here, once_is, once_more, length-set, count_by-le-length, bit_else}
 use Rattle.fx_counted.proofs.Steps.{owner_same, grows_none, Turn, turn_of, word_at, now, its_log, Step, step_kept, by_turn, Made, near, far}
-use Rattle.fx_counted.proofs.Steps.{slot_same, control_same, one_if, times, bit_here, once_is, once_more, NodeIn}
-use Rattle.std.proofs.Common.{length-set}
-use Rattle.std.proofs.lemmas.List.Sums.{count_by-le-length}
-use Rattle.fx_table.proofs.Ones.{bit_else}
+use Rattle.fx_counted.proofs.Steps.{slot_same, control_same, NodeIn}
 use Rattle.fx_counted.proofs.Ending.{drawn, told}
 use Rattle.fx_counted.proofs.Frames.{of_one}
 

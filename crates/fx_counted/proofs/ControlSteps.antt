@@ -5,10 +5,9 @@ use Rattle.fx_counted.proofs.Words.{ℕ_discrete, get_elem?, keeps, step, sum_by
 use Rattle.fx_counted.proofs.Words.{sum_at, sum_le_at, one_change, full_word_of, WorkAgrees, lengths, Agrees, in_change, added, removed_by}
 use Rattle.fx_counted.proofs.Words.{changes_of, added_of, removed_of, full_in, ControlCounts, word_of, control_place, draw_place, slot_place}
 use Rattle.fx_counted.proofs.Words.{opening_of, state_after_all, shown, IsInside, Stepped, GoesOn, Answers, Change, Outside, Same, Log, Start, View}
-use Rattle.fx_counted.proofs.Words.{Work, Idle, Phase, Shared, all_looks, BeginsKeep, EndsKeep, AnswersKeep, Between}
+use Rattle.fx_counted.proofs.Words.{Work, Idle, Phase, Shared, all_looks, BeginsKeep, EndsKeep, AnswersKeep, Between, length-set}
 use Rattle.fx_counted.proofs.Steps.{IsHistory, grows_one, legal_more, held_mine, same_shape, Turn, turn_of, word_at, its_work, by_turn, went}
 use Rattle.fx_counted.proofs.Steps.{tells_none, tells_one, near, far}
-use Rattle.std.proofs.Common.{length-set}
 use Rattle.fx_counted.proofs.Calm.{Quiet, no_event, calm_agrees}
 use Rattle.fx_counted.proofs.FullSlots.{full_few, full_all}
 use Rattle.fx_counted.proofs.LettingGo.{sub_wraps}

@@ -1,8 +1,7 @@
 -- The passes that are dealt out.
 use Rattle.fx_counted.proofs.Words.{◌≡◌, ◌*◌, ℕ, ◌+◌, ◌≤◌, List, [], ◌∷◌, sym, ◌∙◌, ap, arith, Option, TableId, Seat, Closed, without_first}
 use Rattle.fx_counted.proofs.Words.{first_alone, dealt, Sat, new_log, pass_of, view_of, IsPassOf, is_idle, CountedPass, Log, Start, View, new_pass}
-use Rattle.fx_counted.proofs.Words.{IsNewPass}
-use Rattle.std.proofs.Common.{take, drop}
+use Rattle.fx_counted.proofs.Words.{IsNewPass, take, drop}
 use Rattle.fx_table.proofs.Dealing.{first_left, last_left}
 
 pub rest_is_dealt : {k : Start} {p : ℕ} → p ≤ k.passes → without_first (dealt k p) ≡ dealt k (p + 1)

@@ -1,14 +1,13 @@
 -- The end, when one seat has all passes again, and does nothing: everything is settled, and one history stands behind it.
-use Rattle.fx_counted.proofs.Words.{sum_zero_at, numbers_for, ◌≡◌, ℕ, suc, ◌+◌, ◌<◌, ◌≤◌, map, length, sym, ap, ◌∙◌, arith, ◌⊎◌, inl}
-use Rattle.fx_counted.proofs.Words.{inr, ⊎_elim, Option, Some, None, sum_by, dite, some, dec_le, get_elem?, Closed, State, IsSettled, numbered, File}
-use Rattle.fx_counted.proofs.Words.{start_of, Does, OwnerAgrees, lengths, Agrees, place_of, Shared}
-use Rattle.fx_counted.proofs.Words.{opening_of, slots_of, chain_numbers, IsNumber, state_after_all, held_of, told_of, once, holding, Phase, placed}
-use Rattle.fx_counted.proofs.Words.{seated, leaving, retired, emptied, Log, Start, View, Work, Idle, Placing, Retiring, Emptying, action_of, Between}
+use Rattle.fx_counted.proofs.Words.{sum_zero_at, numbers_for, ◌≡◌, ℕ, suc, ◌+◌, ◌<◌, ◌≤◌, map, length, sym, ap, ◌∙◌, arith, ◌⊎◌, inl, inr, ⊎_elim}
+use Rattle.fx_counted.proofs.Words.{Option, Some, None, sum_by, dite, some, dec_le, get_elem?, Closed, State, IsSettled, numbered, File, start_of}
+use Rattle.fx_counted.proofs.Words.{Does, OwnerAgrees, lengths, Agrees, place_of, Shared, opening_of, slots_of, chain_numbers, IsNumber}
+use Rattle.fx_counted.proofs.Words.{state_after_all, held_of, told_of, once, holding, Phase, placed, seated, leaving, retired, emptied, Log, Start}
+use Rattle.fx_counted.proofs.Words.{View, Work, Idle, action_of, Between, one_if, times}
 use Rattle.fx_plain.proofs.AtRest.{inside_behind, opens_inside}
 use Rattle.fx_table.proofs.Gathering.{only_here}
 use Rattle.fx_counted.proofs.Histories.{same_shape}
 use Rattle.fx_counted.proofs.Keeping.{NodeIn, in_phase, seat_in}
-use Rattle.fx_table.proofs.Ones.{one_if, times}
 
 is_number : (k : Start) (n : ℕ) → IsNumber k n ⊎ (IsNumber k n → ⊥)
 is_number k n = dite (dec_le (suc n) (slots_of k))

@@ -3,11 +3,10 @@ use Rattle.fx_counted.proofs.Words.{◌≡◌, ℕ, suc, ◌+◌, ◌-◌, ◌*�
 use Rattle.fx_counted.proofs.Words.{None, slice_index, dite, some, some-injective, dec_le, get_elem?, Closed, Contents, state_of, State, number_of}
 use Rattle.fx_counted.proofs.Words.{identity_of, File, HasSameFiles, Names, Agrees, HasNode, slot_place, home_place, homes_for, Shared, slots_of}
 use Rattle.fx_counted.proofs.Words.{chain_numbers, IsNumber, state_after_all, IsShellOf, AreBack, CountedTable, Start, View, Idle, Final, Seen}
-use Rattle.fx_counted.proofs.Words.{AllAreIdle, Leaves, Between}
+use Rattle.fx_counted.proofs.Words.{AllAreIdle, Leaves, Between, stands_at}
 use Rattle.fx_counted.proofs.Calling.{has_node, its_numbers}
 use Rattle.fx_counted.proofs.Ending.{home_file, file_home, one_slot, none_outside_end}
 use Rattle.fx_counted.proofs.Frames.{read_at}
-use Rattle.fx_table.proofs.Members.{stands_at}
 use Rattle.fx_counted.proofs.Histories.{same_shape}
 use Rattle.fx_counted.proofs.HomeComing.{number_at, file_of, file_at, without, emptied, AreAtHome, here_at, none_past, untouched}
 use Rattle.fx_counted.proofs.Naming.{node_is}

@@ -1,10 +1,9 @@
 -- The files of the slots move to the places of a shared table.
-use Rattle.fx_counted.proofs.Words.{◌≡◌, ℕ, ◌<◌, ◌≤◌, List, [], ◌∷◌, ◌++◌, length, sym, ap, ◌∙◌, arith, length-append, Option, None}
-use Rattle.fx_counted.proofs.Words.{Result, dite, some, ℕ_discrete, get_elem?, at_longer, Closed, Contents, state_of, State, IsSettled, identity_of}
-use Rattle.fx_counted.proofs.Words.{File, HasSameFiles, IsGivenBack, IsShellOf, Ok, Err, OnOk, at_last, slots_in_order}
+use Rattle.fx_counted.proofs.Words.{◌≡◌, ℕ, ◌<◌, ◌≤◌, List, [], ◌∷◌, ◌++◌, length, sym, ap, ◌∙◌, arith, length-append, Option, None, Result, dite}
+use Rattle.fx_counted.proofs.Words.{some, ℕ_discrete, get_elem?, at_longer, Closed, Contents, state_of, State, IsSettled, identity_of, File}
+use Rattle.fx_counted.proofs.Words.{HasSameFiles, IsGivenBack, IsShellOf, Ok, Err, OnOk, at_last, slots_in_order, at_index, length-map-range_with_len}
 use Rattle.fx_plain.specs.State.{opening}
-use Rattle.atomic_table.proofs.Lists.{at_index}
-use Rattle.std.proofs.lemmas.List.FromFn.{length-map-range_with_len, get_or-map-range_with_len}
+use Rattle.std.proofs.lemmas.List.FromFn.{get_or-map-range_with_len}
 use Rattle.fx_table.proofs.Preparing.{prepared_again}
 
 -- a preparation keeps the files

@@ -1,9 +1,7 @@
 -- The words of a table as they are written, one slot after the other.
-use Rattle.fx_counted.proofs.Words.{◌≡◌, ℕ, zero, suc, ◌+◌, ◌*◌, ◌<◌, ◌≤◌, List, length, refl, ap}
-use Rattle.fx_counted.proofs.Words.{arith, Option, Some, None, slice_index}
-use Rattle.fx_counted.proofs.Words.{State, file_numbered, File, full_in, if_full, first_at, control_place}
-use Rattle.fx_counted.proofs.Words.{draw_place, slot_place, words_for, word_for, node_for, length-append, files_in_order}
-use Rattle.fx_counted.proofs.Words.{identities_of, control_word_of}
+use Rattle.fx_counted.proofs.Words.{◌≡◌, ℕ, zero, suc, ◌+◌, ◌*◌, ◌<◌, ◌≤◌, List, length, refl, ap, arith, Option, Some, None, slice_index, State}
+use Rattle.fx_counted.proofs.Words.{file_numbered, File, full_in, if_full, first_at, control_place, draw_place, slot_place, words_for, word_for}
+use Rattle.fx_counted.proofs.Words.{node_for, length-append, files_in_order, identities_of, control_word_of}
 
 -- the words of the slots below this one are written so
 pub record AreWordsSoFar (st : State) (numbers done : ℕ) (words : List ℕ) : Type 0 where

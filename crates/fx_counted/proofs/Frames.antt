@@ -1,13 +1,10 @@
 -- What a step of one seat leaves as it was.
-use Rattle.fx_counted.proofs.Words.{next_in, end_in, placing, ◌<◌, ◌≤◌, Contains, sum_of, sum_by, ◌≡◌, ◌≢◌, ℕ, ◌+◌, List, [], ◌∷◌, set, sym, refl, ap, ◌∙◌, subst, arith, ⊎_elim, eqb}
-use Rattle.fx_counted.proofs.Words.{some, some-injective, get_elem?, at_set, set_here, set_else, File, Event, numbered, sum_two, sum_set, Does, OwnerAgrees}
-use Rattle.fx_counted.proofs.Words.{WorkAgrees, ViewAgrees, Agrees, Shared, logs_of, Phase, spare, placed, leaving, emptied, owner, file_in, Log}
-use Rattle.fx_counted.proofs.Words.{Start, View, Work, Idle, Placing, Holding, Retiring, Emptying, dite, ℕ_discrete, Between}
-use Rattle.fx_table.proofs.Members.{stands_at}
-use Rattle.std.proofs.lemmas.List.{get_or_default}
-use Rattle.std.specs.Prelude.{slice_index_or}
+use Rattle.fx_counted.proofs.Words.{next_in, end_in, placing, ◌<◌, ◌≤◌, Contains, sum_of, sum_by, ◌≡◌, ◌≢◌, ℕ, ◌+◌, List, [], ◌∷◌, set, sym, refl, ap}
+use Rattle.fx_counted.proofs.Words.{◌∙◌, subst, arith, ⊎_elim, eqb, some, some-injective, get_elem?, at_set, set_here, set_else, File, Event}
+use Rattle.fx_counted.proofs.Words.{numbered, sum_two, sum_set, Does, OwnerAgrees, WorkAgrees, ViewAgrees, Agrees, Shared, logs_of, Phase, spare}
+use Rattle.fx_counted.proofs.Words.{placed, leaving, emptied, owner, file_in, Log, Start, View, Work, Idle, Placing, Holding, Retiring, Emptying}
+use Rattle.fx_counted.proofs.Words.{dite, ℕ_discrete, Between, stands_at, get_or_default, slice_index_or, one_if, bit_here, once_is}
 use Rattle.fx_counted.proofs.Histories.{Grows}
-use Rattle.fx_table.proofs.Ones.{one_if, bit_here, once_is}
 
 -- the number that a pass alone works with, plus 1, or 0
 abbrev pub busy : Work → ℕ

@@ -1,8 +1,8 @@
 -- The control word when a slot changes.
-use Rattle.fx_counted.proofs.Words.{◌≡◌, ◌≢◌, ℕ, zero, suc, ◌+◌, ◌<◌, ◌≤◌, List, set, sym, refl, ap, ◌⊎◌, inl, inr, ⊎_elim, arith, Option, Some}
-use Rattle.fx_counted.proofs.Words.{None, IsSome, subst, dite, some, ℕ_discrete, get_elem?, changed_at, File, sum_set, in_change, added, removed_by}
+use Rattle.fx_counted.proofs.Words.{◌≡◌, ◌≢◌, ℕ, zero, suc, ◌+◌, ◌<◌, ◌≤◌, List, set, sym, refl, ap, ◌⊎◌, inl, inr, ⊎_elim, arith, Option, Some, None}
+use Rattle.fx_counted.proofs.Words.{IsSome, subst, dite, some, ℕ_discrete, get_elem?, changed_at, File, sum_set, in_change, added, removed_by}
 use Rattle.fx_counted.proofs.Words.{changes_of, added_of, removed_of, if_full, full_in, ControlCounts, turned, Change, Outside, Same, View, changed}
-use Rattle.fx_plain.proofs.Cells.{changed_here, changed_else}
+use Rattle.fx_counted.proofs.Words.{changed_here, changed_else}
 
 pub full_else : (at : ℕ → Option File) (s : ℕ) (new : Option File) (off len : ℕ) → ((i : ℕ) → i < len → off + i ≢ s)
     → full_in (changed_at at s new) off len ≡ full_in at off len

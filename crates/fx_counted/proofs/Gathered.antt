@@ -2,13 +2,12 @@
 use Rattle.fx_counted.proofs.Words.{◌≤◌, ◌≢◌, eqb, some, get_elem?, Contains, sum_by, TableId, Contents, state_of, IsSettled, ClosesTable}
 use Rattle.fx_counted.proofs.Words.{times_drawn, HasSameFiles, PassView, contains_none, contains_head, contains_map, contains_mapped}
 use Rattle.fx_counted.proofs.Words.{contains_reverse, contains_reversed, sum_map, sum_of, found_by, found_sum, Agrees, LogAgrees, logs_in, Shared}
-use Rattle.fx_counted.proofs.Words.{opening_of, state_after_all, first_log, view_of, IsPassOf, CountedPass, Log, Start, View, Event}
-use Rattle.fx_counted.proofs.Words.{length-reverse, length-map, once, Between, Idle, true, ◌≡◌, ℕ, ◌<◌, List, [], ◌∷◌, map, length}
-use Rattle.fx_counted.proofs.Words.{reverse, sym, refl, ap, ◌∙◌, subst, arith}
+use Rattle.fx_counted.proofs.Words.{opening_of, state_after_all, first_log, view_of, IsPassOf, CountedPass, Log, Start, View, Event, length-reverse}
+use Rattle.fx_counted.proofs.Words.{length-map, once, Between, Idle, true, ◌≡◌, ℕ, ◌<◌, List, [], ◌∷◌, map, length, reverse, sym, refl, ap, ◌∙◌}
+use Rattle.fx_counted.proofs.Words.{subst, arith, one_if, times, once_is}
 use Rattle.fx_table.proofs.Chains.{in_part, some_there, some_times}
 use Rattle.fx_table.proofs.Gathering.{logs_are as each_log, sum_gathered, each_seat}
 use Rattle.fx_table.proofs.Settling.{IsWhole, closes_table}
-use Rattle.fx_table.proofs.Ones.{one_if, times, once_is}
 use Rattle.fx_counted.proofs.Ending.{settled_end, whole_here, sum_here, drawn, told}
 
 some_pass : {X : Type 0} (l : List X) → 0 < length l → (x : X) × Contains l x

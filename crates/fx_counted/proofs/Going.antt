@@ -1,11 +1,9 @@
 -- Some steps in a row, and the pass behind them.
-use Rattle.fx_counted.proofs.Words.{◌≡◌, ◌≤◌, ℕ, ◌+◌, ◌*◌, List, [], ◌∷◌, inl, sym, ap, ◌∙◌, subst, arith, Some, TableId, ◌▷◌, Action, Close, Use, no_use}
-use Rattle.fx_counted.proofs.Words.{Adds, IsFront, File, Goes, HasPlace, HasPass, place_of, Sat, opening_of, pass_of, doing_in, chain_in, first_log}
-use Rattle.fx_counted.proofs.Words.{view_of, is_idle, IsPassOf, IsInside, Stepped, TakesOut, LetsGo, CountedPass, Change, Outside, Log, Start, Work}
-use Rattle.fx_counted.proofs.Words.{Idle, Emptying, ◌▷▷◌, both_uses, IsAtWork, IsBetweenCalls, Between}
+use Rattle.fx_counted.proofs.Words.{◌≡◌, ◌≤◌, ℕ, ◌+◌, ◌*◌, List, [], ◌∷◌, inl, sym, ap, ◌∙◌, subst, arith, Some, TableId, ◌▷◌, Action, Close, Use}
+use Rattle.fx_counted.proofs.Words.{no_use, Adds, IsFront, File, Goes, HasPlace, HasPass, place_of, Sat, opening_of, pass_of, doing_in, chain_in}
+use Rattle.fx_counted.proofs.Words.{first_log, view_of, is_idle, IsPassOf, IsInside, Stepped, TakesOut, LetsGo, CountedPass, Change, Outside, Log}
+use Rattle.fx_counted.proofs.Words.{Start, Work, Idle, Emptying, ◌▷▷◌, both_uses, IsAtWork, IsBetweenCalls, Between, steps_of, HasOnePass}
 use Rattle.fx_table.proofs.Calls.{adds_then}
-use Rattle.fx_counted.specs.Passes.{steps_of}
-use Rattle.fx_counted.specs.Tables.{HasOnePass}
 use Rattle.fx_table.specs.declared.values.Doing.{Doing}
 
 pub goes_one : {m m' : Sat} {xs : List Action} {a : Use} {w : Work} {c : Change} → Stepped m xs a w c m' → Goes m xs a w c 1 m'

@@ -1,10 +1,10 @@
 -- Histories that grow by one event.
 use Rattle.fx_counted.proofs.Words.{◌≡◌, ◌≢◌, ℕ, ◌+◌, ◌≤◌, List, [], ◌∷◌, sym, refl, ap, ◌∙◌, arith, eq-eqb, ne_eqb, Some, None, dite, ℕ_discrete}
 use Rattle.fx_counted.proofs.Words.{held_after, held_by, IsSeenBy, part_of_pass, Event, Action, Look, start_of, range_of, looks, all_looks}
-use Rattle.fx_counted.proofs.Words.{opening_of, slots_of, state_after_all, Start, ReleasesItsOwn, IsLegal, looks_after, look_in, map, action_of, changed_at, cond}
+use Rattle.fx_counted.proofs.Words.{opening_of, slots_of, state_after_all, Start, ReleasesItsOwn, IsLegal, looks_after, look_in, map, action_of}
+use Rattle.fx_counted.proofs.Words.{changed_at, cond, changed_here, changed_else, by_equality}
 use Rattle.fx_plain.specs.Step.{Allows}
 use Rattle.fx_plain.proofs.Leading.{same_shape as shape_of_state}
-use Rattle.fx_plain.proofs.Cells.{changed_here, changed_else, by_equality}
 
 pub part_mine : {p : ℕ} {e : Event} (h : List Event) → e.pass ≡ p → part_of_pass p (e ∷ h) ≡ e ∷ part_of_pass p h
 part_mine {p} {e} h is = rw (eq-eqb e.pass p is) refl

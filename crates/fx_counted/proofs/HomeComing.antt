@@ -1,11 +1,7 @@
 -- The files of the slots come out of their places, one after the other.
-use Rattle.fx_counted.proofs.Words.{◌≡◌, ◌≢◌, ℕ, zero, suc, ◌<◌, ◌≤◌, Bool, cond, nat_lt, List, length, set, sym, refl, ap, ◌∙◌, subst}
-use Rattle.fx_counted.proofs.Words.{arith, lt-ltb, le-ltb, Option, Some, None, slice_index, dite, some, ℕ_discrete, get_elem?, set_here, set_else, get_or}
-use Rattle.fx_counted.proofs.Words.{Closed, node_in, slot_place, home_place, homes_for, file_in_place}
-use lib.ListN.{length-set}
-use Rattle.fx_table.proofs.Members.{stands_at}
-use Rattle.atomic_table.proofs.Lists.{at_index}
-use Rattle.std.proofs.lemmas.List.{get_or_default}
+use Rattle.fx_counted.proofs.Words.{◌≡◌, ◌≢◌, ℕ, zero, suc, ◌<◌, ◌≤◌, Bool, cond, nat_lt, List, length, set, sym, refl, ap, ◌∙◌, subst, arith, lt-ltb}
+use Rattle.fx_counted.proofs.Words.{le-ltb, Option, Some, None, slice_index, dite, some, ℕ_discrete, get_elem?, set_here, set_else, get_or, Closed}
+use Rattle.fx_counted.proofs.Words.{node_in, slot_place, home_place, homes_for, file_in_place, length-set, stands_at, at_index, get_or_default}
 
 module _ (size : ℕ) (words : List ℕ) where
   -- the number that a slot's word names, and what lies in its place

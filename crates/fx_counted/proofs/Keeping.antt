@@ -1,19 +1,15 @@
 -- A step of a seat with one pass keeps the rule, if it keeps what the step changes.
-use Rattle.fx_counted.proofs.Words.{Contains, contains_head, contains_only, ◌≡◌, ℕ, ◌+◌, ◌<◌, ◌≤◌, List, [], ◌∷◌, ◌++◌, map, set, length, sym}
-use Rattle.fx_counted.proofs.Words.{refl, ap, ◌∙◌, subst, arith, get_or, Option, None, Some, File, inr, eq-eqb, eqb, some, get_elem?, Closed, part_of_pass, Event}
-use Rattle.fx_counted.proofs.Words.{Action, Use, range_of, event_of, sum_set, sum_at, SlotAgrees, NodeAgrees, OwnerAgrees, WorkAgrees}
+use Rattle.fx_counted.proofs.Words.{Contains, contains_head, contains_only, ◌≡◌, ℕ, ◌+◌, ◌<◌, ◌≤◌, List, [], ◌∷◌, ◌++◌, map, set, length, sym, refl}
+use Rattle.fx_counted.proofs.Words.{ap, ◌∙◌, subst, arith, get_or, Option, None, Some, File, inr, eq-eqb, eqb, some, get_elem?, Closed, part_of_pass}
+use Rattle.fx_counted.proofs.Words.{Event, Action, Use, range_of, event_of, sum_set, sum_at, SlotAgrees, NodeAgrees, OwnerAgrees, WorkAgrees}
 use Rattle.fx_counted.proofs.Words.{LogAgrees, ViewAgrees, lengths, Agrees, ControlCounts, looks, all_looks, DrawsCount, control_place, draw_place}
 use Rattle.fx_counted.proofs.Words.{slot_place, node_place, home_place, Shared, opening_of, slots_of, IsNumber, state_after_all, Sat, shown}
-use Rattle.fx_counted.proofs.Words.{first_log, logs_of, looks_of, held_of, Phase, IsInside, Stepped, Change, Log, View, Work, stepped, Act}
-use Rattle.fx_counted.proofs.Words.{Valid, carried_after, HasPass, held_by, held_in, PlacesNext, placing, next_in, end_in, spare, HasShape, Start}
-use Rattle.fx_counted.proofs.Words.{no_use, ◌▷◌}
-use Rattle.fx_counted.proofs.Words.{IsSeenBy, ◌*◌, chain_in}
+use Rattle.fx_counted.proofs.Words.{first_log, logs_of, looks_of, held_of, Phase, IsInside, Stepped, Change, Log, View, Work, stepped, Act, Valid}
+use Rattle.fx_counted.proofs.Words.{carried_after, HasPass, held_by, held_in, PlacesNext, placing, next_in, end_in, spare, HasShape, Start, no_use}
+use Rattle.fx_counted.proofs.Words.{◌▷◌, IsSeenBy, ◌*◌, chain_in, one_if, Allows, IsSeated}
 use mathlib.Core.Option as maybe
 use Rattle.fx_counted.proofs.Histories.{Grows, IsHistory, grows_none, grows_one, part_mine}
 use Rattle.fx_counted.proofs.Frames.{Stays, KeepsHeld, view_stays, not_there, views_after, of_one, total_same}
-use Rattle.fx_table.proofs.Ones.{one_if}
-use Rattle.atomic_table.specs.Table.{Allows}
-use Rattle.fx_counted.specs.Agrees.{IsSeated}
 
 abbrev pub Homes : Type 0
 Homes = List (maybe.Option (Option Closed))

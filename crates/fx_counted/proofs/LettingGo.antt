@@ -1,12 +1,11 @@
 -- A pass lets go of a file, which stays open, or is closed and comes out.
 use Rattle.fx_counted.proofs.Words.{◌≡◌, ◌≢◌, ℕ, ◌+◌, ◌-◌, ◌%◌, ◌^◌, ◌<◌, ◌≤◌, List, ◌∷◌, ◌++◌, map, set, sym, refl, ap, ◌∙◌, arith, eq-eqb, Option}
-use Rattle.fx_counted.proofs.Words.{Some, None, some, none, keeps, takes, set_here, set_else, Closed, ◌▷◌, State, File, Event, Close, Action}
-use Rattle.fx_counted.proofs.Words.{no_use, event_of, sum_two, held_by, part_of_pass, NodeAgrees, OwnerAgrees, looks, word_of, place_of, IsNumber}
-use Rattle.fx_counted.proofs.Words.{state_after_all, shown, end_in, next_in, placing, held_of, holding, Phase, spare, emptied, file_in}
-use Rattle.fx_counted.proofs.Words.{changed_at, TakesOut, LetsGo, Sat, Idle, Holding, Emptying, Between}
-use Rattle.fx_counted.proofs.Steps.{busy, does_now, Grows, IsHistory, grows_more, legal_more, held_mine, part_mine, changed_here, changed_else}
-use Rattle.fx_counted.proofs.Steps.{each_changed, looks_few, Homes, MayTurn, Turn, its_log, tells, Made, went, OneNumber, NodeStep, node_agrees}
-use Rattle.std.proofs.Common.{length-set}
+use Rattle.fx_counted.proofs.Words.{Some, None, some, none, keeps, takes, set_here, set_else, Closed, ◌▷◌, State, File, Event, Close, Action, no_use}
+use Rattle.fx_counted.proofs.Words.{event_of, sum_two, held_by, part_of_pass, NodeAgrees, OwnerAgrees, looks, word_of, place_of, IsNumber}
+use Rattle.fx_counted.proofs.Words.{state_after_all, shown, end_in, next_in, placing, held_of, holding, Phase, spare, emptied, file_in, changed_at}
+use Rattle.fx_counted.proofs.Words.{TakesOut, LetsGo, Sat, Idle, Holding, Emptying, Between, changed_here, changed_else, length-set}
+use Rattle.fx_counted.proofs.Steps.{busy, does_now, Grows, IsHistory, grows_more, legal_more, held_mine, part_mine, each_changed, looks_few, Homes}
+use Rattle.fx_counted.proofs.Steps.{MayTurn, Turn, its_log, tells, Made, went, OneNumber, NodeStep, node_agrees}
 use Rattle.fx_counted.proofs.Births.{word_now, home_now, roomy, else_place}
 
 pub sub_wraps : {n k : ℕ} → k ≤ n → n < 18446744073709551616 → 0 < k → (n + (2 ^ 64 - k)) % 2 ^ 64 ≡ n - k

@@ -1,15 +1,13 @@
 -- A look-up keeps the rule.
-use Rattle.fx_counted.proofs.Words.{◌≡◌, ◌≢◌, ℕ, ◌+◌, ◌-◌, ◌%◌, ◌^◌, ◌<◌, List, [], ◌∷◌, sym, refl, ap, ◌∙◌, subst, arith, Option, Some, None}
-use Rattle.fx_counted.proofs.Words.{none, keeps, step, Closed, ◌▷◌, State, File, Event, Look, range_of, event_of, name_in, entry_in, takes_in, Names}
+use Rattle.fx_counted.proofs.Words.{◌≡◌, ◌≢◌, ℕ, ◌+◌, ◌-◌, ◌%◌, ◌^◌, ◌<◌, List, [], ◌∷◌, sym, refl, ap, ◌∙◌, subst, arith, Option, Some, None, none}
+use Rattle.fx_counted.proofs.Words.{keeps, step, Closed, ◌▷◌, State, File, Event, Look, range_of, event_of, name_in, entry_in, takes_in, Names}
 use Rattle.fx_counted.proofs.Words.{SlotAgrees, PlacesNext, WorkAgrees, looks, full_in, slot_place, opening_of, slots_of, IsNumber, state_after_all}
 use Rattle.fx_counted.proofs.Words.{shown, held_in, placing, held_of, holding, Phase, seated, file_in, Stepped, IsInside, Log, View, Idle, one_look}
-use Rattle.fx_counted.proofs.Words.{name_more, entry_more, takes_more, LooksKeep, Looks, holds_now, Between}
-use Rattle.fx_counted.proofs.Steps.{busy, stays_same, owner_stays, IsHistory, grows_one, legal_more, held_mine, part_mine, same_shape, Step, step_kept}
-use Rattle.fx_counted.proofs.Steps.{Turn, turn_of, word_at, now, logged, its_log, tells, by_turn, Made, log_now, far, bit_here, one_more_at}
-use Rattle.fx_counted.proofs.Steps.{node_same, control_same, NodeIn, in_phase, seat_in}
-use Rattle.std.proofs.Common.{length-set}
-use Rattle.fx_table.proofs.Ones.{bit_else}
-use Rattle.fx_counted.specs.Agrees.{IsSeated}
+use Rattle.fx_counted.proofs.Words.{name_more, entry_more, takes_more, LooksKeep, Looks, holds_now, Between, bit_here, one_more_at, length-set}
+use Rattle.fx_counted.proofs.Words.{bit_else, IsSeated}
+use Rattle.fx_counted.proofs.Steps.{busy, stays_same, owner_stays, IsHistory, grows_one, legal_more, held_mine, part_mine, same_shape, Step}
+use Rattle.fx_counted.proofs.Steps.{step_kept, Turn, turn_of, word_at, now, logged, its_log, tells, by_turn, Made, log_now, far, node_same}
+use Rattle.fx_counted.proofs.Steps.{control_same, NodeIn, in_phase, seat_in}
 use Rattle.fx_counted.proofs.SlotSteps.{slots_now, node_now, control_now, draws_now, words_now}
 
 pub add_one : {n : ℕ} → takes_in n + 1 < 4294967296 → n < 18446744073709551616 → (n + 1) % 2 ^ 64 ≡ n + 1

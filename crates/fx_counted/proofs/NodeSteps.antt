@@ -1,11 +1,9 @@
 -- A step on the word and the place of one number, at which no slot changes.
 use Rattle.fx_counted.proofs.Words.{◌≡◌, ◌≢◌, ℕ, ◌+◌, ◌<◌, ◌≤◌, List, set, length, sym, refl, ap, ◌∙◌, subst, arith, get_or-set_other}
-use Rattle.fx_counted.proofs.Words.{get_or-set_same, Option, Bool, some, get_elem?, Closed, held_by, changed_at, File, Event}
-use Rattle.fx_counted.proofs.Words.{range_of, NodeAgrees, OwnerAgrees, WorkAgrees, PlacesNext, Agrees, full_in, looks, all_looks, control_place}
-use Rattle.fx_counted.proofs.Words.{draw_place, slot_place, node_place, home_place, PlacesAreInside, PlacesAreApart, opening_of, slots_of}
-use Rattle.fx_counted.proofs.Words.{chain_numbers, IsNumber, state_after_all, end_in, next_in, held_in, placing, held_of, Phase, unborn, spare}
-use Rattle.fx_counted.proofs.Words.{seated, owner, file_in, Log, View, Work, Holding, retired, ⊎_elim, ◌⊎◌, Between}
-use Rattle.std.proofs.Common.{length-set}
+use Rattle.fx_counted.proofs.Words.{get_or-set_same, Option, Bool, some, get_elem?, Closed, held_by, changed_at, File, Event, range_of, NodeAgrees}
+use Rattle.fx_counted.proofs.Words.{OwnerAgrees, WorkAgrees, PlacesNext, Agrees, full_in, looks, all_looks, node_place, home_place, PlacesAreInside}
+use Rattle.fx_counted.proofs.Words.{PlacesAreApart, opening_of, slots_of, chain_numbers, IsNumber, state_after_all, end_in, next_in, held_in, placing}
+use Rattle.fx_counted.proofs.Words.{held_of, Phase, spare, owner, file_in, Log, View, Work, Holding, retired, ⊎_elim, ◌⊎◌, Between, length-set}
 use Rattle.fx_counted.proofs.Places.{inside, apart}
 use Rattle.fx_counted.proofs.Histories.{Grows, IsHistory, each_changed}
 use Rattle.fx_counted.proofs.Frames.{busy, owner_stays}

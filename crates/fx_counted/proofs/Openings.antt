@@ -5,15 +5,12 @@ use Rattle.fx_counted.proofs.Words.{some-injective, some-ne-none, dec_le, get_el
 use Rattle.fx_counted.proofs.Words.{born, takes_in, name_made, entry_made, takes_made, Names, SlotAgrees, NodeAgrees, OwnerAgrees, LogAgrees}
 use Rattle.fx_counted.proofs.Words.{ViewAgrees, Agrees, new_logs, word_of, place_of, slot_place, word_for, node_for, home_for, OpensWith, opening_of}
 use Rattle.fx_counted.proofs.Words.{slots_of, chain_numbers, IsNumber, state_after_all, new_log, Phase, unborn, seated, closed, Log, Start, View}
-use Rattle.fx_counted.proofs.Words.{Idle, ◌&&◌, length-map, at_map, first_view, first_file, OpeningKeeps, contains_map, sum_zero, Between}
+use Rattle.fx_counted.proofs.Words.{Idle, ◌&&◌, length-map, at_map, first_view, first_file, OpeningKeeps, contains_map, sum_zero, Between, IsSeated}
+use Rattle.fx_counted.proofs.Words.{one_if, once_is, counted_once, range_with_len, length-map-range_with_len}
 use Rattle.std.proofs.Common.{not}
 use Rattle.atomic_table.specs.Table.{opening}
-use Rattle.fx_counted.specs.Agrees.{IsSeated}
 use Rattle.fx_counted.proofs.FullSlots.{full_few}
 use Rattle.fx_plain.proofs.Prepared.{numbered_anew}
-use Rattle.fx_table.proofs.Ones.{one_if, once_is, counted_once}
-use Rattle.std.specs.List.{range_with_len}
-use Rattle.std.proofs.lemmas.List.FromFn.{length-map-range_with_len}
 use Rattle.fx_counted.proofs.Places.{fewer_numbers}
 
 looks_new : (p n : ℕ) → sum_by (λ (y : Log). y.looks_left) (new_logs p n) ≡ 1048576 * n

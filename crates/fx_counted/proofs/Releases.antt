@@ -1,10 +1,11 @@
 -- A release keeps the rule.
 use Rattle.fx_counted.proofs.Words.{◌≡◌, ◌≢◌, ℕ, ◌+◌, ◌-◌, ◌%◌, ◌^◌, ◌<◌, List, [], ◌∷◌, sym, refl, ap, ◌∙◌, subst, arith, Option, Some, ◌⊎◌, ⊎_elim}
-use Rattle.fx_counted.proofs.Words.{dite, some, none, ℕ_discrete, step, Closed, ◌▷◌, State, numbered, File, Event, Release, event_of, sum_at, NodeAgrees}
-use Rattle.fx_counted.proofs.Words.{WorkAgrees, looks, word_of, IsNumber, state_after_all, shown, held_in, placing, held_of, holding, Phase, seated, leaving}
-use Rattle.fx_counted.proofs.Words.{retired, file_in, Idle, Holding, eqb, ReleasesKeep, Releases, inr, inl, Between}
-use Rattle.fx_counted.proofs.Steps.{in_phase, busy, owner_stays, grows_one, legal_more, held_mine, part_mine, changed_here, changed_else, Turn, turn_of, its_log}
-use Rattle.fx_counted.proofs.Steps.{its_work, by_turn, Made, went, one_if, one_less_at}
+use Rattle.fx_counted.proofs.Words.{dite, some, none, ℕ_discrete, step, Closed, ◌▷◌, State, numbered, File, Event, Release, event_of, sum_at}
+use Rattle.fx_counted.proofs.Words.{NodeAgrees, WorkAgrees, looks, word_of, IsNumber, state_after_all, shown, held_in, placing, held_of, holding}
+use Rattle.fx_counted.proofs.Words.{Phase, seated, leaving, retired, file_in, Idle, Holding, eqb, ReleasesKeep, Releases, inr, inl, Between}
+use Rattle.fx_counted.proofs.Words.{changed_here, changed_else, one_if, one_less_at}
+use Rattle.fx_counted.proofs.Steps.{in_phase, busy, owner_stays, grows_one, legal_more, held_mine, part_mine, Turn, turn_of, its_log, its_work}
+use Rattle.fx_counted.proofs.Steps.{by_turn, Made, went}
 use Rattle.fx_counted.proofs.Births.{word_now, home_now}
 use Rattle.fx_counted.proofs.LettingGo.{IsLetGo, sub_wraps, few_looks, holding_it, stays_open, lets_go, comes_out, takes_out}
 

@@ -1,8 +1,8 @@
 -- What a removal asks for, and what it adds.
-use Rattle.fx_counted.proofs.Words.{◌≡◌, ℕ, ◌<◌, Bool, [], ◌∙◌, subst, Option, none, ◌▷◌, File, Closed, Adds, no_use, doing_in, retiring, IsPassOfTable}
-use Rattle.fx_counted.proofs.Words.{slot_place, slot_of, slots_of, Goes, Stepped, Removes, InRange, begun, Outside, Change, Sat, Seat, View, Agrees, Start}
-use Rattle.fx_counted.proofs.Words.{Action, CountedTable, CountedPass, opening_of_table, view_of, pass_of, Between, IsIdle, step}
-use Rattle.atomic_table.specs.Table.{Allows}
+use Rattle.fx_counted.proofs.Words.{◌≡◌, ℕ, ◌<◌, Bool, [], ◌∙◌, subst, Option, none, ◌▷◌, File, Closed, Adds, no_use, doing_in, retiring}
+use Rattle.fx_counted.proofs.Words.{IsPassOfTable, slot_place, slot_of, slots_of, Goes, Stepped, Removes, InRange, begun, Outside, Change, Sat, Seat}
+use Rattle.fx_counted.proofs.Words.{View, Agrees, Start, Action, CountedTable, CountedPass, opening_of_table, view_of, pass_of, Between, IsIdle, step}
+use Rattle.fx_counted.proofs.Words.{Allows}
 use Rattle.fx_counted.proofs.Calling.{slot_at, slot_inside}
 use Rattle.fx_counted.proofs.Going.{adds_so, goes_around, work_between}
 use Rattle.fx_counted.proofs.SlotLaws.{IsRemoval, removes_keep}

@@ -1,7 +1,7 @@
 -- A retirement keeps the rule.
 use Rattle.fx_counted.proofs.Words.{◌≡◌, ℕ, ◌+◌, ◌-◌, ◌%◌, ◌^◌, ◌<◌, List, [], sym, refl, ap, ◌∙◌, subst, arith, Option, dite, none, ℕ_discrete, step}
-use Rattle.fx_counted.proofs.Words.{Closed, File, retire_amount_of, NodeAgrees, WorkAgrees, looks, word_of, IsNumber, state_after_all}
-use Rattle.fx_counted.proofs.Words.{held_in, placing, holding, leaving, retired, owner, file_in, Retiring, RetiresKeep, Retires, inr, inl, Between}
+use Rattle.fx_counted.proofs.Words.{Closed, File, retire_amount_of, NodeAgrees, WorkAgrees, looks, word_of, IsNumber, state_after_all, held_in}
+use Rattle.fx_counted.proofs.Words.{placing, holding, leaving, retired, owner, file_in, Retiring, RetiresKeep, Retires, inr, inl, Between}
 use Rattle.fx_counted.proofs.Steps.{in_phase, busy, grows_none, Turn, turn_of, its_log, its_work, by_turn, Made, one_same}
 use Rattle.fx_counted.proofs.Births.{word_now, home_now}
 use Rattle.fx_counted.proofs.LettingGo.{IsLetGo, sub_wraps, few_looks, stays_open, lets_go, comes_out, takes_out}

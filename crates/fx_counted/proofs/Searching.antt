@@ -2,8 +2,7 @@
 use Rattle.fx_counted.proofs.Words.{◌≡◌, ℕ, ◌+◌, Bool, [], ◌∷◌, sym, ap, ◌∙◌, subst, ◌≢◌, ne_eqb, eq-eqb, Some, dite, none, ℕ_discrete, step, rest}
 use Rattle.fx_counted.proofs.Words.{Closed, ◌▷◌, numbered, Allocate, Full, no_use, one_number, Goes, place_of, slot_of, Sat, StillPlaces}
 use Rattle.fx_counted.proofs.Words.{HasAllocated, Tries, Stepped, Exchanges, Change, Outside, Same, More, Start, Work, Idle, Placing, nat_eq}
-use Rattle.fx_counted.proofs.Words.{IsPlacing, HasFoundAllFull, List, Action, Use, ◌▷▷◌, both_uses, Between}
-use Rattle.fx_counted.specs.Searching.{Proceeds}
+use Rattle.fx_counted.proofs.Words.{IsPlacing, HasFoundAllFull, List, Action, Use, ◌▷▷◌, both_uses, Between, Proceeds}
 use Rattle.fx_counted.proofs.Going.{goes_one, goes_then, still_at_work}
 
 -- one step more, and some more

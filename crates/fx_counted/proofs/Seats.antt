@@ -1,8 +1,7 @@
 -- A seat is split off, and one is joined back.
 use Rattle.fx_counted.proofs.Words.{◌≡◌, ℕ, ◌+◌, List, length, sym, refl, ap, ◌∙◌, subst, arith, ⊎_elim, length-append, sum_by, sum_by-append, eqb}
 use Rattle.fx_counted.proofs.Words.{Does, WorkAgrees, LogAgrees, ViewAgrees, Agrees, in_change, added, removed_by, Shared, holding, Outside, Log}
-use Rattle.fx_counted.proofs.Words.{Start, View, Work, Idle, Change, SplitsKeep, JoinsKeep, Between, together, spent}
-use Rattle.fx_table.proofs.Ones.{one_if, times}
+use Rattle.fx_counted.proofs.Words.{Start, View, Work, Idle, Change, SplitsKeep, JoinsKeep, Between, together, spent, one_if, times}
 use Rattle.fx_table.proofs.Seats.{IsAnew, AreReseated, split, joined}
 use Rattle.fx_counted.proofs.Frames.{busy, owner_map}
 use Rattle.fx_counted.proofs.Keeping.{shape_kept}

@@ -1,11 +1,7 @@
 -- A table of one pass, which does nothing, tells its history without being closed.
 use Rattle.fx_counted.proofs.Words.{◌≡◌, ℕ, [], ◌∷◌, ◌++◌, sym, refl, ap, ◌∙◌, subst, arith, some, get_elem?, Contains, step, keeps, CountedPass}
 use Rattle.fx_counted.proofs.Words.{Between, Idle, contains_head, contains_only, IsPassOf, Agrees, Sat, Shared, Start, TableId, opening_of, view_of}
-use Rattle.fx_counted.proofs.Words.{held_in, set-get_or}
-use Rattle.atomic_table.specs.Table.{Allows}
-use Rattle.atomic_table.proofs.Lists.{set_again}
-use Rattle.std.proofs.lemmas.List.{append-nil}
-use Rattle.fx_table.specs.Settling.{IsSettledSoFar}
+use Rattle.fx_counted.proofs.Words.{held_in, set-get_or, Allows, set_again, append-nil, IsSettledSoFar}
 use Rattle.fx_table.proofs.Settling.{settles as settles_whole}
 use Rattle.fx_counted.specs.Settling.{Observes}
 use Rattle.fx_counted.proofs.Going.{work_between}

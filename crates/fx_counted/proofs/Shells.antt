@@ -1,9 +1,7 @@
 -- Files leave a table of one thread, and come back.
 use Rattle.fx_counted.proofs.Words.{◌≡◌, ◌≢◌, ℕ, ◌+◌, ◌<◌, ◌≤◌, sym, refl, ap, ◌∙◌, arith, ◌⊎◌, inl, inr, ⊎_elim, Option, Some, None, dite}
 use Rattle.fx_counted.proofs.Words.{ℕ_discrete, dec_le, Closed, State, IsSettled, Contents, state_of, file_at, changed_at, numbered, identity_of}
-use Rattle.fx_counted.proofs.Words.{AreBack}
-use Rattle.std.proofs.Math.ListN.{get_or-eq_default}
-use Rattle.fx_plain.proofs.Cells.{changed_here, changed_else}
+use Rattle.fx_counted.proofs.Words.{AreBack, get_or-eq_default, changed_here, changed_else}
 
 -- a table has no file behind its slots
 pub none_outside : (c : Contents) {slot : ℕ} → (state_of c).size ≤ slot → (state_of c).at slot ≡ None

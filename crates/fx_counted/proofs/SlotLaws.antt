@@ -1,14 +1,13 @@
 -- Swaps, loads and exchanges keep the rule.
-use Rattle.fx_counted.proofs.Words.{◌≡◌, ◌≢◌, ℕ, ◌-◌, ◌<◌, ◌^◌, Bool, List, [], ◌∷◌, false, sym, refl, ap, ◌∙◌, subst, arith, eqb, Option, Some}
-use Rattle.fx_counted.proofs.Words.{None, inl, none, keeps, gives, rest, stepped, step, Closed, ◌▷◌, changed_at, numbered, File, Action, Put, Clear}
-use Rattle.fx_counted.proofs.Words.{Take, Allocate, one_number, name_in, slot_word_of, Names, WorkAgrees, Agrees}
-use Rattle.fx_counted.proofs.Words.{HasPass, MayChange, place_of, slot_place, Sat, slots_of, state_after_all, Stepped, Exchanges, GoesOn}
-use Rattle.fx_counted.proofs.Words.{turned, Change, Same, Log, Start, View, Idle, Placing, placed, event_of, shown, set-get_or}
-use Rattle.fx_counted.proofs.Words.{exchanged, ClearsKeep, TakesKeep, InstallsKeep, LoadsKeep, ExchangesKeep, Installs, Removes, Between}
-use Rattle.fx_counted.proofs.Steps.{in_phase, legal_more, same_shape, Turn, turn_of, word_at, now, logged, its_work, by_turn, went, Made, far, control_same}
+use Rattle.fx_counted.proofs.Words.{◌≡◌, ◌≢◌, ℕ, ◌-◌, ◌<◌, ◌^◌, Bool, List, [], ◌∷◌, false, sym, refl, ap, ◌∙◌, subst, arith, eqb, Option, Some, None}
+use Rattle.fx_counted.proofs.Words.{inl, none, keeps, gives, rest, stepped, step, Closed, ◌▷◌, changed_at, numbered, File, Action, Put, Clear, Take}
+use Rattle.fx_counted.proofs.Words.{Allocate, one_number, name_in, slot_word_of, Names, WorkAgrees, Agrees, HasPass, MayChange, place_of, slot_place}
+use Rattle.fx_counted.proofs.Words.{Sat, slots_of, state_after_all, Stepped, Exchanges, GoesOn, turned, Change, Same, Log, Start, View, Idle, Placing}
+use Rattle.fx_counted.proofs.Words.{event_of, shown, set-get_or, exchanged, ClearsKeep, TakesKeep, InstallsKeep, LoadsKeep, ExchangesKeep, Installs}
+use Rattle.fx_counted.proofs.Words.{Removes, Between, Allows, IsInRange}
+use Rattle.fx_counted.proofs.Steps.{in_phase, legal_more, same_shape, Turn, turn_of, word_at, now, logged, its_work, by_turn, went, Made, far}
+use Rattle.fx_counted.proofs.Steps.{control_same}
 use prog.Atomic.{either}
-use Rattle.atomic_table.specs.Table.{Allows}
-use Rattle.fx_counted.specs.Laws.{IsInRange}
 use Rattle.fx_counted.proofs.Calm.{no_event, calm_agrees}
 use Rattle.fx_counted.proofs.ControlSteps.{goes_on}
 use Rattle.fx_counted.proofs.Swaps.{Effect, in_size, names_old, removal_agrees, removal_tells, installation_agrees, installation_tells, removed_view}

@@ -2,9 +2,8 @@
 use Rattle.fx_counted.proofs.Words.{◌≡◌, ℕ, ◌+◌, ◌≤◌, List, sym, refl, ap, ◌∙◌, arith, Option, Some, None, dite, some, dec_le, get_elem?, Closed}
 use Rattle.fx_counted.proofs.Words.{Contents, state_of, State, file_numbered, identity_of, File, IsGivenBack, MAX_CHAINS, chain_numbers}
 use Rattle.fx_counted.proofs.Words.{AreFirstWords, AreFirstHomes, home_place, homes_for, home_for, OpensWith, IsShellOf, AreBack, file_in_place}
-use Rattle.fx_counted.proofs.Words.{Start, MAX_PASSES}
+use Rattle.fx_counted.proofs.Words.{Start, MAX_PASSES, get_or-eq_default}
 use Rattle.fx_counted.proofs.Places.{high_node, low_home, high_home}
-use Rattle.std.proofs.Math.ListN.{get_or-eq_default}
 use Rattle.fx_counted.proofs.Frames.{read_at}
 use Rattle.fx_counted.proofs.Shells.{none_outside}
 

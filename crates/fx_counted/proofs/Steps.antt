@@ -1,10 +1,8 @@
 -- Lemmas of a step, passed on from one place. Declares nothing.
 pub use Rattle.fx_counted.proofs.Frames.{busy, does_now, stays_same, owner_same, owner_stays, Stays, KeepsHeld}
 pub use Rattle.fx_counted.proofs.Histories.{grows_none, Grows, IsHistory, grows_one, part_mine, same_shape, legal_more}
-pub use Rattle.fx_plain.proofs.Cells.{changed_here, changed_else}
 pub use Rattle.fx_counted.proofs.Histories.{held_mine, grows_more, looks_few, each_changed}
 pub use Rattle.fx_counted.proofs.Keeping.{Turn, turn_of, word_at, its_log, its_work, by_turn, went, tells_none, now, logged, Step, step_kept, log_now}
 pub use Rattle.fx_counted.proofs.Keeping.{Made, Homes, NodeIn, in_phase, seat_in, tells, tells_one}
 pub use Rattle.fx_counted.proofs.NodeSteps.{one_same, near, far, MayTurn, OneNumber, NodeStep, node_agrees}
-pub use Rattle.fx_table.proofs.Ones.{one_if, times, bit_here, once_is, once_more, one_more_at, one_less_at}
 pub use Rattle.fx_counted.proofs.Unchanged.{slot_same, draws_same, control_same, node_same, SameFile}

@@ -1,16 +1,15 @@
 -- A swap of a slot's word keeps the rule: a removal, and an installation.
-use Rattle.fx_counted.proofs.Words.{◌≡◌, ◌≢◌, ℕ, ◌-◌, ◌<◌, ◌≤◌, ◌^◌, false, List, [], ◌∷◌, set, length, sym, refl, ap, ◌∙◌, subst, arith, Option, Some, None}
-use Rattle.fx_counted.proofs.Words.{dite, ◌⊎◌, inl, inr, ⊎_elim, some, ℕ_discrete, get_elem?, set_here, set_else, Closed, held_by, held_after, ◌▷◌, changed_at, with_removed}
-use Rattle.fx_counted.proofs.Words.{State, numbered, File, Event, Bool, Action, no_use, one_number, range_of, event_of, takes_in, slot_word_of, name_made}
-use Rattle.fx_counted.proofs.Words.{entry_made, takes_made, Names, NodeAgrees, OwnerAgrees, WorkAgrees, PlacesNext, Agrees, ControlCounts}
-use Rattle.fx_counted.proofs.Words.{if_full, looks, all_looks, word_of, place_of, control_place, slot_place, opening_of, slots_of, IsNumber}
-use Rattle.fx_counted.proofs.Words.{state_after_all, shown, end_in, next_in, held_in, placing, holding, Phase, unborn, spare, placed, seated, leaving}
-use Rattle.fx_counted.proofs.Words.{owner, file_in, IsInside, Stepped, retiring, turned, Change, Log, View, Work, Idle, Placing, Retiring, Between, keeps, stepped}
-use Rattle.fx_counted.proofs.Steps.{in_phase, seat_in, busy, owner_stays, does_now, IsHistory, grows_one, part_mine, held_mine, changed_here, changed_else}
-use Rattle.fx_counted.proofs.Steps.{each_changed, same_shape, Turn, Homes, word_at, now, logged, its_log, its_work, log_now, tells, went, tells_one, node_same, NodeIn}
-use Rattle.fx_counted.proofs.Steps.{Step, step_kept}
-use Rattle.std.proofs.Common.{length-set}
-use Rattle.fx_counted.specs.Agrees.{IsSeated}
+use Rattle.fx_counted.proofs.Words.{◌≡◌, ◌≢◌, ℕ, ◌-◌, ◌<◌, ◌≤◌, ◌^◌, false, List, [], ◌∷◌, set, length, sym, refl, ap, ◌∙◌, subst, arith, Option}
+use Rattle.fx_counted.proofs.Words.{Some, None, dite, ◌⊎◌, inl, inr, ⊎_elim, some, ℕ_discrete, get_elem?, set_here, set_else, Closed, held_by}
+use Rattle.fx_counted.proofs.Words.{held_after, ◌▷◌, changed_at, with_removed, State, numbered, File, Event, Bool, Action, no_use, one_number}
+use Rattle.fx_counted.proofs.Words.{range_of, event_of, takes_in, slot_word_of, name_made, entry_made, takes_made, Names, NodeAgrees, OwnerAgrees}
+use Rattle.fx_counted.proofs.Words.{WorkAgrees, PlacesNext, Agrees, ControlCounts, if_full, looks, all_looks, word_of, place_of, control_place}
+use Rattle.fx_counted.proofs.Words.{slot_place, opening_of, slots_of, IsNumber, state_after_all, shown, end_in, next_in, held_in, placing, holding}
+use Rattle.fx_counted.proofs.Words.{Phase, spare, placed, seated, leaving, owner, file_in, IsInside, Stepped, retiring, turned, Change, Log, View}
+use Rattle.fx_counted.proofs.Words.{Work, Idle, Placing, Retiring, Between, keeps, stepped, changed_here, changed_else, length-set, IsSeated}
+use Rattle.fx_counted.proofs.Steps.{in_phase, seat_in, busy, owner_stays, does_now, IsHistory, grows_one, part_mine, held_mine, each_changed}
+use Rattle.fx_counted.proofs.Steps.{same_shape, Turn, Homes, word_at, now, logged, its_log, its_work, log_now, tells, went, tells_one, node_same}
+use Rattle.fx_counted.proofs.Steps.{NodeIn, Step, step_kept}
 use Rattle.fx_counted.proofs.Births.{roomy, else_place, unheld}
 use Rattle.fx_counted.proofs.FullSlots.{Stands, control_swap}
 use Rattle.fx_counted.proofs.SlotSteps.{slots_now, node_now, control_now, draws_now, words_now}

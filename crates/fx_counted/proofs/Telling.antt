@@ -1,8 +1,7 @@
 -- What a pass tells of a slot that it changes.
 use Rattle.fx_counted.proofs.Words.{◌≡◌, ℕ, ◌+◌, ◌-◌, ◌%◌, ◌^◌, Bool, true, false, inl, inr, sym, ap, ◌∙◌, arith, none, step, one_change}
 use Rattle.fx_counted.proofs.Words.{end_amount_of, Agrees, InRange, HasToTell, in_change, added, removed_by, HasPass, MayChange, control_place, Sat}
-use Rattle.fx_counted.proofs.Words.{GoesOn, Change, Outside, Same, More, Less, Log, Start, ℤ, begun, difference}
-use Rattle.atomic_table.specs.Table.{Allows}
+use Rattle.fx_counted.proofs.Words.{GoesOn, Change, Outside, Same, More, Less, Log, Start, ℤ, begun, difference, Allows}
 use Rattle.fx_counted.proofs.ControlSteps.{ends_keep}
 
 amount_told : (c : Change) {delta : ℤ} {amount : ℕ} → in_change c ≡ 1 → difference c ≡ delta → amount ≡ end_amount_of delta

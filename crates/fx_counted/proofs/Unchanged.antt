@@ -1,12 +1,10 @@
 -- What a step leaves as it was: slots, numbers, the control word and the draw word.
-use Rattle.fx_counted.proofs.Words.{sum_by, ◌≡◌, ℕ, ◌/◌, ◌%◌, ◌≤◌, List, [], ◌∷◌, set, sym, refl, ap, ◌∙◌, arith, Option, Some, None}
-use Rattle.fx_counted.proofs.Words.{some, get_elem?, Closed, State, numbered, File, Event, sum_set, SlotAgrees, Home, NodeAgrees, in_change}
-use Rattle.fx_counted.proofs.Words.{added, removed_by, changes_of, added_of, removed_of, full_in, ControlCounts, looks, all_looks, DrawsCount}
-use Rattle.fx_counted.proofs.Words.{state_after_all, told_of, Phase, unborn, seated, leaving, retired, emptied, closed, Log, Start, View}
-use Rattle.fx_counted.proofs.Words.{takes_in, born, ◌<◌, ◌+◌}
-use Rattle.fx_counted.specs.Agrees.{IsSeated, IsGone}
+use Rattle.fx_counted.proofs.Words.{sum_by, ◌≡◌, ℕ, ◌/◌, ◌%◌, ◌≤◌, List, [], ◌∷◌, set, sym, refl, ap, ◌∙◌, arith, Option, Some, None, some, get_elem?}
+use Rattle.fx_counted.proofs.Words.{Closed, State, numbered, File, Event, sum_set, SlotAgrees, Home, NodeAgrees, in_change, added, removed_by}
+use Rattle.fx_counted.proofs.Words.{changes_of, added_of, removed_of, full_in, ControlCounts, looks, all_looks, DrawsCount, state_after_all, told_of}
+use Rattle.fx_counted.proofs.Words.{Phase, unborn, seated, leaving, retired, emptied, closed, Log, Start, View, takes_in, born, ◌<◌, ◌+◌, IsSeated}
+use Rattle.fx_counted.proofs.Words.{IsGone, one_if, times}
 use Rattle.fx_counted.proofs.Frames.{total_same}
-use Rattle.fx_table.proofs.Ones.{one_if, times}
 
 module _ (k : Start) (h h' : List Event) (phase phase' : ℕ → Phase) (slot : ℕ) where
   abbrev pub SameFile : Type 0

@@ -1,8 +1,7 @@
 -- How large the words become.
 use Rattle.fx_counted.proofs.Words.{sum_by, ◌≡◌, ℕ, ◌+◌, ◌≤◌, Option, Some, None, sym, ◌∙◌, subst, arith, some, get_elem?, File, sum_le_at, node_in}
-use Rattle.fx_counted.proofs.Words.{Agrees, Names, WorkAgrees, lengths, changes_of, looks, all_looks, Shared}
-use Rattle.fx_counted.proofs.Words.{looks_of, told_of, seated, leaving, Start, View, Retiring, Between}
-use Rattle.fx_counted.specs.Agrees.{IsSeated}
+use Rattle.fx_counted.proofs.Words.{Agrees, Names, WorkAgrees, lengths, changes_of, looks, all_looks, Shared, looks_of, told_of, leaving, Start, View}
+use Rattle.fx_counted.proofs.Words.{Retiring, Between, IsSeated}
 use Rattle.fx_counted.specs.Bounds.{AreBounded, WordsAreBounded, slot_word_in, node_word_in, draw_word_in}
 use Rattle.fx_counted.proofs.Chains.{told_few}
 use Rattle.fx_counted.proofs.ControlSteps.{few_changes, few_full, few_added, few_removed}

@@ -1,5 +1,5 @@
 use Rattle.fx_counted.proofs.Words.{Contains, List, [], ◌∷◌, sym, ap, subst, arith, All-contains, Contains-append_left, IsIdleSeatOf, view_of}
-use Rattle.fx_counted.proofs.Words.{CountedPass, CountedTable, each_all, IsIdle, IsPassOfTable, Idle}
+use Rattle.fx_counted.proofs.Words.{CountedPass, CountedTable, each_all, IsIdle, IsPassOfTable}
 use Rattle.fx_counted.proofs.table.CountedTable.close.Goals as goal
 use Rattle.fx_table.proofs.Dealing.{IsReady, fits}
 use Rattle.fx_table.proofs.Gathering.{gathered}

@@ -1,5 +1,5 @@
-use Rattle.fx_counted.proofs.Words.{◌≡◌, ◌*◌, ℕ, List, sym, ap, ◌∙◌, arith, Option, Some, None, some, some-injective, get_elem?}
-use Rattle.fx_counted.proofs.Words.{slots_items, Closed, state_of, node_in, slot_place}
+use Rattle.fx_counted.proofs.Words.{◌≡◌, ◌*◌, ℕ, List, sym, ap, ◌∙◌, arith, Option, Some, None, some, some-injective, get_elem?, slots_items, Closed}
+use Rattle.fx_counted.proofs.Words.{state_of, node_in, slot_place}
 use Rattle.fx_counted.proofs.table.CountedTable.finish.Goals as goal
 use Rattle.fx_counted.proofs.Finishing.{home_at_end, known_at_end, leaves_at_end, some_back, none_back, none_named, place_emptied, none_emptied}
 use Rattle.fx_counted.proofs.Frames.{read_at}

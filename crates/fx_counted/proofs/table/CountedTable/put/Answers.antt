@@ -1,7 +1,6 @@
-use Rattle.fx_counted.proofs.Words.{◌≡◌, ℕ, [], ◌∷◌, ap, ◌∙◌, subst, arith, Some, ◌▷◌, numbered, Put, takes_in, slot_word_of, Adds}
-use Rattle.fx_counted.proofs.Words.{one_number, place_of, pass_of, doing_in, view_of, opening_of_table, retiring}
-use Rattle.fx_counted.proofs.Words.{Bool, true, false, sym, File, List, Log, None, Option, Retired, first_log, is_idle, option_map}
-use Rattle.fx_counted.proofs.Words.{refl, rest, is_some, retired_of, Between}
+use Rattle.fx_counted.proofs.Words.{◌≡◌, ℕ, [], ◌∷◌, ap, ◌∙◌, subst, arith, Some, ◌▷◌, numbered, Put, takes_in, slot_word_of, Adds, one_number}
+use Rattle.fx_counted.proofs.Words.{place_of, pass_of, doing_in, view_of, opening_of_table, retiring, Bool, true, false, sym, File, List, Log, None}
+use Rattle.fx_counted.proofs.Words.{Option, Retired, first_log, is_idle, option_map, refl, rest, is_some, retired_of, Between}
 use Rattle.fx_counted.proofs.table.CountedTable.put.Goals as goal
 use Rattle.std.specs.Prelude.{not}
 use Rattle.fx_counted.proofs.Calling.{slot_inside, slot_at}

@@ -1,6 +1,5 @@
 use Rattle.fx_counted.proofs.Words.{ℕ, ◌<◌, ◌≡◌, [], refl, sym, ap, ◌∙◌, arith, subst, Some, ◌▷◌, Close, File, no_use, Retired, retire_amount_of}
-use Rattle.fx_counted.proofs.Words.{Goes, node_place, HasPlace, pass_of, state_after_all, IsInside, TakesOut, Change, Start, Idle}
-use Rattle.fx_counted.proofs.Words.{Retiring, Between}
+use Rattle.fx_counted.proofs.Words.{Goes, node_place, HasPlace, pass_of, state_after_all, IsInside, TakesOut, Change, Start, Idle, Retiring, Between}
 use Rattle.fx_counted.proofs.table.CountedTable.retire.Goals as goal
 use Rattle.fx_counted.proofs.Calling.{node_inside, node_is_at}
 use Rattle.fx_counted.proofs.Going.{its_pass, work_between, adds_so, still_pass, let_go, out_place, out_and_home}

@@ -1,5 +1,4 @@
-use Rattle.fx_counted.proofs.Words.{sym, subst, arith, Start, Sat, Agrees, opening_of, pass_of}
-use Rattle.fx_table.specs.Settling.{IsSettledSoFar}
+use Rattle.fx_counted.proofs.Words.{sym, subst, arith, Start, Sat, Agrees, opening_of, pass_of, IsSettledSoFar}
 use Rattle.fx_counted.proofs.Settling.{may_observe, settles}
 use Rattle.fx_counted.proofs.table.CountedTable.settle.Goals as goal
 

@@ -1,4 +1,4 @@
-use Rattle.fx_counted.proofs.Words.{◌≡◌, ◌+◌, ◌*◌, ◌≤◌, ℕ, List, sym, ap, ◌∙◌, subst, arith, Option, Closed, Contents, state_of, Start, chain_numbers}
+use Rattle.fx_counted.proofs.Words.{◌≡◌, ◌+◌, ◌≤◌, ℕ, List, sym, ap, ◌∙◌, subst, arith, Option, Closed, Contents, state_of, Start, chain_numbers}
 use Rattle.fx_counted.proofs.Words.{AreFirstWords, AreFirstHomes, AreBack, file_in_place}
 use Rattle.fx_counted.proofs.Openings.{opening_keeps}
 use Rattle.fx_counted.proofs.Starting.{opens_with, given_back, others_empty}
