@@ -3,17 +3,11 @@ use Rattle.fx_counted.proofs.Words.{◌≡◌, ◌≢◌, ℕ, ◌+◌, ◌*◌,
 use Rattle.fx_counted.proofs.Words.{inr, ⊎_elim, some, none, get_elem?, takes, gives, rest, step, set_here, set_else, Closed, File, changed_at}
 use Rattle.fx_counted.proofs.Words.{no_use, next_number, born, Home, NodeAgrees, OwnerAgrees, WorkAgrees, PlacesNext, word_of, place_of, opening_of}
 use Rattle.fx_counted.proofs.Words.{chain_in, chain_numbers, first_log, pass_of, IsNumber, state_after_all, end_in, next_in, held_in, placing}
-use Rattle.fx_counted.proofs.Words.{holding, Phase, spare, placed, closed, owner, file_in, Stepped, Start, View, Idle, Placing, Holding, Emptying}
-use Rattle.fx_counted.proofs.Words.{looks, mul-le-mul_left, BirthsKeep, RestsKeep, Births, Rests, inl, Between, Work, changed_here, changed_else}
-use Rattle.fx_counted.proofs.Words.{length-set}
+use Rattle.fx_counted.proofs.Words.{holding, Phase, spare, placed, closed, owner, file_in, Stepped, View, Idle, Placing, Holding, Emptying, looks}
+use Rattle.fx_counted.proofs.Words.{mul-le-mul_left, BirthsKeep, RestsKeep, Births, Rests, inl, Between, Work, changed_here, changed_else, length-set}
 use Rattle.fx_counted.proofs.Steps.{grows_none, each_changed, busy, does_now, Turn, turn_of, word_at, its_log, its_work, by_turn, went, tells_none}
 use Rattle.fx_counted.proofs.Steps.{one_same, near, far, MayTurn, NodeStep, node_agrees, in_phase}
 use mathlib.Core.Option as maybe
-
--- the file that a pass holds is open
-pub held_file : (k : Start) (phase : ℕ → Phase) (j : ℕ) (u : View) {f : File} → u.work ≡ Between (Holding f)
-    → WorkAgrees k phase j u.work → file_in (phase f.number) ≡ Some f.identity
-held_file k phase j u is o = (subst (WorkAgrees k phase j) is o).1
 
 module _ (turn : Turn) where
   open turn use {st, v, r, id, x, here, one}
@@ -33,8 +27,8 @@ module _ (turn : Turn) where
   -- nobody holds the file of a number without one
   pub unheld : (q : ℕ) → file_in (r.phase q) ≡ None → (j : ℕ) (u : View) (f : File) → get_elem? st.views j ≡ some u → u.work ≡ Between (Holding f)
       → f.number ≡ q → ⊥
-  unheld q empty j u f there holds same = let e = held_file v.start r.phase j u holds (r.each_view j u there).work in
-      let z : None ≡ Some f.identity = sym empty ∙ (ap (λ (m : ℕ). file_in (r.phase m)) (sym same) ∙ e) in cc z
+  unheld q empty j u f there holds same = let e = subst (WorkAgrees v.start r.phase j) holds (r.each_view j u there).work in
+      let z : None ≡ Some f.identity = sym empty ∙ (ap (λ (m : ℕ). file_in (r.phase m)) (sym same) ∙ e.1) in cc z
 
   -- a number that is left to the pass is one of the table
   pub spare_inside : {n : ℕ} → next_in v.start x ≤ n → n < end_in v.start x → IsNumber v.start n

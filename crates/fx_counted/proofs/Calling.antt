@@ -1,7 +1,7 @@
 -- What a call of a table needs for its steps.
-use Rattle.fx_counted.proofs.Words.{◌≡◌, ℕ, ◌*◌, true, ◌<◌, ◌≤◌, inl, inr, sym, ap, ◌∙◌, subst, arith, range_of, full_word_of, InRange, HasNode}
-use Rattle.fx_counted.proofs.Words.{chain_numbers, slot_of, slot_place, node_place, home_place, opening_of, slots_of, IsNumber, opening_of_table}
-use Rattle.fx_counted.proofs.Words.{Start, CountedTable, size_of}
+use Rattle.fx_counted.proofs.Words.{◌≡◌, ℕ, ◌*◌, true, ◌<◌, ◌≤◌, inl, inr, sym, ap, ◌∙◌, subst, arith, range_of, full_word_of, InRange, HasNode, ◌+◌}
+use Rattle.fx_counted.proofs.Words.{⊎_elim, chain_numbers, slot_of, slot_place, node_place, home_place, opening_of, slots_of, IsNumber}
+use Rattle.fx_counted.proofs.Words.{opening_of_table, Start, CountedTable, size_of}
 use Rattle.fx_counted.proofs.Places.{few_numbers, inside, apart}
 
 -- the word of a slot is one of the table
@@ -20,12 +20,9 @@ its_numbers t = λ i. t.key.2 i * t.key.0 i
 pub its_number : (t : CountedTable) (n : ℕ) → IsNumber t.table.shared.key n → HasNode t.size (t.numbers * t.chains) n
 its_number t n has = subst (λ (z : ℕ × ℕ). HasNode z.0 z.1 n) (λ i. (sym t.same_size i, sym (its_numbers t) i)) has
 
-more_numbers : {size numbers n : ℕ} → numbers ≤ 65472 → HasNode size numbers n → HasNode size 65472 n
-more_numbers few (inl l) = inl l
-more_numbers few (inr b) = let l = b.0 in let u = b.1 in inr (l, omega arith)
-
 pub has_node : (t : CountedTable) {n : ℕ} → IsNumber t.table.shared.key n → HasNode t.size 65472 n
-has_node t {n} has = more_numbers (few_numbers t.bounds.3 t.bounds.0) (its_number t n has)
+has_node t {n} has = let few = few_numbers t.bounds.3 t.bounds.0 in ⊎_elim (λ (l : n < t.size). inl l)
+    (λ (b : (256 ≤ n) × (n < 256 + t.numbers * t.chains)). inr (b.0, omega (arith, b.1, few))) (its_number t n has)
 
 -- its word is one of the table
 pub node_inside : (t : CountedTable) {n i : ℕ} → IsNumber t.table.shared.key n → i ≡ node_place t.size n → i < t.table.shared.table_id.words

@@ -2,8 +2,8 @@
 use Rattle.fx_counted.proofs.Words.{◌≡◌, ℕ, List, set, length, sym, refl, ap, ◌∙◌, arith, held_by, State, Event, range_of, PlacesNext, Agrees}
 use Rattle.fx_counted.proofs.Words.{ControlCounts, looks, all_looks, word_of, control_place, draw_place, slot_place, opening_of, IsNumber}
 use Rattle.fx_counted.proofs.Words.{state_after_all, next_in, Change, Log, Start, View, Work, Placing}
-use Rattle.fx_counted.proofs.Steps.{stays_same, owner_same, Grows, grows_none, IsHistory, Turn, word_at, now, logged, its_log, its_work, Step}
-use Rattle.fx_counted.proofs.Steps.{step_kept, log_now, slot_same, draws_same}
+use Rattle.fx_counted.proofs.Steps.{stays_same, owner_same, Grows, grows_none, IsHistory, Turn, word_at, now, logged, its_log, its_work, step_kept}
+use Rattle.fx_counted.proofs.Steps.{log_now, slot_same, draws_same}
 
 places_same : (k : Start) (x y : Log) (d : Work) → next_in k y ≡ next_in k x → y.numbers_left ≡ x.numbers_left → PlacesNext k x d → PlacesNext k y d
 places_same k x y (Placing n) next left o = (o.0 ∙ sym next, let a = o.1 in omega arith)
@@ -38,8 +38,8 @@ module _ (turn : Turn) (h' : List Event) where
           (set st.views id w) (word_at words' control_place)
 
     module _ (p : Calm) where
-      calm_step : Step turn y v.work c h' r.phase words' st.homes
-      calm_step = let o = its_log turn in record {
+      pub calm_agrees : Agrees v.start record { words = words'; homes = st.homes; views = set st.views id w }
+      calm_agrees = let o = its_log turn in step_kept turn y v.work c h' r.phase words' st.homes record {
         words = p.words;
         homes = refl;
         number = refl;
@@ -59,9 +59,6 @@ module _ (turn : Turn) (h' : List Event) where
         control = rw p.quiet.state p.control;
         draws = draws_same st.views id v w here one refl refl refl p.drawn (λ n is. is) r.draws;
       }
-
-      pub calm_agrees : Agrees v.start record { words = words'; homes = st.homes; views = set st.views id w }
-      calm_agrees = step_kept turn y v.work c h' r.phase words' st.homes calm_step
 
 module _ (turn : Turn) where
   open turn use {st, v, r, id, x, here, one}

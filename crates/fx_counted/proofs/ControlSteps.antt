@@ -97,15 +97,12 @@ module _ (turn : Turn) where
   e = event_of (shown x v.work) Full
 
   -- with the event that every slot of the range is full
-  full_legal : ((slot : ℕ) → range.0 ≤ slot → slot < range.0 + range.1 → IsSome (at_now slot)) → IsHistory v.start (e ∷ r.history)
-  full_legal each = legal_more v.start r.legal
-      (λ slot small in_range. let z = (same_shape v.start r.history).1 in let a = ap (λ (p : ℕ × ℕ). p.0) z in
-      let b = ap (λ (p : ℕ × ℕ). p.1) z in let i = in_range.0 in let j = in_range.1 in
-      each slot (omega arith) (omega arith)) tt
-
   told_full : ((slot : ℕ) → range.0 ≤ slot → slot < range.0 + range.1 → IsSome (at_now slot)) → Quiet turn (e ∷ r.history)
   told_full each = let all : all_looks (e ∷ r.history) ≡ all_looks r.history = omega arith in
-      assumption (grows_one x.number r.history e refl, full_legal each, all, held_mine e r.history refl)
+      let legal : IsHistory v.start (e ∷ r.history) = legal_more v.start r.legal
+      (λ slot small in_range. let z = (same_shape v.start r.history).1 in let a = ap (λ (p : ℕ × ℕ). p.0) z in
+      let b = ap (λ (p : ℕ × ℕ). p.1) z in each slot (omega (arith, a, b, in_range.0)) (omega (arith, a, b, in_range.1))) tt in
+      assumption (grows_one x.number r.history e refl, legal, all, held_mine e r.history refl)
 
   pub goes_on : (c : Change) (carried : List (ℕ × Option Closed)) → Stepped (v, carried) [] no_use v.work c (went turn r.history v.work c, carried)
   goes_on c carried = tells_none turn carried carried c its_inside
@@ -178,7 +175,7 @@ answers_keep k slots id i m x has same place = by_turn slots (λ _. Unit {0}) (�
       tt,
       wrote turn _ Outside (told_full turn each) (counts (e turn ∷ r.history)),
       record {
-        full = λ _. tells_one turn (full_legal turn each) m.1 m.1 Outside (its_inside turn);
+        full = λ _. tells_one turn (told_full turn each).legal m.1 m.1 Outside (its_inside turn);
         not_full = λ not_so. absurd (not_so says);
         carried = refl;
       },

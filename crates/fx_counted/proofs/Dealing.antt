@@ -20,17 +20,14 @@ module _ (id : TableId) (k : Start) (p : ℕ) (low : 1 ≤ p) (high : p ≤ k.pa
   me : x.seat.me ≡ (record (dealt k p) { logs = new_log p ∷ [] }, [])
   me = ap (λ (z : Seat (Option Closed) View). z.me) new.its_seat ∙ (is ∙ ap (λ (v : View). (v, [])) alone)
 
-  is_new : view_of x ≡ new_pass p
-  is_new = ap (λ (m : Sat). pass_of m.0) me
-
-  is_pass : IsPassOf id k x
-  is_pass = record {
-    table = ap (λ (z : Seat (Option Closed) View). z.table_id) new.its_seat ∙ table;
-    places = ap (λ (m : Sat). m.1) me;
-    log = new_log p;
-    seated = let none : (n : ℕ) → 0 ≤ n = λ n. omega arith in rw me (assumption (none k.chains, none 64, none (k.numbers * 0)));
-    knows = assumption (new, new.flag ∙ sym (ap (λ (m : Sat). is_idle m.0.work) me));
-  }
-
   pub is_new_pass : IsPassOf id k x × (view_of x ≡ new_pass p)
-  is_new_pass = (is_pass, is_new)
+  is_new_pass = (
+    record {
+      table = ap (λ (z : Seat (Option Closed) View). z.table_id) new.its_seat ∙ table;
+      places = ap (λ (m : Sat). m.1) me;
+      log = new_log p;
+      seated = let none : (n : ℕ) → 0 ≤ n = λ n. omega arith in rw me (assumption (none k.chains, none 64, none (k.numbers * 0)));
+      knows = assumption (new, new.flag ∙ sym (ap (λ (m : Sat). is_idle m.0.work) me));
+    },
+    ap (λ (m : Sat). pass_of m.0) me,
+  )

@@ -13,10 +13,9 @@ is_number : (k : Start) (n : ℕ) → IsNumber k n ⊎ (IsNumber k n → ⊥)
 is_number k n = dite (dec_le (suc n) (slots_of k))
     (λ low. inl (inl low))
     (λ not_slot. dite (dec_le 256 n)
-    (λ high. dite (dec_le (suc n) (256 + chain_numbers k))
-    (λ inside. inl (inr (high, inside)))
-    (λ out. inr (λ has. ⊎_elim (λ l. not_slot l) (λ b. out b.1) has)))
-    (λ small. inr (λ has. ⊎_elim (λ l. not_slot l) (λ b. small b.0) has)))
+    (λ high. dite (dec_le (suc n) (256 + chain_numbers k)) (λ inside. inl (inr (high, inside)))
+    (λ out. inr (λ has. omega (arith, not_slot, out, has))))
+    (λ small. inr (λ has. omega (arith, not_slot, small, has))))
 
 -- no pass does anything
 module _ (k : Start) (s : Shared) (r : Agrees k s) (all_idle : (i : ℕ) (u : View) → get_elem? s.views i ≡ some u → u.work ≡ Between Idle) where

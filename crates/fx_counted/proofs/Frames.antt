@@ -21,11 +21,6 @@ pub record Stays (id p : ℕ) (phase phase' : ℕ → Phase) : Type 0 where
 pub stays_same : (id p : ℕ) (phase : ℕ → Phase) → Stays id p phase phase
 stays_same id p phase = record { owned = λ n a b. refl; spared = λ n q is other. is }
 
--- the files that other seats hold stay the same
-abbrev pub KeepsHeld : ℕ → List View → (ℕ → Phase) → (ℕ → Phase) → Type 0
-KeepsHeld id views phase phase' = (j : ℕ) (u : View) (f : File) → j ≢ id → get_elem? views j ≡ some u
-    → u.work ≡ Between (Holding f) → file_in (phase' f.number) ≡ file_in (phase f.number)
-
 module _ (id p j : ℕ) (other : j ≢ id) (phase phase' : ℕ → Phase) (stays : Stays id p phase phase') where
   same_for : {n : ℕ} {ph : Phase} → phase n ≡ ph → owner ph ≡ j + 1 → phase' n ≡ ph
   same_for {n} {ph} is own = stays.owned n (λ z. let e : owner (phase n) ≡ owner ph = ap owner is in

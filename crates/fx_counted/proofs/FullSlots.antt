@@ -1,8 +1,8 @@
 -- The control word when a slot changes.
-use Rattle.fx_counted.proofs.Words.{◌≡◌, ◌≢◌, ℕ, zero, suc, ◌+◌, ◌<◌, ◌≤◌, List, set, sym, refl, ap, ◌⊎◌, inl, inr, ⊎_elim, arith, Option, Some, None}
-use Rattle.fx_counted.proofs.Words.{IsSome, subst, dite, some, ℕ_discrete, get_elem?, changed_at, File, sum_set, in_change, added, removed_by}
-use Rattle.fx_counted.proofs.Words.{changes_of, added_of, removed_of, if_full, full_in, ControlCounts, turned, Change, Outside, Same, View, changed}
-use Rattle.fx_counted.proofs.Words.{changed_here, changed_else}
+use Rattle.fx_counted.proofs.Words.{◌≡◌, ◌≢◌, ℕ, zero, suc, ◌+◌, ◌<◌, ◌≤◌, List, set, sym, refl, ap, ◌⊎◌, inl, inr, arith, Option, Some, None, IsSome}
+use Rattle.fx_counted.proofs.Words.{subst, dite, some, ℕ_discrete, get_elem?, changed_at, File, sum_set, in_change, added, removed_by, changes_of}
+use Rattle.fx_counted.proofs.Words.{added_of, removed_of, if_full, full_in, ControlCounts, turned, Change, Outside, Same, View, changed, changed_here}
+use Rattle.fx_counted.proofs.Words.{changed_else}
 
 pub full_else : (at : ℕ → Option File) (s : ℕ) (new : Option File) (off len : ℕ) → ((i : ℕ) → i < len → off + i ≢ s)
     → full_in (changed_at at s new) off len ≡ full_in at off len
@@ -49,33 +49,21 @@ abbrev pub Stands : ℕ × ℕ → ℕ → Change → Type 0
 Stands range s change = (((range.0 ≤ s) × (s < range.0 + range.1)) × (change ≡ Same))
     ⊎ (((s < range.0) ⊎ (range.0 + range.1 ≤ s)) × (change ≡ Outside))
 
-changed_counts : (old new : ℕ) → in_change (changed old new) ≡ 1
-changed_counts zero zero = refl
-changed_counts zero (suc n) = refl
-changed_counts (suc o) zero = refl
-changed_counts (suc o) (suc n) = refl
-
-changed_adds : (old new : ℕ) → old ≤ 1 → new ≤ 1 → added (changed old new) + old ≡ removed_by (changed old new) + new
-changed_adds zero zero a b = refl
-changed_adds zero (suc n) a b = omega arith
-changed_adds (suc o) zero a b = omega arith
-changed_adds (suc o) (suc n) a b = omega arith
+changed_so : (old new : ℕ) → old ≤ 1 → new ≤ 1
+    → (in_change (changed old new) ≡ 1) × (added (changed old new) + old ≡ removed_by (changed old new) + new)
+changed_so zero zero a b = (refl, refl)
+changed_so (suc o) zero a b = (refl, omega arith)
+changed_so _ _ a b = (refl, omega arith)
 
 -- what a pass then has to tell makes up for what the range gains
 turned_counts : (at : ℕ → Option File) (range : ℕ × ℕ) (s : ℕ) (old new : Option File) (c : Change) → at s ≡ old → Stands range s c
     → (in_change (turned c (if_full old) (if_full new)) ≡ in_change c)
     × (full_in (changed_at at s new) range.0 range.1 + added c + removed_by (turned c (if_full old) (if_full new))
     ≡ full_in at range.0 range.1 + removed_by c + added (turned c (if_full old) (if_full new)))
-turned_counts at range s old new Same was (inl inside) = (
-  changed_counts (if_full old) (if_full new),
-  let g = full_here at s new range.0 range.1 inside.0.0 inside.0.1 in let p : if_full (at s) ≡ if_full old = ap if_full was in
-      let n = changed_adds (if_full old) (if_full new) (full_one old) (full_one new) in omega arith,
-)
-turned_counts at range s old new Outside was (inr outside) = (
-  refl,
-  let g = full_else at s new range.0 range.1 (λ i l bad. ⊎_elim (λ (z : s < range.0). absurd (omega arith))
-      (λ (z : range.0 + range.1 ≤ s). absurd (omega arith)) outside.0) in omega arith,
-)
+turned_counts at range s old new Same was (inl inside) = let n = changed_so (if_full old) (if_full new) (full_one old) (full_one new) in
+    let g = full_here at s new range.0 range.1 inside.0.0 inside.0.1 in let p : if_full (at s) ≡ if_full old = ap if_full was in (n.0, omega arith)
+turned_counts at range s old new Outside was (inr outside) =
+    let g = full_else at s new range.0 range.1 (λ i l bad. omega (arith, outside.0)) in (refl, omega arith)
 turned_counts at range s old new _ was (inl inside) = absurd (cc inside.1)
 turned_counts at range s old new _ was (inr outside) = absurd (cc outside.1)
 

@@ -9,14 +9,8 @@ use Rattle.fx_plain.proofs.Leading.{same_shape as shape_of_state}
 pub part_mine : {p : ℕ} {e : Event} (h : List Event) → e.pass ≡ p → part_of_pass p (e ∷ h) ≡ e ∷ part_of_pass p h
 part_mine {p} {e} h is = rw (eq-eqb e.pass p is) refl
 
-pub part_other : {p : ℕ} (e : Event) (h : List Event) → e.pass ≢ p → part_of_pass p (e ∷ h) ≡ part_of_pass p h
-part_other {p} e h is = rw (ne_eqb e.pass p is) refl
-
 pub held_mine : {p : ℕ} (e : Event) (h : List Event) → e.pass ≡ p → held_by (e ∷ h) p ≡ held_after (held_by h p) e.action
 held_mine {p} e h is = rw (eq-eqb e.pass p is) refl
-
-pub held_other : {p : ℕ} (e : Event) (h : List Event) → e.pass ≢ p → held_by (e ∷ h) p ≡ held_by h p
-held_other {p} e h is = rw (ne_eqb e.pass p is) refl
 
 -- what holds of the value that is changed, and of each other one as it was, holds of each
 pub each_changed : {Y : Type 0} (P : ℕ → Y → Type 0) (f : ℕ → Y) {k : ℕ} {v : Y} {n : ℕ} → (n ≡ k → P n v) → (n ≢ k → P n (f n))
@@ -35,8 +29,8 @@ grows_none p h = record { seen = λ f s. s; parts = λ q n. refl; helds = λ q n
 pub grows_more : {p : ℕ} {h h' : List Event} {e : Event} → e.pass ≡ p → Grows p h h' → Grows p h (e ∷ h')
 grows_more {h'} {e} by g = record {
   seen = λ f s. let t = g.seen f s in (e ∷ t.0, ap (λ (l : List Event). e ∷ l) t.1);
-  parts = λ q n. part_other e h' (λ is. n (sym by ∙ is)) ∙ g.parts q n;
-  helds = λ q n. held_other e h' (λ is. n (sym by ∙ is)) ∙ g.helds q n;
+  parts = λ q n. rw (ne_eqb e.pass q (λ is. n (sym by ∙ is))) (g.parts q n);
+  helds = λ q n. rw (ne_eqb e.pass q (λ is. n (sym by ∙ is))) (g.helds q n);
 }
 
 pub grows_one : (p : ℕ) (h : List Event) (e : Event) → e.pass ≡ p → Grows p h (e ∷ h)

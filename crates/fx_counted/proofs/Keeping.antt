@@ -6,10 +6,10 @@ use Rattle.fx_counted.proofs.Words.{LogAgrees, ViewAgrees, lengths, Agrees, Cont
 use Rattle.fx_counted.proofs.Words.{slot_place, node_place, home_place, Shared, opening_of, slots_of, IsNumber, state_after_all, Sat, shown}
 use Rattle.fx_counted.proofs.Words.{first_log, logs_of, looks_of, held_of, Phase, IsInside, Stepped, Change, Log, View, Work, stepped, Act, Valid}
 use Rattle.fx_counted.proofs.Words.{carried_after, HasPass, held_by, held_in, PlacesNext, placing, next_in, end_in, spare, HasShape, Start, no_use}
-use Rattle.fx_counted.proofs.Words.{◌▷◌, IsSeenBy, ◌*◌, chain_in, one_if, Allows, IsSeated}
+use Rattle.fx_counted.proofs.Words.{◌▷◌, IsSeenBy, ◌*◌, chain_in, one_if, Allows, IsSeated, ◌≢◌, Between, Holding, file_in}
 use mathlib.Core.Option as maybe
 use Rattle.fx_counted.proofs.Histories.{Grows, IsHistory, grows_none, grows_one, part_mine}
-use Rattle.fx_counted.proofs.Frames.{Stays, KeepsHeld, view_stays, not_there, views_after, of_one, total_same}
+use Rattle.fx_counted.proofs.Frames.{Stays, view_stays, not_there, views_after, of_one, total_same}
 
 abbrev pub Homes : Type 0
 Homes = List (maybe.Option (Option Closed))
@@ -111,21 +111,15 @@ module _ (turn : Turn) where
       pub owners : (n : ℕ) → IsNumber v.start n → OwnerAgrees views' n (phase' n)
       pub no_other : (n : ℕ) → (IsNumber v.start n → ⊥) → (state_after_all v.start h').removed n ≡ None
       pub stays : Stays id x.number r.phase phase'
-      pub keeps : KeepsHeld id st.views r.phase phase'
+      -- the files that other seats hold stay the same
+      pub keeps : (j : ℕ) (u : View) (f : File) → j ≢ id → get_elem? st.views j ≡ some u → u.work ≡ Between (Holding f)
+          → file_in (phase' f.number) ≡ file_in (r.phase f.number)
       pub log : LogAgrees v.start h' phase' d y
       pub work : WorkAgrees v.start phase' id d
       pub holds : (n : ℕ) → (state_after_all v.start h').holds n + held_of n v ≡ (state_after_all v.start r.history).holds n + held_of n (now v y d c)
       pub look_ups : all_looks h' + y.looks_left ≡ all_looks r.history + x.looks_left
       pub control : ControlCounts (state_after_all v.start h').at (range_of (opening_of v.start)) views' (word_at words' control_place)
       pub draws : DrawsCount v.start.chains v.start.numbers phase' views' (word_at words' draw_place)
-
-    its_view : Step → ViewAgrees v.start h' phase' id (now v y d c)
-    its_view s = record {
-      logs = λ z h. subst (LogAgrees v.start h' phase' d) (sym (contains_only y z h)) s.log;
-      work = s.work;
-      empty = λ none. absurd (omega (arith, ap (length {A = Log}) none));
-      start = inr refl;
-    }
 
     pub step_kept : Step → Agrees v.start record { words = words'; homes = homes'; views = views' }
     step_kept s = record {
@@ -137,7 +131,12 @@ module _ (turn : Turn) where
       each_node = s.nodes;
       each_owner = s.owners;
       no_other = s.no_other;
-      each_view = views_after (ViewAgrees v.start h' phase') st.views (its_view s)
+      each_view = views_after (ViewAgrees v.start h' phase') st.views record {
+        logs = λ z h. subst (LogAgrees v.start h' phase' d) (sym (contains_only y z h)) s.log;
+        work = s.work;
+        empty = λ none. absurd (omega (arith, ap (length {A = Log}) none));
+        start = inr refl;
+      }
           (λ j u other there. view_stays id x.number j other r.phase phase' s.stays s.grows (not_there r here one other there)
           (λ f is. s.keeps j u f other there is) (r.each_view j u there));
       holds = λ n. let t = sum_set (held_of n) st.views id v (now v y d c) here in let a = r.holds n in let b = s.holds n in omega arith;

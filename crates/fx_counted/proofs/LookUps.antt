@@ -2,12 +2,12 @@
 use Rattle.fx_counted.proofs.Words.{◌≡◌, ◌≢◌, ℕ, ◌+◌, ◌-◌, ◌%◌, ◌^◌, ◌<◌, List, [], ◌∷◌, sym, refl, ap, ◌∙◌, subst, arith, Option, Some, None, none}
 use Rattle.fx_counted.proofs.Words.{keeps, step, Closed, ◌▷◌, State, File, Event, Look, range_of, event_of, name_in, entry_in, takes_in, Names}
 use Rattle.fx_counted.proofs.Words.{SlotAgrees, PlacesNext, WorkAgrees, looks, full_in, slot_place, opening_of, slots_of, IsNumber, state_after_all}
-use Rattle.fx_counted.proofs.Words.{shown, held_in, placing, held_of, holding, Phase, seated, file_in, Stepped, IsInside, Log, View, Idle, one_look}
-use Rattle.fx_counted.proofs.Words.{name_more, entry_more, takes_more, LooksKeep, Looks, holds_now, Between, bit_here, one_more_at, length-set}
-use Rattle.fx_counted.proofs.Words.{bit_else, IsSeated}
-use Rattle.fx_counted.proofs.Steps.{busy, stays_same, owner_stays, IsHistory, grows_one, legal_more, held_mine, part_mine, same_shape, Step}
-use Rattle.fx_counted.proofs.Steps.{step_kept, Turn, turn_of, word_at, now, logged, its_log, tells, by_turn, Made, log_now, far, node_same}
-use Rattle.fx_counted.proofs.Steps.{control_same, NodeIn, in_phase, seat_in}
+use Rattle.fx_counted.proofs.Words.{shown, held_in, placing, held_of, holding, Phase, seated, file_in, IsInside, Log, View, Idle, one_look, name_more}
+use Rattle.fx_counted.proofs.Words.{entry_more, takes_more, LooksKeep, Looks, holds_now, Between, bit_here, one_more_at, length-set, bit_else}
+use Rattle.fx_counted.proofs.Words.{IsSeated, stepped, takes}
+use Rattle.fx_counted.proofs.Steps.{busy, stays_same, owner_stays, IsHistory, grows_one, legal_more, held_mine, part_mine, same_shape, step_kept}
+use Rattle.fx_counted.proofs.Steps.{Turn, turn_of, word_at, now, logged, its_log, tells, by_turn, Made, log_now, far, node_same, control_same, NodeIn}
+use Rattle.fx_counted.proofs.Steps.{in_phase, seat_in}
 use Rattle.fx_counted.proofs.SlotSteps.{slots_now, node_now, control_now, draws_now, words_now}
 
 pub add_one : {n : ℕ} → takes_in n + 1 < 4294967296 → n < 18446744073709551616 → (n + 1) % 2 ^ 64 ≡ n + 1
@@ -103,62 +103,57 @@ module _ (turn : Turn) (idle : turn.v.work ≡ Between Idle) (some_left : 0 < tu
         (let a = ap (λ (z : State). z.holds n) (state_is file) in omega arith) (let a = looks_are file n in omega arith) refl refl
         (ap (λ (z : State). z.size) (state_is file)) ph (λ i g is there. ap (λ (z : State). z.at i) (state_is file)) (in_phase v.start st r has at)
 
-    look_step : Step turn y (holds_now file) v.change (h' file) r.phase (words_now turn s inside word') st.homes
-    look_step = let o = its_log turn in let p = ap placing idle in let now = does_now file is in record {
-      words = length-set st.words (slot_place s) word';
-      homes = refl;
-      number = refl;
-      grows = grows_one x.number r.history _ refl;
-      legal = legal;
-      slots = slots_now turn s inside word' (
-          let at_is : new.at s ≡ file = ap (λ (z : State). z.at s) (state_is file) ∙ is in record {
-            names = subst (Names word') (sym at_is) (names_now file (subst (Names found) is so.names));
-            seat = subst (IsSeated v.start (looks (h' file)) r.phase s word') (sym at_is) (seat_now file is);
-            takes = let a = so.takes in let b = takes_now in omega arith;
-          }
-          ) (omega arith) (λ i l other. (
-            ap (λ (z : State). z.at i) (state_is file),
-            λ f there seat. (
-              let a = looks_are file f.number in let b = not_found file is seat (λ g bad. other (cc bad)) in omega arith,
-              refl,
-            ),
-          ));
-      nodes = λ n has. node_now turn s inside word' (h' file) st.homes (r.phase n) has (node_after has (r.phase n) refl);
-      owners = λ n has. owner_stays st.views id v w here n (λ bad. let b = ap busy idle in omega arith) (r.phase n) (r.each_owner n has);
-      no_other = λ n absent. ap (λ (z : State). z.removed n) (state_is file) ∙ r.no_other n absent;
-      stays = stays_same id x.number r.phase;
-      keeps = λ j u f other there is_held. refl;
-      log = log_now turn (omega arith)
-          (held_mine (event_of (shown x v.work) (Look s file)) r.history refl ∙ sym now.0) (now.2 y) (λ n low high. let q = now.1 in o.spares n (omega arith) high);
-      work = now.3;
-      holds = λ n. let b : held_of n v ≡ 0 = ap (holding n) idle in let c = ap (λ (z : State). z.holds n) (state_is file) in omega arith;
-      look_ups = omega arith;
-      control = control_now turn s inside word' (control_same st.views id v w here (ap (λ (z : State).
-          full_in z.at (range_of (opening_of v.start)).0 (range_of (opening_of v.start)).1) (state_is file)) refl refl r.control);
-      draws = draws_now turn s inside word' (h' file) x.numbers_left (x.looks_left - 1) (holds_now file) v.change (λ n is_new. is_new);
-    }
-
-    told : (carried : List (ℕ × Option Closed)) → Stepped (v, carried) ([] ▷ Look s file) one_look (holds_now file) v.change (w, carried)
-    told carried = tells turn carried carried (h' file) x.numbers_left (x.looks_left - 1)
-        (holds_now file) v.change ([] ▷ Look s file) one_look (grows_one x.number r.history _ refl) legal
-        (part_mine r.history refl) (omega arith) (omega (arith, some_left)) (does_now file is).4
-
-  looked : (slots : ℕ) (carried : List (ℕ × Option Closed))
-      → Made turn carried (slot_place s) (λ word. (word + 1) % 2 ^ 64) (Looks (step slots (slot_place s) 1 0 none) (v, carried))
-  looked slots carried = let file = old.at s in (
-    w file refl,
-    keeps,
-    tt,
-    step_kept turn (y file refl) (holds_now file) v.change (h' file) r.phase (words_now turn s inside word') st.homes (look_step file refl),
-    record {
-      file = file;
-      names = so.names;
-      stepped = rw ((far turn).slot_back s) (told file refl carried);
-      carried = refl;
-    },
-  )
+    looked : (slots : ℕ) (carried : List (ℕ × Option Closed))
+        → Made turn carried (slot_place s) (λ word. (word + 1) % 2 ^ 64) (Looks (step slots (slot_place s) 1 0 none) (v, carried))
+    looked slots carried = let o = its_log turn in let p = ap placing idle in let now = does_now file is in
+        let names = subst (Names found) is so.names in (
+          w,
+          keeps,
+          tt,
+          step_kept turn y (holds_now file) v.change (h' file) r.phase (words_now turn s inside word') st.homes record {
+            words = length-set st.words (slot_place s) word';
+            homes = refl;
+            number = refl;
+            grows = grows_one x.number r.history _ refl;
+            legal = legal;
+            slots = slots_now turn s inside word' (
+                let at_is : new.at s ≡ file = ap (λ (z : State). z.at s) (state_is file) ∙ is in record {
+                  names = subst (Names word') (sym at_is) (names_now file names);
+                  seat = subst (IsSeated v.start (looks (h' file)) r.phase s word') (sym at_is) (seat_now file is);
+                  takes = let a = so.takes in let b = takes_now in omega arith;
+                }
+                ) (omega arith) (λ i l other. (
+                  ap (λ (z : State). z.at i) (state_is file),
+                  λ f there seat. (
+                    let a = looks_are file f.number in let b = not_found file is seat (λ g bad. other (cc bad)) in omega arith,
+                    refl,
+                  ),
+                ));
+            nodes = λ n has. node_now turn s inside word' (h' file) st.homes (r.phase n) has (node_after has (r.phase n) refl);
+            owners = λ n has. owner_stays st.views id v w here n (λ bad. let b = ap busy idle in omega arith) (r.phase n) (r.each_owner n has);
+            no_other = λ n absent. ap (λ (z : State). z.removed n) (state_is file) ∙ r.no_other n absent;
+            stays = stays_same id x.number r.phase;
+            keeps = λ j u f other there is_held. refl;
+            log = log_now turn (omega arith) (held_mine (event_of (shown x v.work) (Look s file)) r.history refl ∙ sym now.0) (now.2 y)
+                (λ n low high. let q = now.1 in o.spares n (omega arith) high);
+            work = now.3;
+            holds = λ n. let b : held_of n v ≡ 0 = ap (holding n) idle in let c = ap (λ (z : State). z.holds n) (state_is file) in omega arith;
+            look_ups = omega arith;
+            control = control_now turn s inside word' (control_same st.views id v w here (ap (λ (z : State).
+                full_in z.at (range_of (opening_of v.start)).0 (range_of (opening_of v.start)).1) (state_is file)) refl refl r.control);
+            draws = draws_now turn s inside word' (h' file) x.numbers_left (x.looks_left - 1) (holds_now file) v.change (λ n is_new. is_new);
+          },
+          record {
+            file = file;
+            names = names;
+            stepped = rw ((far turn).slot_back s) (tells turn carried carried (h' file) x.numbers_left (x.looks_left - 1)
+                (holds_now file) v.change ([] ▷ Look s file) one_look (grows_one x.number r.history _ refl) legal
+                (part_mine r.history refl) (omega arith) (omega (arith, some_left)) now.4);
+            carried = refl;
+          },
+        )
 
 pub looks_keep : LooksKeep
 looks_keep k slots id i slot m x has idle left inside place = by_turn slots (λ k. slot < slots_of k) (λ _. slot_place slot)
     (λ word. (word + 1) % 2 ^ 64) (λ i. Looks (step slots i 1 0 none) m) has inside place
-    (λ st r here within fits. looked (turn_of m x has.1 id st r here) idle left slot within fits slots m.1)
+    (λ st r here within fits. looked (turn_of m x has.1 id st r here) idle left slot within fits _ refl slots m.1)

@@ -7,7 +7,7 @@ use Rattle.fx_counted.proofs.Words.{held_of, Phase, spare, owner, file_in, Log, 
 use Rattle.fx_counted.proofs.Places.{inside, apart}
 use Rattle.fx_counted.proofs.Histories.{Grows, IsHistory, each_changed}
 use Rattle.fx_counted.proofs.Frames.{busy, owner_stays}
-use Rattle.fx_counted.proofs.Keeping.{Turn, Homes, word_at, logged, Step, step_kept, log_now, went, NodeIn}
+use Rattle.fx_counted.proofs.Keeping.{Turn, Homes, word_at, logged, step_kept, log_now, went, NodeIn}
 use Rattle.fx_counted.proofs.Unchanged.{slot_same, node_same, control_same, draws_same}
 
 -- what a step on the number q tells of the histories
@@ -88,8 +88,8 @@ module _ (turn : Turn) where
       at_is : (slot : ℕ) → (state_after_all v.start h').at slot ≡ (state_after_all v.start r.history).at slot
       at_is slot = ap (λ (g : ℕ → Option File). g slot) s.told.at
 
-      pub node_kept : Step turn y d v.change h' phase' (set st.words i word') homes'
-      node_kept = record {
+      pub node_agrees : Agrees v.start record { words = set st.words i word'; homes = homes'; views = set st.views id w }
+      node_agrees = step_kept turn y d v.change h' phase' (set st.words i word') homes' record {
         words = length-set st.words i word';
         homes = s.homes;
         number = refl;
@@ -125,6 +125,3 @@ module _ (turn : Turn) where
         draws = draws_same st.views id v w here one refl refl refl (word_else (λ same. far.node_and_draw q its (sym same)))
             (λ n is. stays_if is (λ o. absurd (omega (arith, o))) (λ o. absurd (cc o)) (λ g o. absurd (cc o))) r.draws;
       }
-
-      pub node_agrees : Agrees v.start record { words = set st.words i word'; homes = homes'; views = set st.views id w }
-      node_agrees = step_kept turn y d v.change h' phase' (set st.words i word') homes' node_kept

@@ -5,8 +5,8 @@ use Rattle.fx_counted.proofs.Words.{some-injective, some-ne-none, dec_le, get_el
 use Rattle.fx_counted.proofs.Words.{born, takes_in, name_made, entry_made, takes_made, Names, SlotAgrees, NodeAgrees, OwnerAgrees, LogAgrees}
 use Rattle.fx_counted.proofs.Words.{ViewAgrees, Agrees, new_logs, word_of, place_of, slot_place, word_for, node_for, home_for, OpensWith, opening_of}
 use Rattle.fx_counted.proofs.Words.{slots_of, chain_numbers, IsNumber, state_after_all, new_log, Phase, unborn, seated, closed, Log, Start, View}
-use Rattle.fx_counted.proofs.Words.{Idle, ◌&&◌, length-map, at_map, first_view, first_file, OpeningKeeps, contains_map, sum_zero, Between, IsSeated}
-use Rattle.fx_counted.proofs.Words.{one_if, once_is, counted_once, range_with_len, length-map-range_with_len}
+use Rattle.fx_counted.proofs.Words.{Idle, ◌&&◌, length-map, at_map, first_view, first_file, contains_map, sum_zero, Between, IsSeated, one_if}
+use Rattle.fx_counted.proofs.Words.{once_is, counted_once, range_with_len, length-map-range_with_len}
 use Rattle.std.proofs.Common.{not}
 use Rattle.atomic_table.specs.Table.{opening}
 use Rattle.fx_counted.proofs.FullSlots.{full_few}
@@ -120,8 +120,8 @@ module _ (k : Start) (words : List ℕ) (homes : List (Option Closed)) (o : Open
   }
   view_opens (suc j) v e = absurd (some-ne-none v (sym e))
 
-  opens : Agrees k (opening words homes (first_view k))
-  opens = record {
+  pub opening_keeps : Agrees k (opening words homes (first_view k))
+  opening_keeps = record {
     shape = assumption (o, length-map homes some ∙ o.homes_length);
     history = [];
     phase = first_phase k;
@@ -147,6 +147,3 @@ module _ (k : Start) (words : List ℕ) (homes : List (Option Closed)) (o : Open
       unused = λ n low high. high_phase (let a = o.slots in omega arith);
     };
   }
-
-pub opening_keeps : OpeningKeeps
-opening_keeps k words homes o = opens k words homes o

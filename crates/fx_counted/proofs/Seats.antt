@@ -1,7 +1,7 @@
 -- A seat is split off, and one is joined back.
-use Rattle.fx_counted.proofs.Words.{◌≡◌, ℕ, ◌+◌, List, length, sym, refl, ap, ◌∙◌, subst, arith, ⊎_elim, length-append, sum_by, sum_by-append, eqb}
-use Rattle.fx_counted.proofs.Words.{Does, WorkAgrees, LogAgrees, ViewAgrees, Agrees, in_change, added, removed_by, Shared, holding, Outside, Log}
-use Rattle.fx_counted.proofs.Words.{Start, View, Work, Idle, Change, SplitsKeep, JoinsKeep, Between, together, spent, one_if, times}
+use Rattle.fx_counted.proofs.Words.{◌≡◌, ℕ, List, length, sym, refl, ap, ◌∙◌, subst, arith, ⊎_elim, length-append, sum_by, sum_by-append, eqb}
+use Rattle.fx_counted.proofs.Words.{WorkAgrees, LogAgrees, ViewAgrees, Agrees, in_change, added, removed_by, Shared, holding, Outside, Log, Start}
+use Rattle.fx_counted.proofs.Words.{View, Work, Idle, Change, SplitsKeep, JoinsKeep, Between, together, spent, one_if, times}
 use Rattle.fx_table.proofs.Seats.{IsAnew, AreReseated, split, joined}
 use Rattle.fx_counted.proofs.Frames.{busy, owner_map}
 use Rattle.fx_counted.proofs.Keeping.{shape_kept}
@@ -33,10 +33,6 @@ module _ (k : Start) (s : Shared) (r : Agrees k s) (views : List View) (a : AreR
   by_change : (f : Change → ℕ) → f Outside ≡ 0 → sum_by (λ (u : View). f u.change) views ≡ sum_by (λ (u : View). f u.change) s.views
   by_change f none = a.by_work (λ u. f u.change) (λ u idle. ap f idle.1 ∙ none)
 
-  does_still : (n j : ℕ) (d : Work) → busy d ≡ n + 1 → Does s.views j d → Does views j d
-  does_still n j d is o =
-      (o.0, a.others j o.0 o.1 (λ idle. let e : busy d ≡ 0 = ap busy (sym o.2 ∙ idle.0) in omega arith), o.2)
-
   reseated : Agrees k record { words = s.words; homes = s.homes; views = views }
   reseated = record {
     shape = shape_kept refl refl r.shape;
@@ -45,7 +41,8 @@ module _ (k : Start) (s : Shared) (r : Agrees k s) (views : List View) (a : AreR
     legal = r.legal;
     each_slot = r.each_slot;
     each_node = r.each_node;
-    each_owner = λ n has. owner_map s.views views n (does_still n) (r.phase n) (r.each_owner n has);
+    each_owner = λ n has. owner_map s.views views n (λ j d is o.
+        (o.0, a.others j o.0 o.1 (λ idle. let e : busy d ≡ 0 = ap busy (sym o.2 ∙ idle.0) in omega arith), o.2)) (r.phase n) (r.each_owner n has);
     no_other = r.no_other;
     each_view = λ j u e. ⊎_elim (λ new. new_view j new) (λ old. r.each_view j u old) (a.each j u e);
     holds = λ n. r.holds n ∙ sym (a.by_work (λ u. holding n u.work) (λ u idle. ap (holding n) idle.0));

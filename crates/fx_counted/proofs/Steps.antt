@@ -1,5 +1,5 @@
 -- Lemmas of a step, passed on from one place. Declares nothing.
-pub use Rattle.fx_counted.proofs.Frames.{busy, does_now, stays_same, owner_same, owner_stays, Stays, KeepsHeld}
+pub use Rattle.fx_counted.proofs.Frames.{busy, does_now, stays_same, owner_same, owner_stays, Stays}
 pub use Rattle.fx_counted.proofs.Histories.{grows_none, Grows, IsHistory, grows_one, part_mine, same_shape, legal_more}
 pub use Rattle.fx_counted.proofs.Histories.{held_mine, grows_more, looks_few, each_changed}
 pub use Rattle.fx_counted.proofs.Keeping.{Turn, turn_of, word_at, its_log, its_work, by_turn, went, tells_none, now, logged, Step, step_kept, log_now}

@@ -9,7 +9,7 @@ use Rattle.fx_counted.proofs.Words.{Phase, spare, placed, seated, leaving, owner
 use Rattle.fx_counted.proofs.Words.{Work, Idle, Placing, Retiring, Between, keeps, stepped, changed_here, changed_else, length-set, IsSeated}
 use Rattle.fx_counted.proofs.Steps.{in_phase, seat_in, busy, owner_stays, does_now, IsHistory, grows_one, part_mine, held_mine, each_changed}
 use Rattle.fx_counted.proofs.Steps.{same_shape, Turn, Homes, word_at, now, logged, its_log, its_work, log_now, tells, went, tells_one, node_same}
-use Rattle.fx_counted.proofs.Steps.{NodeIn, Step, step_kept}
+use Rattle.fx_counted.proofs.Steps.{NodeIn, step_kept}
 use Rattle.fx_counted.proofs.Births.{roomy, else_place, unheld}
 use Rattle.fx_counted.proofs.FullSlots.{Stands, control_swap}
 use Rattle.fx_counted.proofs.SlotSteps.{slots_now, node_now, control_now, draws_now, words_now}
@@ -21,26 +21,25 @@ gone_out id (Some f) takes phase = changed_at phase f.number (leaving id takes f
 
 -- the file doesn't have the number
 abbrev pub NotOf : ℕ → Option File → Type 0
-NotOf n None = Unit {0}
-NotOf n (Some f) = n ≢ f.number
+NotOf n old = (f : File) → old ≡ Some f → n ≢ f.number
 
 out_else : (id : ℕ) (old : Option File) (takes : ℕ) (phase : ℕ → Phase) {n : ℕ} → NotOf n old → gone_out id old takes phase n ≡ phase n
 out_else id None takes phase other = refl
-out_else id (Some f) takes phase {n} other = changed_else phase f.number (leaving id takes f.identity) n other
+out_else id (Some f) takes phase {n} other = changed_else phase f.number (leaving id takes f.identity) n (other f refl)
 
 removed_else : (removed : ℕ → Option File) (old : Option File) {n : ℕ} → NotOf n old → with_removed removed old n ≡ removed n
 removed_else removed None other = refl
-removed_else removed (Some f) {n} other = changed_else removed f.number (Some f) n other
+removed_else removed (Some f) {n} other = changed_else removed f.number (Some f) n (other f refl)
 
 by_old : (old : Option File) {n : ℕ} (P : Type 0) → ((f : File) → old ≡ Some f → n ≡ f.number → P) → (NotOf n old → P) → P
-by_old None P is else = else tt
-by_old (Some f) {n} P is else = dite (ℕ_discrete n f.number) (λ same. is f refl same) (λ other. else other)
+by_old None P is else = else (λ f bad. absurd (cc bad))
+by_old (Some f) {n} P is else = dite (ℕ_discrete n f.number) (λ same. is f refl same) (λ other. else (λ g e same. other (cc (e, same))))
 
--- a pass that retires holds nothing
-retires_alone : (old : Option File) (takes : ℕ) → ((n : ℕ) → holding n (Between (retiring old takes)) ≡ 0)
-    × (held_in (Between (retiring old takes)) ≡ None)
-retires_alone None takes = (λ n. refl, refl)
-retires_alone (Some f) takes = (λ n. refl, refl)
+-- what a pass does that has a file to retire, or none
+by_retiring : (old : Option File) (takes : ℕ) (P : Work → Type 0) → P (Between Idle)
+    → ((f : File) → old ≡ Some f → P (Between (Retiring f takes))) → P (Between (retiring old takes))
+by_retiring None takes P idle retires = idle
+by_retiring (Some f) takes P idle retires = retires f refl
 
 module _ (turn : Turn) (s : ℕ) (inside : s < slots_of turn.v.start) where
   open turn use {st, v, r, id, x, here, one}
@@ -60,27 +59,17 @@ module _ (turn : Turn) (s : ℕ) (inside : s < slots_of turn.v.start) where
 
     -- a number whose phase isn't that of a file at the slot is not the old file's
     not_old : {n : ℕ} {ph : Phase} → r.phase n ≡ ph → ((f : Closed) → ph ≢ seated s f) → NotOf n old
-    not_old {n} is not_seated = go old was
-      where
-        go : (old : Option File) → state.at s ≡ old → NotOf n old
-        go None was = tt
-        go (Some f) was = λ same. not_seated f.identity (sym is ∙ (ap r.phase same ∙ (seat_in v.start st r inside was).2))
+    not_old is not_seated f o same = not_seated f.identity (sym is ∙ (ap r.phase same ∙ (seat_in v.start st r inside (was ∙ o)).2))
 
     -- a seated file is elsewhere, if it is not the old one
     elsewhere : {n i : ℕ} {g : Closed} → NotOf n old → state.at i ≡ Some (numbered n g) → i ≢ s
-    elsewhere {n} {g} other there same = go old was other
-      where
-        go : (old : Option File) → state.at s ≡ old → NotOf n old → ⊥
-        go None was other = let z : None ≡ Some (numbered n g) = sym was ∙ (ap state.at (sym same) ∙ there) in cc z
-        go (Some f) was other = let z : Some f ≡ Some (numbered n g) = sym was ∙ (ap state.at (sym same) ∙ there) in
-            other (let e : f ≡ numbered n g = cc z in sym (ap (λ (f : File). f.number) e))
+    elsewhere {n} {g} other there same = other (numbered n g) (sym was ∙ (ap state.at (sym same) ∙ there)) refl
 
     abbrev d : Work
     d = Between (retiring old (takes_in found))
 
-    inside_now : (file : Option File) → old ≡ file → IsInside v.start (Between (retiring file (takes_in found)))
-    inside_now None is = tt
-    inside_now (Some f) is = (seat_in v.start st r inside (was ∙ is)).0
+    inside_now : IsInside v.start d
+    inside_now = by_retiring old (takes_in found) (IsInside v.start) tt (λ f is. (seat_in v.start st r inside (was ∙ is)).0)
 
     module _ (a : Action) where
       abbrev h' : List Event
@@ -88,6 +77,9 @@ module _ (turn : Turn) (s : ℕ) (inside : s < slots_of turn.v.start) where
 
       abbrev after : State
       after = state_after_all v.start h'
+
+      abbrev Node : Homes → ℕ → Phase → Type 0
+      Node homes' n = NodeAgrees after n (looks r.history n) (word_at st.words (word_of v.start n)) (get_elem? homes' (place_of v.start n))
 
       -- what a removal, and an installation of a file, do to the state
       pub record Effect (new : Option File) (fresh : ℕ → Bool) : Type 0 where
@@ -118,8 +110,7 @@ module _ (turn : Turn) (s : ℕ) (inside : s < slots_of turn.v.start) where
           new_apart : (f : File) → new ≡ Some f → NotOf f.number old
           -- the phases change at most where the pass was placing
           kept : (n : ℕ) → (phase₁ n ≡ r.phase n) ⊎ (r.phase n ≡ placed id)
-          nodes : (n : ℕ) → IsNumber v.start n → NotOf n old
-              → NodeAgrees after n (looks r.history n) (word_at st.words (word_of v.start n)) (get_elem? homes' (place_of v.start n)) (phase₁ n)
+          nodes : (n : ℕ) → IsNumber v.start n → NotOf n old → Node homes' n (phase₁ n)
           old_home : (f : File) → old ≡ Some f → get_elem? homes' (place_of v.start f.number) ≡ get_elem? st.homes (place_of v.start f.number)
           owners : (n : ℕ) → IsNumber v.start n → NotOf n old → OwnerAgrees (set st.views id w) n (phase₁ n)
           -- the pass
@@ -129,8 +120,7 @@ module _ (turn : Turn) (s : ℕ) (inside : s < slots_of turn.v.start) where
           control : ControlCounts (changed_at state.at s new) (range_of (opening_of v.start)) (set st.views id w) (word_at st.words control_place)
 
         module _ (p : Swap) where
-          old_node : {f : File} → old ≡ Some f → NodeAgrees after f.number (looks r.history f.number) (word_at st.words (word_of v.start f.number))
-              (get_elem? homes' (place_of v.start f.number)) (leaving id (takes_in found) f.identity)
+          old_node : {f : File} → old ≡ Some f → Node homes' f.number (leaving id (takes_in found) f.identity)
           old_node {f} is = let its = seat_in v.start st r inside (was ∙ is) in let n = in_phase v.start st r its.0 its.2 in
               let h = ap (λ (z : State). z.holds f.number) p.does.state in record {
                 counts = let a = n.counts in omega arith;
@@ -153,12 +143,11 @@ module _ (turn : Turn) (s : ℕ) (inside : s < slots_of turn.v.start) where
           same_phase {n} is apart other = else_phase apart ∙ ⊎_elim (λ same. same ∙ is) (λ mine. absurd (other (sym is ∙ mine))) (p.kept n)
 
           -- no look is told
-          now_in : (n : ℕ) {ph : Phase} → ph ≡ phase' n → NodeAgrees after n (looks r.history n) (word_at st.words (word_of v.start n))
-              (get_elem? homes' (place_of v.start n)) ph → NodeIn v.start st.words homes' h' n (phase' n)
+          now_in : (n : ℕ) {ph : Phase} → ph ≡ phase' n → Node homes' n ph → NodeIn v.start st.words homes' h' n (phase' n)
           now_in n is node = rw (← is, p.does.looked) node
 
-          swap_step : Step turn y d c h' phase' (words_now turn s inside word') homes'
-          swap_step = let o = its_log turn in let alone = retires_alone old (takes_in found) in record {
+          swap_agrees : Agrees v.start record { words = words_now turn s inside word'; homes = homes'; views = set st.views id w }
+          swap_agrees = let o = its_log turn in step_kept turn y d c h' phase' (words_now turn s inside word') homes' record {
             words = length-set st.words (slot_place s) word';
             homes = p.homes;
             number = refl;
@@ -185,7 +174,8 @@ module _ (turn : Turn) (s : ℕ) (inside : s < slots_of turn.v.start) where
                 (ap (λ (o : Option File). Between (retiring o (takes_in found))) is)))
                 (λ other. subst (OwnerAgrees (set st.views id w) n) (sym (else_phase other)) (p.owners n has other));
             no_other = λ n absent. ap (λ (z : State). z.removed n) p.does.state
-                ∙ (removed_else state.removed old (absent_old absent old refl) ∙ r.no_other n absent);
+                ∙ (removed_else state.removed old {n = n}
+                (λ f o same. absent (subst (IsNumber v.start) (sym same) (seat_in v.start st r inside (was ∙ o)).0)) ∙ r.no_other n absent);
             stays = record {
               owned = λ n some not_mine. same_phase refl (not_old refl (λ f bad. some (ap owner bad))) (λ bad. not_mine (ap owner bad));
               spared = λ n q is other. same_phase is (not_old is (λ f bad. cc bad)) (λ bad. cc bad);
@@ -195,10 +185,12 @@ module _ (turn : Turn) (s : ℕ) (inside : s < slots_of turn.v.start) where
                 ∙ (sym (ap file_in (seat_in v.start st r inside (was ∙ is)).2) ∙ ap (λ (m : ℕ). file_in (r.phase m)) (sym same))))
                 (λ apart. ap file_in (same_phase refl apart (λ bad. unheld turn f.number (ap file_in bad) j u f there holds refl)));
             log = log_now turn p.fewer
-                (held_mine (event_of (shown x v.work) a) r.history refl ∙ (p.does.held ∙ (o.held ∙ (p.none_held.0 ∙ sym alone.1))))
+                (held_mine (event_of (shown x v.work) a) r.history refl ∙ (p.does.held ∙ (o.held ∙ (p.none_held.0
+                ∙ by_retiring old (takes_in found) (λ w. None ≡ held_in w) refl (λ f is. refl)))))
                 tt (λ n low high. let q = p.spares n (omega arith) high in else_phase q.1 ∙ q.0);
-            work = works old refl;
-            holds = λ n. let a = p.none_held.1 n in let b = alone.0 n in
+            work = by_retiring old (takes_in found) (WorkAgrees v.start phase' id) tt
+                (λ f is. ((seat_in v.start st r inside (was ∙ is)).0, out_here is));
+            holds = λ n. let a = p.none_held.1 n in let b = by_retiring old (takes_in found) (λ w. holding n w ≡ 0) refl (λ f is. refl) in
                 let g = ap (λ (z : State). z.holds n) p.does.state in omega arith;
             look_ups = let z = p.does.all in omega arith;
             control = control_now turn s inside word' (rw p.does.state p.control);
@@ -210,17 +202,6 @@ module _ (turn : Turn) (s : ℕ) (inside : s < slots_of turn.v.start) where
               seat_now None is z = tt
               seat_now (Some f) is z = (z.0, z.1 ∙ sym (ap (λ (g : ℕ → ℕ). g f.number) p.does.looked), else_phase (p.new_apart f is) ∙ z.2)
 
-              absent_old : {n : ℕ} → (IsNumber v.start n → ⊥) → (file : Option File) → old ≡ file → NotOf n file
-              absent_old absent None is = tt
-              absent_old absent (Some f) is = λ same. absent (subst (IsNumber v.start) (sym same) (seat_in v.start st r inside (was ∙ is)).0)
-
-              works : (file : Option File) → old ≡ file → WorkAgrees v.start phase' id (Between (retiring file (takes_in found)))
-              works None is = tt
-              works (Some f) is = ((seat_in v.start st r inside (was ∙ is)).0, out_here is)
-
-          swap_agrees : Agrees v.start record { words = words_now turn s inside word'; homes = homes'; views = set st.views id w }
-          swap_agrees = step_kept turn y d c h' phase' (words_now turn s inside word') homes' swap_step
-
       module _ (stands : Stands (range_of (opening_of v.start)) s v.change) where
         -- a removal
         module _ (idle : v.work ≡ Between Idle) (does : Effect None state.fresh) where
@@ -230,8 +211,8 @@ module _ (turn : Turn) (s : ℕ) (inside : s < slots_of turn.v.start) where
           abbrev pub removed_view : View
           removed_view = went turn h' d c₀
 
-          removal : Swap 0 None st.homes r.phase x.numbers_left c₀
-          removal = let o = its_log turn in record {
+          pub removal_agrees : Agrees v.start (stepped st (slot_place s) 0 id [] removed_view keeps)
+          removal_agrees = let o = its_log turn in swap_agrees 0 None st.homes r.phase x.numbers_left c₀ record {
             fresh = state.fresh;
             does = does;
             homes = refl;
@@ -253,11 +234,8 @@ module _ (turn : Turn) (s : ℕ) (inside : s < slots_of turn.v.start) where
             control = control_swap state.at (range_of (opening_of v.start)) st.views id v _ _ s old None here was stands refl r.control;
           }
 
-          pub removal_agrees : Agrees v.start (stepped st (slot_place s) 0 id [] removed_view keeps)
-          removal_agrees = swap_agrees 0 None st.homes r.phase x.numbers_left c₀ removal
-
           pub removal_tells : (carried : List (ℕ × Option Closed)) → Stepped (v, carried) ([] ▷ a) no_use d c₀ (removed_view, carried)
-          removal_tells carried = tells_one turn does.legal carried carried c₀ (inside_now old refl)
+          removal_tells carried = tells_one turn does.legal carried carried c₀ (inside_now)
 
         -- an installation
         module _ (n : ℕ) (file : Closed) (works : v.work ≡ Placing n) (small : file.entry < 2 ^ 8)
@@ -283,10 +261,7 @@ module _ (turn : Turn) (s : ℕ) (inside : s < slots_of turn.v.start) where
           abbrev pub installed_view : View
           installed_view = now v (logged x h' (x.numbers_left - 1) x.looks_left) d c₁
 
-          abbrev Node : ℕ → Phase → Type 0
-          Node m ph = NodeAgrees after m (looks r.history m) (word_at st.words (word_of v.start m)) (get_elem? homes₁ (place_of v.start m)) ph
-
-          node_here : Node n (seated s file)
+          node_here : Node homes₁ n (seated s file)
           node_here = let o = in_phase v.start st r its.0 its.1 in let h = ap (λ (z : State). z.holds n) does.state in record {
             counts = let a = o.counts in let b = o.no_looks in let c = o.no_holds in omega arith;
             at_home = set_here st.homes (place_of v.start n) (some (Some file)) (roomy turn its.0);
@@ -295,7 +270,7 @@ module _ (turn : Turn) (s : ℕ) (inside : s < slots_of turn.v.start) where
             not_removed = ap (λ (z : State). z.removed n) does.state ∙ (removed_else state.removed old apart_old ∙ o.not_removed);
           }
 
-          node_else : {m : ℕ} → IsNumber v.start m → m ≢ n → NotOf m old → Node m (r.phase m)
+          node_else : {m : ℕ} → IsNumber v.start m → m ≢ n → NotOf m old → Node homes₁ m (r.phase m)
           node_else {m} has other apart = node_same state after m (looks r.history m) (looks r.history m) _ _ _ _
               (ap (λ (z : State). z.fresh m) does.state ∙ changed_else state.fresh n false m other)
               (ap (λ (z : State). z.removed m) does.state ∙ removed_else state.removed old apart) (ap (λ (z : State). z.holds m) does.state) refl refl
@@ -304,48 +279,46 @@ module _ (turn : Turn) (s : ℕ) (inside : s < slots_of turn.v.start) where
               (λ i g is there. ap (λ (z : State). z.at i) does.state
               ∙ changed_else state.at s (Some (numbered n file)) i (elsewhere apart there)) (r.each_node m has)
 
-          installation : Swap (slot_word_of n file.entry) (Some (numbered n file)) homes₁ phase₁ (x.numbers_left - 1) c₁
-          installation = let o = its_log turn in record {
-            fresh = changed_at state.fresh n false;
-            does = does;
-            homes = length-set st.homes (place_of v.start n) (some (Some file));
-            names = (name_made n file.entry small, entry_made n file.entry small);
-            no_takes = takes_made n file.entry;
-            seat = (
-              its.0,
-              takes_made n file.entry ∙ sym (in_phase v.start st r its.0 its.1).no_looks,
-              changed_here r.phase n (seated s file) n refl,
-            );
-            new_apart = λ f is. let same : n ≡ f.number = (let e : numbered n file ≡ f = cc is in
-                ap (λ (f : File). f.number) e) in subst (λ (m : ℕ). NotOf m old) same apart_old;
-            kept = λ m. each_changed (λ m ph. (ph ≡ r.phase m) ⊎ (r.phase m ≡ placed id)) r.phase
-                (λ same. inr (ap r.phase same ∙ its.1)) (λ other. inl refl);
-            nodes = λ m has apart. each_changed Node r.phase
-                (λ same. subst (λ (m : ℕ). Node m (seated s file)) (sym same) node_here) (λ other. node_else has other apart);
-            old_home = λ f is. let q = seat_in v.start st r inside (was ∙ is) in
-                set_else st.homes (place_of v.start n) (place_of v.start f.number) (some (Some file)) (else_place turn its.0 q.0
-                (λ same. let z : seated s f.identity ≡ placed id = sym q.2 ∙ (ap r.phase same ∙ its.1) in cc z));
-            owners = λ m has apart. each_changed (OwnerAgrees (set st.views id installed_view)) r.phase (λ same. tt)
-                (λ other. owner_stays st.views id v installed_view here m (λ bad. let b = ap busy works in other (omega arith)) (r.phase m)
-                (r.each_owner m has));
-            fewer = omega arith;
-            spares = λ m low high. let p = ap placing works in let z = next in let few = o.left_inside in let q = o.spares m (omega arith) high in (
-              each_changed (λ m ph. ph ≡ spare x.number) r.phase
-                  (λ same. let bad : spare x.number ≡ placed id = sym q ∙ (ap r.phase same ∙ its.1) in absurd (cc bad)) (λ other. q),
-              not_old q (λ g bad. cc bad),
-            );
-            none_held = (ap held_in works, λ m. ap (holding m) works);
-            control = control_swap state.at (range_of (opening_of v.start)) st.views id v _ _ s old (Some (numbered n file)) here was stands refl r.control;
-          }
-
           pub installation_agrees : Agrees v.start record {
             words = set st.words (slot_place s) (slot_word_of n file.entry);
             homes = homes₁;
             views = set st.views id installed_view;
           }
-          installation_agrees = swap_agrees (slot_word_of n file.entry) (Some (numbered n file)) homes₁ phase₁ (x.numbers_left - 1) c₁ installation
+          installation_agrees = let o = its_log turn in
+              swap_agrees (slot_word_of n file.entry) (Some (numbered n file)) homes₁ phase₁ (x.numbers_left - 1) c₁ record {
+                fresh = changed_at state.fresh n false;
+                does = does;
+                homes = length-set st.homes (place_of v.start n) (some (Some file));
+                names = (name_made n file.entry small, entry_made n file.entry small);
+                no_takes = takes_made n file.entry;
+                seat = (
+                  its.0,
+                  takes_made n file.entry ∙ sym (in_phase v.start st r its.0 its.1).no_looks,
+                  changed_here r.phase n (seated s file) n refl,
+                );
+                new_apart = λ f is. let same : n ≡ f.number = (let e : numbered n file ≡ f = cc is in
+                    ap (λ (f : File). f.number) e) in subst (λ (m : ℕ). NotOf m old) same apart_old;
+                kept = λ m. each_changed (λ m ph. (ph ≡ r.phase m) ⊎ (r.phase m ≡ placed id)) r.phase
+                    (λ same. inr (ap r.phase same ∙ its.1)) (λ other. inl refl);
+                nodes = λ m has apart. each_changed (Node homes₁) r.phase
+                    (λ same. subst (λ (m : ℕ). Node homes₁ m (seated s file)) (sym same) node_here) (λ other. node_else has other apart);
+                old_home = λ f is. let q = seat_in v.start st r inside (was ∙ is) in
+                    set_else st.homes (place_of v.start n) (place_of v.start f.number) (some (Some file)) (else_place turn its.0 q.0
+                    (λ same. let z : seated s f.identity ≡ placed id = sym q.2 ∙ (ap r.phase same ∙ its.1) in cc z));
+                owners = λ m has apart. each_changed (OwnerAgrees (set st.views id installed_view)) r.phase (λ same. tt)
+                    (λ other. owner_stays st.views id v installed_view here m (λ bad. let b = ap busy works in other (omega arith)) (r.phase m)
+                    (r.each_owner m has));
+                fewer = omega arith;
+                spares = λ m low high. let p = ap placing works in let z = next in let few = o.left_inside in let q = o.spares m (omega arith) high in (
+                  each_changed (λ m ph. ph ≡ spare x.number) r.phase
+                      (λ same. let bad : spare x.number ≡ placed id = sym q ∙ (ap r.phase same ∙ its.1) in absurd (cc bad)) (λ other. q),
+                  not_old q (λ g bad. cc bad),
+                );
+                none_held = (ap held_in works, λ m. ap (holding m) works);
+                control = control_swap state.at (range_of (opening_of v.start)) st.views id v _ _ s old (Some (numbered n file)) here was stands refl r.control;
+              }
 
           pub installation_tells : (carried homes : List (ℕ × Option Closed)) → Stepped (v, carried) ([] ▷ a) one_number d c₁ (installed_view, homes)
           installation_tells carried homes = tells turn carried homes h' (x.numbers_left - 1) x.looks_left d c₁ ([] ▷ a) one_number
               (grows_one x.number r.history _ refl) does.legal (part_mine r.history refl)
-              (let z = next in omega arith) (omega arith) (inside_now old refl)
+              (let z = next in omega arith) (omega arith) (inside_now)

@@ -1,8 +1,8 @@
 -- How large the words become.
-use Rattle.fx_counted.proofs.Words.{sum_by, ◌≡◌, ℕ, ◌+◌, ◌≤◌, Option, Some, None, sym, ◌∙◌, subst, arith, some, get_elem?, File, sum_le_at, node_in}
-use Rattle.fx_counted.proofs.Words.{Agrees, Names, WorkAgrees, lengths, changes_of, looks, all_looks, Shared, looks_of, told_of, leaving, Start, View}
-use Rattle.fx_counted.proofs.Words.{Retiring, Between, IsSeated}
-use Rattle.fx_counted.specs.Bounds.{AreBounded, WordsAreBounded, slot_word_in, node_word_in, draw_word_in}
+use Rattle.fx_counted.proofs.Words.{sum_by, ◌≡◌, ℕ, ◌+◌, ◌≤◌, Option, Some, None, sym, ◌∙◌, subst, arith, File, sum_le_at, node_in, Agrees, Names}
+use Rattle.fx_counted.proofs.Words.{WorkAgrees, lengths, changes_of, looks, all_looks, Shared, looks_of, told_of, leaving, Start, Retiring, Between}
+use Rattle.fx_counted.proofs.Words.{IsSeated}
+use Rattle.fx_counted.specs.Bounds.{AreBounded, slot_word_in, node_word_in}
 use Rattle.fx_counted.proofs.Chains.{told_few}
 use Rattle.fx_counted.proofs.ControlSteps.{few_changes, few_full, few_added, few_removed}
 use Rattle.fx_counted.proofs.Histories.{looks_few}
@@ -31,29 +31,19 @@ module _ (k : Start) (s : Shared) (r : Agrees k s) where
       let a = in_phase k s r seat.0 seat.2 in
       subst (λ (n : ℕ). 4294967296 ≤ node_word_in k s n + 16777216) same (few_releases f.number _ _ a.counts)
 
-  each_leaving : (seat takes : ℕ) (v : View) (f : File) → get_elem? s.views seat ≡ some v → v.work ≡ Between (Retiring f takes)
-      → 4294967296 ≤ node_word_in k s f.number + 16777216
-  each_leaving seat takes v f there is =
-      let work : WorkAgrees k r.phase seat (Between (Retiring f takes)) = subst (WorkAgrees k r.phase seat) is (r.each_view seat v there).work in
-      let a = in_phase k s r work.0 work.1 in few_releases f.number _ _ a.counts
-
-  few_draws : draw_word_in s ≤ k.chains + 16
-  few_draws = let a = sum_le_at told_of lengths s.views (λ j u e. told_few u.logs) in let b = few_passes in
-      let c = r.draws.counts in let d = r.draws.few in omega arith
-
   changes_most : sum_by changes_of s.views ≤ 16
   changes_most = let a = sum_le_at changes_of lengths s.views (few_changes k s r) in let b = few_passes in omega arith
 
-  pub bounded : AreBounded k s
-  bounded = record {
+  pub words_are_bounded : AreBounded k s
+  words_are_bounded = record {
     takes = λ slot inside. let a = (r.each_slot slot inside).takes in let b = few_looks in omega arith;
     named = λ slot number inside is. let a = r.each_slot slot inside in of_slot slot _ a.names a.seat is;
-    leaving = each_leaving;
-    draws = few_draws;
+    leaving = λ seat takes v f there is.
+        let work : WorkAgrees k r.phase seat (Between (Retiring f takes)) = subst (WorkAgrees k r.phase seat) is (r.each_view seat v there).work in
+        let a = in_phase k s r work.0 work.1 in few_releases f.number _ _ a.counts;
+    draws = let a = sum_le_at told_of lengths s.views (λ j u e. told_few u.logs) in let b = few_passes in
+        let c = r.draws.counts in let d = r.draws.few in omega arith;
     changes = let a = r.control.upper in let b = changes_most in omega arith;
     least = let a = r.control.lower in let b = few_added k s r in let c = changes_most in omega arith;
     most = let a = r.control.lower in let b = few_removed k s r in let c = few_full k s r in let d = changes_most in omega arith;
   }
-
-pub words_are_bounded : WordsAreBounded
-words_are_bounded = bounded
