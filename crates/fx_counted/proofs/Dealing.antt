@@ -12,7 +12,7 @@ pub last_is_dealt : {k : Start} {p : ℕ} → p ≡ k.passes → dealt k p ≡ f
 last_is_dealt {k} {p} e = ap (λ (z : List Log). record (dealt k p) { logs = z }) (last_left new_log p k.passes e)
 
 -- the pass of a seat that has the first of them
-module _ (id : TableId) (k : Start) (p : ℕ) (low : 1 ≤ p) (high : p ≤ k.passes) (seat : Seat (Option Closed) View) (x : CountedPass)
+module _ {id : TableId} (k : Start) {p : ℕ} (low : 1 ≤ p) (high : p ≤ k.passes) {seat : Seat (Option Closed) View} {x : CountedPass}
     (new : IsNewPass seat x) (table : seat.table_id ≡ id) (is : seat.me ≡ (first_alone (dealt k p), [])) where
   alone : first_alone (dealt k p) ≡ record (dealt k p) { logs = new_log p ∷ [] }
   alone = ap (λ (z : List Log). record (dealt k p) { logs = take 1 z }) (first_left new_log p k.passes high)

@@ -91,9 +91,14 @@ module _ {id : TableId} {k : Start} {p : CountedPass} (q : CountedPass) (fits : 
   }
 
 -- what a pass does between two calls
-pub work_between : (w : Work) {d : Doing} → IsBetweenCalls w → doing_in w ≡ d → w ≡ Between d
+work_between : (w : Work) {d : Doing} → IsBetweenCalls w → doing_in w ≡ d → w ≡ Between d
 work_between (Between _) rests is = ap (λ (z : Doing). Between z) is
 work_between _ rests is = absurd rests
+
+-- what it does that callers see
+pub its_doing : {id : TableId} {k : Start} {p : CountedPass} (fits : IsPassOf id k p) {d : Doing} → (view_of p).doing ≡ d
+    → p.seat.me.0.work ≡ Between d
+its_doing {p} fits is = work_between p.seat.me.0.work fits.seated.work is
 
 -- the pass of a seat
 pub its_pass : {id : TableId} {k : Start} {p : CountedPass} (fits : IsPassOf id k p) → HasPass k p.seat.me fits.log

@@ -4,7 +4,7 @@ use Rattle.fx_counted.proofs.Words.{keeps, step, Closed, ◌▷◌, State, File,
 use Rattle.fx_counted.proofs.Words.{SlotAgrees, PlacesNext, WorkAgrees, looks, full_in, slot_place, opening_of, slots_of, IsNumber, state_after_all}
 use Rattle.fx_counted.proofs.Words.{shown, held_in, placing, held_of, holding, Phase, seated, file_in, IsInside, Log, View, Idle, one_look, name_more}
 use Rattle.fx_counted.proofs.Words.{entry_more, takes_more, LooksKeep, Looks, holds_now, Between, bit_here, one_more_at, length-set, bit_else}
-use Rattle.fx_counted.proofs.Words.{IsSeated, stepped, takes}
+use Rattle.fx_counted.proofs.Words.{IsSeated}
 use Rattle.fx_counted.proofs.Steps.{busy, stays_same, owner_stays, IsHistory, grows_one, legal_more, held_mine, part_mine, same_shape, step_kept}
 use Rattle.fx_counted.proofs.Steps.{Turn, turn_of, word_at, now, logged, its_log, tells, by_turn, Made, log_now, far, node_same, control_same, NodeIn}
 use Rattle.fx_counted.proofs.Steps.{in_phase, seat_in}

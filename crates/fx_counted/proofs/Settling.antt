@@ -4,7 +4,7 @@ use Rattle.fx_counted.proofs.Words.{Between, Idle, contains_head, contains_only,
 use Rattle.fx_counted.proofs.Words.{held_in, set-get_or, Allows, set_again, append-nil, IsSettledSoFar}
 use Rattle.fx_table.proofs.Settling.{settles as settles_whole}
 use Rattle.fx_counted.specs.Settling.{Observes}
-use Rattle.fx_counted.proofs.Going.{work_between}
+use Rattle.fx_counted.proofs.Going.{its_doing}
 use Rattle.fx_counted.proofs.Gathered.{known, whole}
 
 -- any seat may look, and nothing changes
@@ -21,7 +21,7 @@ may_observe slots id i {me} start s r wide at small = (
 module _ (id : TableId) (k : Start) (p : CountedPass) (fits : IsPassOf id k p) (idle : (view_of p).doing ≡ Idle) (alone : k.passes ≡ 1)
     (s : Shared) (r : Agrees k s) (seat : ℕ) (at : get_elem? s.views seat ≡ some p.seat.me.0) where
   work : p.seat.me.0.work ≡ Between Idle
-  work = work_between p.seat.me.0.work fits.seated.work idle
+  work = its_doing fits idle
 
   only : (q : CountedPass) → Contains (p ∷ []) q → IsPassOf id k q
   only q h = subst (IsPassOf id k) (sym (contains_only p q h)) fits

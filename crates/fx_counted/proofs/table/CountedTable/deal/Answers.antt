@@ -5,27 +5,20 @@ use Rattle.fx_counted.proofs.Dealing.{rest_is_dealt, last_is_dealt, is_new_pass}
 use Rattle.fx_counted.proofs.Seats.{splits_keep}
 
 pub split_seat-one-requires : goal.split_seat-one-requires
-split_seat-one-requires c =
-    let t = c.args.self.now in
-    let words = t.words in
-    let i = c.loop-number.invariant in
-    let seat = c.loop-number.seat in (
-      i.table,
-      omega arith,
-      splits_keep t.table.shared.key seat.id seat.me.0 (ap (λ (m : Sat). m.0.work) i.me) (ap (λ (m : Sat). m.0.change) i.me),
-    )
+split_seat-one-requires c = let i = c.loop-number.invariant in (
+  i.table,
+  omega (arith, c.args.self.now.words),
+  splits_keep _ _ c.loop-number.seat.me.0 (ap (λ (m : Sat). m.0.work) i.me) (ap (λ (m : Sat). m.0.change) i.me),
+)
 
 pub loop-number-preserved : goal.loop-number-preserved
 loop-number-preserved c =
     let s = c.split_seat-one.ensures in
     let i = c.loop-number.invariant in
-    let t = c.args.self.now.table.shared in
-    let all = c.args.self.now.key.1 in
-    let p = c.loop-number.number in
+    let k = c.args.self.now.table.shared.key in
     let test = c.loop-number-test.true in
-    let high : p ≤ t.key.passes = omega (arith, all, test) in
-    let me = s.4 ∙ ap (λ (m : Sat). (first_alone m.0, [])) i.me in
-    let new = is_new_pass t.table_id t.key p i.before.low high _ _ c.new.ensures (s.3 ∙ i.table) me in
+    let high : c.loop-number.number ≤ k.passes = omega (arith, c.args.self.now.key.1, test) in
+    let new = is_new_pass k i.before.low high c.new.ensures (s.3 ∙ i.table) (s.4 ∙ ap (λ (m : Sat). (first_alone m.0, [])) i.me) in
     record {
       before = one_dealt i.before c.push_reserved.ensures.items new test;
       table = s.0 ∙ i.table;
@@ -36,13 +29,10 @@ loop-number-preserved c =
 pub returns : goal.returns
 returns c =
     let i = c.loop-number.invariant in
-    let t = c.args.self.now.table.shared in
+    let k = c.args.self.now.table.shared.key in
     let all = c.args.self.now.key.1 in
-    let p = c.loop-number.number in
-    let most = i.before.high in
-    let last : p ≡ c.args.self.now.passes = omega (arith, c.loop-number-test.false, most) in
-    let me = i.me ∙ ap (λ (v : View). (v, [])) (last_is_dealt (last ∙ all)) in
-    let high : p ≤ t.key.passes = omega (arith, last, all) in
-    let new = is_new_pass t.table_id t.key p i.before.low high _ _ c.new-2.ensures i.table me in
+    let last : c.loop-number.number ≡ c.args.self.now.passes = omega (arith, c.loop-number-test.false, i.before.high) in
+    let high : c.loop-number.number ≤ k.passes = omega (arith, last, all) in
+    let new = is_new_pass k i.before.low high c.new-2.ensures i.table (i.me ∙ ap (λ (v : View). (v, [])) (last_is_dealt (last ∙ all))) in
     let done = all_dealt i.before c.push_reserved-2.ensures.items new last in
     record { ready = done.0; count = done.1; new = done.2 }

@@ -1,4 +1,4 @@
-use Rattle.fx_counted.proofs.Words.{◌≡◌, ◌*◌, ℕ, List, sym, ap, ◌∙◌, arith, Option, Some, None, some, some-injective, get_elem?, slots_items, Closed}
+use Rattle.fx_counted.proofs.Words.{◌≡◌, ℕ, List, sym, ap, ◌∙◌, arith, Option, Some, None, some, some-injective, get_elem?, slots_items, Closed}
 use Rattle.fx_counted.proofs.Words.{state_of, node_in, slot_place}
 use Rattle.fx_counted.proofs.table.CountedTable.finish.Goals as goal
 use Rattle.fx_counted.proofs.Finishing.{home_at_end, known_at_end, leaves_at_end, some_back, none_back, none_named, place_emptied, none_emptied}
@@ -8,45 +8,31 @@ use Rattle.fx_counted.proofs.Shells.{all_back, file_put}
 use Rattle.fx_counted.proofs.table.CountedTable.finish.Goals.{in-Some+in-Some-take_home, in-Some+in_default-take_home, in_default}
 
 -- what a slot's word names
-named_by : (size slot : ℕ) {ws now : List ℕ} {place word : ℕ} (n : Option ℕ) → now ≡ ws → place ≡ slot_place slot → get_elem? now place ≡ some word
-    → n ≡ node_in word → number_at size ws slot ≡ n
-named_by size slot {ws} {now} {place} {word} n same is there named =
+named_by : (size slot : ℕ) {ws now : List ℕ} {place word : ℕ} {n : Option ℕ} → now ≡ ws → place ≡ slot_place slot
+    → get_elem? now place ≡ some word → n ≡ node_in word → number_at size ws slot ≡ n
+named_by size slot {ws} {now} {place} same is there named =
     ap node_in (read_at ws (slot_place slot) 0 (ap (get_elem? ws) (sym is) ∙ (ap (λ (l : List ℕ). get_elem? l place) (sym same) ∙ there))) ∙ sym named
 
 pub home_place-requires-clause-number : goal.home_place-requires-clause-number
 home_place-requires-clause-number c =
-    let t = c.args.self in
-    let e = c.close_with-closed.ensures.values.2 in
-    let i = c.loop-slot.invariant in
-    known_at_end t _ e c.requires.idle c.loop-slot-test.true (named_by t.size c.loop-slot.slot (Some c.in-Some.number) (ap slots_items i.words)
-    c.slot_place.ensures c.word.ensures c.in-Some.ensures)
+    known_at_end c.args.self _ c.close_with-closed.ensures.values.2 c.requires.idle c.loop-slot-test.true
+    (named_by c.args.self.size c.loop-slot.slot (ap slots_items c.loop-slot.invariant.words) c.slot_place.ensures c.word.ensures c.in-Some.ensures)
 
 pub take_home-requires-clause-inside : goal.take_home-requires-clause-inside
 take_home-requires-clause-inside c =
-    let t = c.args.self in
-    let e = c.close_with-closed.ensures.values.2 in
     let i = c.loop-slot.invariant in
-    let count = i.count in
-    let ok = c.close_with-closed.result.slots.ok.0 in
-    let is = c.home_place.ensures in
-    let l = (home_at_end t _ e c.requires.idle).inside c.loop-slot.slot c.in-Some.number c.loop-slot-test.true
-    (named_by t.size c.loop-slot.slot (Some c.in-Some.number) (ap slots_items i.words)
-    c.slot_place.ensures c.word.ensures c.in-Some.ensures) in
-    omega (arith, count, ok, is, l)
+    let l = (home_at_end c.args.self _ c.close_with-closed.ensures.values.2 c.requires.idle).inside c.loop-slot.slot _ c.loop-slot-test.true
+    (named_by c.args.self.size c.loop-slot.slot (ap slots_items i.words) c.slot_place.ensures c.word.ensures c.in-Some.ensures) in
+    omega (arith, i.count, c.close_with-closed.result.slots.ok.0, c.home_place.ensures, l)
 
 pub loop-slot-preserved : goal.loop-slot-preserved
 loop-slot-preserved c =
     let t = c.args.self in
-    let e = c.close_with-closed.ensures.values.2 in
     let i = c.loop-slot.invariant in
-    let slot = c.loop-slot.slot in
     let ws : List ℕ = slots_items c.close_with-closed.result.words in
-    let xs : List (Option Closed) = slots_items c.close_with-closed.result.slots in
-    let now : List (Option Closed) = slots_items c.loop-slot.closed.slots in
-    let st = state_of c.loop-slot.shell in
-    let home = home_at_end t xs e c.requires.idle in
-    let named : (n : Option ℕ) → n ≡ node_in c.word.result → number_at t.size ws slot ≡ n =
-    λ n is. named_by t.size c.loop-slot.slot n (ap slots_items i.words) c.slot_place.ensures c.word.ensures is in
+    let home = home_at_end t (slots_items c.close_with-closed.result.slots) c.close_with-closed.ensures.values.2 c.requires.idle in
+    let named : (n : Option ℕ) → n ≡ node_in c.word.result → number_at t.size ws c.loop-slot.slot ≡ n =
+    λ n is. named_by t.size c.loop-slot.slot (ap slots_items i.words) c.slot_place.ensures c.word.ensures is in
     elim c.match-node_of.branch [
       | in-Some+in-Some-take_home w ↦ let took = w.take_home.ensures in let is = named (Some w.in-Some.number) w.in-Some.ensures in
           rw (w.shell-is, w.closed-is) (assumption (
@@ -72,27 +58,18 @@ loop-slot-preserved c =
 pub unreachable-requires : goal.unreachable-requires
 unreachable-requires c =
     let t = c.args.self in
-    let e = c.close_with-closed.ensures.values.2 in
-    let i = c.loop-slot.invariant in
     let ws : List ℕ = slots_items c.close_with-closed.result.words in
     let xs : List (Option Closed) = slots_items c.close_with-closed.result.slots in
-    let home = home_at_end t xs e c.requires.idle in
-    let past = c.loop-slot-test.false in
-    let end = c.loop-slot.auto.slot-end in
-    let whole : c.loop-slot.slot ≡ t.size = omega (arith, past, end) in
+    let home = home_at_end t xs c.close_with-closed.ensures.values.2 c.requires.idle in
+    let whole : c.loop-slot.slot ≡ t.size = omega (arith, c.loop-slot-test.false, c.loop-slot.auto.slot-end) in
     let here : slots_items c.loop-place.closed.slots ≡ emptied t.size ws t.size xs =
-    c.loop-place.invariant.items ∙ (i.items ∙ ap (λ (n : ℕ). emptied t.size ws n xs) whole) in
-    let count = home.count in
-    let all = c.homes_for-place-end.ensures in
-    let test = c.loop-place-test.true in
-    let none = all_gone t.size ws (t.numbers * t.chains) xs home (omega (arith, count, all, test)) in
+    c.loop-place.invariant.items ∙ (c.loop-slot.invariant.items ∙ ap (λ (n : ℕ). emptied t.size ws n xs) whole) in
+    let none = all_gone t.size ws _ xs home (omega (arith, home.count, c.homes_for-place-end.ensures, c.loop-place-test.true)) in
     let bad : None ≡ Some c.in_default-home.field-0 = some-injective None (Some c.in_default-home.field-0)
     (sym none ∙ (ap (λ (l : List (Option Closed)). get_elem? l c.loop-place.place) (sym here) ∙ c.in_default-home.ensures.value)) in
     absurd (cc bad)
 
 pub returns : goal.returns
 returns c =
-    let t = c.args.self in
-    let e = c.close_with-closed.ensures.values.2 in
-    let i = c.loop-slot.invariant in
-    leaves_at_end t _ e c.requires.idle (all_back (state_of t.shell) _ c.loop-slot-test.false i.part)
+    leaves_at_end c.args.self _ c.close_with-closed.ensures.values.2 c.requires.idle
+    (all_back (state_of c.args.self.shell) _ c.loop-slot-test.false c.loop-slot.invariant.part)

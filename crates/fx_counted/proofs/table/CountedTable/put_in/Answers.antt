@@ -4,15 +4,9 @@ use Rattle.fx_counted.proofs.Calling.{node_inside, node_is_at}
 use Rattle.fx_counted.proofs.table.CountedTable.put_in.Goals as goal
 
 pub store-requires : goal.store-requires
-store-requires c =
-    let t = c.args.self.now in
-    let k = t.table.shared.key in
-    let seat = c.args.seat.now in
-    let n = c.args.number in
-    let may = c.requires.next in
-    let place = c.node_place.ensures in
-    let i = c.node_place.result in (
-      c.requires.table,
-      node_inside t may.known place,
-      births_keep k _ seat.id i seat.me may.log may.pass may.idle may.some_left (node_is_at t n place ∙ ap (word_of k) may.next),
-    )
+store-requires c = let t = c.args.self.now in let may = c.requires.next in let place = c.node_place.ensures in (
+  c.requires.table,
+  node_inside t may.known place,
+  births_keep _ _ _ _ c.args.seat.now.me _ may.pass may.idle may.some_left
+      (node_is_at t c.args.number place ∙ ap (word_of t.table.shared.key) may.next),
+)

@@ -1,31 +1,26 @@
 use Rattle.fx_counted.proofs.Words.{ap, ◌∙◌, arith, subst, node_place, IsInside}
 use Rattle.fx_table.specs.declared.values.Hold.{Hold}
 use Rattle.fx_counted.proofs.Calling.{node_inside, node_is_at}
-use Rattle.fx_counted.proofs.Going.{its_pass, work_between, adds_so, out_place, out_and_home}
+use Rattle.fx_counted.proofs.Going.{its_pass, its_doing, adds_so, out_place, out_and_home}
 use Rattle.fx_counted.proofs.Releases.{releases_keep}
 use Rattle.fx_counted.proofs.table.CountedTable.release.Goals as goal
 
 pub fetch_sub-found-requires : goal.fetch_sub-found-requires
 fetch_sub-found-requires c =
     let t = c.args.self.now in
-    let p = c.args.pass.now in
     let fits = c.requires.fits in
-    let f = c.requires.held.0 in
-    let work = work_between p.seat.me.0.work fits.seated.work c.requires.held.1 in
-    let known = subst (IsInside t.table.shared.key) work fits.seated.inside in
-    let is = c.node_place-place.ensures ∙ ap (λ (h : Hold). node_place t.size h.node) c.requires.held.2 in
-    let i = c.node_place-place.result in (
+    let (f, holding, value) = c.requires.held in
+    let work = its_doing fits holding in
+    let is = c.node_place-place.ensures ∙ ap (λ (h : Hold). node_place t.size h.node) value in (
       fits.table,
-      node_inside t known is,
-      releases_keep t.table.shared.key _ p.seat.id i f p.seat.me fits.log (its_pass fits) work (node_is_at t f.number is),
+      node_inside t (subst (IsInside t.table.shared.key) work fits.seated.inside) is,
+      releases_keep _ _ _ _ f c.args.pass.now.seat.me _ (its_pass fits) work (node_is_at t f.number is),
     )
 
 pub returns-clause-released : goal.returns-clause-released
 returns-clause-released c =
-    let p = c.args.pass.now in
     let fits = c.requires.fits in
     let (f, holding, value) = c.requires.held in
-    let work = work_between p.seat.me.0.work fits.seated.work holding in
-    let out = c.fetch_sub-found.ensures.2.closes f work (omega (arith, c.if-found-ne1.false)) in
+    let out = c.fetch_sub-found.ensures.2.closes f (its_doing fits holding) (omega (arith, c.if-found-ne1.false)) in
     let place = rw (← ap (λ (h : Hold). h.node) value) at (out_place (its_pass fits) fits.places out) in
     (f, holding, value, (c.take_out.ensures.file f.identity place, adds_so fits (out_and_home out c.take_out.ensures.rests)))

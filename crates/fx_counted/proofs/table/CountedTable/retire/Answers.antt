@@ -2,22 +2,21 @@ use Rattle.fx_counted.proofs.Words.{ℕ, ◌<◌, ◌≡◌, [], refl, sym, ap, 
 use Rattle.fx_counted.proofs.Words.{Goes, node_place, HasPlace, pass_of, state_after_all, IsInside, TakesOut, Change, Start, Idle, Retiring, Between}
 use Rattle.fx_counted.proofs.table.CountedTable.retire.Goals as goal
 use Rattle.fx_counted.proofs.Calling.{node_inside, node_is_at}
-use Rattle.fx_counted.proofs.Going.{its_pass, work_between, adds_so, still_pass, let_go, out_place, out_and_home}
+use Rattle.fx_counted.proofs.Going.{its_pass, its_doing, adds_so, still_pass, let_go, out_place, out_and_home}
 use Rattle.fx_counted.proofs.Retirements.{retires_keep}
 use Rattle.fx_counted.proofs.table.CountedTable.retire.Goals.{After-fetch_sub-found}
 
 pub fetch_sub-found-requires : goal.fetch_sub-found-requires
 fetch_sub-found-requires c =
     let t = c.args.self.now in
-    let p = c.args.pass.now in
     let fits = c.requires.fits in
     let (f, takes, doing, value) = c.requires.removed in
-    let work = work_between p.seat.me.0.work fits.seated.work doing in
+    let work = its_doing fits doing in
     let is = c.node_place-place.ensures ∙ ap (λ (r : Retired). node_place t.size r.node) value in (
       fits.table,
       node_inside t (subst (IsInside t.table.shared.key) work fits.seated.inside) is,
-      retires_keep t.table.shared.key _ p.seat.id _ c.retire_amount-amount.result takes f p.seat.me fits.log (its_pass fits) work
-          (node_is_at t f.number is) (c.retire_amount-amount.ensures ∙ ap (λ (r : Retired). retire_amount_of r.takes) value),
+      retires_keep _ _ _ _ _ takes f c.args.pass.now.seat.me _ (its_pass fits) work (node_is_at t f.number is)
+          (c.retire_amount-amount.ensures ∙ ap (λ (r : Retired). retire_amount_of r.takes) value),
     )
 
 -- what the step told, by the file that the pass removed
@@ -26,7 +25,7 @@ module _ (c : After-fetch_sub-found) where
   file = c.requires.removed.0
 
   work : c.args.pass.now.seat.me.0.work ≡ Between (Retiring file c.requires.removed.1)
-  work = work_between c.args.pass.now.seat.me.0.work c.requires.fits.seated.work c.requires.removed.2
+  work = its_doing c.requires.fits c.requires.removed.2
 
   closes : c.fetch_sub-found.result ≡ c.retire_amount-amount.result → TakesOut c.args.pass.now.seat.me [] file c.fetch_sub-found.new.seat.me
   closes is = c.fetch_sub-found.ensures.2.closes file _ work is

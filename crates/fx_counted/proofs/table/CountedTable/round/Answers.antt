@@ -6,16 +6,11 @@ use Rattle.fx_counted.proofs.table.CountedTable.round.Goals.{In-None}
 use Rattle.fx_counted.proofs.table.CountedTable.round.Goals as goal
 
 pub fetch_add-requires : goal.fetch_add-requires
-fetch_add-requires c =
-    let t = c.args.self.now in
-    let seat = c.args.seat.now in
-    let words = t.words in
-    let at = c.requires.placing.at in
-    let amount = c.begin_amount in (
-      c.requires.table,
-      omega arith,
-      rw amount.ensures (begins_keep t.table.shared.key _ seat.id _ seat.me at.log at.pass c.requires.change refl),
-    )
+fetch_add-requires c = (
+  c.requires.table,
+  omega (arith, c.args.self.now.words),
+  rw c.begin_amount.ensures (begins_keep _ _ _ _ c.args.seat.now.me _ c.requires.placing.at.pass c.requires.change refl),
+)
 
 -- the pass is in a change, and has found no slot free
 still_searching : (c : In-None) → StillPlaces c.args.number Same c.args.seat.now.me c.scan.new.seat.me
@@ -24,40 +19,30 @@ still_searching c = let began = c.fetch_add.ensures.2 in
 
 pub returns-in-Some-clause-ends : goal.returns-in-Some-clause-ends
 returns-in-Some-clause-ends c =
-    let found = c.in-Some.ensures in
-    let below = found.slot in
     let began = c.fetch_add.ensures.2 in
-    let still = one_still c.requires.placing.work began.stepped began.carried in
-    let more = allocated_then still found.found in
-    (omega arith, allocated_told more c.end.ensures.goes c.end.ensures.places)
+    let more = allocated_then (one_still c.requires.placing.work began.stepped began.carried) c.in-Some.ensures.found in
+    (omega (arith, c.in-Some.ensures.slot), allocated_told more c.end.ensures.goes c.end.ensures.places)
 
 pub fetch_sub-word-requires : goal.fetch_sub-word-requires
 fetch_sub-word-requires c =
-    let t = c.args.self.now in
-    let words = t.words in
-    let seat = c.scan.new.seat in
-    let all = still_searching (goal.at.fetch_sub-word-requires c).In-None in
-    let at = (still_placing c.requires.placing all).at in
-    let amount = c.begin_amount-in-None in (
+    let all = still_searching (goal.at.fetch_sub-word-requires c).In-None in (
       c.scan.ensures.table ∙ (c.fetch_add.ensures.0 ∙ c.requires.table),
-      omega arith,
-      rw amount.ensures (answers_keep t.table.shared.key _ seat.id _ seat.me at.log at.pass all.0.1.change refl),
+      omega (arith, c.args.self.now.words),
+      rw c.begin_amount-in-None.ensures
+          (answers_keep _ _ _ _ c.scan.new.seat.me _ (still_placing c.requires.placing all).at.pass all.0.1.change refl),
     )
 
 pub returns-then-says_full-clause-ends : goal.returns-then-says_full-clause-ends
 returns-then-says_full-clause-ends c =
     let t = c.args.self.now in
-    let m₂ = c.scan.new.seat.me in
     let all = still_searching (goal.at.returns-then-says_full-clause-ends c).In-None in
     let told : c.fetch_sub-word.result ≡ full_word_of t.range_len = search rules in
-    let full = told ∙ full_of t (all.0.1.start ∙ c.requires.placing.at.pass.0) in
     let answer = c.fetch_sub-word.ensures.2 in
-    answered_full all (answer.full full) answer.carried
+    answered_full all (answer.full (told ∙ full_of t (all.0.1.start ∙ c.requires.placing.at.pass.0))) answer.carried
 
 pub returns-else-says_full-clause-ends : goal.returns-else-says_full-clause-ends
 returns-else-says_full-clause-ends c =
     let t = c.args.self.now in
-    let m₂ = c.scan.new.seat.me in
     let all = still_searching (goal.at.returns-else-says_full-clause-ends c).In-None in
     let told : c.fetch_sub-word.result ≢ full_word_of t.range_len = search rules in
     let full = full_of t (all.0.1.start ∙ c.requires.placing.at.pass.0) in

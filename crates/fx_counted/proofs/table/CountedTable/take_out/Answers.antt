@@ -1,4 +1,4 @@
-use Rattle.fx_counted.proofs.Words.{◌≡◌, ◌⊎◌, sym, ap, ◌∙◌, ◌∷◌, subst, Some, None, rest, HasPass, Sat, View, Placing, Emptying}
+use Rattle.fx_counted.proofs.Words.{sym, ap, ◌∙◌, ◌∷◌, Some, None, rest, Sat}
 use Rattle.fx_counted.proofs.Births.{rests_keep}
 use Rattle.fx_counted.proofs.Calling.{node_inside, node_is_at, home_is_at}
 use Rattle.fx_counted.proofs.table.CountedTable.take_out.Goals as goal
@@ -16,12 +16,9 @@ store-requires c =
     let h = c.requires.place.1 in
     let is = home_is_at t n c.home_place-place.ensures in
     let me = c.exchange.ensures.3 in
-    let view = ap (λ (z : Sat). z.0) me in
-    let m = c.exchange.new.seat.me in (
+    let view = ap (λ (z : Sat). z.0) me in (
       c.exchange.ensures.0 ∙ c.requires.table,
       node_inside t h.known c.node_place.ensures,
-      rests_keep t.table.shared.key _ c.exchange.new.seat.id _ n m h.log
-          (subst (λ (v : View). HasPass t.table.shared.key (v, m.1) h.log) (sym view) h.pass)
-          (subst (λ (v : View). (v.work ≡ Emptying n) ⊎ (v.work ≡ Placing n)) (sym view) h.work)
+      rests_keep t.table.shared.key _ _ _ n c.exchange.new.seat.me h.log (rw view h.pass) (rw view h.work)
           (ap (λ (z : Sat). z.1) me ∙ λ i. (is i, None) ∷ ap rest h.place i) (node_is_at t n c.node_place.ensures),
     )
