@@ -1,12 +1,13 @@
 -- A birth keeps the rule, and so does a rest.
 use Rattle.fx_counted.proofs.Words.{◌≡◌, ◌≢◌, ℕ, ◌+◌, ◌*◌, ◌<◌, ◌≤◌, List, [], ◌∷◌, set, length, sym, refl, ap, ◌∙◌, subst, arith, Option, Some, None}
-use Rattle.fx_counted.proofs.Words.{inr, ⊎_elim, some, none, get_elem?, takes, gives, rest, step, set_here, set_else, Closed, File, changed_at}
-use Rattle.fx_counted.proofs.Words.{no_use, next_number, born, Home, NodeAgrees, OwnerAgrees, WorkAgrees, PlacesNext, word_of, place_of, opening_of}
-use Rattle.fx_counted.proofs.Words.{chain_in, chain_numbers, first_log, pass_of, IsNumber, state_after_all, end_in, next_in, held_in, placing}
-use Rattle.fx_counted.proofs.Words.{holding, Phase, spare, placed, closed, owner, file_in, Stepped, View, Idle, Placing, Holding, Emptying, looks}
-use Rattle.fx_counted.proofs.Words.{mul-le-mul_left, BirthsKeep, RestsKeep, Births, Rests, inl, Between, Work, changed_here, changed_else, length-set}
+use Rattle.fx_counted.proofs.Words.{inr, some, none, get_elem?, takes, gives, rest, step, set_here, set_else, Closed, File, changed_at, no_use}
+use Rattle.fx_counted.proofs.Words.{next_number, born, Home, NodeAgrees, OwnerAgrees, WorkAgrees, PlacesNext, word_of, place_of, opening_of, chain_in}
+use Rattle.fx_counted.proofs.Words.{chain_numbers, first_log, pass_of, IsNumber, state_after_all, end_in, next_in, held_in, placing, holding, Phase}
+use Rattle.fx_counted.proofs.Words.{spare, placed, closed, owner, file_in, Stepped, View, Idle, Placing, Holding, Emptying, looks, mul-le-mul_left}
+use Rattle.fx_counted.proofs.Words.{BirthsKeep, RestsKeep, Births, Rests, inl, Between, Work, changed_here, changed_else, length-set, Agrees, Shared}
+use Rattle.fx_counted.proofs.Words.{◌⊎◌}
 use Rattle.fx_counted.proofs.Steps.{grows_none, each_changed, busy, does_now, Turn, turn_of, word_at, its_log, its_work, by_turn, went, tells_none}
-use Rattle.fx_counted.proofs.Steps.{one_same, near, far, MayTurn, NodeStep, node_agrees, in_phase}
+use Rattle.fx_counted.proofs.Steps.{one_same, near, far, MayTurn, node_agrees, in_phase}
 use mathlib.Core.Option as maybe
 
 module _ (turn : Turn) where
@@ -17,6 +18,14 @@ module _ (turn : Turn) where
 
   abbrev pub home_now : ℕ → Home
   home_now q = get_elem? st.homes (place_of v.start q)
+
+  -- the table where a number has this word, this lies in its place, and the pass does this
+  abbrev changed_to : ℕ → ℕ → maybe.Option (Option Closed) → Work → Shared
+  changed_to q word' lies d = record {
+    words = set st.words (word_of v.start q) word';
+    homes = set st.homes (place_of v.start q) lies;
+    views = set st.views id (went turn r.history d v.change);
+  }
 
   pub roomy : {q : ℕ} → IsNumber v.start q → place_of v.start q < length st.homes
   roomy {q} its = let a = r.shape.homes in let b = (near turn).home q its in omega arith
@@ -37,31 +46,32 @@ module _ (turn : Turn) where
       inr (omega arith, omega (arith, high, within))
 
   -- a step on the place of a number without a file, of which nothing is told
-  home_step : {q : ℕ} (its : IsNumber v.start q) {ph ph' : Phase} {word' : ℕ} (lies : maybe.Option (Option Closed)) {d : Work}
+  home_step : {q : ℕ} (its : IsNumber v.start q) {ph ph' : Phase} (word' : ℕ) (lies : maybe.Option (Option Closed)) (d : Work)
       → r.phase q ≡ ph → file_in ph ≡ None → MayTurn turn q ph' → ((n : ℕ) → n ≢ q → busy v.work ≢ n + 1)
       → held_in v.work ≡ held_in d → ((n : ℕ) → holding n v.work ≡ holding n d)
       → NodeAgrees (state_after_all v.start r.history) q (looks r.history q) word' (some lies) ph'
       → OwnerAgrees (set st.views id (went turn r.history d v.change)) q ph' → PlacesNext v.start x d
       → ((n : ℕ) → next_in v.start x + placing d ≤ n → n < end_in v.start x → changed_at r.phase q ph' n ≡ spare x.number)
       → WorkAgrees v.start (changed_at r.phase q ph') id d
-      → NodeStep turn q its word' (set st.homes (place_of v.start q) lies) r.history ph' d
-  home_step {q} its lies is no_file may free held holds node known next spares work = record {
-    grows = grows_none x.number r.history;
-    legal = r.legal;
-    told = one_same v q r.history;
-    homes = length-set st.homes (place_of v.start q) lies;
-    home_else = λ m has other. set_else st.homes (place_of v.start q) (place_of v.start m) lies (else_place its has other);
-    may = may;
-    keeps = λ j u f other there is_held same. absurd (unheld q (ap file_in is ∙ no_file) j u f there is_held same);
-    free = free;
-    node = rw (set_here st.homes (place_of v.start q) lies (roomy its)) node;
-    known = known;
-    held = (its_log turn).held ∙ held;
-    next = next;
-    spares = spares;
-    work = work;
-    holds = λ n. let e = holds n in omega arith;
-  }
+      → Agrees v.start (changed_to q word' lies d)
+  home_step {q} its {ph'} word' lies d is no_file may free held holds node known next spares work =
+      node_agrees turn q its word' (set st.homes (place_of v.start q) lies) r.history ph' d record {
+        grows = grows_none x.number r.history;
+        legal = r.legal;
+        told = one_same v q r.history;
+        homes = length-set st.homes (place_of v.start q) lies;
+        home_else = λ m has other. set_else st.homes (place_of v.start q) (place_of v.start m) lies (else_place its has other);
+        may = may;
+        keeps = λ j u f other there is_held same. absurd (unheld q (ap file_in is ∙ no_file) j u f there is_held same);
+        free = free;
+        node = rw (set_here st.homes (place_of v.start q) lies (roomy its)) node;
+        known = known;
+        held = (its_log turn).held ∙ held;
+        next = next;
+        spares = spares;
+        work = work;
+        holds = λ n. let e = holds n in omega arith;
+      }
 
   -- a birth
   module _ (idle : v.work ≡ Between Idle) (some_left : 0 < x.numbers_left) where
@@ -77,9 +87,9 @@ module _ (turn : Turn) where
     is_spare : r.phase b ≡ spare x.number
     is_spare = let o = its_log turn in let p = ap placing idle in o.spares b (omega arith) end_is
 
-    birth : NodeStep turn b its_b born (set st.homes (place_of v.start b) none) r.history (placed id) (Placing b)
+    birth : Agrees v.start (changed_to b born none (Placing b))
     birth = let n = in_phase v.start st r its_b is_spare in let o = its_log turn in
-        home_step its_b none is_spare refl (inr (inr (inl is_spare)))
+        home_step its_b born none (Placing b) is_spare refl (inr (inr (inl is_spare)))
         (λ m other is. let e : busy v.work ≡ 0 = ap busy idle in omega arith) (ap held_in idle) (λ n. ap (holding n) idle)
         (assumption n) (does_now st.views id v (went turn r.history (Placing b) v.change) (Placing b) here refl) (refl, some_left)
         (λ n low high. let p = ap placing idle in changed_else r.phase b (placed id) n (λ same. omega arith) ∙ o.spares n (omega arith) high)
@@ -93,29 +103,20 @@ module _ (turn : Turn) where
         (λ i. next_in v.start (first_log (sym one i))) (tells_none turn carried homes v.change its_b)
 
   -- a rest, of a number whose file is closed, or which was placed in vain
-  rest_emptied : {q : ℕ} → v.work ≡ Emptying q → (its : IsNumber v.start q) × NodeStep turn q its 0
-      (set st.homes (place_of v.start q) (some None)) r.history closed (Between Idle)
-  rest_emptied {q} is = let w = subst (WorkAgrees v.start r.phase id) is (its_work turn) in
-      let n = in_phase v.start st r w.0 w.1 in let o = its_log turn in (
-        w.0,
-        home_step w.0 (some None) w.1 refl (inr (inl (ap owner w.1)))
-            (λ m other bad. let b = ap busy is in other (omega arith)) (ap held_in is) (λ m. ap (holding m) is)
-            (assumption n) tt tt
-            (λ m low high. let p = ap placing is in let s = o.spares m (omega arith) high in
-            changed_else r.phase q closed m (λ same. cc (sym s ∙ (ap r.phase same ∙ w.1))) ∙ s) tt,
-      )
-
-  rest_placed : {q : ℕ} → v.work ≡ Placing q → (its : IsNumber v.start q) × NodeStep turn q its 0
-      (set st.homes (place_of v.start q) (some None)) r.history (spare x.number) (Between Idle)
-  rest_placed {q} is = let w = subst (WorkAgrees v.start r.phase id) is (its_work turn) in
+  rest_of : {q : ℕ} → (v.work ≡ Emptying q) ⊎ (v.work ≡ Placing q) → Agrees v.start (changed_to q 0 (some None) (Between Idle))
+  rest_of {q} (inl is) = let w = subst (WorkAgrees v.start r.phase id) is (its_work turn) in
       let n = in_phase v.start st r w.0 w.1 in let o = its_log turn in
-      let next : (q ≡ next_in v.start x) × (0 < x.numbers_left) = subst (PlacesNext v.start x) is o.next in (
-        w.0,
-        home_step w.0 (some None) w.1 refl (inr (inl (ap owner w.1)))
-            (λ m other bad. let b = ap busy is in other (omega arith)) (ap held_in is) (λ m. ap (holding m) is)
-            (assumption n) tt tt (λ m low high. let p = ap placing is in each_changed (λ m z. z ≡ spare x.number) r.phase (λ same. refl)
-            (λ other. o.spares m (let a = next.0 in omega arith) high)) tt,
-      )
+      home_step w.0 {ph' = closed} 0 (some None) (Between Idle) w.1 refl (inr (inl (ap owner w.1)))
+      (λ m other bad. let b = ap busy is in other (omega arith)) (ap held_in is) (λ m. ap (holding m) is) (assumption n) tt tt
+      (λ m low high. let p = ap placing is in let s = o.spares m (omega arith) high in
+      changed_else r.phase q closed m (λ same. cc (sym s ∙ (ap r.phase same ∙ w.1))) ∙ s) tt
+  rest_of {q} (inr is) = let w = subst (WorkAgrees v.start r.phase id) is (its_work turn) in
+      let n = in_phase v.start st r w.0 w.1 in let o = its_log turn in
+      let next : (q ≡ next_in v.start x) × (0 < x.numbers_left) = subst (PlacesNext v.start x) is o.next in
+      home_step w.0 {ph' = spare x.number} 0 (some None) (Between Idle) w.1 refl (inr (inl (ap owner w.1)))
+      (λ m other bad. let b = ap busy is in other (omega arith)) (ap held_in is) (λ m. ap (holding m) is) (assumption n) tt tt
+      (λ m low high. let p = ap placing is in each_changed (λ m z. z ≡ spare x.number) r.phase (λ same. refl)
+      (λ other. o.spares m (let a = next.0 in omega arith) high)) tt
 
 pub births_keep : BirthsKeep
 births_keep k slots id i m x has idle left place = by_turn slots (λ _. Unit {0}) (λ k. word_of k (next_in k x)) (λ _. born)
@@ -123,9 +124,7 @@ births_keep k slots id i m x has idle left place = by_turn slots (λ _. Unit {0}
       went turn r.history (Placing (b turn idle left)) m.0.change,
       takes (place_of m.0.start (b turn idle left)) None,
       (in_phase m.0.start st r (its_b turn idle left) (is_spare turn idle left)).at_home,
-      node_agrees turn (b turn idle left) (its_b turn idle left) born (set st.homes (place_of m.0.start (b turn idle left)) none) r.history
-          (placed id)
-          (Placing (b turn idle left)) (birth turn idle left),
+      birth turn idle left,
       record {
         stepped = birth_tells turn idle left m.1 ((place_of m.0.start (b turn idle left), None) ∷ m.1);
         carried = λ i. (place_of m.0.start (next_in m.0.start (first_log (sym has.1 i))), None) ∷ m.1;
@@ -138,10 +137,6 @@ rests_keep k slots id i q m x has works carries place = by_turn slots (λ k. m.1
       went turn r.history (Between Idle) m.0.change,
       gives,
       tt,
-      rw carries (⊎_elim (λ (e : m.0.work ≡ Emptying q). let s = rest_emptied turn e in
-          node_agrees turn q s.0 0 (set st.homes (place_of m.0.start q) (some None)) r.history closed (Between Idle) s.1)
-          (λ (e : m.0.work ≡ Placing q). let s = rest_placed turn e in
-          node_agrees turn q s.0 0 (set st.homes (place_of m.0.start q) (some None)) r.history (spare x.number) (Between Idle) s.1)
-          works),
+      rw carries (rest_of turn works),
       record { stepped = tells_none turn m.1 (rest m.1) m.0.change tt; carried = refl },
     ))

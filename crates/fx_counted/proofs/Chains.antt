@@ -6,8 +6,8 @@ use Rattle.fx_counted.proofs.Words.{sum_le_at, OwnerAgrees, lengths, PlacesNext,
 use Rattle.fx_counted.proofs.Words.{slot_place, opening_of, chain_in, shown, first_log, drawn_of, told_of, once, placing, Phase, unborn, spare, owner}
 use Rattle.fx_counted.proofs.Words.{file_in, Log, View, Idle, mul-add, mul-le-mul_left, Draws, DrawsKeep, first_or, DrawTells, next_in, end_in}
 use Rattle.fx_counted.proofs.Words.{chain_given, Between, one_if, times, bit_here, once_is, once_more, length-set, count_by-le-length, bit_else}
-use Rattle.fx_counted.proofs.Steps.{owner_same, grows_none, Turn, turn_of, word_at, now, its_log, Step, step_kept, by_turn, Made, near, far}
-use Rattle.fx_counted.proofs.Steps.{slot_same, control_same, NodeIn}
+use Rattle.fx_counted.proofs.Steps.{owner_same, grows_none, Turn, turn_of, word_at, now, its_log, step_kept, by_turn, Made, near, far, slot_same}
+use Rattle.fx_counted.proofs.Steps.{control_same, NodeIn}
 use Rattle.fx_counted.proofs.Ending.{drawn, told}
 use Rattle.fx_counted.proofs.Frames.{of_one}
 
@@ -21,12 +21,6 @@ given_either lo hi p phase n = dite (dec_le lo n)
     (λ a. dite (dec_le (n + 1) hi) (λ b. inl (a, omega (arith, b), rw (le-ltb n lo a, lt-ltb n hi (omega (arith, b))) refl))
     (λ f. inr (λ _ b. f (omega arith), rw (le-ltb n lo a, le-ltb n hi (omega (arith, f))) refl)))
     (λ f. inr (λ a _. f a, rw (lt-ltb n lo (omega (arith, f))) refl))
-
-given_in : {lo hi : ℕ} (p : ℕ) (phase : ℕ → Phase) {n : ℕ} → lo ≤ n → n < hi → given_out lo hi p phase n ≡ spare p
-given_in {lo} {hi} p phase {n} a b = ⊎_elim (λ t. t.2) (λ t. absurd (t.0 a b)) (given_either lo hi p phase n)
-
-given_else : {lo hi : ℕ} (p : ℕ) (phase : ℕ → Phase) {n : ℕ} → ((lo ≤ n) → (n < hi) → ⊥) → given_out lo hi p phase n ≡ phase n
-given_else {lo} {hi} p phase {n} out = ⊎_elim (λ t. absurd (out t.0 t.1)) (λ t. t.1) (given_either lo hi p phase n)
 
 pub told_few : (l : List Log) → sum_by (λ y. one_if y.no_chains_left) l ≤ length l
 told_few l = count_by-le-length (λ y. y.no_chains_left) l
@@ -44,9 +38,6 @@ module _ (turn : Turn) where
 
   abbrev d : DrawsCount v.start.chains v.start.numbers r.phase st.views found
   d = r.draws
-
-  wide : draw_place < length st.words
-  wide = let a = r.shape.words in let b = (near turn).draw in omega arith
 
   told_v : told_of v ≡ one_if x.no_chains_left
   told_v = of_one (λ z. one_if z.no_chains_left) one
@@ -66,90 +57,88 @@ module _ (turn : Turn) where
       let told : sum_by told_of st.views ≤ 16 = omega arith in
       let b = d.counts in let c = d.few in let e = r.shape.chains in omega (arith, told, b, c, e)
 
-  -- what a draw has to keep
-  module _ (drawn : List ℕ) (told : Bool) (left : ℕ) (phase' : ℕ → Phase) where
-    abbrev y : Log
-    y = record x { drawn = drawn; no_chains_left = told; numbers_left = left; steps = x.steps + 1 }
+  module _ (idle : v.work ≡ Between Idle) (untold : x.no_chains_left ≡ false) (carried : List (ℕ × Option Closed)) (slots : ℕ) where
+    -- what a draw comes to
+    abbrev Drawn : Type 0
+    Drawn = Made turn carried draw_place (λ _. found + 1) (DrawTells (step slots draw_place 1 0 none) (v, carried))
 
-    abbrev w : View
-    w = now v y v.work v.change
-
-    abbrev words' : List ℕ
-    words' = set st.words draw_place (found + 1)
-
-    read_else : (place : ℕ) → place ≢ draw_place → word_at words' place ≡ word_at st.words place
-    read_else place other = get_or-set_other st.words draw_place place (found + 1) 0 other
-
-    -- a number's phase stays, or the number becomes the pass's
-    abbrev Phases : Type 0
-    Phases = (n : ℕ) → (r.phase n ≡ phase' n) ⊎ ((r.phase n ≡ unborn) × (phase' n ≡ spare x.number))
-
-    either_phase : {P : Type 0} → Phases → {n : ℕ} → (r.phase n ≡ phase' n → P) → (r.phase n ≡ unborn → phase' n ≡ spare x.number → P) → P
-    either_phase phases {n} same new = ⊎_elim (λ e. same e) (λ t. new t.0 t.1) (phases n)
-
-    draw_step : v.work ≡ Between Idle → Phases
-        → first_or 0 drawn ≤ v.start.chains → ((c : ℕ) → first_or 0 drawn < c → times c drawn ≡ 0) → left ≤ 64 → left ≤ v.start.numbers * first_or 0 drawn
-        → ((n : ℕ) → next_in v.start y ≤ n → n < end_in v.start y → phase' n ≡ spare x.number)
-        → DrawsCount v.start.chains v.start.numbers phase' (set st.views id w) (found + 1)
-        → Step turn y v.work v.change r.history phase' words' st.homes
-    draw_step idle phases chain last few inside spares draws = let apart = far turn in record {
-      words = length-set st.words draw_place (found + 1);
-      homes = refl;
-      number = refl;
-      grows = grows_none x.number r.history;
-      legal = r.legal;
-      slots = λ s l. slot_same (read_else (slot_place s) (apart.slot_and_draw s)) refl (omega arith)
-          (λ f there seat. (refl, either_phase phases (λ e. sym e) (λ new _. absurd (cc (sym seat ∙ new))))) (r.each_slot s l);
-      nodes = λ n has. let Node = NodeIn v.start st.words st.homes r.history n in rw (read_else (word_of v.start n) (apart.node_and_draw n has))
-          (either_phase phases (λ e. subst Node e (r.each_node n has)) (λ new its. subst Node (sym its) (subst Node new (r.each_node n has))));
-      owners = λ n has. either_phase phases
-          (λ e. subst (OwnerAgrees (set st.views id w) n) e (owner_same st.views id v w here refl n (r.phase n) (r.each_owner n has)))
-          (λ _ its. subst (OwnerAgrees (set st.views id w) n) (sym its) tt);
-      no_other = r.no_other;
-      stays = record {
-        owned = λ n owned not_mine. either_phase phases (λ e. sym e) (λ new _. absurd (owned (ap owner new)));
-        spared = λ n q is other. either_phase phases (λ e. sym e ∙ is) (λ new _. absurd (cc (sym is ∙ new)));
-      };
-      keeps = λ j u f other there holds. either_phase phases (λ e. ap file_in (sym e)) (λ new its. ap file_in its ∙ sym (ap file_in new));
-      log = let o = its_log turn in let p = ap placing idle in
-          let its : (n : ℕ) → next_in v.start y + placing v.work ≤ n → n < end_in v.start y → phase' n ≡ spare x.number =
-          λ n low high. spares n (omega arith) high in
-          assumption (o, subst (PlacesNext v.start y) (sym idle) tt, its);
-      work = subst (WorkAgrees v.start phase' id) (sym idle) tt;
-      holds = λ n. omega arith;
-      look_ups = omega arith;
-      control = control_same st.views id v w here refl (read_else control_place apart.control_and_draw) refl r.control;
-      draws = subst (DrawsCount v.start.chains v.start.numbers phase' (set st.views id w)) (sym (get_or-set_same st.words draw_place (found + 1) 0 wide)) draws;
-    }
-
-    drawn_so : Step turn y v.work v.change r.history phase' words' st.homes → (v.start.passes ≡ 1 → found ≡ chain_in x) → (carried : List (ℕ × Option Closed)) (slots : ℕ)
-        → Draws (opening_of v.start) (shown x v.work) (chain_given v.start.chains found) (shown y v.work)
-        → Made turn carried draw_place (λ _. found + 1) (DrawTells (step slots draw_place 1 0 none) (v, carried))
-    drawn_so kept alone carried slots draws = (
-      w,
-      keeps,
-      tt,
-      step_kept turn y v.work v.change r.history phase' words' st.homes kept,
-      record {
-        one = (y, refl);
-        draws = rw one draws;
-        alone = λ passes. alone passes ∙ sym (ap (λ (l : List Log). chain_in (first_log l)) one);
-        same = (refl, refl, refl, refl);
-        steps = let e = ap (λ (l : List Log). (first_log l).steps) one in omega arith;
-      },
-    )
-
-  module _ (idle : v.work ≡ Between Idle) (untold : x.no_chains_left ≡ false) where
     -- a pass alone has drawn all chains that were given
     alone : v.start.passes ≡ 1 → found ≡ chain_in x
     alone passes =
         let all : length v.logs ≡ v.start.passes = ap (length {A = Log}) one ∙ sym passes in
-        let drawn_here = sym (drawn_v d.given) ∙ drawn v.start st r id v here all d.given in
-        let none_told = sym (told v.start st r id v here all) ∙ (told_v ∙ ap one_if untold) in
+        let drawn_here = sym (drawn_v d.given) ∙ drawn r id here all d.given in
+        let none_told = sym (told r id here all) ∙ (told_v ∙ ap one_if untold) in
         let counts = d.counts in
         let few = chain_few in
         dite (dec_le d.given (chain_in x)) (λ le. omega (arith, le, few, counts, none_told))
         (λ gt. let none = (its_log turn).last d.given (omega (arith, gt)) in absurd (omega (arith, none, drawn_here, gt, once_is d.given d.given)))
+
+    -- what a draw has to keep
+    module _ (drawn : List ℕ) (told : Bool) (left : ℕ) (phase' : ℕ → Phase) where
+      abbrev y : Log
+      y = record x { drawn = drawn; no_chains_left = told; numbers_left = left; steps = x.steps + 1 }
+
+      abbrev w : View
+      w = now v y v.work v.change
+
+      abbrev words' : List ℕ
+      words' = set st.words draw_place (found + 1)
+
+      read_else : (place : ℕ) → place ≢ draw_place → word_at words' place ≡ word_at st.words place
+      read_else place other = get_or-set_other st.words draw_place place (found + 1) 0 other
+
+      -- a number's phase stays, or the number becomes the pass's
+      abbrev Phases : Type 0
+      Phases = (n : ℕ) → (r.phase n ≡ phase' n) ⊎ ((r.phase n ≡ unborn) × (phase' n ≡ spare x.number))
+
+      either_phase : {P : Type 0} → Phases → {n : ℕ} → (r.phase n ≡ phase' n → P) → (r.phase n ≡ unborn → phase' n ≡ spare x.number → P) → P
+      either_phase phases {n} same new = ⊎_elim (λ e. same e) (λ t. new t.0 t.1) (phases n)
+
+      drawn_so : Phases → first_or 0 drawn ≤ v.start.chains → ((c : ℕ) → first_or 0 drawn < c → times c drawn ≡ 0) → left ≤ 64
+          → left ≤ v.start.numbers * first_or 0 drawn → ((n : ℕ) → next_in v.start y ≤ n → n < end_in v.start y → phase' n ≡ spare x.number)
+          → DrawsCount v.start.chains v.start.numbers phase' (set st.views id w) (found + 1)
+          → Draws (opening_of v.start) (shown x v.work) (chain_given v.start.chains found) (shown y v.work) → Drawn
+      drawn_so phases chain last few inside spares draws given = let apart = far turn in (
+        w,
+        keeps,
+        tt,
+        step_kept turn y v.work v.change r.history phase' words' st.homes record {
+          words = length-set st.words draw_place (found + 1);
+          homes = refl;
+          number = refl;
+          grows = grows_none x.number r.history;
+          legal = r.legal;
+          slots = λ s l. slot_same (read_else (slot_place s) (apart.slot_and_draw s)) refl (omega arith)
+              (λ f there seat. (refl, either_phase phases (λ e. sym e) (λ new _. absurd (cc (sym seat ∙ new))))) (r.each_slot s l);
+          nodes = λ n has. let Node = NodeIn v.start st.words st.homes r.history n in rw (read_else (word_of v.start n) (apart.node_and_draw n has))
+              (either_phase phases (λ e. subst Node e (r.each_node n has)) (λ new its. subst Node (sym its) (subst Node new (r.each_node n has))));
+          owners = λ n has. either_phase phases
+              (λ e. subst (OwnerAgrees (set st.views id w) n) e (owner_same st.views id v w here refl n (r.phase n) (r.each_owner n has)))
+              (λ _ its. subst (OwnerAgrees (set st.views id w) n) (sym its) tt);
+          no_other = r.no_other;
+          stays = record {
+            owned = λ n owned not_mine. either_phase phases (λ e. sym e) (λ new _. absurd (owned (ap owner new)));
+            spared = λ n q is other. either_phase phases (λ e. sym e ∙ is) (λ new _. absurd (cc (sym is ∙ new)));
+          };
+          keeps = λ j u f other there holds. either_phase phases (λ e. ap file_in (sym e)) (λ new its. ap file_in its ∙ sym (ap file_in new));
+          log = let o = its_log turn in let p = ap placing idle in
+              let its : (n : ℕ) → next_in v.start y + placing v.work ≤ n → n < end_in v.start y → phase' n ≡ spare x.number =
+              λ n low high. spares n (omega arith) high in
+              assumption (o, subst (PlacesNext v.start y) (sym idle) tt, its);
+          work = subst (WorkAgrees v.start phase' id) (sym idle) tt;
+          holds = λ n. omega arith;
+          look_ups = omega arith;
+          control = control_same st.views id v w here refl (read_else control_place apart.control_and_draw) refl r.control;
+          draws = rw (get_or-set_same st.words draw_place (found + 1) 0 (let a = r.shape.words in let b = (near turn).draw in omega arith)) draws;
+        },
+        record {
+          one = (y, refl);
+          draws = rw one given;
+          alone = λ passes. alone passes ∙ sym (ap (λ (l : List Log). chain_in (first_log l)) one);
+          same = (refl, refl, refl, refl);
+          steps = let e = ap (λ (l : List Log). (first_log l).steps) one in omega arith;
+        },
+      )
 
     -- there is a next chain
     module _ (more : found < v.start.chains) where
@@ -184,56 +173,42 @@ module _ (turn : Turn) where
         t.2,
       )) (λ t. inl (sym t.1)) (given_either lo hi x.number r.phase n)
 
-      counts : DrawsCount v.start.chains v.start.numbers phase' (set st.views id (w ((found + 1) ∷ x.drawn) x.no_chains_left v.start.numbers phase'))
-          (found + 1)
-      counts = let w = w ((found + 1) ∷ x.drawn) x.no_chains_left v.start.numbers phase' in let t = sum_set told_of st.views id v w here in
-          let tv = told_v in let z = nobody_told in let g = given_is in record {
+      next_drawn : Drawn
+      next_drawn = let w = w ((found + 1) ∷ x.drawn) x.no_chains_left v.start.numbers phase' in let t = sum_set told_of st.views id v w here in
+          let tv = told_v in let z = nobody_told in let g = given_is in let few = chain_few in
+          drawn_so ((found + 1) ∷ x.drawn) x.no_chains_left v.start.numbers phase' phases (omega arith)
+          (λ c behind. let first = sum_by-cons (λ d. one_if (eqb d c)) (found + 1) x.drawn in
+          let other = bit_else c (found + 1) (omega (arith, behind)) in let rest = (its_log turn).last c (omega (arith, behind, few, g)) in
+          omega (arith, first, other, rest)) r.shape.numbers (omega (arith, one_more))
+          (λ n low high. ⊎_elim (λ t. t.2) (λ t. absurd (t.0 (omega (arith, low, one_more)) high)) (given_either lo hi x.number r.phase n)) record {
             given = found + 1;
             few = omega arith;
             each = λ c. let s = sum_set (drawn_of c) st.views id v w here in let e = d.each c in let dv = drawn_v c in
                 let co = sum_by-cons (λ d. one_if (eqb d c)) (found + 1) x.drawn in let gg = ap (λ (n : ℕ). once n c) g in
                 let more = once_more found (found + 1) c refl in omega arith;
-            counts = omega arith;
+            counts = let b = d.counts in omega arith;
             all = λ some_told. absurd (omega arith);
-            unused = λ n low high. given_else x.number r.phase (λ a b. omega (arith, low, b))
+            unused = λ n low high. ⊎_elim (λ t. absurd (omega (arith, low, t.1))) (λ t. t.1) (given_either lo hi x.number r.phase n)
                 ∙ d.unused n (omega (arith, low, given_numbers, one_more)) high;
-          }
-
-      last_drawn : (c : ℕ) → found + 1 < c → times c ((found + 1) ∷ x.drawn) ≡ 0
-      last_drawn c behind = let first = sum_by-cons (λ d. one_if (eqb d c)) (found + 1) x.drawn in let other = bit_else c (found + 1) (omega (arith, behind)) in
-          let few = chain_few in let same = given_is in let rest = (its_log turn).last c (omega (arith, behind, few, same)) in
-          omega (arith, first, other, rest)
-
-      next_drawn : (carried : List (ℕ × Option Closed)) (slots : ℕ)
-          → Made turn carried draw_place (λ _. found + 1) (DrawTells (step slots draw_place 1 0 none) (v, carried))
-      next_drawn carried slots = drawn_so ((found + 1) ∷ x.drawn) x.no_chains_left v.start.numbers phase'
-          (draw_step _ _ _ phase' idle phases (omega arith) last_drawn r.shape.numbers (omega (arith, one_more))
-          (λ n low high. given_in x.number r.phase (omega (arith, low, one_more)) high) counts) alone carried slots
-          (let g = given_is in let c = chain_few in rw (lt-ltb found v.start.chains more) (untold, omega arith, omega arith, refl))
+          } (rw (lt-ltb found v.start.chains more) (untold, omega arith, omega arith, refl))
 
     -- there are no more
-    module _ (done : v.start.chains ≤ found) where
-      counts' : DrawsCount v.start.chains v.start.numbers r.phase (set st.views id (w x.drawn true x.numbers_left r.phase)) (found + 1)
-      counts' = let w = w x.drawn true x.numbers_left r.phase in let t = sum_set told_of st.views id v w here in
-          let tv = told_v in let u = ap one_if untold in let b = d.counts in let few = d.few in record {
-            given = d.given;
-            few = d.few;
-            each = λ c. let s = sum_set (drawn_of c) st.views id v w here in let e = d.each c in let dv = drawn_v c in omega arith;
-            counts = omega arith;
-            all = λ some_told. dite (ℕ_discrete (sum_by told_of st.views) 0) (λ e. omega (arith, e)) (λ ne. d.all (omega (arith, ne)));
-            unused = d.unused;
-          }
-
-      none_drawn : (carried : List (ℕ × Option Closed)) (slots : ℕ)
-          → Made turn carried draw_place (λ _. found + 1) (DrawTells (step slots draw_place 1 0 none) (v, carried))
-      none_drawn carried slots = let o = its_log turn in let p = ap placing idle in
-          drawn_so x.drawn true x.numbers_left r.phase (draw_step _ _ _ r.phase idle (λ n. inl refl) o.chain o.last o.few_left o.left_inside
-          (λ n low high. o.spares n (omega arith) high) counts') alone carried slots
-          (rw (le-ltb found v.start.chains done) refl)
+    none_drawn : v.start.chains ≤ found → Drawn
+    none_drawn done = let w = w x.drawn true x.numbers_left r.phase in let t = sum_set told_of st.views id v w here in
+        let tv = told_v in let u = ap one_if untold in let b = d.counts in let few = d.few in let o = its_log turn in let p = ap placing idle in
+        drawn_so x.drawn true x.numbers_left r.phase (λ n. inl refl) o.chain o.last o.few_left o.left_inside
+        (λ n low high. o.spares n (omega arith) high) record {
+          given = d.given;
+          few = d.few;
+          each = λ c. let s = sum_set (drawn_of c) st.views id v w here in let e = d.each c in let dv = drawn_v c in omega arith;
+          counts = omega arith;
+          all = λ some_told. dite (ℕ_discrete (sum_by told_of st.views) 0) (λ e. omega (arith, e)) (λ ne. d.all (omega (arith, ne)));
+          unused = d.unused;
+        } (rw (le-ltb found v.start.chains done) refl)
 
 pub draws_keep : DrawsKeep
 draws_keep k slots id i m x has idle untold place = by_turn slots (λ _. Unit {0}) (λ _. draw_place) (λ word. (word + 1) % 2 ^ 64)
     (λ i. DrawTells (step slots i 1 0 none) m) has tt place (λ st r here _ fits. let turn = turn_of m x has.1 id st r here in
     rw (word_is turn) (dite (dec_le (found turn + 1) m.0.start.chains)
-    (λ next. next_drawn turn idle untold (omega (arith, next)) m.1 slots)
-    (λ done. none_drawn turn idle untold (omega (arith, done)) m.1 slots)))
+    (λ next. next_drawn turn idle untold m.1 slots (omega (arith, next)))
+    (λ done. none_drawn turn idle untold m.1 slots (omega (arith, done)))))

@@ -18,7 +18,7 @@ is_number k n = dite (dec_le (suc n) (slots_of k))
     (λ small. inr (λ has. omega (arith, not_slot, small, has))))
 
 -- no pass does anything
-module _ (k : Start) (s : Shared) (r : Agrees k s) (all_idle : (i : ℕ) (u : View) → get_elem? s.views i ≡ some u → u.work ≡ Between Idle) where
+module _ {k : Start} {s : Shared} (r : Agrees k s) (all_idle : (i : ℕ) (u : View) → get_elem? s.views i ≡ some u → u.work ≡ Between Idle) where
   abbrev end : State
   end = state_after_all k r.history
 
@@ -84,7 +84,7 @@ module _ (k : Start) (s : Shared) (r : Agrees k s) (all_idle : (i : ℕ) (u : Vi
       (opens_inside k.plain.value (numbers_for k.chains)) slot (let size = (same_shape k r.history).0 in omega arith)
 
 -- a seat that has all passes
-module _ (k : Start) (s : Shared) (r : Agrees k s) (seat : ℕ) (v : View) (at : get_elem? s.views seat ≡ some v) (all : length v.logs ≡ k.passes) where
+module _ {k : Start} {s : Shared} (r : Agrees k s) (seat : ℕ) {v : View} (at : get_elem? s.views seat ≡ some v) (all : length v.logs ≡ k.passes) where
   pub whole_here : length v.logs ≡ sum_by lengths s.views
   whole_here = all ∙ sym r.whole
 

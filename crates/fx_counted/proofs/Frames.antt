@@ -1,9 +1,9 @@
 -- What a step of one seat leaves as it was.
 use Rattle.fx_counted.proofs.Words.{next_in, end_in, placing, ◌<◌, ◌≤◌, Contains, sum_of, sum_by, ◌≡◌, ◌≢◌, ℕ, ◌+◌, List, [], ◌∷◌, set, sym, refl, ap}
-use Rattle.fx_counted.proofs.Words.{◌∙◌, subst, arith, ⊎_elim, eqb, some, some-injective, get_elem?, at_set, set_here, set_else, File, Event}
-use Rattle.fx_counted.proofs.Words.{numbered, sum_two, sum_set, Does, OwnerAgrees, WorkAgrees, ViewAgrees, Agrees, Shared, logs_of, Phase, spare}
-use Rattle.fx_counted.proofs.Words.{placed, leaving, emptied, owner, file_in, Log, Start, View, Work, Idle, Placing, Holding, Retiring, Emptying}
-use Rattle.fx_counted.proofs.Words.{dite, ℕ_discrete, Between, stands_at, get_or_default, slice_index_or, one_if, bit_here, once_is}
+use Rattle.fx_counted.proofs.Words.{◌∙◌, subst, arith, eqb, some, some-injective, get_elem?, set_here, set_else, File, Event, numbered, sum_two}
+use Rattle.fx_counted.proofs.Words.{sum_set, Does, OwnerAgrees, WorkAgrees, ViewAgrees, Agrees, Shared, logs_of, Phase, spare, placed, leaving}
+use Rattle.fx_counted.proofs.Words.{emptied, owner, file_in, Log, Start, View, Work, Idle, Placing, Holding, Retiring, Emptying, dite, ℕ_discrete}
+use Rattle.fx_counted.proofs.Words.{Between, stands_at, get_or_default, slice_index_or, one_if, bit_here, once_is}
 use Rattle.fx_counted.proofs.Histories.{Grows}
 
 -- the number that a pass alone works with, plus 1, or 0
@@ -53,8 +53,8 @@ pub of_one : (f : Log → ℕ) {l : List Log} {x : Log} → l ≡ x ∷ [] → s
 of_one f {l} {x} one = let e : sum_by f l ≡ 0 + f x = ap (sum_by f) one in omega arith
 
 -- a total over all passes, where the one pass of a seat counts for as much as before
-pub total_same : (f : Log → ℕ) (views : List View) (id : ℕ) {v : View} (w : View) {x y : Log} → get_elem? views id ≡ some v → v.logs ≡ x ∷ [] → w.logs ≡ y ∷ []
-    → f y ≡ f x → sum_by (λ (u : View). sum_by f u.logs) (set views id w) ≡ sum_by (λ (u : View). sum_by f u.logs) views
+pub total_same : (f : Log → ℕ) (views : List View) (id : ℕ) {v : View} (w : View) {x y : Log} → get_elem? views id ≡ some v → v.logs ≡ x ∷ []
+    → w.logs ≡ y ∷ [] → f y ≡ f x → sum_by (λ (u : View). sum_by f u.logs) (set views id w) ≡ sum_by (λ (u : View). sum_by f u.logs) views
 total_same f views id {v} w here one one' same = let t = sum_set (λ (u : View). sum_by f u.logs) views id v w here in
     let a = of_one f one in let b = of_one f one' in omega arith
 
@@ -70,13 +70,6 @@ not_there {k} {st} r {id} {j} {v} {u} {x} here one other there y at same =
     let e = sum_of (λ z. one_if (eqb z.number x.number)) u.logs y at in
     let f = bit_here x.number y.number same in
     omega (arith, once_is k.passes x.number)
-
--- each view after a step of the view id
-pub views_after : (P : ℕ → View → Type 0) (views : List View) {id : ℕ} {w : View} → P id w
-    → ((j : ℕ) (u : View) → j ≢ id → get_elem? views j ≡ some u → P j u)
-    → (j : ℕ) (u : View) → get_elem? (set views id w) j ≡ some u → P j u
-views_after P views {id} {w} mine others j u e = ⊎_elim (λ (t : (j ≡ id) × (w ≡ u)). subst (λ (z : ℕ × View). P z.0 z.1) (λ i. (sym t.0 i, t.1 i)) mine)
-    (λ (t : (j ≢ id) × (get_elem? views j ≡ some u)). others j u t.0 t.1) (at_set views id j w u e)
 
 -- what is read where an element stands
 pub read_at : {A : Type 0} (xs : List A) (i : ℕ) {v : A} (d : A) → get_elem? xs i ≡ some v → slice_index_or xs i d ≡ v

@@ -67,11 +67,11 @@ turned_counts at range s old new Outside was (inr outside) =
 turned_counts at range s old new _ was (inl inside) = absurd (cc inside.1)
 turned_counts at range s old new _ was (inr outside) = absurd (cc outside.1)
 
-pub control_swap : (at : ℕ → Option File) (range : ℕ × ℕ) (views : List View) (id : ℕ) (v w : View) (word s : ℕ) (old new : Option File)
-    → get_elem? views id ≡ some v → at s ≡ old → Stands range s v.change
+pub control_swap : (at : ℕ → Option File) {range : ℕ × ℕ} {views : List View} (id : ℕ) {v : View} (w : View) {word : ℕ} (s : ℕ)
+    (old new : Option File) → get_elem? views id ≡ some v → at s ≡ old → Stands range s v.change
     → w.change ≡ turned v.change (if_full old) (if_full new) → ControlCounts at range views word
     → ControlCounts (changed_at at s new) range (set views id w) word
-control_swap at range views id v w word s old new here was stands is ok =
+control_swap at {range} {views} id {v} w s old new here was stands is ok =
     let a = sum_set changes_of views id v w here in let b = sum_set added_of views id v w here in let c = sum_set removed_of views id v w here in
     let turn = turned_counts at range s old new v.change was stands in
     let d = ap in_change is in let e = ap added is in let f = ap removed_by is in

@@ -2,7 +2,7 @@
 use Rattle.fx_counted.proofs.Words.{◌≡◌, ◌≤◌, ℕ, ◌+◌, ◌*◌, List, [], ◌∷◌, inl, sym, ap, ◌∙◌, subst, arith, Some, TableId, ◌▷◌, Action, Close, Use}
 use Rattle.fx_counted.proofs.Words.{no_use, Adds, IsFront, File, Goes, HasPlace, HasPass, place_of, Sat, opening_of, pass_of, doing_in, chain_in}
 use Rattle.fx_counted.proofs.Words.{first_log, view_of, is_idle, IsPassOf, IsInside, Stepped, TakesOut, LetsGo, CountedPass, Change, Outside, Log}
-use Rattle.fx_counted.proofs.Words.{Start, Work, Idle, Emptying, ◌▷▷◌, both_uses, IsAtWork, IsBetweenCalls, Between, steps_of, HasOnePass}
+use Rattle.fx_counted.proofs.Words.{Start, Work, Idle, Emptying, ◌▷▷◌, both_uses, IsAtWork, IsBetweenCalls, Between, steps_of}
 use Rattle.fx_table.proofs.Calls.{adds_then}
 use Rattle.fx_table.specs.declared.values.Doing.{Doing}
 
@@ -50,27 +50,6 @@ module _ {id : TableId} {k : Start} {p : CountedPass} (q : CountedPass) (fits : 
   numbers = let e = goes.adds.numbers_left in let f = ap (λ (x : Log). x.numbers_left) new_is in
       let g = ap (λ (x : Log). x.numbers_left) old_is in omega arith
 
-  looks_now : new.looks_left + a.looks ≡ old.looks_left
-  looks_now = let e = goes.adds.looks_left in let f = ap (λ (x : Log). x.looks_left) new_is in
-      let g = ap (λ (x : Log). x.looks_left) old_is in omega arith
-
-  seated_now : IsBetweenCalls w → HasOnePass k q.seat.me.0 new
-  seated_now rests = let s = fits.seated in let chains = s.chain in let few = s.few_left in let inside = s.left_inside in
-      let e = same_chain in let l = numbers in let f = ap (λ (c : ℕ). k.numbers * c) same_chain in
-      let chain : chain_in new ≤ k.chains = omega arith in let few_left : new.numbers_left ≤ 64 = omega arith in
-      let left_inside : new.numbers_left ≤ k.numbers * chain_in new = omega arith in
-      assumption (
-        goes.one.1,
-        goes.start ∙ s.start,
-        rw fits.seated.start at goes.adds.front,
-        subst IsBetweenCalls (sym goes.work) rests,
-        subst (λ (z : Start × Work). IsInside z.0 z.1) (λ i. (s.start i, sym goes.work i)) goes.inside,
-        goes.change,
-        chain,
-        few_left,
-        left_inside,
-      )
-
   -- a pass that knows what it has used up
   pub still_pass : q.seat.table_id ≡ p.seat.table_id → q.seat.me.1 ≡ [] → IsBetweenCalls w → q.chain ≡ p.chain
       → q.no_chains_left ≡ p.no_chains_left → q.numbers_left + a.numbers ≡ p.numbers_left → q.looks_left + a.looks ≡ p.looks_left
@@ -79,13 +58,28 @@ module _ {id : TableId} {k : Start} {p : CountedPass} (q : CountedPass) (fits : 
     table = table ∙ fits.table;
     places = places;
     log = new;
-    seated = seated_now rests;
+    seated = let s = fits.seated in let chains = s.chain in let few = s.few_left in let inside = s.left_inside in
+        let e = same_chain in let l = numbers in let f = ap (λ (c : ℕ). k.numbers * c) same_chain in
+        let chain : chain_in new ≤ k.chains = omega arith in let few_left : new.numbers_left ≤ 64 = omega arith in
+        let left_inside : new.numbers_left ≤ k.numbers * chain_in new = omega arith in
+        assumption (
+          goes.one.1,
+          goes.start ∙ s.start,
+          rw fits.seated.start at goes.adds.front,
+          subst IsBetweenCalls (sym goes.work) rests,
+          subst (λ (z : Start × Work). IsInside z.0 z.1) (λ i. (s.start i, sym goes.work i)) goes.inside,
+          goes.change,
+          chain,
+          few_left,
+          left_inside,
+        );
     knows = let o = fits.knows in record {
       chain = chain ∙ (o.chain ∙ sym same_chain);
       no_chains_left = told ∙ (o.no_chains_left
           ∙ sym (sym (ap (λ (x : Log). x.no_chains_left) new_is) ∙ (goes.adds.no_chains_left ∙ ap (λ (x : Log). x.no_chains_left) old_is)));
       numbers_left = let e = numbers in let f = o.numbers_left in omega arith;
-      looks_left = let e = looks_now in let f = o.looks_left in omega arith;
+      looks_left = let e = goes.adds.looks_left in let f = ap (λ (x : Log). x.looks_left) new_is in
+          let g = ap (λ (x : Log). x.looks_left) old_is in let left = o.looks_left in omega arith;
       idle = idle ∙ ap is_idle (sym goes.work);
     };
   }

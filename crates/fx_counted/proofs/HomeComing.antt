@@ -82,7 +82,7 @@ module _ (size : ℕ) (words : List ℕ) where
         (λ ne. still_none (number_at s) (emptied s xs) (home_place size n) (gone s slot n (omega (arith, ne)) (omega arith) is))
 
     pub all_gone : {place : ℕ} → place < length xs → get_elem? (emptied size xs) place ≡ some None
-    all_gone {place} l = go (get_or xs place None) (at_index xs place (get_or xs place None) l (get_or_default xs place None (get_or xs place None) l))
+    all_gone {place} l = let x = get_or xs place None in go x (at_index xs place x l (get_or_default xs place None x l))
       where
         go : (x : Option Closed) → get_elem? xs place ≡ some x → get_elem? (emptied size xs) place ≡ some None
         go None e = none_stays size xs place e

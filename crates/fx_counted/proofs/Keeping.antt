@@ -6,10 +6,10 @@ use Rattle.fx_counted.proofs.Words.{LogAgrees, ViewAgrees, lengths, Agrees, Cont
 use Rattle.fx_counted.proofs.Words.{slot_place, node_place, home_place, Shared, opening_of, slots_of, IsNumber, state_after_all, Sat, shown}
 use Rattle.fx_counted.proofs.Words.{first_log, logs_of, looks_of, held_of, Phase, IsInside, Stepped, Change, Log, View, Work, stepped, Act, Valid}
 use Rattle.fx_counted.proofs.Words.{carried_after, HasPass, held_by, held_in, PlacesNext, placing, next_in, end_in, spare, HasShape, Start, no_use}
-use Rattle.fx_counted.proofs.Words.{◌▷◌, IsSeenBy, ◌*◌, chain_in, one_if, Allows, IsSeated, ◌≢◌, Between, Holding, file_in}
+use Rattle.fx_counted.proofs.Words.{◌▷◌, IsSeenBy, ◌*◌, chain_in, one_if, Allows, IsSeated, ◌≢◌, Between, Holding, file_in, at_set, ⊎_elim}
 use mathlib.Core.Option as maybe
 use Rattle.fx_counted.proofs.Histories.{Grows, IsHistory, grows_none, grows_one, part_mine}
-use Rattle.fx_counted.proofs.Frames.{Stays, view_stays, not_there, views_after, of_one, total_same}
+use Rattle.fx_counted.proofs.Frames.{Stays, view_stays, not_there, of_one, total_same}
 
 abbrev pub Homes : Type 0
 Homes = List (maybe.Option (Option Closed))
@@ -63,13 +63,14 @@ Made turn carried i f told = (w : View) × (a : Act (Option Closed)) × Valid tu
     × told (word_at turn.st.words i) (w, carried_after carried a)
 
 -- a law whose premises are those of the seat's own beginning and of the word's own place
-pub by_turn : {k : Start} (slots : ℕ) {id i : ℕ} {m : Sat} {x : Log} (P : Start → Type 0) (place : Start → ℕ) (f : ℕ → ℕ) (told : ℕ → ℕ → Sat → Type 0)
-    (has : HasPass k m x) → P k → i ≡ place k
+pub by_turn : {k : Start} (slots : ℕ) {id i : ℕ} {m : Sat} {x : Log} (P : Start → Type 0) (place : Start → ℕ) (f : ℕ → ℕ)
+    (told : ℕ → ℕ → Sat → Type 0) (has : HasPass k m x) → P k → i ≡ place k
     → ((st : Shared) (r : Agrees m.0.start st) (here : get_elem? st.views id ≡ some m.0) → P m.0.start
     → word_at st.words (place m.0.start) < 18446744073709551616
     → Made (turn_of m x has.1 id st r here) m.1 (place m.0.start) f (told (place m.0.start)))
     → Allows (Agrees k) slots id m i f (told i)
-by_turn {k} slots {id} {i} {m} P place f told has its at does = subst (λ (k : Start). P k → i ≡ place k → Allows (Agrees k) slots id m i f (told i)) has.0
+by_turn {k} slots {id} {i} {m} P place f told has its at does =
+    subst (λ (k : Start). P k → i ≡ place k → Allows (Agrees k) slots id m i f (told i)) has.0
     (λ its at. subst (λ (i : ℕ). Allows (Agrees m.0.start) slots id m i f (told i)) (sym at) (λ st r deep here fits. does st r here its fits)) its at
 
 module _ (turn : Turn) where
@@ -131,14 +132,15 @@ module _ (turn : Turn) where
       each_node = s.nodes;
       each_owner = s.owners;
       no_other = s.no_other;
-      each_view = views_after (ViewAgrees v.start h' phase') st.views record {
-        logs = λ z h. subst (LogAgrees v.start h' phase' d) (sym (contains_only y z h)) s.log;
-        work = s.work;
-        empty = λ none. absurd (omega (arith, ap (length {A = Log}) none));
-        start = inr refl;
-      }
-          (λ j u other there. view_stays id x.number j other r.phase phase' s.stays s.grows (not_there r here one other there)
-          (λ f is. s.keeps j u f other there is) (r.each_view j u there));
+      each_view = λ j u e. ⊎_elim (λ (t : (j ≡ id) × (now v y d c ≡ u)).
+          subst (λ (z : ℕ × View). ViewAgrees v.start h' phase' z.0 z.1) (λ i. (sym t.0 i, t.1 i)) record {
+            logs = λ z h. subst (LogAgrees v.start h' phase' d) (sym (contains_only y z h)) s.log;
+            work = s.work;
+            empty = λ none. absurd (omega (arith, ap (length {A = Log}) none));
+            start = inr refl;
+          }) (λ (t : (j ≢ id) × (get_elem? st.views j ≡ some u)).
+          view_stays id x.number j t.0 r.phase phase' s.stays s.grows (not_there r here one t.0 t.1) (λ f is. s.keeps j u f t.0 t.1 is)
+          (r.each_view j u t.1)) (at_set st.views id j (now v y d c) u e);
       holds = λ n. let t = sum_set (held_of n) st.views id v (now v y d c) here in let a = r.holds n in let b = s.holds n in omega arith;
       look_ups = let t = sum_set looks_of st.views id v (now v y d c) here in let a = r.look_ups in
           let b = s.look_ups in let e = of_one (λ z. z.looks_left) one in omega arith;
@@ -176,10 +178,10 @@ module _ (turn : Turn) where
   -- a step that takes no action, and one that takes this one
   pub tells_none : (carried homes : List (ℕ × Option Closed)) {d : Work} (c : Change) → IsInside v.start d
       → Stepped (v, carried) [] no_use d c (went r.history d c, homes)
-  tells_none carried homes {d} c = tells carried homes r.history x.numbers_left x.looks_left d c [] no_use (grows_none x.number r.history) r.legal refl
-      (omega arith) (omega arith)
+  tells_none carried homes {d} c = tells carried homes r.history x.numbers_left x.looks_left d c [] no_use
+      (grows_none x.number r.history) r.legal refl (omega arith) (omega arith)
 
   pub tells_one : {a : Action} → IsHistory v.start (event_of (shown x v.work) a ∷ r.history) → (carried homes : List (ℕ × Option Closed)) {d : Work}
       (c : Change) → IsInside v.start d → Stepped (v, carried) ([] ▷ a) no_use d c (went (event_of (shown x v.work) a ∷ r.history) d c, homes)
-  tells_one {a} legal carried homes {d} c = tells carried homes (event_of (shown x v.work) a ∷ r.history) x.numbers_left x.looks_left d c ([] ▷ a) no_use
-      (grows_one x.number r.history _ refl) legal (part_mine r.history refl) (omega arith) (omega arith)
+  tells_one {a} legal carried homes {d} c = tells carried homes (event_of (shown x v.work) a ∷ r.history) x.numbers_left x.looks_left d c
+      ([] ▷ a) no_use (grows_one x.number r.history _ refl) legal (part_mine r.history refl) (omega arith) (omega arith)

@@ -3,7 +3,7 @@ use Rattle.fx_counted.proofs.Words.{◌≡◌, ◌≢◌, ℕ, ◌+◌, ◌-◌,
 use Rattle.fx_counted.proofs.Words.{Some, None, some, none, keeps, takes, set_here, set_else, Closed, ◌▷◌, State, File, Event, Close, Action, no_use}
 use Rattle.fx_counted.proofs.Words.{event_of, sum_two, held_by, part_of_pass, NodeAgrees, OwnerAgrees, looks, word_of, place_of, IsNumber}
 use Rattle.fx_counted.proofs.Words.{state_after_all, shown, end_in, next_in, placing, held_of, holding, Phase, spare, emptied, file_in, changed_at}
-use Rattle.fx_counted.proofs.Words.{TakesOut, LetsGo, Sat, Idle, Holding, Emptying, Between, changed_here, changed_else, length-set}
+use Rattle.fx_counted.proofs.Words.{TakesOut, LetsGo, Sat, Idle, Holding, Emptying, Between, changed_here, changed_else, length-set, all_looks}
 use Rattle.fx_counted.proofs.Steps.{busy, does_now, Grows, IsHistory, grows_more, legal_more, held_mine, part_mine, each_changed, looks_few, Homes}
 use Rattle.fx_counted.proofs.Steps.{MayTurn, Turn, its_log, tells, Made, went, OneNumber, NodeStep, node_agrees}
 use Rattle.fx_counted.proofs.Births.{word_now, home_now, roomy, else_place}
@@ -51,7 +51,8 @@ module _ (turn : Turn) (f : File) (its : IsNumber turn.v.start f.number) (h₁ :
 
     -- the file stays open
     pub stays_open : (ph : Phase) → MayTurn turn q ph → file_in ph ≡ file_in (r.phase q)
-        → NodeAgrees now q (looks r.history q) less (home_now turn q) ph → OwnerAgrees (set st.views id (went turn h₁ (Between Idle) v.change)) q ph → (told : ℕ → Sat → Type 0)
+        → NodeAgrees now q (looks r.history q) less (home_now turn q) ph
+        → OwnerAgrees (set st.views id (went turn h₁ (Between Idle) v.change)) q ph → (told : ℕ → Sat → Type 0)
         → told (word_now turn q) (went turn h₁ (Between Idle) v.change, carried) → Made turn carried (word_of v.start q) minus told
     stays_open ph may same node known told tells_so =
         let step : NodeStep turn q its less st.homes h₁ ph (Between Idle) = assumption (spares_stay ph) in
@@ -86,15 +87,9 @@ module _ (turn : Turn) (f : File) (its : IsNumber turn.v.start f.number) (h₁ :
           let step : NodeStep turn q its less homes' h₂ (emptied id) (Emptying q) = record {
             grows = grows₂;
             legal = legal₂;
-            told = record {
-              at = g.told.at;
-              size = g.told.size;
-              fresh = g.told.fresh;
-              looked = g.told.looked;
-              all = let a = g.told.all in omega arith;
-              removed = λ m other. changed_else now.removed q None m other ∙ g.told.removed m other;
-              holds = g.told.holds;
-            };
+            told = let all : all_looks h₂ ≡ all_looks r.history = omega (arith, g.told.all) in
+                let removed : (m : ℕ) → m ≢ q → (state_after_all v.start h₂).removed m ≡ (state_after_all v.start r.history).removed m =
+                λ m other. changed_else now.removed q None m other ∙ g.told.removed m other in assumption (g.told, all, removed);
             homes = length-set st.homes (place_of v.start q) none;
             home_else = λ m has other. set_else st.homes (place_of v.start q) (place_of v.start m) none (else_place turn its has other);
             may = may;

@@ -42,9 +42,6 @@ module _ (k : Start) (words : List ℕ) (homes : List (Option Closed)) (o : Open
   its_number : (slot : ℕ) (f : File) → first_file k slot ≡ Some f → f.number ≡ slot
   its_number slot f is = numbered_anew ((state_of (opening_of k).contents).at slot) slot f is
 
-  its_phase : {slot : ℕ} → slot < slots_of k → {f : File} → first_file k slot ≡ Some f → first_phase k f.number ≡ seated slot f.identity
-  its_phase {slot} l {f} is = ap (first_phase k) (its_number slot f is) ∙ (low_phase l ∙ ap (phase_for slot) is)
-
   slot_opens : (slot : ℕ) → slot < slots_of k → SlotAgrees k [] (first_phase k) slot (slice_index words (slot_place slot))
   slot_opens slot l = record {
     names = rw (o.slot_words slot l) (names (first_file k slot) refl);
@@ -62,10 +59,8 @@ module _ (k : Start) (words : List ℕ) (homes : List (Option Closed)) (o : Open
 
       seat : (found : Option File) → first_file k slot ≡ found → IsSeated k (λ _. 0) (first_phase k) slot (word_for found) found
       seat None is = tt
-      seat (Some f) is = (inl (let e = its_number slot f is in omega arith), takes_made f.number f.identity.entry, its_phase l is)
-
-  home_is : (n : ℕ) (x : Option Closed) → get_elem? homes (place_of k n) ≡ some x → get_elem? (map some homes) (place_of k n) ≡ some (some x)
-  home_is n x e = at_map some homes (place_of k n) x e
+      seat (Some f) is = let e = its_number slot f is in
+          (inl (omega arith), takes_made f.number f.identity.entry, ap (first_phase k) e ∙ (low_phase l ∙ ap (phase_for slot) is))
 
   abbrev Node : ℕ → Phase → Type 0
   Node n ph = NodeAgrees s n 0 (slice_index words (word_of k n)) (get_elem? (map some homes) (place_of k n)) ph
@@ -74,7 +69,7 @@ module _ (k : Start) (words : List ℕ) (homes : List (Option Closed)) (o : Open
   node_opens n has = ⊎_elim (λ (l : n < slots_of k). subst (Node n) (sym (low_phase l)) (low n l (first_file k n) refl))
       (λ (h : (256 ≤ n) × (n < 256 + chain_numbers k)). let few = o.slots in subst (Node n) (sym (high_phase (omega arith))) record {
         counts = o.fresh_words n h.0 h.1;
-        at_home = home_is n None (o.fresh_places n h.0 h.1);
+        at_home = at_map some homes (place_of k n) None (o.fresh_places n h.0 h.1);
         fresh = λ i. not (le-ltb n (slots_of k) (let f = o.slots in let a = h.0 in
             omega arith) i) && lt-ltb n (numbers_for k.chains) (let a = h.1 in let b = fewer_numbers k.chains o.numbers in omega (arith, a, b)) i;
         no_looks = refl;
@@ -84,10 +79,13 @@ module _ (k : Start) (words : List ℕ) (homes : List (Option Closed)) (o : Open
       has
     where
       low : (n : ℕ) → n < slots_of k → (found : Option File) → first_file k n ≡ found → Node n (phase_for n found)
-      low n l None is = assumption (o.node_words n l ∙ ap node_for is, home_is n None (o.files n l ∙ ap (λ (f : Option File). some (home_for f)) is))
+      low n l None is = assumption (
+        o.node_words n l ∙ ap node_for is,
+        at_map some homes (place_of k n) None (o.files n l ∙ ap (λ (f : Option File). some (home_for f)) is),
+      )
       low n l (Some f) is = let w : slice_index words (word_of k n) ≡ born = o.node_words n l ∙ ap node_for is in record {
         counts = omega arith;
-        at_home = home_is n (Some f.identity) (o.files n l ∙ ap (λ (f : Option File). some (home_for f)) is);
+        at_home = at_map some homes (place_of k n) (Some f.identity) (o.files n l ∙ ap (λ (f : Option File). some (home_for f)) is);
         inside = l;
         there = is ∙ ap (λ (m : ℕ). Some (numbered m f.identity)) (its_number n f is);
         not_removed = refl;

@@ -3,7 +3,7 @@ use Rattle.fx_counted.proofs.Words.{◌≡◌, ◌≢◌, ℕ, ◌+◌, ◌-◌,
 use Rattle.fx_counted.proofs.Words.{dite, some, none, ℕ_discrete, step, Closed, ◌▷◌, State, numbered, File, Event, Release, event_of, sum_at}
 use Rattle.fx_counted.proofs.Words.{NodeAgrees, WorkAgrees, looks, word_of, IsNumber, state_after_all, shown, held_in, placing, held_of, holding}
 use Rattle.fx_counted.proofs.Words.{Phase, seated, leaving, retired, file_in, Idle, Holding, eqb, ReleasesKeep, Releases, inr, inl, Between}
-use Rattle.fx_counted.proofs.Words.{changed_here, changed_else, one_if, one_less_at}
+use Rattle.fx_counted.proofs.Words.{changed_here, changed_else, one_if, one_less_at, born}
 use Rattle.fx_counted.proofs.Steps.{in_phase, busy, owner_stays, grows_one, legal_more, held_mine, part_mine, Turn, turn_of, its_log, its_work}
 use Rattle.fx_counted.proofs.Steps.{by_turn, Made, went}
 use Rattle.fx_counted.proofs.Births.{word_now, home_now}
@@ -44,7 +44,8 @@ module _ (turn : Turn) (f : File) (works : turn.v.work ≡ Between (Holding f)) 
     grows = grows_one x.number r.history _ refl;
     legal = legal_more v.start r.legal held_now ((its_log turn).held ∙ ap held_in works);
     own = part_mine r.history refl;
-    told = record { at = refl; size = refl; fresh = refl; looked = refl; all = omega arith; removed = λ m other. refl; holds = changed_else old.holds q _ };
+    told = let holds : (n : ℕ) → n ≢ q → new.holds n ≡ old.holds n = changed_else old.holds q _ in
+        record { at = refl; size = refl; fresh = refl; looked = refl; all = omega arith; removed = λ m other. refl; holds = holds };
     held = held_mine (event_of (shown x v.work) (Release f)) r.history refl;
     holds = λ m. let w : held_of m v ≡ one_if (eqb q m) = ap (holding m) works in let e = one_less_at old.holds q m held_now in omega arith;
     free = λ m other bad. let b = ap busy works in omega arith;
@@ -59,16 +60,12 @@ module _ (turn : Turn) (f : File) (works : turn.v.work ≡ Between (Holding f)) 
       × (old.removed q ≡ Some f) × (new.holds q ≡ 0))
   by_phase fits (seated s g) is has = let n = in_phase v.start st r mine.0 is in let a = n.counts in
       let c = few_looks turn q in let h = held_now in let z = one_less in
-      let e : minus word ≡ word - 1 = sub_wraps (omega arith) fits (omega arith) in inl (
-        λ last. omega arith,
-        record { counts = omega arith; at_home = n.at_home; inside = n.inside; there = n.there; not_removed = n.not_removed },
-      )
+      let e : minus word ≡ word - 1 = sub_wraps (omega arith) fits (omega arith) in
+      let counts : minus word + looks r.history q ≡ born + new.holds q = omega arith in inl (λ last. omega arith, assumption (n, counts))
   by_phase fits (leaving j t g) is has = let n = in_phase v.start st r mine.0 is in let a = n.counts in
       let c = few_looks turn q in let h = held_now in let z = one_less in
-      let e : minus word ≡ word - 1 = sub_wraps (omega arith) fits (omega arith) in inl (
-        λ last. omega arith,
-        record { counts = omega arith; at_home = n.at_home; all_takes = n.all_takes; removed = n.removed },
-      )
+      let e : minus word ≡ word - 1 = sub_wraps (omega arith) fits (omega arith) in
+      let counts : minus word + looks r.history q ≡ born + new.holds q = omega arith in inl (λ last. omega arith, assumption (n, counts))
   by_phase fits (retired g) is has = let n = in_phase v.start st r mine.0 is in let a = n.counts in
       let b = n.some_hold in let h = held_now in let z = one_less in let same : g ≡ f.identity = cc has in
       let e : minus word ≡ word - 1 = sub_wraps (omega arith) fits (omega arith) in

@@ -1,8 +1,8 @@
 -- A seat is split off, and one is joined back.
 use Rattle.fx_counted.proofs.Words.{◌≡◌, ℕ, List, length, sym, refl, ap, ◌∙◌, subst, arith, ⊎_elim, length-append, sum_by, sum_by-append, eqb}
-use Rattle.fx_counted.proofs.Words.{WorkAgrees, LogAgrees, ViewAgrees, Agrees, in_change, added, removed_by, Shared, holding, Outside, Log, Start}
-use Rattle.fx_counted.proofs.Words.{View, Work, Idle, Change, SplitsKeep, JoinsKeep, Between, together, spent, one_if, times}
-use Rattle.fx_table.proofs.Seats.{IsAnew, AreReseated, split, joined}
+use Rattle.fx_counted.proofs.Words.{WorkAgrees, LogAgrees, Agrees, in_change, added, removed_by, Shared, holding, Outside, Log, Start, View, Work}
+use Rattle.fx_counted.proofs.Words.{Idle, Change, SplitsKeep, JoinsKeep, Between, together, spent, one_if, times}
+use Rattle.fx_table.proofs.Seats.{AreReseated, split, joined}
 use Rattle.fx_counted.proofs.Frames.{busy, owner_map}
 use Rattle.fx_counted.proofs.Keeping.{shape_kept}
 
@@ -18,15 +18,6 @@ start v = v.start
 
 -- the rule holds where passes are in other seats that do nothing
 module _ (k : Start) (s : Shared) (r : Agrees k s) (views : List View) (a : AreReseated logs start k IsIdle s.views views) where
-  new_view : (j : ℕ) {u : View} → IsAnew logs start k IsIdle s.views u → ViewAgrees k r.history r.phase j u
-  new_view j new = record {
-    logs = λ x h. let w = new.its x h in
-        subst (λ (d : Work). LogAgrees k r.history r.phase d x) (w.3.0 ∙ sym new.idle.0) ((r.each_view w.0 w.1 w.2).logs x w.4);
-    work = subst (WorkAgrees k r.phase j) (sym new.idle.0) tt;
-    empty = λ _. new.idle;
-    start = new.begun;
-  }
-
   by_log : (f : Log → ℕ) → sum_by (λ (u : View). sum_by f u.logs) views ≡ sum_by (λ (u : View). sum_by f u.logs) s.views
   by_log f = a.by_logs (sum_by f) refl (λ xs ys. sum_by-append f xs ys)
 
@@ -44,7 +35,13 @@ module _ (k : Start) (s : Shared) (r : Agrees k s) (views : List View) (a : AreR
     each_owner = λ n has. owner_map s.views views n (λ j d is o.
         (o.0, a.others j o.0 o.1 (λ idle. let e : busy d ≡ 0 = ap busy (sym o.2 ∙ idle.0) in omega arith), o.2)) (r.phase n) (r.each_owner n has);
     no_other = r.no_other;
-    each_view = λ j u e. ⊎_elim (λ new. new_view j new) (λ old. r.each_view j u old) (a.each j u e);
+    each_view = λ j u e. ⊎_elim (λ new. record {
+      logs = λ x h. let w = new.its x h in
+          subst (λ (d : Work). LogAgrees k r.history r.phase d x) (w.3.0 ∙ sym new.idle.0) ((r.each_view w.0 w.1 w.2).logs x w.4);
+      work = subst (WorkAgrees k r.phase j) (sym new.idle.0) tt;
+      empty = λ _. new.idle;
+      start = new.begun;
+    }) (λ old. r.each_view j u old) (a.each j u e);
     holds = λ n. r.holds n ∙ sym (a.by_work (λ u. holding n u.work) (λ u idle. ap (holding n) idle.0));
     look_ups = let b = by_log (λ y. y.looks_left) in let c = r.look_ups in omega arith;
     passes = λ p. by_log (λ y. one_if (eqb y.number p)) ∙ r.passes p;

@@ -19,7 +19,7 @@ may_observe slots id i {me} start s r wide at small = (
 )
 
 module _ (id : TableId) (k : Start) (p : CountedPass) (fits : IsPassOf id k p) (idle : (view_of p).doing ≡ Idle) (alone : k.passes ≡ 1)
-    (s : Shared) (r : Agrees k s) (seat : ℕ) (at : get_elem? s.views seat ≡ some p.seat.me.0) where
+    {s : Shared} (r : Agrees k s) (seat : ℕ) (at : get_elem? s.views seat ≡ some p.seat.me.0) where
   work : p.seat.me.0.work ≡ Between Idle
   work = its_doing fits idle
 
@@ -31,5 +31,5 @@ module _ (id : TableId) (k : Start) (p : CountedPass) (fits : IsPassOf id k p) (
 
   pub settles : IsSettledSoFar (opening_of k) (view_of p)
   settles = settles_whole (opening_of k) (view_of p) r.history
-      (whole id k (p ∷ []) only (sym alone) s r seat p.seat.me.0 at all_its work (omega (arith, alone))) fits.seated.front
-      ((known id k (p ∷ []) only (sym alone) s r seat p.seat.me.0 at all_its work p (contains_head p [])).held ∙ ap held_in work)
+      (whole id k (p ∷ []) only (sym alone) r seat at all_its work (omega (arith, alone))) fits.seated.front
+      ((known id k (p ∷ []) only (sym alone) r seat at all_its work p (contains_head p [])).held ∙ ap held_in work)

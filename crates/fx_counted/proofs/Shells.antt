@@ -62,9 +62,3 @@ module _ (shell : State) (file : ℕ → Option Closed) where
       → IsPartlyBack shell file from to st'
   last_back {st} {st'} {from} {to} = one_back (λ s l u. (l, omega arith, λ same. omega arith))
       (λ s ne out. ⊎_elim (λ (l : s < from). inl l) (λ (g : to ≤ s). inr (omega (arith, ne))) out)
-
-  -- a place without a file gives none to its slot
-  pub none_given : {st : State} {slot from to : ℕ} → from ≤ slot → slot < to → file slot ≡ None → IsPartlyBack shell file from to st
-      → Becomes st slot (file slot) st
-  none_given {slot} low high none p = rw none
-      record { size = refl; range = refl; there = ap identity_of (p.away slot low high); others = λ other ne. refl; settled = p.settled }

@@ -1,7 +1,7 @@
 -- What a step on the word of one slot leaves as it was.
-use Rattle.fx_counted.proofs.Words.{◌≡◌, ◌≢◌, ℕ, ◌<◌, ◌≤◌, List, set, length, sym, refl, subst, arith, get_or-set_other, get_or-set_same, dite}
-use Rattle.fx_counted.proofs.Words.{ℕ_discrete, Event, SlotAgrees, ControlCounts, DrawsCount, all_looks, control_place, draw_place, slot_place}
-use Rattle.fx_counted.proofs.Words.{node_place, slots_of, IsNumber, state_after_all, Phase, unborn, Change, Work, File, Option, View}
+use Rattle.fx_counted.proofs.Words.{◌≡◌, ◌≢◌, ℕ, ◌<◌, ◌≤◌, List, set, length, sym, refl, arith, get_or-set_other, get_or-set_same, dite, ℕ_discrete}
+use Rattle.fx_counted.proofs.Words.{Event, SlotAgrees, ControlCounts, DrawsCount, all_looks, control_place, draw_place, slot_place, node_place}
+use Rattle.fx_counted.proofs.Words.{slots_of, IsNumber, state_after_all, Phase, unborn, Change, Work, File, Option, View}
 use Rattle.fx_counted.proofs.Steps.{Turn, Homes, word_at, now, logged, near, far, SameFile, slot_same, draws_same, NodeIn}
 
 module _ (turn : Turn) (s : ℕ) (inside : s < slots_of turn.v.start) (word' : ℕ) where
@@ -31,7 +31,7 @@ module _ (turn : Turn) (s : ℕ) (inside : s < slots_of turn.v.start) (word' : �
 
   pub control_now : {at : ℕ → Option File} {range : ℕ × ℕ} {views : List View} → ControlCounts at range views (word_at st.words control_place)
       → ControlCounts at range views (word_at words_now control_place)
-  control_now {at} {range} {views} = subst (ControlCounts at range views) (sym (read_else control_place (λ same. (far turn).slot_and_control s (sym same))))
+  control_now counts = rw (read_else control_place (λ same. (far turn).slot_and_control s (sym same))) counts
 
   pub draws_now : (h' : List Event) (left looks_left : ℕ) (d : Work) (c : Change) {phase' : ℕ → Phase}
       → ((n : ℕ) → r.phase n ≡ unborn → phase' n ≡ unborn)

@@ -2,7 +2,7 @@
 use Rattle.fx_counted.proofs.Words.{◌≡◌, ℕ, ◌+◌, ◌≤◌, List, sym, refl, ap, ◌∙◌, arith, Option, Some, None, dite, some, dec_le, get_elem?, Closed}
 use Rattle.fx_counted.proofs.Words.{Contents, state_of, State, file_numbered, identity_of, File, IsGivenBack, MAX_CHAINS, chain_numbers}
 use Rattle.fx_counted.proofs.Words.{AreFirstWords, AreFirstHomes, home_place, homes_for, home_for, OpensWith, IsShellOf, AreBack, file_in_place}
-use Rattle.fx_counted.proofs.Words.{Start, MAX_PASSES, get_or-eq_default}
+use Rattle.fx_counted.proofs.Words.{Start, MAX_PASSES, get_or-eq_default, ◌<◌, first_file, node_place, slice_index}
 use Rattle.fx_counted.proofs.Places.{high_node, low_home, high_home}
 use Rattle.fx_counted.proofs.Frames.{read_at}
 use Rattle.fx_counted.proofs.Shells.{none_outside}
@@ -17,25 +17,17 @@ module _ (k : Start) (words : List ℕ) (homes : List (Option Closed)) where
 
   pub opens_with : st.size ≤ 256 → st.range.0 + st.range.1 ≤ st.size → k.chains ≤ MAX_CHAINS → k.passes ≤ MAX_PASSES → k.numbers ≤ 64
       → AreFirstWords st (chain_numbers k) words → AreFirstHomes st (chain_numbers k) homes → OpensWith k words homes
-  opens_with few inside chains passes numbers w h = record {
-    slots = few;
-    range = inside;
-    chains = chains;
-    passes = passes;
-    numbers = numbers;
-    entries = λ slot f there. dite (dec_le (slot + 1) st.size)
-        (λ l. w.entries slot f (omega (arith, l)) there) (λ g. let none = none_outside k.plain.value (omega (arith, g)) in
-        let bad : Some f ≡ None = sym there ∙ ap (λ (x : Option File). file_numbered x slot) none in absurd (cc bad));
-    words_length = w.count;
-    homes_length = h.count;
-    control = w.control;
-    draw = w.draw;
-    slot_words = w.slots;
-    node_words = w.nodes;
-    files = λ slot l. ap (get_elem? homes) (low_home st.size l) ∙ (h.files slot l ∙ ap some (home_is (st.at slot) slot));
-    fresh_words = λ n low high. w.fresh _ (let e = high_node st.size n (omega arith) in omega arith);
-    fresh_places = λ n low high. let e = high_home st.size n (omega arith) in h.others (home_place st.size n) (omega arith) (omega arith);
-  }
+  opens_with few inside chains passes numbers w h =
+      let entries : (slot : ℕ) (f : File) → first_file k slot ≡ Some f → f.identity.entry < 256 = λ slot f there. dite (dec_le (slot + 1) st.size)
+      (λ l. w.entries slot f (omega (arith, l)) there) (λ g. let none = none_outside k.plain.value (omega (arith, g)) in
+      let bad : Some f ≡ None = sym there ∙ ap (λ (x : Option File). file_numbered x slot) none in absurd (cc bad)) in
+      let files : (slot : ℕ) → slot < st.size → get_elem? homes (home_place st.size slot) ≡ some (home_for (first_file k slot)) =
+      λ slot l. ap (get_elem? homes) (low_home st.size l) ∙ (h.files slot l ∙ ap some (home_is (st.at slot) slot)) in
+      let fresh : (n : ℕ) → 256 ≤ n → n < 256 + chain_numbers k → slice_index words (node_place st.size n) ≡ 0 =
+      λ n low high. w.fresh _ (let e = high_node st.size n (omega arith) in omega arith) in
+      let empty : (n : ℕ) → 256 ≤ n → n < 256 + chain_numbers k → get_elem? homes (home_place st.size n) ≡ some None =
+      λ n low high. let e = high_home st.size n (omega arith) in h.others (home_place st.size n) (omega arith) (omega arith) in
+      assumption (w, h, entries, files, fresh, empty)
 
 -- the files of the slots came back
 pub given_back : {c : Contents} {numbers : ℕ} {left : State} {homes : List (Option Closed)} {back : Contents} → IsShellOf (state_of c) left

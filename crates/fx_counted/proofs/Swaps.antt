@@ -231,7 +231,7 @@ module _ (turn : Turn) (s : ℕ) (inside : s < slots_of turn.v.start) where
             fewer = omega arith;
             spares = λ n low high. let p = ap placing idle in let q = o.spares n (omega arith) high in (q, not_old q (λ g bad. cc bad));
             none_held = (ap held_in idle, λ n. ap (holding n) idle);
-            control = control_swap state.at (range_of (opening_of v.start)) st.views id v _ _ s old None here was stands refl r.control;
+            control = control_swap state.at id _ s old None here was stands refl r.control;
           }
 
           pub removal_tells : (carried : List (ℕ × Option Closed)) → Stepped (v, carried) ([] ▷ a) no_use d c₀ (removed_view, carried)
@@ -309,13 +309,14 @@ module _ (turn : Turn) (s : ℕ) (inside : s < slots_of turn.v.start) where
                     (λ other. owner_stays st.views id v installed_view here m (λ bad. let b = ap busy works in other (omega arith)) (r.phase m)
                     (r.each_owner m has));
                 fewer = omega arith;
-                spares = λ m low high. let p = ap placing works in let z = next in let few = o.left_inside in let q = o.spares m (omega arith) high in (
-                  each_changed (λ m ph. ph ≡ spare x.number) r.phase
-                      (λ same. let bad : spare x.number ≡ placed id = sym q ∙ (ap r.phase same ∙ its.1) in absurd (cc bad)) (λ other. q),
-                  not_old q (λ g bad. cc bad),
-                );
+                spares = λ m low high. let p = ap placing works in let z = next in let few = o.left_inside in
+                    let q = o.spares m (omega arith) high in (
+                      each_changed (λ m ph. ph ≡ spare x.number) r.phase
+                          (λ same. let bad : spare x.number ≡ placed id = sym q ∙ (ap r.phase same ∙ its.1) in absurd (cc bad)) (λ other. q),
+                      not_old q (λ g bad. cc bad),
+                    );
                 none_held = (ap held_in works, λ m. ap (holding m) works);
-                control = control_swap state.at (range_of (opening_of v.start)) st.views id v _ _ s old (Some (numbered n file)) here was stands refl r.control;
+                control = control_swap state.at id _ s old (Some (numbered n file)) here was stands refl r.control;
               }
 
           pub installation_tells : (carried homes : List (ℕ × Option Closed)) → Stepped (v, carried) ([] ▷ a) one_number d c₁ (installed_view, homes)

@@ -1,9 +1,9 @@
 -- What a step leaves as it was: slots, numbers, the control word and the draw word.
-use Rattle.fx_counted.proofs.Words.{sum_by, ◌≡◌, ℕ, ◌/◌, ◌%◌, ◌≤◌, List, [], ◌∷◌, set, sym, refl, ap, ◌∙◌, arith, Option, Some, None, some, get_elem?}
-use Rattle.fx_counted.proofs.Words.{Closed, State, numbered, File, Event, sum_set, SlotAgrees, Home, NodeAgrees, in_change, added, removed_by}
-use Rattle.fx_counted.proofs.Words.{changes_of, added_of, removed_of, full_in, ControlCounts, looks, all_looks, DrawsCount, state_after_all, told_of}
-use Rattle.fx_counted.proofs.Words.{Phase, unborn, seated, leaving, retired, emptied, closed, Log, Start, View, takes_in, born, ◌<◌, ◌+◌, IsSeated}
-use Rattle.fx_counted.proofs.Words.{IsGone, one_if, times}
+use Rattle.fx_counted.proofs.Words.{sum_by, ◌≡◌, ℕ, ◌≤◌, List, [], ◌∷◌, set, sym, refl, ap, ◌∙◌, arith, Option, Some, None, some, get_elem?, Closed}
+use Rattle.fx_counted.proofs.Words.{State, numbered, File, Event, sum_set, SlotAgrees, Home, NodeAgrees, in_change, added, removed_by, changes_of}
+use Rattle.fx_counted.proofs.Words.{added_of, removed_of, full_in, ControlCounts, looks, all_looks, DrawsCount, state_after_all, told_of, Phase}
+use Rattle.fx_counted.proofs.Words.{unborn, seated, leaving, retired, emptied, closed, Log, Start, View, takes_in, born, ◌<◌, ◌+◌, IsSeated, IsGone}
+use Rattle.fx_counted.proofs.Words.{one_if, times}
 use Rattle.fx_counted.proofs.Frames.{total_same}
 
 module _ (k : Start) (h h' : List Event) (phase phase' : ℕ → Phase) (slot : ℕ) where
@@ -57,18 +57,16 @@ module _ (views : List View) (id : ℕ) (v w : View) (here : get_elem? views id 
   pub control_same : {at at' : ℕ → Option File} {range : ℕ × ℕ} {word word' : ℕ}
       → full_in at' range.0 range.1 ≡ full_in at range.0 range.1 → word' ≡ word → w.change ≡ v.change
       → ControlCounts at range views word → ControlCounts at' range (set views id w) word'
-  control_same {at} {at'} {range} {word} {word'} full same change ok =
+  control_same full same change ok =
       let a = sum_set changes_of views id v w here in let b = sum_set added_of views id v w here in let c = sum_set removed_of views id v w here in
       let d = ap in_change change in let e = ap added change in let f = ap removed_by change in
-      let u = ok.upper in let l = ok.lower in
-      let p : word' / 4294967296 ≡ word / 4294967296 = ap (λ (n : ℕ). n / 4294967296) same in
-      let q : word' % 4294967296 ≡ word % 4294967296 = ap (λ (n : ℕ). n % 4294967296) same in
-      record { upper = omega arith; lower = omega arith }
+      let u = ok.upper in let l = ok.lower in rw same record { upper = omega arith; lower = omega arith }
 
   -- the draw word, where no chain was drawn
   pub draws_same : {chains numbers : ℕ} {phase phase' : ℕ → Phase} {word word' : ℕ} {x y : Log} → v.logs ≡ x ∷ []
       → w.logs ≡ y ∷ [] → y.drawn ≡ x.drawn → y.no_chains_left ≡ x.no_chains_left → word' ≡ word
-      → ((n : ℕ) → phase n ≡ unborn → phase' n ≡ unborn) → DrawsCount chains numbers phase views word → DrawsCount chains numbers phase' (set views id w) word'
+      → ((n : ℕ) → phase n ≡ unborn → phase' n ≡ unborn) → DrawsCount chains numbers phase views word
+      → DrawsCount chains numbers phase' (set views id w) word'
   draws_same one one' drawn told same keeps ok =
       let t : sum_by told_of (set views id w) ≡ sum_by told_of views =
       total_same (λ z. one_if z.no_chains_left) views id w here one one' (ap one_if told) in

@@ -1,7 +1,6 @@
 -- How large the words become.
 use Rattle.fx_counted.proofs.Words.{sum_by, ◌≡◌, ℕ, ◌+◌, ◌≤◌, Option, Some, None, sym, ◌∙◌, subst, arith, File, sum_le_at, node_in, Agrees, Names}
-use Rattle.fx_counted.proofs.Words.{WorkAgrees, lengths, changes_of, looks, all_looks, Shared, looks_of, told_of, Start, Retiring, Between}
-use Rattle.fx_counted.proofs.Words.{IsSeated}
+use Rattle.fx_counted.proofs.Words.{WorkAgrees, lengths, changes_of, looks, all_looks, Shared, looks_of, told_of, Start, Retiring, Between, IsSeated}
 use Rattle.fx_counted.specs.Bounds.{AreBounded, slot_word_in, node_word_in}
 use Rattle.fx_counted.proofs.Chains.{told_few}
 use Rattle.fx_counted.proofs.ControlSteps.{few_changes, few_full, few_added, few_removed}

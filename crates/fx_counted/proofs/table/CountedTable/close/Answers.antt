@@ -19,16 +19,16 @@ pub finish-requires-clause-idle : goal.finish-requires-clause-idle
 finish-requires-clause-idle c s r at =
     let t = c.args.self.table.shared in
     let seat = c.gather-seat in
-    all_idle t.table_id t.key c.args.passes.items (fits (IsPassOfTable c.args.self) view_of c.args.passes.items c.requires.ready) c.requires.all s r
-    seat.result.id seat.result.me.0 at (gathered (λ (p : CountedPass). p.seat.me.0.logs) _ _ _ _ _ c.in-Some.ensures.items
-    (ap (λ z. z.me.0.logs) c.into_seat.ensures) seat.ensures.logs) seat.ensures.seat.work
+    all_idle t.table_id t.key c.args.passes.items (fits (IsPassOfTable c.args.self) view_of c.args.passes.items c.requires.ready) c.requires.all r
+    seat.result.id at (gathered (λ (p : CountedPass). p.seat.me.0.logs) _ _ _ _ _ c.in-Some.ensures.items (ap (λ z. z.me.0.logs) c.into_seat.ensures)
+    seat.ensures.logs) seat.ensures.seat.work
 
 pub returns : goal.returns
 returns c =
     let t = c.args.self.table.shared in
     let seat = c.gather-seat in
     let f = c.finish.ensures in
-    closes t.table_id t.key c.args.passes.items (fits (IsPassOfTable c.args.self) view_of c.args.passes.items c.requires.ready) c.requires.all f.last
-    f.rule seat.result.id seat.result.me.0 f.view (gathered (λ (p : CountedPass). p.seat.me.0.logs) _ _ _ _ _ c.in-Some.ensures.items
+    closes t.table_id t.key c.args.passes.items (fits (IsPassOfTable c.args.self) view_of c.args.passes.items c.requires.ready) c.requires.all f.rule
+    seat.result.id f.view (gathered (λ (p : CountedPass). p.seat.me.0.logs) _ _ _ _ _ c.in-Some.ensures.items
     (ap (λ z. z.me.0.logs) c.into_seat.ensures) seat.ensures.logs) seat.ensures.seat.work
     (omega (arith, c.args.self.key.1, c.args.self.bounds.1)) c.finish.result f.files f.settled

@@ -22,4 +22,5 @@ returns-in-None-clause-allocated g c =
       work = inr full.0.1.work;
       place = full.1 ∙ born.place.place;
     } in
-    (c.take_out.ensures.file c.args.file place, adds_so fits (goes_then (goes_then (goes_one born.born) full.0.1) (goes_one c.take_out.ensures.rests)))
+    let goes = goes_then (goes_then (goes_one born.born) full.0.1) (goes_one c.take_out.ensures.rests) in
+    (c.take_out.ensures.file c.args.file place, adds_so fits goes)

@@ -9,5 +9,5 @@ pub returns-clause-settled : goal.returns-clause-settled
 returns-clause-settled c =
     let t = c.args.self.now.table.shared in
     let o = c.load.ensures.2 in
-    rw o.same (settles t.table_id t.key c.args.pass.now c.requires.fits c.requires.idle c.requires.alone o.last
+    rw o.same (settles t.table_id t.key c.args.pass.now c.requires.fits c.requires.idle c.requires.alone
     (rw c.requires.fits.seated.start at o.rule) o.seat o.view)
