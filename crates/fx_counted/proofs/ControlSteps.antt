@@ -1,16 +1,80 @@
--- Begin, end, answer and load keep the rule.
-use Rattle.fx_counted.proofs.Words.{sum_by, ◌≡◌, ◌≢◌, ℕ, zero, suc, ◌+◌, ◌-◌, ◌/◌, ◌%◌, ◌^◌, ◌<◌, ◌≤◌, List, [], ◌∷◌, set, length, sym, refl, ap}
-use Rattle.fx_counted.proofs.Words.{subst, arith, get_or-set_other, get_or-set_same, Option, IsSome, dite, some, none, some-injective, some-ne-none}
-use Rattle.fx_counted.proofs.Words.{ℕ_discrete, get_elem?, keeps, step, sum_by-cons, Closed, File, Event, Full, no_use, range_of, event_of, sum_set}
-use Rattle.fx_counted.proofs.Words.{sum_at, sum_le_at, one_change, full_word_of, WorkAgrees, lengths, Agrees, in_change, added, removed_by}
-use Rattle.fx_counted.proofs.Words.{changes_of, added_of, removed_of, full_in, ControlCounts, word_of, control_place, draw_place, slot_place}
-use Rattle.fx_counted.proofs.Words.{opening_of, state_after_all, shown, IsInside, Stepped, GoesOn, Answers, Change, Outside, Same, Log, Start, View}
-use Rattle.fx_counted.proofs.Words.{Work, Idle, Phase, Shared, all_looks, BeginsKeep, EndsKeep, AnswersKeep, Between, length-set}
-use Rattle.fx_counted.proofs.Steps.{IsHistory, grows_one, legal_more, held_mine, same_shape, Turn, turn_of, word_at, its_work, by_turn, went}
-use Rattle.fx_counted.proofs.Steps.{tells_none, tells_one, near, far}
-use Rattle.fx_counted.proofs.Calm.{Quiet, no_event, calm_agrees}
+-- Steps that change no slot and no number keep the rule: begin, end, answer and load.
+use Rattle.fx_counted.proofs.Words.{◌≡◌, ℕ, List, set, length, sym, refl, ap, ◌∙◌, arith, held_by, State, Event, range_of, PlacesNext, Agrees}
+use Rattle.fx_counted.proofs.Words.{ControlCounts, looks, all_looks, word_of, control_place, draw_place, slot_place, opening_of, IsNumber}
+use Rattle.fx_counted.proofs.Words.{state_after_all, next_in, Change, Log, Start, View, Work, Placing, sum_by, ◌≢◌, zero, suc, ◌+◌, ◌-◌, ◌/◌, ◌%◌}
+use Rattle.fx_counted.proofs.Words.{◌^◌, ◌<◌, ◌≤◌, [], ◌∷◌, subst, get_or-set_other, get_or-set_same, Option, IsSome, dite, some, none}
+use Rattle.fx_counted.proofs.Words.{some-injective, some-ne-none, ℕ_discrete, get_elem?, keeps, step, sum_by-cons, Closed, File, Full, no_use}
+use Rattle.fx_counted.proofs.Words.{event_of, sum_set, sum_at, sum_le_at, one_change, full_word_of, WorkAgrees, lengths, in_change, added, removed_by}
+use Rattle.fx_counted.proofs.Words.{changes_of, added_of, removed_of, full_in, shown, IsInside, Stepped, GoesOn, Answers, Outside, Same, Idle, Phase}
+use Rattle.fx_counted.proofs.Words.{Shared, BeginsKeep, EndsKeep, AnswersKeep, Between, length-set, Bool, true, false, inl, inr, end_amount_of}
+use Rattle.fx_counted.proofs.Words.{InRange, HasToTell, HasPass, MayChange, Sat, More, Less, ℤ, begun, difference, Allows}
+use Rattle.fx_counted.proofs.Steps.{stays_same, owner_same, Grows, grows_none, IsHistory, Turn, word_at, now, logged, its_log, its_work, step_kept}
+use Rattle.fx_counted.proofs.Steps.{log_now, slot_same, draws_same, grows_one, legal_more, held_mine, same_shape, turn_of, by_turn, went, tells_none}
+use Rattle.fx_counted.proofs.Steps.{tells_one, near, far}
 use Rattle.fx_counted.proofs.FullSlots.{full_few, full_all}
 use Rattle.fx_counted.proofs.LettingGo.{sub_wraps}
+
+-- A step that changes no slot and no number, and leaves the pass at its work.
+places_same : (k : Start) (x y : Log) (d : Work) → next_in k y ≡ next_in k x → y.numbers_left ≡ x.numbers_left → PlacesNext k x d → PlacesNext k y d
+places_same k x y (Placing n) next left o = (o.0 ∙ sym next, let a = o.1 in omega arith)
+places_same k x y _ next left o = tt
+
+module _ (turn : Turn) (h' : List Event) where
+  open turn use {st, v, r, id, x, here, one}
+
+  -- the history tells of nothing new
+  pub record Quiet : Type 0 where
+    pub grows : Grows x.number r.history h'
+    pub legal : IsHistory v.start h'
+    pub state : state_after_all v.start h' ≡ state_after_all v.start r.history
+    pub looked : looks h' ≡ looks r.history
+    pub all : all_looks h' ≡ all_looks r.history
+    pub held : held_by h' x.number ≡ held_by r.history x.number
+
+  module _ (c : Change) (words' : List ℕ) where
+    abbrev pub y : Log
+    y = logged x h' x.numbers_left x.looks_left
+
+    abbrev w : View
+    w = now v y v.work c
+
+    pub record Calm : Type 0 where
+      pub quiet : Quiet
+      pub words : length words' ≡ length st.words
+      pub slots : (s : ℕ) → word_at words' (slot_place s) ≡ word_at st.words (slot_place s)
+      pub nodes : (n : ℕ) → IsNumber v.start n → word_at words' (word_of v.start n) ≡ word_at st.words (word_of v.start n)
+      pub drawn : word_at words' draw_place ≡ word_at st.words draw_place
+      pub control : ControlCounts (state_after_all v.start r.history).at (range_of (opening_of v.start))
+          (set st.views id w) (word_at words' control_place)
+
+    module _ (p : Calm) where
+      pub calm_agrees : Agrees v.start record { words = words'; homes = st.homes; views = set st.views id w }
+      calm_agrees = let o = its_log turn in step_kept turn y v.work c h' r.phase words' st.homes record {
+        words = p.words;
+        homes = refl;
+        number = refl;
+        grows = p.quiet.grows;
+        legal = p.quiet.legal;
+        slots = λ s l. slot_same (p.slots s) (ap (λ (z : State). z.at s) p.quiet.state) (let a = p.quiet.all in omega arith)
+            (λ f there seat. (ap (λ (g : ℕ → ℕ). g f.number) p.quiet.looked, refl)) (r.each_slot s l);
+        nodes = λ n has. rw (p.quiet.state, p.quiet.looked, p.nodes n has) (r.each_node n has);
+        owners = λ n has. owner_same st.views id v w here refl n (r.phase n) (r.each_owner n has);
+        no_other = λ n absent. ap (λ (z : State). z.removed n) p.quiet.state ∙ r.no_other n absent;
+        stays = stays_same id x.number r.phase;
+        keeps = λ j u f other there holds. refl;
+        log = log_now turn (omega arith) (p.quiet.held ∙ o.held) (places_same v.start x y v.work refl refl o.next) o.spares;
+        work = its_work turn;
+        holds = λ n. let e = ap (λ (z : State). z.holds n) p.quiet.state in omega arith;
+        look_ups = let a = p.quiet.all in omega arith;
+        control = rw p.quiet.state p.control;
+        draws = draws_same st.views id v w here one refl refl refl p.drawn (λ n is. is) r.draws;
+      }
+
+module _ (turn : Turn) where
+  open turn use {st, v, r, id, x, here, one}
+
+  pub no_event : Quiet turn r.history
+  no_event = record { grows = grows_none x.number r.history; legal = r.legal; state = refl; looked = refl; all = refl; held = refl }
 
 -- what one of them adds to the gap between two totals
 pub total_gap : {X : Type 0} {f g : X → ℕ} (xs : List X) (i : ℕ) {v : X} → get_elem? xs i ≡ some v
@@ -108,8 +172,8 @@ module _ (turn : Turn) where
   goes_on c carried = tells_none turn carried carried c its_inside
 
   module _ (fits : word < 18446744073709551616) where
-    begun : v.change ≡ Outside → ControlCounts at_now range (set st.views id (went turn r.history v.work Same)) ((word + one_change) % 2 ^ 64)
-    begun out = let w = went turn r.history v.work Same in
+    begin_counts : v.change ≡ Outside → ControlCounts at_now range (set st.views id (went turn r.history v.work Same)) ((word + one_change) % 2 ^ 64)
+    begin_counts out = let w = went turn r.history v.work Same in
         let a = sum_set changes_of st.views id v w here in let b = sum_set added_of st.views id v w here in
         let d = sum_set removed_of st.views id v w here in
         let a' = ap in_change out in let b' = ap added out in let d' = ap removed_by out in let s = few_others in
@@ -118,9 +182,9 @@ module _ (turn : Turn) where
         record { upper = omega arith; lower = omega arith }
 
     -- the difference is told: amount is 2^32 less it
-    ended : (h' : List Event) (amount : ℕ) → in_change v.change ≡ 1 → amount + added v.change ≡ one_change + removed_by v.change
+    end_counts : (h' : List Event) (amount : ℕ) → in_change v.change ≡ 1 → amount + added v.change ≡ one_change + removed_by v.change
         → ControlCounts at_now range (set st.views id (went turn h' v.work Outside)) ((word + (2 ^ 64 - amount)) % 2 ^ 64)
-    ended h' amount in_now amount_is = let w = went turn h' v.work Outside in
+    end_counts h' amount in_now amount_is = let w = went turn h' v.work Outside in
         let a = sum_set changes_of st.views id v w here in let b = sum_set added_of st.views id v w here in
         let d = sum_set removed_of st.views id v w here in
         let s = few_others in let u = r.control.upper in let l = r.control.lower in let ff = few_full v.start st r in
@@ -147,7 +211,7 @@ begins_keep k slots id i m x has out place = by_turn slots (λ _. Unit {0}) (λ 
       went turn r.history m.0.work Same,
       keeps,
       tt,
-      wrote turn _ Same (no_event turn) (begun turn fits out),
+      wrote turn _ Same (no_event turn) (begin_counts turn fits out),
       record { stepped = goes_on turn Same m.1; carried = refl },
     ))
 
@@ -158,7 +222,7 @@ ends_keep k slots id i amount m x has in_now amount_is place = by_turn slots (λ
       went turn r.history m.0.work Outside,
       keeps,
       tt,
-      wrote turn _ Outside (no_event turn) (ended turn fits r.history amount in_now amount_is),
+      wrote turn _ Outside (no_event turn) (end_counts turn fits r.history amount in_now amount_is),
       record { stepped = goes_on turn Outside m.1; carried = refl },
     ))
 
@@ -166,7 +230,7 @@ pub answers_keep : AnswersKeep
 answers_keep k slots id i m x has same place = by_turn slots (λ _. Unit {0}) (λ _. control_place)
     (λ word. (word + (2 ^ 64 - one_change)) % 2 ^ 64) (λ i. Answers (step slots i one_change 0 none) m) has tt place
     (λ st r here _ fits. let turn = turn_of m x has.1 id st r here in
-    let counts = λ (h' : List Event). ended turn fits h' one_change (ap in_change same)
+    let counts = λ (h' : List Event). end_counts turn fits h' one_change (ap in_change same)
     (let a = ap added same in let b = ap removed_by same in omega arith) in
     dite (ℕ_discrete (word turn) (full_word_of (range turn).1))
     (λ says. let each = says_so turn fits same says in (
@@ -187,3 +251,22 @@ answers_keep k slots id i m x has same place = by_turn slots (λ _. Unit {0}) (�
       wrote turn _ Outside (no_event turn) (counts r.history),
       record { full = λ says. absurd (not_so says); not_full = λ _. goes_on turn Outside m.1; carried = refl },
     )))
+
+-- What a pass tells of a slot that it changes.
+amount_told : (c : Change) {delta : ℤ} {amount : ℕ} → in_change c ≡ 1 → difference c ≡ delta → amount ≡ end_amount_of delta
+    → amount + added c ≡ one_change + removed_by c
+amount_told Outside one d e = absurd (cc one)
+amount_told Same one d e = let f = e ∙ ap end_amount_of (sym d) in omega arith
+amount_told More one d e = let f = e ∙ ap end_amount_of (sym d) in omega arith
+amount_told Less one d e = let f = e ∙ ap end_amount_of (sym d) in omega arith
+
+pub ends_by : {k : Start} (slots id : ℕ) {i amount : ℕ} {delta : ℤ} {m : Sat} {x : Log} → HasPass k m x → HasToTell true delta m.0.change
+    → amount ≡ end_amount_of delta → i ≡ control_place
+    → Allows (Agrees k) slots id m i (λ word. (word + (2 ^ 64 - amount)) % 2 ^ 64) (GoesOn Outside (step slots i amount 0 none) m)
+ends_by {k} slots id {i} {amount} {delta} {m} {x} its tells is place =
+    ends_keep k slots id i amount m x its tells.0 (amount_told m.0.change tells.0 tells.1 is) place
+
+-- a pass that began a change where it had to may change the slot
+pub may_change : (k : Start) {slot : ℕ} (began : Bool) {c : Change} → InRange k slot began → c ≡ begun began → MayChange k slot c
+may_change k true range is = inl (range, is)
+may_change k false range is = inr (range, is)

@@ -3,12 +3,11 @@ use Rattle.fx_counted.proofs.Words.{◌≡◌, ℕ, suc, ◌+◌, ◌-◌, ◌*�
 use Rattle.fx_counted.proofs.Words.{slice_index, dite, some, some-injective, dec_le, get_elem?, Closed, Contents, state_of, State, number_of}
 use Rattle.fx_counted.proofs.Words.{identity_of, File, Names, Agrees, HasNode, slot_place, home_place, homes_for, slots_of, chain_numbers, IsNumber}
 use Rattle.fx_counted.proofs.Words.{state_after_all, AreBack, CountedTable, Start, View, Idle, Final, Seen, AllAreIdle, Leaves, Between, stands_at}
-use Rattle.fx_counted.proofs.Calling.{has_node, its_numbers}
+use Rattle.fx_counted.proofs.Calling.{has_node, its_numbers, node_is}
 use Rattle.fx_counted.proofs.Ending.{home_file, file_home, one_slot, none_outside_end}
 use Rattle.fx_counted.proofs.Frames.{read_at}
 use Rattle.fx_counted.proofs.Histories.{same_shape}
 use Rattle.fx_counted.proofs.HomeComing.{number_at, file_of, file_at, without, emptied, AreAtHome, here_at, none_past, untouched}
-use Rattle.fx_counted.proofs.Naming.{node_is}
 use Rattle.fx_counted.proofs.Places.{apart, low_home, high_home}
 use Rattle.fx_counted.proofs.Shells.{IsPartlyBack, Becomes, first_back}
 

@@ -1,15 +1,50 @@
--- All passes in one seat: what the one history says of each of them.
-use Rattle.fx_counted.proofs.Words.{◌≢◌, eqb, some, get_elem?, Contains, sum_by, TableId, Contents, state_of, IsSettled, ClosesTable, times_drawn}
-use Rattle.fx_counted.proofs.Words.{HasSameFiles, PassView, contains_none, contains_head, contains_map, contains_mapped, contains_reverse}
-use Rattle.fx_counted.proofs.Words.{contains_reversed, sum_map, sum_of, found_by, found_sum, Agrees, LogAgrees, logs_in, Shared, opening_of}
-use Rattle.fx_counted.proofs.Words.{state_after_all, first_log, view_of, IsPassOf, CountedPass, Log, Start, View, Event, length-reverse, length-map}
-use Rattle.fx_counted.proofs.Words.{once, Between, Idle, ◌≡◌, ℕ, ◌<◌, List, [], ◌∷◌, map, length, reverse, sym, refl, ap, ◌∙◌, subst, arith, one_if}
-use Rattle.fx_counted.proofs.Words.{times, once_is}
+-- Passes as they are dealt out, and all of them in one seat again: what the one history says of each.
+use Rattle.fx_counted.proofs.Words.{◌≡◌, ◌*◌, ℕ, ◌+◌, ◌≤◌, List, [], ◌∷◌, sym, ◌∙◌, ap, arith, Option, TableId, Seat, Closed, without_first}
+use Rattle.fx_counted.proofs.Words.{first_alone, dealt, Sat, new_log, pass_of, view_of, IsPassOf, is_idle, CountedPass, Log, Start, View, new_pass}
+use Rattle.fx_counted.proofs.Words.{IsNewPass, take, drop, ◌≢◌, eqb, some, get_elem?, Contains, sum_by, Contents, state_of, IsSettled, ClosesTable}
+use Rattle.fx_counted.proofs.Words.{times_drawn, HasSameFiles, PassView, contains_none, contains_head, contains_map, contains_mapped}
+use Rattle.fx_counted.proofs.Words.{contains_reverse, contains_reversed, sum_map, sum_of, found_by, found_sum, Agrees, LogAgrees, logs_in, Shared}
+use Rattle.fx_counted.proofs.Words.{opening_of, state_after_all, first_log, Event, length-reverse, length-map, once, Between, Idle, ◌<◌, map, length}
+use Rattle.fx_counted.proofs.Words.{reverse, refl, subst, one_if, times, once_is, ◌++◌, step, keeps, contains_only, held_in, set-get_or, Allows}
+use Rattle.fx_counted.proofs.Words.{set_again, append-nil, IsSettledSoFar}
+use Rattle.fx_table.proofs.Dealing.{first_left, last_left}
 use Rattle.fx_table.proofs.Chains.{in_part, some_there, some_times}
 use Rattle.fx_table.proofs.Gathering.{logs_are as each_log, sum_gathered, each_seat}
-use Rattle.fx_table.proofs.Settling.{IsWhole, closes_table}
+use Rattle.fx_table.proofs.Settling.{IsWhole, closes_table, settles as settles_whole}
 use Rattle.fx_counted.proofs.Ending.{settled_end, whole_here, sum_here, drawn, told}
+use Rattle.fx_counted.specs.Settling.{Observes}
+use Rattle.fx_counted.proofs.Going.{its_doing}
 
+-- The passes that are dealt out.
+pub rest_is_dealt : {k : Start} {p : ℕ} → p ≤ k.passes → without_first (dealt k p) ≡ dealt k (p + 1)
+rest_is_dealt {k} {p} l = ap (λ (z : List Log). record (dealt k p) { logs = drop 1 z }) (first_left new_log p k.passes l)
+
+-- the last pass alone
+pub last_is_dealt : {k : Start} {p : ℕ} → p ≡ k.passes → dealt k p ≡ first_alone (dealt k p)
+last_is_dealt {k} {p} e = ap (λ (z : List Log). record (dealt k p) { logs = z }) (last_left new_log p k.passes e)
+
+-- the pass of a seat that has the first of them
+module _ {id : TableId} (k : Start) {p : ℕ} (low : 1 ≤ p) (high : p ≤ k.passes) {seat : Seat (Option Closed) View} {x : CountedPass}
+    (new : IsNewPass seat x) (table : seat.table_id ≡ id) (is : seat.me ≡ (first_alone (dealt k p), [])) where
+  alone : first_alone (dealt k p) ≡ record (dealt k p) { logs = new_log p ∷ [] }
+  alone = ap (λ (z : List Log). record (dealt k p) { logs = take 1 z }) (first_left new_log p k.passes high)
+
+  me : x.seat.me ≡ (record (dealt k p) { logs = new_log p ∷ [] }, [])
+  me = ap (λ (z : Seat (Option Closed) View). z.me) new.its_seat ∙ (is ∙ ap (λ (v : View). (v, [])) alone)
+
+  pub is_new_pass : IsPassOf id k x × (view_of x ≡ new_pass p)
+  is_new_pass = (
+    record {
+      table = ap (λ (z : Seat (Option Closed) View). z.table_id) new.its_seat ∙ table;
+      places = ap (λ (m : Sat). m.1) me;
+      log = new_log p;
+      seated = let none : (n : ℕ) → 0 ≤ n = λ n. omega arith in rw me (assumption (none k.chains, none 64, none (k.numbers * 0)));
+      knows = assumption (new, new.flag ∙ sym (ap (λ (m : Sat). is_idle m.0.work) me));
+    },
+    ap (λ (m : Sat). pass_of m.0) me,
+  )
+
+-- All passes in one seat: what the one history says of each of them.
 some_pass : {X : Type 0} (l : List X) → 0 < length l → (x : X) × Contains l x
 some_pass [] low = absurd (omega arith)
 some_pass (x ∷ l) low = (x, contains_head x l)
@@ -80,3 +115,31 @@ module _ (id : TableId) (k : Start) where
     pub closes : 0 < k.passes → (left : Contents) → HasSameFiles (state_after_all k r.history) (state_of left) → IsSettled (state_of left)
         → ClosesTable (opening_of k) (map view_of ps) left
     closes some_passes left = closes_table (opening_of k) r.history (map view_of ps) left (whole some_passes)
+
+-- any seat may look, and nothing changes
+pub may_observe : {k : Start} (slots id i : ℕ) {me : Sat} → me.0.start ≡ k
+    → Allows (Agrees k) slots id me i (λ n. n) (Observes (step slots i 0 0 mathlib.Core.Option.none) me)
+may_observe slots id i {me} start s r wide at small = (
+  me.0,
+  keeps,
+  tt,
+  rw (set-get_or s.words i 0, set_again s.views id me.0 at) r,
+  record { last = s; rule = rw start r; seat = id; view = at; same = refl },
+)
+
+-- a table of one pass, which does nothing, tells its history without being closed
+module _ (id : TableId) (k : Start) (p : CountedPass) (fits : IsPassOf id k p) (idle : (view_of p).doing ≡ Idle) (alone : k.passes ≡ 1)
+    {s : Shared} (r : Agrees k s) (seat : ℕ) (at : get_elem? s.views seat ≡ some p.seat.me.0) where
+  work : p.seat.me.0.work ≡ Between Idle
+  work = its_doing fits idle
+
+  only : (q : CountedPass) → Contains (p ∷ []) q → IsPassOf id k q
+  only q h = subst (IsPassOf id k) (sym (contains_only p q h)) fits
+
+  all_its : p.seat.me.0.logs ≡ p.seat.me.0.logs ++ []
+  all_its = sym (append-nil p.seat.me.0.logs)
+
+  pub settles : IsSettledSoFar (opening_of k) (view_of p)
+  settles = settles_whole (opening_of k) (view_of p) r.history
+      (whole id k (p ∷ []) only (sym alone) r seat at all_its work (omega (arith, alone))) fits.seated.front
+      ((known id k (p ∷ []) only (sym alone) r seat at all_its work p (contains_head p [])).held ∙ ap held_in work)

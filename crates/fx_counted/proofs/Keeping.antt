@@ -7,9 +7,9 @@ use Rattle.fx_counted.proofs.Words.{slot_place, node_place, home_place, Shared, 
 use Rattle.fx_counted.proofs.Words.{first_log, logs_of, looks_of, held_of, Phase, IsInside, Stepped, Change, Log, View, Work, stepped, Act, Valid}
 use Rattle.fx_counted.proofs.Words.{carried_after, HasPass, held_by, held_in, PlacesNext, placing, next_in, end_in, spare, HasShape, Start, no_use}
 use Rattle.fx_counted.proofs.Words.{◌▷◌, IsSeenBy, ◌*◌, chain_in, one_if, Allows, IsSeated, ◌≢◌, Between, Holding, file_in, at_set, ⊎_elim}
-use mathlib.Core.Option as maybe
 use Rattle.fx_counted.proofs.Histories.{Grows, IsHistory, grows_none, grows_one, part_mine}
 use Rattle.fx_counted.proofs.Frames.{Stays, view_stays, not_there, of_one, total_same}
+use mathlib.Core.Option as maybe
 
 abbrev pub Homes : Type 0
 Homes = List (maybe.Option (Option Closed))

@@ -1,13 +1,18 @@
--- A pass lets go of a file, which stays open, or is closed and comes out.
+-- A pass lets go of a file, which stays open, or is closed and comes out: a retirement and a release keep the rule.
 use Rattle.fx_counted.proofs.Words.{◌≡◌, ◌≢◌, ℕ, ◌+◌, ◌-◌, ◌%◌, ◌^◌, ◌<◌, ◌≤◌, List, ◌∷◌, ◌++◌, map, set, sym, refl, ap, ◌∙◌, arith, eq-eqb, Option}
 use Rattle.fx_counted.proofs.Words.{Some, None, some, none, keeps, takes, set_here, set_else, Closed, ◌▷◌, State, File, Event, Close, Action, no_use}
 use Rattle.fx_counted.proofs.Words.{event_of, sum_two, held_by, part_of_pass, NodeAgrees, OwnerAgrees, looks, word_of, place_of, IsNumber}
 use Rattle.fx_counted.proofs.Words.{state_after_all, shown, end_in, next_in, placing, held_of, holding, Phase, spare, emptied, file_in, changed_at}
-use Rattle.fx_counted.proofs.Words.{TakesOut, LetsGo, Sat, Idle, Holding, Emptying, Between, changed_here, changed_else, length-set, all_looks}
+use Rattle.fx_counted.proofs.Words.{TakesOut, LetsGo, Sat, Idle, Holding, Emptying, Between, changed_here, changed_else, length-set, all_looks, []}
+use Rattle.fx_counted.proofs.Words.{subst, dite, ℕ_discrete, step, retire_amount_of, WorkAgrees, held_in, leaving, retired, owner, Retiring}
+use Rattle.fx_counted.proofs.Words.{RetiresKeep, Retires, inr, inl, ◌⊎◌, ⊎_elim, Release, sum_at, seated, eqb, ReleasesKeep, Releases, one_if}
+use Rattle.fx_counted.proofs.Words.{one_less_at, born}
 use Rattle.fx_counted.proofs.Steps.{busy, does_now, Grows, IsHistory, grows_more, legal_more, held_mine, part_mine, each_changed, looks_few, Homes}
-use Rattle.fx_counted.proofs.Steps.{MayTurn, Turn, its_log, tells, Made, went, OneNumber, NodeStep, node_agrees}
+use Rattle.fx_counted.proofs.Steps.{MayTurn, Turn, its_log, tells, Made, went, OneNumber, NodeStep, node_agrees, in_phase, grows_none, turn_of}
+use Rattle.fx_counted.proofs.Steps.{its_work, by_turn, one_same, owner_stays, grows_one, NodeIn}
 use Rattle.fx_counted.proofs.Births.{word_now, home_now, roomy, else_place}
 
+-- A pass lets go of a file, which stays open, or is closed and comes out.
 pub sub_wraps : {n k : ℕ} → k ≤ n → n < 18446744073709551616 → 0 < k → (n + (2 ^ 64 - k)) % 2 ^ 64 ≡ n - k
 sub_wraps le fits more = omega arith
 
@@ -21,104 +26,259 @@ holding_it {n} f same = rw (eq-eqb f.number n (sym same)) refl
 module _ (turn : Turn) (f : File) (its : IsNumber turn.v.start f.number) (h₁ : List Event) (xs : List Action) where
   open turn use {st, v, r, id, x, here, one}
 
+  -- by these actions, if any, the pass has let go of the file, and of no other
+  pub record IsLetGo : Type 0 where
+    pub grows : Grows x.number r.history h₁
+    pub legal : IsHistory v.start h₁
+    pub own : part_of_pass x.number h₁ ≡ map (event_of (shown x v.work)) xs ++ part_of_pass x.number r.history
+    pub told : OneNumber v f.number r.history h₁
+    pub held : held_by h₁ x.number ≡ None
+    pub holds : (n : ℕ) → (state_after_all v.start h₁).holds n + held_of n v ≡ (state_after_all v.start r.history).holds n + 0
+    pub free : (n : ℕ) → n ≢ f.number → busy v.work ≢ n + 1
+    pub places : placing v.work ≡ 0
+    pub open_file : file_in (r.phase f.number) ≡ Some f.identity
+
+module _ {turn : Turn} {f : File} {its : IsNumber turn.v.start f.number} {h₁ : List Event} {xs : List Action} (g : IsLetGo turn f its h₁ xs)
+    (minus : ℕ → ℕ) (carried : List (ℕ × Option Closed)) where
+  open turn use {st, v, r, id, x, here, one}
+
   abbrev q : ℕ
   q = f.number
 
   abbrev now : State
   now = state_after_all v.start h₁
 
-  -- by these actions, if any, the pass has let go of the file, and of no other
-  pub record IsLetGo : Type 0 where
-    pub grows : Grows x.number r.history h₁
-    pub legal : IsHistory v.start h₁
-    pub own : part_of_pass x.number h₁ ≡ map (event_of (shown x v.work)) xs ++ part_of_pass x.number r.history
-    pub told : OneNumber v q r.history h₁
-    pub held : held_by h₁ x.number ≡ None
-    pub holds : (n : ℕ) → now.holds n + held_of n v ≡ (state_after_all v.start r.history).holds n + 0
-    pub free : (n : ℕ) → n ≢ q → busy v.work ≢ n + 1
-    pub places : placing v.work ≡ 0
-    pub open_file : file_in (r.phase q) ≡ Some f.identity
+  abbrev less : ℕ
+  less = minus (word_now turn q)
 
-  module _ (g : IsLetGo) (minus : ℕ → ℕ) (carried : List (ℕ × Option Closed)) where
-    abbrev less : ℕ
-    less = minus (word_now turn q)
+  spares_stay : (ph : Phase) (n : ℕ) → next_in v.start x + 0 ≤ n → n < end_in v.start x → changed_at r.phase q ph n ≡ spare x.number
+  spares_stay ph n low high = let p = g.places in let its_own = (its_log turn).spares n (omega arith) high in
+      each_changed (λ m z. z ≡ spare x.number) r.phase (λ same.
+      let bad : None ≡ Some f.identity = sym (ap file_in its_own) ∙ (ap (λ (m : ℕ). file_in (r.phase m)) same ∙ g.open_file) in absurd (cc bad))
+      (λ other. its_own)
 
-    spares_stay : (ph : Phase) (n : ℕ) → next_in v.start x + 0 ≤ n → n < end_in v.start x → changed_at r.phase q ph n ≡ spare x.number
-    spares_stay ph n low high = let p = g.places in let its_own = (its_log turn).spares n (omega arith) high in
-        each_changed (λ m z. z ≡ spare x.number) r.phase (λ same.
-        let bad : None ≡ Some f.identity = sym (ap file_in its_own) ∙ (ap (λ (m : ℕ). file_in (r.phase m)) same ∙ g.open_file) in absurd (cc bad))
-        (λ other. its_own)
+  -- the file stays open
+  pub stays_open : (ph : Phase) → MayTurn turn q ph → file_in ph ≡ file_in (r.phase q)
+      → NodeAgrees now q (looks r.history q) less (home_now turn q) ph
+      → OwnerAgrees (set st.views id (went turn h₁ (Between Idle) v.change)) q ph → (told : ℕ → Sat → Type 0)
+      → told (word_now turn q) (went turn h₁ (Between Idle) v.change, carried) → Made turn carried (word_of v.start q) minus told
+  stays_open ph may same node known told tells_so =
+      let step : NodeStep turn q its less st.homes h₁ ph (Between Idle) = assumption (spares_stay ph) in
+      (went turn h₁ (Between Idle) v.change, keeps, tt, node_agrees turn q its less st.homes h₁ ph (Between Idle) step, tells_so)
 
-    -- the file stays open
-    pub stays_open : (ph : Phase) → MayTurn turn q ph → file_in ph ≡ file_in (r.phase q)
-        → NodeAgrees now q (looks r.history q) less (home_now turn q) ph
-        → OwnerAgrees (set st.views id (went turn h₁ (Between Idle) v.change)) q ph → (told : ℕ → Sat → Type 0)
-        → told (word_now turn q) (went turn h₁ (Between Idle) v.change, carried) → Made turn carried (word_of v.start q) minus told
-    stays_open ph may same node known told tells_so =
-        let step : NodeStep turn q its less st.homes h₁ ph (Between Idle) = assumption (spares_stay ph) in
-        (went turn h₁ (Between Idle) v.change, keeps, tt, node_agrees turn q its less st.homes h₁ ph (Between Idle) step, tells_so)
+  pub lets_go : LetsGo (v, carried) xs (went turn h₁ (Between Idle) v.change, carried)
+  lets_go = record {
+    stepped = tells turn carried carried h₁ x.numbers_left x.looks_left (Between Idle) v.change xs no_use g.grows g.legal g.own
+        (omega arith) (omega arith) tt;
+    carried = refl;
+  }
 
-    pub lets_go : LetsGo (v, carried) xs (went turn h₁ (Between Idle) v.change, carried)
-    lets_go = record {
-      stepped = tells turn carried carried h₁ x.numbers_left x.looks_left (Between Idle) v.change xs no_use g.grows g.legal g.own
-          (omega arith) (omega arith) tt;
+  -- nobody holds the removed file any more
+  module _ (home : home_now turn q ≡ some (some (Some f.identity))) (removed : now.removed q ≡ Some f) (unheld : now.holds q ≡ 0)
+      (none_left : less ≡ 0) where
+    abbrev h₂ : List Event
+    h₂ = event_of (shown x v.work) (Close f) ∷ h₁
+
+    abbrev homes' : Homes
+    homes' = set st.homes (place_of v.start q) none
+
+    grows₂ : Grows x.number r.history h₂
+    grows₂ = grows_more refl g.grows
+
+    legal₂ : IsHistory v.start h₂
+    legal₂ = legal_more v.start g.legal (removed, unheld) tt
+
+    pub comes_out : MayTurn turn q (emptied id) → (told : ℕ → Sat → Type 0)
+        → told (word_now turn q) (went turn h₂ (Emptying q) v.change, (place_of v.start q, Some f.identity) ∷ carried)
+        → Made turn carried (word_of v.start q) minus told
+    comes_out may told tells_so =
+        let step : NodeStep turn q its less homes' h₂ (emptied id) (Emptying q) = record {
+          grows = grows₂;
+          legal = legal₂;
+          told = let all : all_looks h₂ ≡ all_looks r.history = omega (arith, g.told.all) in
+              let removed : (m : ℕ) → m ≢ q → (state_after_all v.start h₂).removed m ≡ (state_after_all v.start r.history).removed m =
+              λ m other. changed_else now.removed q None m other ∙ g.told.removed m other in assumption (g.told, all, removed);
+          homes = length-set st.homes (place_of v.start q) none;
+          home_else = λ m has other. set_else st.homes (place_of v.start q) (place_of v.start m) none (else_place turn its has other);
+          may = may;
+          keeps = λ j u e other there holds is. absurd (let a = ap (holding q) holds ∙ holding_it e (sym is) in
+              let b = sum_two (held_of q) st.views j id u v other there here in let c = r.holds q in let d = g.holds q in omega arith);
+          free = g.free;
+          node = record {
+            counts = none_left;
+            at_home = set_here st.homes (place_of v.start q) none (roomy turn its);
+            no_holds = unheld;
+            not_removed = changed_here now.removed q None q refl;
+          };
+          known = does_now st.views id v (went turn h₂ (Emptying q) v.change) (Emptying q) here refl;
+          held = held_mine (event_of (shown x v.work) (Close f)) h₁ refl ∙ g.held;
+          next = tt;
+          spares = spares_stay (emptied id);
+          work = (its, changed_here r.phase q (emptied id) q refl);
+          holds = g.holds;
+        } in (
+          went turn h₂ (Emptying q) v.change,
+          takes (place_of v.start q) (Some f.identity),
+          home,
+          node_agrees turn q its less homes' h₂ (emptied id) (Emptying q) step,
+          tells_so,
+        )
+
+    pub takes_out : TakesOut (v, carried) xs f (went turn h₂ (Emptying q) v.change, (place_of v.start q, Some f.identity) ∷ carried)
+    takes_out = record {
+      stepped = tells turn carried _ h₂ x.numbers_left x.looks_left (Emptying q) v.change (xs ▷ Close f) no_use grows₂ legal₂
+          (part_mine h₁ refl ∙ ap (λ (l : List Event). event_of (shown x v.work) (Close f) ∷ l) g.own) (omega arith) (omega arith) its;
       carried = refl;
     }
 
-    -- nobody holds the removed file any more
-    module _ (home : home_now turn q ≡ some (some (Some f.identity))) (removed : now.removed q ≡ Some f) (unheld : now.holds q ≡ 0)
-        (none_left : less ≡ 0) where
-      abbrev h₂ : List Event
-      h₂ = event_of (shown x v.work) (Close f) ∷ h₁
+-- A retirement keeps the rule.
+module _ (turn : Turn) (f : File) (t : ℕ) (works : turn.v.work ≡ Between (Retiring f t)) where
+  open turn use {st, v, r, id, x, here, one}
 
-      abbrev homes' : Homes
-      homes' = set st.homes (place_of v.start q) none
+  leaves : IsNumber v.start f.number × (r.phase f.number ≡ leaving id t f.identity)
+  leaves = subst (WorkAgrees v.start r.phase id) works (its_work turn)
 
-      grows₂ : Grows x.number r.history h₂
-      grows₂ = grows_more refl g.grows
+  node : NodeIn v.start st.words st.homes r.history f.number (leaving id t f.identity)
+  node = in_phase v.start st r leaves.0 leaves.1
 
-      legal₂ : IsHistory v.start h₂
-      legal₂ = legal_more v.start g.legal (removed, unheld) tt
+  abbrev less_amount : ℕ → ℕ
+  less_amount word = (word + (2 ^ 64 - retire_amount_of t)) % 2 ^ 64
 
-      pub comes_out : MayTurn turn q (emptied id) → (told : ℕ → Sat → Type 0)
-          → told (word_now turn q) (went turn h₂ (Emptying q) v.change, (place_of v.start q, Some f.identity) ∷ carried)
-          → Made turn carried (word_of v.start q) minus told
-      comes_out may told tells_so =
-          let step : NodeStep turn q its less homes' h₂ (emptied id) (Emptying q) = record {
-            grows = grows₂;
-            legal = legal₂;
-            told = let all : all_looks h₂ ≡ all_looks r.history = omega (arith, g.told.all) in
-                let removed : (m : ℕ) → m ≢ q → (state_after_all v.start h₂).removed m ≡ (state_after_all v.start r.history).removed m =
-                λ m other. changed_else now.removed q None m other ∙ g.told.removed m other in assumption (g.told, all, removed);
-            homes = length-set st.homes (place_of v.start q) none;
-            home_else = λ m has other. set_else st.homes (place_of v.start q) (place_of v.start m) none (else_place turn its has other);
-            may = may;
-            keeps = λ j u e other there holds is. absurd (let a = ap (holding q) holds ∙ holding_it e (sym is) in
-                let b = sum_two (held_of q) st.views j id u v other there here in let c = r.holds q in let d = g.holds q in omega arith);
-            free = g.free;
-            node = record {
-              counts = none_left;
-              at_home = set_here st.homes (place_of v.start q) none (roomy turn its);
-              no_holds = unheld;
-              not_removed = changed_here now.removed q None q refl;
-            };
-            known = does_now st.views id v (went turn h₂ (Emptying q) v.change) (Emptying q) here refl;
-            held = held_mine (event_of (shown x v.work) (Close f)) h₁ refl ∙ g.held;
-            next = tt;
-            spares = spares_stay (emptied id);
-            work = (its, changed_here r.phase q (emptied id) q refl);
-            holds = g.holds;
-          } in (
-            went turn h₂ (Emptying q) v.change,
-            takes (place_of v.start q) (Some f.identity),
-            home,
-            node_agrees turn q its less homes' h₂ (emptied id) (Emptying q) step,
-            tells_so,
-          )
+  -- the word is the holds that are left, and the amount
+  counted : word_now turn f.number ≡ (state_after_all v.start r.history).holds f.number + retire_amount_of t
+  counted = let n = node.counts in let a = node.all_takes in let c = few_looks turn f.number in omega arith
 
-      pub takes_out : TakesOut (v, carried) xs f (went turn h₂ (Emptying q) v.change, (place_of v.start q, Some f.identity) ∷ carried)
-      takes_out = record {
-        stepped = tells turn carried _ h₂ x.numbers_left x.looks_left (Emptying q) v.change (xs ▷ Close f) no_use grows₂ legal₂
-            (part_mine h₁ refl ∙ ap (λ (l : List Event). event_of (shown x v.work) (Close f) ∷ l) g.own) (omega arith) (omega arith) its;
-        carried = refl;
-      }
+  -- no action is told of, where the file stays open
+  retirement_lets_go : IsLetGo turn f leaves.0 r.history []
+  retirement_lets_go = record {
+    grows = grows_none x.number r.history;
+    legal = r.legal;
+    own = refl;
+    told = one_same v f.number r.history;
+    held = (its_log turn).held ∙ ap held_in works;
+    holds = λ m. let b = ap (holding m) works in omega arith;
+    free = λ m other bad. let b = ap busy works in other (omega arith);
+    places = ap placing works;
+    open_file = ap file_in leaves.1;
+  }
+
+  retiring_same : {g : File} {u : ℕ} → v.work ≡ Between (Retiring g u) → f ≡ g
+  retiring_same its = cc (sym works ∙ its)
+
+  retires_either : (slots : ℕ) (carried : List (ℕ × Option Closed)) → word_now turn f.number < 18446744073709551616
+      → Made turn carried (word_of v.start f.number) less_amount
+      (Retires (step slots (word_of v.start f.number) (retire_amount_of t) 0 none) (v, carried))
+  retires_either slots carried fits = let a = node.all_takes in let c = few_looks turn f.number in let n = counted in
+      let e : less_amount (word_now turn f.number) ≡ word_now turn f.number - (4294967296 - t) = sub_wraps (omega arith) fits (omega arith) in
+      let left : less_amount (word_now turn f.number) ≡ (state_after_all v.start r.history).holds f.number = omega arith in
+      let told = Retires (step slots (word_of v.start f.number) (retire_amount_of t) 0 none) (v, carried) in
+      dite (ℕ_discrete (word_now turn f.number) (retire_amount_of t))
+      (λ is. let none_hold : (state_after_all v.start r.history).holds f.number ≡ 0 = omega arith in
+      comes_out retirement_lets_go less_amount carried node.at_home node.removed none_hold (left ∙ none_hold)
+      (inr (inl (ap owner leaves.1))) told record {
+        waits = λ g u _ not_so. absurd (not_so is);
+        closes = λ g u its _. rw (← retiring_same its)
+            (takes_out retirement_lets_go less_amount carried node.at_home node.removed none_hold (left ∙ none_hold));
+      })
+      (λ more. let some_hold : 0 < (state_after_all v.start r.history).holds f.number = omega arith in
+      stays_open retirement_lets_go less_amount carried (retired f.identity) (inr (inl (ap owner leaves.1))) (sym (ap file_in leaves.1))
+      record { counts = left; at_home = node.at_home; some_hold = omega arith; removed = node.removed } tt told record {
+        waits = λ g u its _. (lets_go retirement_lets_go less_amount carried, rw (← retiring_same its) some_hold);
+        closes = λ g u _ is. absurd (more is);
+      })
+
+pub retires_keep : RetiresKeep
+retires_keep k slots id i amount t f m x has works place by = rw by
+    (by_turn slots (λ _. Unit {0}) (λ k. word_of k f.number) (λ word. (word + (2 ^ 64 - retire_amount_of t)) % 2 ^ 64)
+    (λ i. Retires (step slots i (retire_amount_of t) 0 none) m) has tt place
+    (λ st r here _ fits. retires_either (turn_of m x has.1 id st r here) f t works slots m.1 fits))
+
+-- A release keeps the rule.
+module _ (turn : Turn) (f : File) (works : turn.v.work ≡ Between (Holding f)) where
+  open turn use {st, v, r, id, x, here, one}
+
+  holds_it : IsNumber v.start f.number × (file_in (r.phase f.number) ≡ Some f.identity)
+  holds_it = subst (WorkAgrees v.start r.phase id) works (its_work turn)
+
+  abbrev word : ℕ
+  word = word_now turn f.number
+
+  abbrev less_one : ℕ → ℕ
+  less_one word = (word + (2 ^ 64 - 1)) % 2 ^ 64
+
+  abbrev old : State
+  old = state_after_all v.start r.history
+
+  held_now : 0 < old.holds f.number
+  held_now = let a = r.holds f.number in let b = sum_at (held_of f.number) st.views id v here in
+      let c = ap (holding f.number) works ∙ holding_it f refl in omega arith
+
+  abbrev h₁ : List Event
+  h₁ = event_of (shown x v.work) (Release f) ∷ r.history
+
+  abbrev new : State
+  new = state_after_all v.start h₁
+
+  one_less : new.holds f.number ≡ old.holds f.number - 1
+  one_less = changed_here old.holds f.number (old.holds f.number - 1) f.number refl
+
+  release_lets_go : IsLetGo turn f holds_it.0 h₁ ([] ▷ Release f)
+  release_lets_go = record {
+    grows = grows_one x.number r.history _ refl;
+    legal = legal_more v.start r.legal held_now ((its_log turn).held ∙ ap held_in works);
+    own = part_mine r.history refl;
+    told = let holds : (n : ℕ) → n ≢ f.number → new.holds n ≡ old.holds n = changed_else old.holds f.number _ in
+        record { at = refl; size = refl; fresh = refl; looked = refl; all = omega arith; removed = λ m other. refl; holds = holds };
+    held = held_mine (event_of (shown x v.work) (Release f)) r.history refl;
+    holds = λ m. let w : held_of m v ≡ one_if (eqb f.number m) = ap (holding m) works in
+        let e = one_less_at old.holds f.number m held_now in omega arith;
+    free = λ m other bad. let b = ap busy works in omega arith;
+    places = ap placing works;
+    open_file = holds_it.1;
+  }
+
+  -- where the word was 1, the file was retired, and this is its last hold
+  by_phase : word < 18446744073709551616 → (ph : Phase) → r.phase f.number ≡ ph → file_in ph ≡ Some f.identity
+      → ((word ≢ 1) × NodeAgrees new f.number (looks r.history f.number) (less_one word) (home_now turn f.number) ph)
+      ⊎ ((word ≡ 1) × (less_one word ≡ 0) × (r.phase f.number ≡ retired f.identity) × (home_now turn f.number ≡ some (some (Some f.identity)))
+      × (old.removed f.number ≡ Some f) × (new.holds f.number ≡ 0))
+  by_phase fits (seated s g) is has = let n = in_phase v.start st r holds_it.0 is in let a = n.counts in
+      let c = few_looks turn f.number in let h = held_now in let z = one_less in
+      let e : less_one word ≡ word - 1 = sub_wraps (omega arith) fits (omega arith) in
+      let counts : less_one word + looks r.history f.number ≡ born + new.holds f.number = omega arith in
+      inl (λ last. omega arith, assumption (n, counts))
+  by_phase fits (leaving j t g) is has = let n = in_phase v.start st r holds_it.0 is in let a = n.counts in
+      let c = few_looks turn f.number in let h = held_now in let z = one_less in
+      let e : less_one word ≡ word - 1 = sub_wraps (omega arith) fits (omega arith) in
+      let counts : less_one word + looks r.history f.number ≡ born + new.holds f.number = omega arith in
+      inl (λ last. omega arith, assumption (n, counts))
+  by_phase fits (retired g) is has = let n = in_phase v.start st r holds_it.0 is in let a = n.counts in
+      let b = n.some_hold in let h = held_now in let z = one_less in let same : g ≡ f.identity = cc has in
+      let e : less_one word ≡ word - 1 = sub_wraps (omega arith) fits (omega arith) in
+      dite (ℕ_discrete word 1)
+      (λ last. inr (last, omega arith, is ∙ ap retired same, rw (← same) n.at_home, rw (← same) n.removed, omega arith))
+      (λ more. inl (more, record { counts = omega arith; at_home = n.at_home; some_hold = omega arith; removed = n.removed }))
+  by_phase fits _ is has = absurd (cc has)
+
+  holding_same : {g : File} → v.work ≡ Between (Holding g) → f ≡ g
+  holding_same its = cc (sym works ∙ its)
+
+  releases_either : (slots : ℕ) (carried : List (ℕ × Option Closed)) → word < 18446744073709551616
+      → Made turn carried (word_of v.start f.number) less_one (Releases (step slots (word_of v.start f.number) 1 0 none) (v, carried))
+  releases_either slots carried fits = let told = Releases (step slots (word_of v.start f.number) 1 0 none) (v, carried) in ⊎_elim
+      (λ t. stays_open release_lets_go less_one carried (r.phase f.number) (inl refl) refl t.1
+      (owner_stays st.views id v (went turn h₁ (Between Idle) v.change) here f.number (λ bad. let b = ap busy works in omega arith) (r.phase f.number)
+      (r.each_owner f.number holds_it.0)) told record {
+        waits = λ g its _. rw (← holding_same its) (lets_go release_lets_go less_one carried);
+        closes = λ g _ is. absurd (t.0 is);
+      })
+      (λ t. comes_out release_lets_go less_one carried t.3 t.4 t.5 t.1 (inr (inr (inr (f.identity, t.2)))) told record {
+        waits = λ g _ not_so. absurd (not_so t.0);
+        closes = λ g its _. rw (← holding_same its) (takes_out release_lets_go less_one carried t.3 t.4 t.5 t.1);
+      })
+      (by_phase fits (r.phase f.number) refl holds_it.1)
+
+pub releases_keep : ReleasesKeep
+releases_keep k slots id i f m x has works place = by_turn slots (λ _. Unit {0}) (λ k. word_of k f.number)
+    (λ word. (word + (2 ^ 64 - 1)) % 2 ^ 64) (λ i. Releases (step slots i 1 0 none) m) has tt place
+    (λ st r here _ fits. releases_either (turn_of m x has.1 id st r here) f works slots m.1 fits)

@@ -7,8 +7,7 @@ use Rattle.fx_counted.proofs.Words.{entry_more, takes_more, LooksKeep, Looks, ho
 use Rattle.fx_counted.proofs.Words.{IsSeated}
 use Rattle.fx_counted.proofs.Steps.{busy, stays_same, owner_stays, IsHistory, grows_one, legal_more, held_mine, part_mine, same_shape, step_kept}
 use Rattle.fx_counted.proofs.Steps.{Turn, turn_of, word_at, now, logged, its_log, tells, by_turn, Made, log_now, far, node_same, control_same, NodeIn}
-use Rattle.fx_counted.proofs.Steps.{in_phase, seat_in}
-use Rattle.fx_counted.proofs.SlotSteps.{slots_now, node_now, control_now, draws_now, words_now}
+use Rattle.fx_counted.proofs.Steps.{in_phase, seat_in, slots_now, node_now, control_now, draws_now, words_now}
 
 pub add_one : {n : ℕ} → takes_in n + 1 < 4294967296 → n < 18446744073709551616 → (n + 1) % 2 ^ 64 ≡ n + 1
 add_one low fits = omega arith

@@ -8,8 +8,7 @@ use Rattle.fx_counted.proofs.Words.{Removes, Between, Allows, IsInRange}
 use Rattle.fx_counted.proofs.Steps.{in_phase, legal_more, same_shape, Turn, turn_of, word_at, now, logged, its_work, by_turn, went, Made, far}
 use Rattle.fx_counted.proofs.Steps.{control_same}
 use prog.Atomic.{either}
-use Rattle.fx_counted.proofs.Calm.{no_event, calm_agrees}
-use Rattle.fx_counted.proofs.ControlSteps.{goes_on}
+use Rattle.fx_counted.proofs.ControlSteps.{no_event, calm_agrees, goes_on}
 use Rattle.fx_counted.proofs.Swaps.{Effect, in_size, names_old, removal_agrees, removal_tells, installation_agrees, installation_tells, removed_view}
 use Rattle.fx_counted.proofs.Swaps.{installed_view}
 

@@ -1,12 +1,89 @@
--- A table that begins with the words and places of a table of one thread keeps the rule; and what comes back where memory is refused.
-use Rattle.fx_counted.proofs.Words.{◌≡◌, ℕ, ◌+◌, ◌≤◌, List, sym, refl, ap, ◌∙◌, arith, Option, Some, None, dite, some, dec_le, get_elem?, Closed}
-use Rattle.fx_counted.proofs.Words.{Contents, state_of, State, file_numbered, identity_of, File, IsGivenBack, MAX_CHAINS, chain_numbers}
-use Rattle.fx_counted.proofs.Words.{AreFirstWords, AreFirstHomes, home_place, homes_for, home_for, OpensWith, IsShellOf, AreBack, file_in_place}
-use Rattle.fx_counted.proofs.Words.{Start, MAX_PASSES, get_or-eq_default, ◌<◌, first_file, node_place, slice_index}
+-- What a shared table begins with: words, written one slot after the other, and the files of the slots, which move to its places.
+use Rattle.fx_counted.proofs.Words.{◌≡◌, ℕ, zero, suc, ◌+◌, ◌*◌, ◌<◌, ◌≤◌, List, length, refl, ap, arith, Option, Some, None, slice_index, State}
+use Rattle.fx_counted.proofs.Words.{file_numbered, File, full_in, if_full, first_at, control_place, draw_place, slot_place, words_for, word_for}
+use Rattle.fx_counted.proofs.Words.{node_for, length-append, files_in_order, identities_of, control_word_of, [], ◌∷◌, ◌++◌, sym, ◌∙◌, Result, dite}
+use Rattle.fx_counted.proofs.Words.{some, ℕ_discrete, get_elem?, at_longer, Closed, Contents, state_of, IsSettled, identity_of, HasSameFiles}
+use Rattle.fx_counted.proofs.Words.{IsGivenBack, IsShellOf, Ok, Err, OnOk, at_last, slots_in_order, at_index, length-map-range_with_len, dec_le}
+use Rattle.fx_counted.proofs.Words.{MAX_CHAINS, chain_numbers, AreFirstWords, AreFirstHomes, home_place, homes_for, home_for, OpensWith, AreBack}
+use Rattle.fx_counted.proofs.Words.{file_in_place, Start, MAX_PASSES, get_or-eq_default, first_file, node_place}
+use Rattle.fx_plain.specs.State.{opening}
+use Rattle.std.proofs.lemmas.List.FromFn.{get_or-map-range_with_len}
+use Rattle.fx_table.proofs.Preparing.{prepared_again}
 use Rattle.fx_counted.proofs.Places.{high_node, low_home, high_home}
 use Rattle.fx_counted.proofs.Frames.{read_at}
 use Rattle.fx_counted.proofs.Shells.{none_outside}
 
+-- the words of the slots below this one are written so
+pub record AreWordsSoFar (st : State) (numbers done : ℕ) (words : List ℕ) : Type 0 where
+  pub count : length words ≡ words_for st.size numbers
+  pub entries : (slot : ℕ) (f : File) → slot < done → first_at st slot ≡ Some f → f.identity.entry < 256
+  pub control : slice_index words control_place ≡ control_word_of (full_in (first_at st) st.range.0 st.range.1)
+  pub draw : slice_index words draw_place ≡ 0
+  pub slots : (slot : ℕ) → slot < done → slice_index words (slot_place slot) ≡ word_for (first_at st slot)
+  pub nodes : (slot : ℕ) → slot < done → slice_index words (17 + 8 * slot) ≡ node_for (first_at st slot)
+  pub rest : (place : ℕ) → 16 + 8 * done ≤ place → slice_index words place ≡ 0
+
+as_many : (found : Option File) (slot : ℕ) → length (identities_of found) ≡ if_full (file_numbered found slot)
+as_many None slot = refl
+as_many (Some f) slot = refl
+
+-- the files of the first slots, and the full ones of these slots
+pub all_counted : (st : State) (n : ℕ) → length (files_in_order st.at n) ≡ full_in (first_at st) 0 n
+all_counted st zero = refl
+all_counted st (suc n) =
+    let both = length-append (files_in_order st.at n) (identities_of (st.at n)) in
+    let rest = all_counted st n in
+    let here : 0 + n ≡ n = omega arith in
+    let there = ap (λ (slot : ℕ). if_full (first_at st slot)) here in
+    let numbered = as_many (st.at n) n in
+    omega (arith, both, rest, there, numbered)
+
+-- a preparation keeps the files
+pub prepared_or_not : {E : Type 0} (old new : Contents) (numbers : ℕ) (r : Result (Unit {0}) E)
+    → OnOk r (state_of new ≡ opening (state_of old) numbers) → OnOk r (IsGivenBack old new)
+prepared_or_not old new numbers (Ok x) is = prepared_again old new numbers is
+prepared_or_not old new numbers (Err e) is = tt
+
+-- what is left of a table whose files were taken out
+pub all_taken : {st : State} {same now : State} → HasSameFiles st same → IsSettled same → now ≡ record same { at = λ _. None } → IsShellOf st now
+all_taken files settled is = rw is assumption
+
+length_in_order : (at : ℕ → Option File) (n : ℕ) → length (slots_in_order at n) ≡ n
+length_in_order at = length-map-range_with_len (λ slot. identity_of (at slot)) 0
+
+in_order : (at : ℕ → Option File) (n slot : ℕ) → slot < n → get_elem? (slots_in_order at n) slot ≡ some (identity_of (at slot))
+in_order at n slot l = at_index (slots_in_order at n) slot (identity_of (at slot)) (let a = length_in_order at n in omega arith)
+    (sym (get_or-map-range_with_len (λ s. identity_of (at s)) 0 n slot slot (identity_of (at slot)) l (omega arith)))
+
+-- behind the slots' places the others are empty
+pub record AreHomesUpTo (st : State) (homes : List (Option Closed)) : Type 0 where
+  pub files : (slot : ℕ) → slot < st.size → get_elem? homes slot ≡ some (identity_of (st.at slot))
+  pub others : (place : ℕ) → st.size ≤ place → place < length homes → get_elem? homes place ≡ some None
+
+-- the files that were taken out, one after another
+pub files_taken : {st same : State} {before homes : List (Option Closed)} → HasSameFiles st same → before ≡ []
+    → homes ≡ before ++ slots_in_order same.at same.size → AreHomesUpTo st homes
+files_taken {same} {homes} files none with_files =
+    let are : homes ≡ slots_in_order same.at same.size =
+    with_files ∙ ap (λ (xs : List (Option Closed)). xs ++ slots_in_order same.at same.size) none in
+    let size = files.size in
+    let count = ap length are ∙ (length_in_order same.at same.size ∙ files.size) in
+    record {
+      files = λ slot l. ap (λ (xs : List (Option Closed)). get_elem? xs slot) are
+          ∙ (in_order same.at same.size slot (omega (arith, l, size)) ∙ ap some (files.files slot));
+      others = λ place g l. absurd (omega (arith, g, l, count));
+    }
+
+pub none_behind : {st : State} {homes new : List (Option Closed)} → new ≡ homes ++ None ∷ [] → AreHomesUpTo st homes → AreHomesUpTo st new
+none_behind {st} {homes} pushed h = record {
+  files = λ s l. ap (λ (xs : List (Option Closed)). get_elem? xs s) pushed ∙ at_longer homes (None ∷ []) s (identity_of (st.at s)) (h.files s l);
+  others = λ place g l. ap (λ (xs : List (Option Closed)). get_elem? xs place) pushed ∙ dite (ℕ_discrete place (length homes))
+      (λ same. at_last homes None place (sym same))
+      (λ ne. let d = ap length pushed in let e = length-append homes (None ∷ []) in
+      at_longer homes (None ∷ []) place None (h.others place g (omega (arith, ne, l, d, e))));
+}
+
+-- A table that begins with the words and places of a table of one thread keeps the rule; and what comes back where memory is refused.
 home_is : (found : Option File) (slot : ℕ) → identity_of found ≡ home_for (file_numbered found slot)
 home_is None slot = refl
 home_is (Some f) slot = refl

@@ -6,7 +6,7 @@ use Rattle.fx_counted.proofs.Chains.{told_few}
 use Rattle.fx_counted.proofs.ControlSteps.{few_changes, few_full, few_added, few_removed}
 use Rattle.fx_counted.proofs.Histories.{looks_few}
 use Rattle.fx_counted.proofs.Keeping.{in_phase}
-use Rattle.fx_counted.proofs.Naming.{node_is}
+use Rattle.fx_counted.proofs.Calling.{node_is}
 
 module _ (k : Start) (s : Shared) (r : Agrees k s) where
   few_passes : sum_by lengths s.views ≤ 16

@@ -1,4 +1,4 @@
-use Rattle.fx_counted.proofs.Releases.{releases_keep}
+use Rattle.fx_counted.proofs.LettingGo.{releases_keep}
 use Rattle.fx_counted.proofs.laws.release_keeps_rule.Goals as goal
 
 pub returns : goal.returns

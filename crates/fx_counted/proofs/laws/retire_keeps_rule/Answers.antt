@@ -1,4 +1,4 @@
-use Rattle.fx_counted.proofs.Retirements.{retires_keep}
+use Rattle.fx_counted.proofs.LettingGo.{retires_keep}
 use Rattle.fx_counted.proofs.laws.retire_keeps_rule.Goals as goal
 
 pub returns : goal.returns

@@ -1,5 +1,5 @@
 use Rattle.fx_counted.proofs.Words.{ap, arith, length, length-append, ◌∷◌, [], Option, None, Closed, state_of}
-use Rattle.fx_counted.proofs.FirstHomes.{all_taken, files_taken, none_behind}
+use Rattle.fx_counted.proofs.Starting.{all_taken, files_taken, none_behind}
 use Rattle.fx_counted.proofs.open.first_homes.Goals as goal
 
 pub loop-init : goal.loop-init

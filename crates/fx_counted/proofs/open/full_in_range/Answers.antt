@@ -1,5 +1,5 @@
 use Rattle.fx_counted.proofs.Words.{◌≡◌, ℕ, ap, ◌∙◌, arith, state_of, full_in, first_at}
-use Rattle.fx_counted.proofs.FirstWords.{all_counted}
+use Rattle.fx_counted.proofs.Starting.{all_counted}
 use Rattle.fx_counted.proofs.FullSlots.{full_few}
 use Rattle.fx_counted.proofs.open.full_in_range.Goals as goal
 

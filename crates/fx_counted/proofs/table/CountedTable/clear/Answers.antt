@@ -1,8 +1,8 @@
 use Rattle.fx_counted.proofs.Words.{Clear}
-use Rattle.fx_counted.proofs.table.CountedTable.clear.Goals as goal
 use Rattle.fx_table.proofs.Removing.{cleared_so}
-use Rattle.fx_counted.proofs.Removing.{removal_requires, removal_adds}
+use Rattle.fx_counted.proofs.Calling.{removal_requires, removal_adds}
 use Rattle.fx_counted.proofs.SlotLaws.{cleared}
+use Rattle.fx_counted.proofs.table.CountedTable.clear.Goals as goal
 
 pub swap-found-requires : goal.swap-found-requires
 swap-found-requires c = let began = c.begin-began.ensures in

@@ -1,10 +1,10 @@
 use Rattle.fx_counted.proofs.Words.{Contains, List, [], ◌∷◌, ap, arith, All-contains, Contains-append_left, IsIdleSeatOf, view_of, CountedPass}
 use Rattle.fx_counted.proofs.Words.{each_all, IsPassOfTable}
-use Rattle.fx_counted.proofs.table.CountedTable.close.Goals as goal
 use Rattle.fx_table.proofs.Dealing.{IsReady, fits}
 use Rattle.fx_table.proofs.Gathering.{gathered}
 use Rattle.fx_counted.proofs.Gathered.{all_idle, closes}
 use Rattle.fx_counted.proofs.Going.{its_doing}
+use Rattle.fx_counted.proofs.table.CountedTable.close.Goals as goal
 
 pub gather-seat-requires-clause-passes : goal.gather-seat-requires-clause-passes
 gather-seat-requires-clause-passes c =

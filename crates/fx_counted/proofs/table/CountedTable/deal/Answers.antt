@@ -1,8 +1,8 @@
 use Rattle.fx_counted.proofs.Words.{◌≡◌, ◌≤◌, [], ◌∙◌, ap, arith, without_first, first_alone, Sat, View}
-use Rattle.fx_counted.proofs.table.CountedTable.deal.Goals as goal
 use Rattle.fx_table.proofs.Dealing.{one_dealt, all_dealt}
-use Rattle.fx_counted.proofs.Dealing.{rest_is_dealt, last_is_dealt, is_new_pass}
+use Rattle.fx_counted.proofs.Gathered.{rest_is_dealt, last_is_dealt, is_new_pass}
 use Rattle.fx_counted.proofs.Seats.{splits_keep}
+use Rattle.fx_counted.proofs.table.CountedTable.deal.Goals as goal
 
 pub split_seat-one-requires : goal.split_seat-one-requires
 split_seat-one-requires c = let i = c.loop-number.invariant in (

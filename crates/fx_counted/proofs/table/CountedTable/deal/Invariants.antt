@@ -1,6 +1,6 @@
 use Rattle.fx_counted.proofs.Words.{◌≡◌, ◌≤◌, ◌-◌, vec_capacity, [], dealt, view_of, IsPassOf}
-use Rattle.fx_counted.proofs.table.CountedTable.deal.Given as goal
 use Rattle.fx_table.proofs.Dealing.{AreDealt}
+use Rattle.fx_counted.proofs.table.CountedTable.deal.Given as goal
 
 abbrev pub invariant-loop-number : goal.invariant-loop-number
 invariant-loop-number l = record {

@@ -1,7 +1,7 @@
 use Rattle.fx_counted.proofs.Words.{sym, subst, arith, IsIdleSeatOf, CountedPass}
-use Rattle.fx_counted.proofs.table.CountedTable.gather.Goals as goal
 use Rattle.fx_table.proofs.Gathering.{last_of}
 use Rattle.fx_counted.proofs.Seats.{joins_keep}
+use Rattle.fx_counted.proofs.table.CountedTable.gather.Goals as goal
 
 pub join_seat-requires : goal.join_seat-requires
 join_seat-requires c =

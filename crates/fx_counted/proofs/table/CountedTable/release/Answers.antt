@@ -2,7 +2,7 @@ use Rattle.fx_counted.proofs.Words.{ap, ◌∙◌, arith, subst, node_place, IsI
 use Rattle.fx_table.specs.declared.values.Hold.{Hold}
 use Rattle.fx_counted.proofs.Calling.{node_inside, node_is_at}
 use Rattle.fx_counted.proofs.Going.{its_pass, its_doing, adds_so, out_place, out_and_home}
-use Rattle.fx_counted.proofs.Releases.{releases_keep}
+use Rattle.fx_counted.proofs.LettingGo.{releases_keep}
 use Rattle.fx_counted.proofs.table.CountedTable.release.Goals as goal
 
 pub fetch_sub-found-requires : goal.fetch_sub-found-requires

@@ -1,10 +1,10 @@
 use Rattle.fx_counted.proofs.Words.{ℕ, ◌<◌, ◌≡◌, [], refl, sym, ap, ◌∙◌, arith, subst, Some, ◌▷◌, Close, File, no_use, Retired, retire_amount_of}
 use Rattle.fx_counted.proofs.Words.{Goes, node_place, HasPlace, pass_of, state_after_all, IsInside, TakesOut, Change, Start, Idle, Retiring, Between}
-use Rattle.fx_counted.proofs.table.CountedTable.retire.Goals as goal
 use Rattle.fx_counted.proofs.Calling.{node_inside, node_is_at}
 use Rattle.fx_counted.proofs.Going.{its_pass, its_doing, adds_so, still_pass, let_go, out_place, out_and_home}
-use Rattle.fx_counted.proofs.Retirements.{retires_keep}
+use Rattle.fx_counted.proofs.LettingGo.{retires_keep}
 use Rattle.fx_counted.proofs.table.CountedTable.retire.Goals.{After-fetch_sub-found}
+use Rattle.fx_counted.proofs.table.CountedTable.retire.Goals as goal
 
 pub fetch_sub-found-requires : goal.fetch_sub-found-requires
 fetch_sub-found-requires c =

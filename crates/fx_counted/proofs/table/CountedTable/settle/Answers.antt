@@ -1,5 +1,5 @@
 use Rattle.fx_counted.proofs.Words.{arith}
-use Rattle.fx_counted.proofs.Settling.{may_observe, settles}
+use Rattle.fx_counted.proofs.Gathered.{may_observe, settles}
 use Rattle.fx_counted.proofs.table.CountedTable.settle.Goals as goal
 
 pub load-requires : goal.load-requires
