@@ -1,11 +1,11 @@
 -- What a pass needs for each call of the table that it has, and what it has to show behind it.
-use Rattle.fx_baton.proofs.Words.{◌≡◌, ℕ, ◌+◌, ◌*◌, ◌<◌, ◌≤◌, ◌^◌, Bool, true, false, [], ◌∷◌, map, sym, refl, ap, ◌∙◌, subst, arith, is_none, Option}
-use Rattle.fx_baton.proofs.Words.{Some, None, option_map, IfSome, is_some, not, TableId, rest, Closed, State, Steps, changed_at, Contents, IsTable}
+use Rattle.fx_baton.proofs.Words.{◌≡◌, ℕ, ◌+◌, ◌*◌, ◌<◌, ◌≤◌, Bool, true, false, [], ◌∷◌, map, sym, refl, ap, ◌∙◌, subst, arith, is_none, Option}
+use Rattle.fx_baton.proofs.Words.{Some, None, option_map, is_some, not, TableId, rest, Closed, State, Steps, changed_at, Contents, IsTable}
 use Rattle.fx_baton.proofs.Words.{state_of, leaving, Leads, action_of, close_of, ◌▷◌, ◌▷▷◌, numbered, identity_of, closed_by_release}
-use Rattle.fx_baton.proofs.Words.{closed_by_retirement, HasRoomForHold, EndsHold, LetsLeave, File, Look, Release, Put, Clear, Take, Allocate, Full}
+use Rattle.fx_baton.proofs.Words.{closed_by_retirement, EndsHold, LetsLeave, File, Look, Release, Put, Clear, Take, Allocate, Full}
 use Rattle.fx_baton.proofs.Words.{Close, pass_of_number, number_behind, Opening, size_of, PassView, hold_of, next_of, Doing, Idle, Holding, Retiring}
-use Rattle.fx_baton.proofs.Words.{Log, View, Start, Call, BatonPass, opening_of, begin_of, holds_by, IsTurn, view_of, is_idle, HasTable, UsesNext}
-use Rattle.fx_baton.proofs.Words.{HasCalled, HasGivenBack, first_own, IsHoldOf, IsRetiredOf, next_is_its_own, bit_here}
+use Rattle.fx_baton.proofs.Words.{Log, View, Start, Call, BatonPass, opening_of, begin_of, IsTurn, view_of, is_idle, HasTable, UsesNext}
+use Rattle.fx_baton.proofs.Words.{HasCalled, HasGivenBack, first_own, IsHoldOf, IsRetiredOf, next_is_its_own}
 use Rattle.fx_table.specs.Calls.{retiring, Adds, no_use, one_number, new_file, ReleasesFile, RetiresFile, one_look, HasRetired, Released}
 use Rattle.fx_baton.specs.Turns.{holds_now, release_in, retirement_in, actions_of, doing_of, events_of, use_of, table_of_slots}
 use Rattle.atomic_table.specs.Lent.{seat_with}
@@ -16,7 +16,7 @@ use Rattle.fx_table.specs.declared.values.Retired.{Retired}
 use Rattle.fx_baton.specs.declared.view.Call.TheVariants.{Look as LookCall, Release as ReleaseCall, Put as PutCall, Allocate as AllocateCall}
 use Rattle.fx_baton.specs.declared.view.Call.TheVariants.{Full as FullCall, Clear as ClearCall, Take as TakeCall, Retire as RetireCall}
 use Rattle.fx_baton.proofs.CallsAreTurns.{look_turn, slot_turn, full_turn, letting_go_turn, file_released, retire_turn, file_retired, is_held}
-use Rattle.fx_baton.proofs.CallsAreTurns.{is_leaving}
+use Rattle.fx_baton.proofs.CallsAreTurns.{UsesOwn, uses_next}
 
 module _ {id : TableId} {k : Start} {u : PassView} {p : BatonPass} where
   -- the table may be lent
@@ -85,13 +85,6 @@ module _ {id : TableId} {k : Start} {u : PassView} {c : Contents} {p : BatonPass
   pub slot_inside : {slot : ℕ} → slot < size_of (opening_of k) → slot < (state_of c).size
   slot_inside l = let e = size_is in omega arith
 
-  pub room_for : (slot : ℕ) → HasRoomForHold (state_of c) slot
-  room_for slot = any ((state_of c).at slot)
-    where
-      any : (o : Option File) → IfSome o (λ f. (state_of c).holds f.number + 1 < 2 ^ 32)
-      any None = tt
-      any (Some f) = let a = h.knows.few f.number in omega arith
-
   same_doing : view.doing ≡ u.doing
   same_doing = ap (λ (z : PassView). z.doing) h.more.same
 
@@ -122,6 +115,9 @@ module _ {id : TableId} {k : Start} {u : PassView} {c : Contents} {p : BatonPass
 
     owned : pass_of_number view.start.passes number ≡ log.number
     owned = ap (λ (z : Start). pass_of_number z.passes number) same_start ∙ its_own.0
+
+    uses_own : UsesOwn c p.chain h.knows (changed_at (state_of c).fresh number false) (number + 1)
+    uses_own = uses_next c p.chain h.knows owned behind_own
 
     pub number_fresh : (state_of c).fresh number ≡ true
     number_fresh =
@@ -160,43 +156,42 @@ module _ {id : TableId} {k : Start} {u : PassView} {c : Contents} {p : BatonPass
         → Steps (state_of c) (Look slot ((state_of c).at slot)) (state_of d) → leaving d ≡ leaving c
         → found ≡ option_map shown ((state_of c).at slot) → is_some found ≡ not flag → IsTable d → HasCalled id k (LookCall slot) flag (lent d)
     look_called {slot} {d} {found} {flag} some step leaves answer says sound = called sound
-        (look_turn view log c d p.chain h.knows is_idle_here ((state_of c).at slot) step leaves) tt (omega arith)
+        (look_turn d p.chain h.knows is_idle_here ((state_of c).at slot) step leaves) tt (omega arith)
         (let e = ap (λ (z : PassView). z.looks_left) h.more.same in omega arith) (idle_told shown ((state_of c).at slot) says answer).0
 
     pub put_called : (some : 0 < u.numbers_left) {slot number : ℕ} {file : Closed} {d : Contents} {found : Option ℕ} {flag : Bool}
         → number ≡ next_of u → LetsLeave c d (Put slot (numbered number file) ((state_of c).at slot)) ((state_of c).at slot) found
         → is_some found ≡ not flag → HasCalled id k (PutCall slot number file) flag (lent d)
     put_called some {slot} {number} {file} {d} {found} {flag} next l says = called l.sound
-        (slot_turn view log c d p.chain h.knows is_idle_here (Put slot (numbered number file) ((state_of c).at slot)) slot
-        (Some (numbered number file)) ((state_of c).at slot) l.step l.step.1 refl l.leaving tt (λ _. refl)
-        (owned some number next, behind_own some number next, refl))
+        (slot_turn d p.chain h.knows is_idle_here (Put slot (numbered number file) ((state_of c).at slot)) slot (Some (numbered number file)) _ _
+        l.step l.step.1 refl l.leaving tt (λ _. refl) (uses_own some number next))
         (number_is some number next) (let e = same_numbers in omega arith) (omega arith) (idle_told (λ x. x.number) ((state_of c).at slot) says l.answer).1
 
     pub allocate_called : (some : 0 < u.numbers_left) {slot number : ℕ} {file : Closed} {d : Contents} → number ≡ next_of u
         → Steps (state_of c) (Allocate slot (numbered number file)) (state_of d) → leaving d ≡ leaving c
         → IsTable d → HasCalled id k (AllocateCall slot number file) true (lent d)
     allocate_called some {slot} {number} {file} {d} next step leaves sound = called sound
-        (slot_turn view log c d p.chain h.knows is_idle_here (Allocate slot (numbered number file)) slot (Some (numbered number file)) None step step.1
-        (sym step.0.2) leaves tt (λ _. refl) (owned some number next, behind_own some number next, refl))
+        (slot_turn d p.chain h.knows is_idle_here (Allocate slot (numbered number file)) slot (Some (numbered number file)) None _
+        step step.1 (sym step.0.2) leaves tt (λ _. refl) (uses_own some number next))
         (number_is some number next) (let e = same_numbers in omega arith) (omega arith) refl
 
     pub full_called : {d : Contents} → Allows (state_of c) Full → d ≡ c → IsTable d → HasCalled id k FullCall true (lent d)
     full_called {d} full same sound = called sound
-        (full_turn view log c d p.chain h.knows is_idle_here (full, ap state_of same) (ap leaving same)) tt (omega arith) (omega arith) refl
+        (full_turn d p.chain h.knows is_idle_here (full, ap state_of same) (ap leaving same)) tt (omega arith) (omega arith) refl
 
     pub clear_called : {slot : ℕ} {d : Contents} {found : Option ℕ} {flag : Bool}
         → LetsLeave c d (Clear slot ((state_of c).at slot)) ((state_of c).at slot) found → is_some found ≡ not flag
         → HasCalled id k (ClearCall slot) flag (lent d)
     clear_called {slot} {d} {found} {flag} l says = called l.sound
-        (slot_turn view log c d p.chain h.knows is_idle_here (Clear slot ((state_of c).at slot)) slot None ((state_of c).at slot) l.step l.step.1 refl
-        l.leaving tt (λ _. refl) refl) tt (omega arith) (omega arith) (idle_told (λ x. x.number) ((state_of c).at slot) says l.answer).1
+        (slot_turn d p.chain h.knows is_idle_here (Clear slot ((state_of c).at slot)) slot None _ _ l.step l.step.1 refl l.leaving tt (λ _. refl)
+        (omega arith, λ n _. refl)) tt (omega arith) (omega arith) (idle_told (λ x. x.number) ((state_of c).at slot) says l.answer).1
 
     pub take_called : {slot : ℕ} {d : Contents} {found : Option ℕ} {flag : Bool}
         → LetsLeave c d (Take slot ((state_of c).at slot)) ((state_of c).at slot) found → is_some found ≡ not flag
         → HasCalled id k (TakeCall slot) flag (lent d)
     take_called {slot} {d} {found} {flag} l says = called l.sound
-        (slot_turn view log c d p.chain h.knows is_idle_here (Take slot ((state_of c).at slot)) slot None ((state_of c).at slot) l.step l.step.1 refl
-        l.leaving tt (λ _. refl) refl) tt (omega arith) (omega arith) (idle_told (λ x. x.number) ((state_of c).at slot) says l.answer).1
+        (slot_turn d p.chain h.knows is_idle_here (Take slot ((state_of c).at slot)) slot None _ _ l.step l.step.1 refl l.leaving tt (λ _. refl)
+        (omega arith, λ n _. refl)) tt (omega arith) (omega arith) (idle_told (λ x. x.number) ((state_of c).at slot) says l.answer).1
 
   -- what a look-up answers: nothing, or a file
   pub empty_looked : {slot : ℕ} {d : Contents} {q : BatonPass} → HasGivenBack id k (LookCall slot) (lent d) q
@@ -230,15 +225,11 @@ module _ {id : TableId} {k : Start} {u : PassView} {c : Contents} {p : BatonPass
     node_is : hold.node ≡ f.number
     node_is = ap (λ (x : Hold). x.node) held.2
 
-    pub holds_some : 0 < (state_of c).holds hold.node
-    holds_some = let a = h.knows.holds f.number in let b = ap (holds_by f.number) holds_here in let r = bit_here f.number f.number refl in
-        let e = ap (state_of c).holds node_is in omega arith
-
     pub release_called : {d : Contents} {out : Option Closed} → EndsHold c d hold.node out → HasCalled id k ReleaseCall true (lent d)
     release_called {d} {out} ends =
         let e : EndsHold c d f.number out = subst (λ (n : ℕ). EndsHold c d n out) node_is ends in
         called e.sound (subst (λ (z : Doing). IsTurn view log c d (events_of c log.number p.chain z ReleaseCall) Idle) (sym holds_here)
-        (letting_go_turn view log c d p.chain h.knows f holds_here (closed_by_release c f.number) refl (e.steps f refl) e.leaving)) tt (omega arith) (omega arith) refl
+        (letting_go_turn d p.chain h.knows f holds_here (closed_by_release c f.number) refl (e.steps f refl) e.leaving)) tt (omega arith) (omega arith) refl
 
     -- what a release answers
     pub released_so : (d : Contents) {q : BatonPass} → HasGivenBack id k ReleaseCall (lent d) q → (result : Option Closed)
@@ -255,7 +246,7 @@ module _ {id : TableId} {k : Start} {u : PassView} {c : Contents} {p : BatonPass
             → Adds o u ([] ▷ Release f ▷▷ close_of out) Idle no_use (view_of q) → ReleasesFile o u f result (view_of q)
         by_out None e r is a = subst (λ (z : Option Closed). ReleasesFile o u f z (view_of q)) (sym is) a
         by_out (Some g) e r is a =
-            let same = (file_released view log c c p.chain h.knows f holds_here e).0 in
+            let same = (file_released c p.chain h.knows f holds_here e).0 in
             subst (λ (z : Option Closed). ReleasesFile o u f z (view_of q)) (sym is) (
               ap (λ (z : File). z.identity) (sym same),
               subst (λ (z : File). Adds o u ([] ▷ Release f ▷ Close z) Idle no_use (view_of q)) (sym same) a,
@@ -271,9 +262,6 @@ module _ {id : TableId} {k : Start} {u : PassView} {c : Contents} {p : BatonPass
     place_is : retired.node ≡ gone.number
     place_is = ap (λ (x : Retired). x.node) removed.3
 
-    pub leaves_now : leaving c retired.node ≡ true
-    leaves_now = ap (leaving c) place_is ∙ is_leaving view log c c p.chain h.knows gone removed.1 removes_here
-
     leads_there : (d : Contents) → Leads (state_of c) (close_of (closed_by_retirement c retired.node)) (state_of d)
         → Leads (state_of c) (close_of (closed_by_retirement c gone.number)) (state_of d)
     leads_there d = subst (λ (n : ℕ). Leads (state_of c) (close_of (closed_by_retirement c n)) (state_of d)) place_is
@@ -282,7 +270,7 @@ module _ {id : TableId} {k : Start} {u : PassView} {c : Contents} {p : BatonPass
         → leaving d ≡ changed_at (leaving c) retired.node false → IsTable d → HasCalled id k RetireCall true (lent d)
     retire_called {d} leads leaves sound = called sound
         (subst (λ (z : Doing). IsTurn view log c d (events_of c log.number p.chain z RetireCall) Idle) (sym removes_here)
-        (retire_turn view log c d p.chain h.knows gone removed.1 removes_here (closed_by_retirement c gone.number) refl (leads_there d leads)
+        (retire_turn d p.chain h.knows gone removed.1 removes_here (closed_by_retirement c gone.number) refl (leads_there d leads)
         (leaves ∙ ap (λ (n : ℕ). changed_at (leaving c) n false) place_is))) tt (omega arith) (omega arith) refl
 
     -- what a retirement answers
@@ -302,11 +290,11 @@ module _ {id : TableId} {k : Start} {u : PassView} {c : Contents} {p : BatonPass
             → Leads (state_of c) (close_of out) (state_of d) → Adds o u (close_of out) Idle no_use (view_of q)
             → RetiresFile o u gone result (view_of q)
         by_out None e r is l a =
-            let held = is_held view log c c p.chain h.knows gone removed.1 removes_here e in
+            let held = is_held c p.chain h.knows gone removed.1 removes_here e in
             let same = ap (λ (s : State). s.holds gone.number) (gives.end ∙ l.1) in
             subst (λ (z : Option Closed). RetiresFile o u gone z (view_of q)) (sym is) (omega arith, a)
         by_out (Some g) e r is l a =
-            let same = file_retired view log c c p.chain h.knows gone removed.1 removes_here e in
+            let same = file_retired c p.chain h.knows gone removed.1 removes_here e in
             subst (λ (z : Option Closed). RetiresFile o u gone z (view_of q)) (sym is) (
               ap (λ (z : File). z.identity) (sym same),
               subst (λ (z : File). Adds o u ([] ▷ Close z) Idle no_use (view_of q)) (sym same) a,

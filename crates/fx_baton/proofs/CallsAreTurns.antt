@@ -1,10 +1,10 @@
 -- What each call of the plain table is as a turn.
 use Rattle.fx_baton.proofs.Words.{◌≡◌, ◌≢◌, ℕ, ◌+◌, ◌-◌, ◌<◌, ◌≤◌, Bool, true, false, cond, List, [], ◌∷◌, map, sym, refl, ap, ◌∙◌, subst, arith, eqb}
-use Rattle.fx_baton.proofs.Words.{eq-eqb, ◌⊎◌, inl, inr, ⊎_elim, dite, ℕ_discrete, Option, Some, None, not, ◌&&◌, if◌then◌else◌, State, Steps}
+use Rattle.fx_baton.proofs.Words.{◌⊎◌, inl, inr, ⊎_elim, dite, ℕ_discrete, Option, Some, None, not, ◌&&◌, if◌then◌else◌, State, Steps}
 use Rattle.fx_baton.proofs.Words.{changed_at, with_removed, Contents, state_of, leaving, Leads, IsLegal, ReleasesItsOwn, held_by, close_of, ◌▷◌, ◌▷▷◌}
 use Rattle.fx_baton.proofs.Words.{closed_by_release, closed_by_retirement, File, Event, Look, Release, Full, Close, pass_of_number, number_behind}
 use Rattle.fx_baton.proofs.Words.{HasFile, Idle, Holding, Retiring, legal_then, held_mine, one_author, Log, View, begin_of, file_held, file_in_hand}
-use Rattle.fx_baton.proofs.Words.{holds_by, removals_by, leaving_count, Knows, IsTurn, held_after, numbers_for, Doing, more_leaving, bit_here}
+use Rattle.fx_baton.proofs.Words.{holds_by, removals_by, leaving_count, Knows, IsTurn, held_after, Doing, more_leaving, bit_here}
 use Rattle.fx_baton.proofs.Words.{one_more_at, one_less_at}
 use Rattle.fx_plain.specs.declared.event.Action.{Action}
 use Rattle.fx_table.specs.Calls.{retiring}
@@ -17,12 +17,15 @@ retires : (o : Option File) → ((n : ℕ) → holds_by n (retiring o 0) ≡ 0) 
 retires None = (λ n. refl, refl, refl)
 retires (Some f) = (λ n. refl, refl, refl)
 
--- a file that comes out at a test and another that fails
-out_by : (a b : Bool) {o : Option File} {g : File} → (if a && not b then o else None) ≡ Some g → (o ≡ Some g) × (b ≡ false)
-out_by true false e = (e, refl)
-out_by _ _ {g} e = absurd (none_file g e)
+-- a file that comes out at a test
+out_if : (b : Bool) {o : Option File} {g : File} → (if b then o else None) ≡ Some g → (b ≡ true) × (o ≡ Some g)
+out_if true e = (refl, e)
+out_if false {g} e = absurd (none_file g e)
 
-module _ (v : View) (x : Log) (c d : Contents) (chain : ℕ) (known : Knows v x c x.front) where
+fails : (a b : Bool) → (a && not b) ≡ true → b ≡ false
+fails a b e = grind arith
+
+module _ {v : View} {x : Log} {c : Contents} (d : Contents) (chain : ℕ) (known : Knows v x c x.front) where
   -- the events of these actions
   abbrev pub done : List Action → List Event
   done xs = map (by x.number chain) xs
@@ -32,9 +35,13 @@ module _ (v : View) (x : Log) (c d : Contents) (chain : ℕ) (known : Knows v x 
   legal_one {a} step own = legal_then (begin_of v.start) (state_of c) (state_of d) (done (a ∷ [])) x.front known.legal
       ((tt, step.0), step.1) (known.legal.releases, own)
 
-  -- leaving files, where none was added
-  leaves_same : (n : ℕ) → leaving d ≡ leaving c → leaving_count d n ≡ leaving_count c n
-  leaves_same n leaves = ap (λ (z : ℕ → Bool). cond {A = ℕ} (z n) 1 0) leaves
+  -- what the pass held before, and what was leaving, where no file was removed or retired
+  held_so : {doing : Doing} → v.doing ≡ doing → held_by x.front x.number ≡ file_held doing
+  held_so is = known.held ∙ ap file_held is
+
+  none_leaves : {doing : Doing} → v.doing ≡ doing → leaving d ≡ leaving c → (n : ℕ)
+      → leaving_count d n + removals_by n v.doing ≡ leaving_count c n + removals_by n doing
+  none_leaves is leaves n = let a = ap (λ (z : ℕ → Bool). cond {A = ℕ} (z n) 1 0) leaves in let b = ap (removals_by n) is in omega arith
 
   -- where a file is closed that nobody holds, the others stay
   files_but : (f : File) {y : State} → state_of d ≡ y → y.holds f.number ≡ 0 → leaving d f.number ≡ false
@@ -46,186 +53,138 @@ module _ (v : View) (x : Log) (c d : Contents) (chain : ℕ) (known : Knows v x 
       (λ still. let no : true ≡ false = sym still ∙ (ap (leaving d) e ∙ retired) in cc no) stays))
       (λ other. kept g other i)
 
-  -- of fresh numbers a turn uses that of the file that it installs, which is the pass's next
-  abbrev pub fresh_after : Option File → ℕ → Bool
-  fresh_after None = (state_of c).fresh
-  fresh_after (Some g) = changed_at (state_of c).fresh g.number false
+  -- of fresh numbers a turn uses up no other pass's, and none from the pass's next one on
+  abbrev pub UsesOwn : (ℕ → Bool) → ℕ → Type 0
+  UsesOwn fresh next = (number_behind x.own ≤ next)
+      × ((n : ℕ) → (pass_of_number v.start.passes n ≡ x.number → next ≤ n) → fresh n ≡ (state_of c).fresh n)
 
-  abbrev pub Installs : Option File → List Event → Type 0
-  Installs None own = number_behind own ≡ number_behind x.own
-  Installs (Some g) own = (pass_of_number v.start.passes g.number ≡ x.number) × (number_behind x.own ≤ g.number) × (number_behind own ≡ g.number + 1)
-
-  still_fresh : (new : Option File) (own : List Event) → Installs new own → {n : ℕ} → 256 ≤ n → number_behind own ≤ n
-      → n < numbers_for v.start.chains → pass_of_number v.start.passes n ≡ x.number → fresh_after new n ≡ true
-  still_fresh None own same {n} low from high its = known.fresh n low (omega (arith, same, from)) high its
-  still_fresh (Some g) own i {n} low from high its = let later : g.number + 1 ≤ n = omega (arith, i.2, from) in
-      changed_else (state_of c).fresh g.number false n (λ e. omega (arith, e, later)) ∙ known.fresh n low (omega (arith, later, i.1)) high its
-
-  others_fresh : (new : Option File) (own : List Event) → Installs new own → (n : ℕ) → pass_of_number v.start.passes n ≢ x.number
-      → (state_of c).fresh n ≡ true → fresh_after new n ≡ true
-  others_fresh None own same n other e = e
-  others_fresh (Some g) own i n other e =
-      changed_else (state_of c).fresh g.number false n (λ same. other (ap (pass_of_number v.start.passes) same ∙ i.0)) ∙ e
+  -- that of a file that it installs is the pass's next one
+  pub uses_next : {q : ℕ} → pass_of_number v.start.passes q ≡ x.number → number_behind x.own ≤ q
+      → UsesOwn (changed_at (state_of c).fresh q false) (q + 1)
+  uses_next {q} its from = (
+    omega arith,
+    λ n later. changed_else (state_of c).fresh q false n
+        (λ same. let l = later (ap (pass_of_number v.start.passes) same ∙ its) in omega (arith, same, l)),
+  )
 
   -- what a turn has to show, where the state behind it is y
-  turn : (xs : List Action) (doing : Doing) (new : Option File) (y : State) → state_of d ≡ y → y.fresh ≡ fresh_after new
-      → Installs new (x.own ▷▷ done xs) → IsLegal (begin_of v.start) (x.front ▷▷ done xs) (state_of d)
+  turn : (xs : List Action) (doing : Doing) (y : State) → state_of d ≡ y → UsesOwn y.fresh (number_behind (x.own ▷▷ done xs))
+      → IsLegal (begin_of v.start) (x.front ▷▷ done xs) (state_of d)
       → ((n : ℕ) → y.holds n + holds_by n v.doing ≡ (state_of c).holds n + holds_by n doing)
       → ((n : ℕ) → leaving_count d n + removals_by n v.doing ≡ leaving_count c n + removals_by n doing)
       → ((g : File) → HasFile (state_of c) g → (0 < (state_of d).holds g.number) ⊎ (leaving d g.number ≡ true) → HasFile y g)
       → held_by (x.front ▷▷ done xs) x.number ≡ file_held doing → ((g : File) → file_in_hand doing ≡ Some g → HasFile y g)
       → IsTurn v x c d (done xs) doing
-  turn xs doing new y is same installs legal held leaves files now file =
-      let fresh : (n : ℕ) → (state_of d).fresh n ≡ fresh_after new n = λ n. ap (λ (z : State). z.fresh n) is ∙ ap (λ (f : ℕ → Bool). f n) same in
-      record {
-        authors = one_author x.number chain xs;
-        legal = legal;
-        held = λ n. let a = ap (λ (z : State). z.holds n) is in let b = held n in omega arith;
-        leaves = leaves;
-        files = λ g i stays. subst (λ (z : State). HasFile z g) (sym is) (files g i stays);
-        now = now;
-        file = λ g e. subst (λ (z : State). HasFile z g) (sym is) (file g e);
-        fresh = λ n low from high its. fresh n ∙ still_fresh new (x.own ▷▷ done xs) installs low from high its;
-        others = λ n other e. fresh n ∙ others_fresh new (x.own ▷▷ done xs) installs n other e;
-      }
+  turn xs doing y is uses legal held leaves files now file = record {
+    authors = one_author x.number chain xs;
+    legal = legal;
+    held = λ n. let a = ap (λ (z : State). z.holds n) is in let b = held n in omega arith;
+    leaves = leaves;
+    files = λ g i stays. subst (λ (z : State). HasFile z g) (sym is) (files g i stays);
+    now = now;
+    file = λ g e. subst (λ (z : State). HasFile z g) (sym is) (file g e);
+    fresh = λ n low from high its. ap (λ (z : State). z.fresh n) is ∙ (uses.1 n (λ _. from)
+        ∙ known.fresh n low (omega (arith, uses.0, from)) high its);
+    others = λ n other e. ap (λ (z : State). z.fresh n) is ∙ (uses.1 n (λ its. absurd (other its)) ∙ e);
+  }
 
   module _ (idle : v.doing ≡ Idle) where
-    held_none : held_by x.front x.number ≡ None
-    held_none = known.held ∙ ap file_held idle
-
-    none_leaves_now : leaving d ≡ leaving c → (n : ℕ) → leaving_count d n + removals_by n v.doing ≡ leaving_count c n + 0
-    none_leaves_now leaves n = let e = leaves_same n leaves in let b = ap (removals_by n) idle in omega arith
-
     -- an action that changes nothing
     still_turn : {a : Action} → Steps (state_of c) a (state_of d) → state_of d ≡ state_of c → leaving d ≡ leaving c
         → ReleasesItsOwn (held_by x.front x.number) a → held_by (x.front ▷▷ done (a ∷ [])) x.number ≡ None
         → number_behind (x.own ▷▷ done (a ∷ [])) ≡ number_behind x.own → IsTurn v x c d (done (a ∷ [])) Idle
-    still_turn {a} step same leaves own now unused = turn (a ∷ []) Idle None (state_of c) same refl unused (legal_one step own)
-        (λ n. let b = ap (holds_by n) idle in omega arith) (none_leaves_now leaves) (λ f i _. i) now (λ g e. absurd (none_file g e))
+    still_turn {a} step same leaves own now unused = turn (a ∷ []) Idle (state_of c) same (omega arith, λ n _. refl) (legal_one step own)
+        (λ n. let b = ap (holds_by n) idle in omega arith) (none_leaves idle leaves) (λ f i _. i) now (λ g e. absurd (none_file g e))
 
     -- no slot of the range was free
     pub full_turn : Steps (state_of c) Full (state_of d) → leaving d ≡ leaving c → IsTurn v x c d (done ([] ▷ Full)) Idle
-    full_turn step leaves = still_turn step step.1 leaves tt (held_mine x.number chain Full x.front ∙ held_none) refl
+    full_turn step leaves = still_turn step step.1 leaves tt (held_mine x.number chain Full x.front ∙ held_so idle) refl
 
     -- a look-up
     pub look_turn : {slot : ℕ} (found : Option File) → Steps (state_of c) (Look slot found) (state_of d) → leaving d ≡ leaving c
         → IsTurn v x c d (done ([] ▷ Look slot found)) (holds_now found)
     look_turn {slot} None step leaves = still_turn step step.1 leaves tt (held_mine x.number chain (Look slot None) x.front) refl
-    look_turn {slot} (Some g) step leaves = turn ([] ▷ Look slot (Some g)) (Holding g) None _ step.1 refl refl (legal_one step tt)
-        (λ n. let b = ap (holds_by n) idle in let e = one_more_at (state_of c).holds g.number n in omega arith) (none_leaves_now leaves)
+    look_turn {slot} (Some g) step leaves = turn ([] ▷ Look slot (Some g)) (Holding g) _ step.1 (omega arith, λ n _. refl) (legal_one step tt)
+        (λ n. let b = ap (holds_by n) idle in let e = one_more_at (state_of c).holds g.number n in omega arith) (none_leaves idle leaves)
         (λ f i _. i) (held_mine x.number chain (Look slot (Some g)) x.front) (λ f e. inl (slot, sym step.0.1 ∙ e))
 
     -- what stood at the slot, if anything did, is leaving now
     leaves_more : (slot : ℕ) (o : Option File) → o ≡ (state_of c).at slot → leaving d ≡ more_leaving (leaving c) o
         → (n : ℕ) → leaving_count d n + removals_by n v.doing ≡ leaving_count c n + removals_by n (retiring o 0)
-    leaves_more slot None is leaves n = none_leaves_now leaves n
+    leaves_more slot None is leaves n = none_leaves idle leaves n
     leaves_more slot (Some f) is leaves n =
-        let a : leaving_count d n ≡ cond {A = ℕ} (changed_at (leaving c) f.number true n) 1 0 =
-        ap (λ (z : ℕ → Bool). cond {A = ℕ} (z n) 1 0) leaves in
-        let b = ap (removals_by n) idle in
-        let e = flag_set (leaving c) n (stays_put c known.sound slot f (sym is)) in omega arith
+        let a = flag_set (leaving c) n leaves (stays_put c known.sound slot f (sym is)) in let b = ap (removals_by n) idle in omega arith
 
     -- a slot gets another file, or none, and what stood there is removed
-    pub slot_turn : (a : Action) (slot : ℕ) (new found : Option File) → Steps (state_of c) a (state_of d) → state_of d ≡ record (state_of c) {
-      at = changed_at (state_of c).at slot new;
-      fresh = fresh_after new;
-      removed = with_removed (state_of c).removed found;
-    } → found ≡ (state_of c).at slot → leaving d ≡ more_leaving (leaving c) found → ReleasesItsOwn (held_by x.front x.number) a
-        → ((h : Option File) → held_after h a ≡ h) → Installs new (x.own ▷▷ done (a ∷ [])) → IsTurn v x c d (done (a ∷ [])) (retiring found 0)
-    slot_turn a slot new found step now is leaves own still installs =
+    pub slot_turn : (a : Action) (slot : ℕ) (new found : Option File) (fresh : ℕ → Bool) → Steps (state_of c) a (state_of d)
+        → state_of d ≡ record (state_of c) { at = changed_at (state_of c).at slot new; fresh = fresh; removed = with_removed (state_of c).removed found }
+        → found ≡ (state_of c).at slot → leaving d ≡ more_leaving (leaving c) found → ReleasesItsOwn (held_by x.front x.number) a
+        → ((h : Option File) → held_after h a ≡ h) → UsesOwn fresh (number_behind (x.own ▷▷ done (a ∷ [])))
+        → IsTurn v x c d (done (a ∷ [])) (retiring found 0)
+    slot_turn a slot new found fresh step now is leaves own still uses =
         let apart = apart_from c known.sound slot found is in
-        turn (a ∷ []) (retiring found 0) new _ now refl installs (legal_one step own)
+        turn (a ∷ []) (retiring found 0) _ now uses (legal_one step own)
         (λ n. let b = ap (holds_by n) idle in let r = (retires found).0 n in omega arith) (leaves_more slot found is leaves)
         (λ f i _. still_there (state_of c) slot new found is apart f i)
-        (held_mine x.number chain a x.front ∙ (still (held_by x.front x.number) ∙ (held_none ∙ sym (retires found).1)))
+        (held_mine x.number chain a x.front ∙ (still (held_by x.front x.number) ∙ (held_so idle ∙ sym (retires found).1)))
         (λ f e. inr (now_removed (state_of c) slot new found is apart f (sym (retires found).2 ∙ e)))
 
   -- what the pass holds is given up
   module _ (f : File) (holds : v.doing ≡ Holding f) where
-    there : HasFile (state_of c) f
-    there = known.file f (ap file_in_hand holds)
-
-    held_one : held_by x.front x.number ≡ Some f
-    held_one = known.held ∙ ap file_held holds
-
     one_less : (n : ℕ) → 0 < (state_of c).holds f.number
         → changed_at (state_of c).holds f.number ((state_of c).holds f.number - 1) n + holds_by n v.doing ≡ (state_of c).holds n + 0
     one_less n positive = let b : holds_by n v.doing ≡ cond {A = ℕ} (eqb f.number n) 1 0 = ap (holds_by n) holds in
         let e = one_less_at (state_of c).holds f.number n positive in omega arith
 
-    none_leaves : leaving d ≡ leaving c → (n : ℕ) → leaving_count d n + removals_by n v.doing ≡ leaving_count c n + 0
-    none_leaves leaves n = let a = leaves_same n leaves in let b = ap (removals_by n) holds in omega arith
-
-    close_turn : Leads (state_of c) ([] ▷ Release f ▷ Close f) (state_of d) → leaving d ≡ leaving c → leaving c f.number ≡ false
-        → IsTurn v x c d (done ([] ▷ Release f ▷ Close f)) Idle
-    close_turn leads leaves retired = turn ([] ▷ Release f ▷ Close f) Idle None _ leads.1 refl refl
-        (legal_then (begin_of v.start) (state_of c) (state_of d) (done ([] ▷ Release f ▷ Close f)) x.front known.legal leads
-        ((known.legal.releases, held_one), tt))
-        (λ n. one_less n leads.0.0.1) (none_leaves leaves)
-        (files_but f leads.1 leads.0.1.1 (ap (λ (z : ℕ → Bool). z f.number) leaves ∙ retired) (λ g other i. not_closed (state_of c) f g other i))
-        (held_mine x.number chain (Close f) (x.front ▷▷ done ([] ▷ Release f)) ∙ held_mine x.number chain (Release f) x.front)
-        (λ g e. absurd (none_file g e))
-
     -- a file that comes out at a release is the one that was held, and was retired
-    pub file_released : {g : File} → closed_by_release c f.number ≡ Some g → (f ≡ g) × (leaving c f.number ≡ false)
-    file_released {g} e = let out = out_by (eqb ((state_of c).holds f.number) 1) (leaving c f.number) e in
-        (removed_file c known.sound f g there out.0, out.1)
+    pub file_released : {g : File} → closed_by_release c f.number ≡ Some g → (f ≡ g) × (leaving c g.number ≡ false)
+    file_released {g} e =
+        let out = out_if (eqb ((state_of c).holds f.number) 1 && not (leaving c f.number)) e in
+        let same = removed_file c known.sound f g (known.file f (ap file_in_hand holds)) out.1 in
+        (same, subst (λ (z : File). leaving c z.number ≡ false) same (fails _ (leaving c f.number) out.0))
 
     pub letting_go_turn : (o : Option File) → closed_by_release c f.number ≡ o → Leads (state_of c) ([] ▷ Release f ▷▷ close_of o) (state_of d)
         → leaving d ≡ leaving c → IsTurn v x c d (done ([] ▷ Release f ▷▷ close_of o)) Idle
-    letting_go_turn None e l leaves = turn ([] ▷ Release f) Idle None _ l.1 refl refl (legal_one (l.0.1, l.1) held_one)
-        (λ n. one_less n l.0.1) (none_leaves leaves) (λ g i _. i) (held_mine x.number chain (Release f) x.front) (λ g e. absurd (none_file g e))
-    letting_go_turn (Some g) e l leaves = let is = file_released e in
-        subst (λ (z : File). Leads (state_of c) ([] ▷ Release f ▷ Close z) (state_of d) → IsTurn v x c d (done ([] ▷ Release f ▷ Close z)) Idle)
-        is.0 (λ m. close_turn m leaves is.1) l
+    letting_go_turn None e l leaves = turn ([] ▷ Release f) Idle _ l.1 (omega arith, λ n _. refl) (legal_one (l.0.1, l.1) (held_so holds))
+        (λ n. one_less n l.0.1) (none_leaves holds leaves) (λ g i _. i) (held_mine x.number chain (Release f) x.front) (λ g e. absurd (none_file g e))
+    letting_go_turn (Some g) e l leaves = turn ([] ▷ Release f ▷ Close g) Idle _ l.1 (omega arith, λ n _. refl)
+        (legal_then (begin_of v.start) (state_of c) (state_of d) (done ([] ▷ Release f ▷ Close g)) x.front known.legal l
+        ((known.legal.releases, held_so holds), tt))
+        (λ n. one_less n l.0.0.1) (none_leaves holds leaves)
+        (files_but g l.1 l.0.1.1 (ap (λ (z : ℕ → Bool). z g.number) leaves ∙ (file_released e).1) (λ h other i. not_closed (state_of c) g h other i))
+        (held_mine x.number chain (Close g) (x.front ▷▷ done ([] ▷ Release f)) ∙ held_mine x.number chain (Release f) x.front)
+        (λ h e. absurd (none_file h e))
 
   -- what the pass removed is retired
   module _ (f : File) (takes : ℕ) (removes : v.doing ≡ Retiring f takes) where
     there_still : HasFile (state_of c) f
     there_still = known.file f (ap file_in_hand removes)
 
-    pub is_leaving : leaving c f.number ≡ true
+    is_leaving : leaving c f.number ≡ true
     is_leaving = one_true
         (let a = known.leaves f.number in let b = ap (removals_by f.number) removes in let r = bit_here f.number f.number refl in omega arith)
 
-    held_nothing : held_by x.front x.number ≡ None
-    held_nothing = known.held ∙ ap file_held removes
-
     leaves_less : leaving d ≡ changed_at (leaving c) f.number false → (n : ℕ) → leaving_count d n + removals_by n v.doing ≡ leaving_count c n + 0
     leaves_less leaves n =
-        let a : leaving_count d n ≡ cond {A = ℕ} (changed_at (leaving c) f.number false n) 1 0 =
-        ap (λ (z : ℕ → Bool). cond {A = ℕ} (z n) 1 0) leaves in
-        let b : removals_by n v.doing ≡ cond {A = ℕ} (eqb f.number n) 1 0 = ap (removals_by n) removes in
-        let e = flag_back (leaving c) n is_leaving in omega arith
+        let a = flag_back (leaving c) n leaves is_leaving in
+        let b : removals_by n v.doing ≡ cond {A = ℕ} (eqb f.number n) 1 0 = ap (removals_by n) removes in omega arith
 
     same_holds : (n : ℕ) → (state_of c).holds n + holds_by n v.doing ≡ (state_of c).holds n + 0
     same_holds n = let b = ap (holds_by n) removes in omega arith
 
-    out_turn : Leads (state_of c) ([] ▷ Close f) (state_of d) → leaving d ≡ changed_at (leaving c) f.number false
-        → IsTurn v x c d (done ([] ▷ Close f)) Idle
-    out_turn leads leaves = turn ([] ▷ Close f) Idle None _ leads.1 refl refl (legal_one (leads.0.1, leads.1) tt) same_holds (leaves_less leaves)
-        (files_but f leads.1 leads.0.1.1 (ap (λ (z : ℕ → Bool). z f.number) leaves ∙ changed_here (leaving c) f.number false f.number refl)
-        (λ g other i. not_closed (state_of c) f g other i))
-        (held_mine x.number chain (Close f) x.front ∙ held_nothing) (λ g e. absurd (none_file g e))
-
     -- a file that comes out at a retirement is the one that was removed; one that doesn't is held
     pub file_retired : {g : File} → closed_by_retirement c f.number ≡ Some g → f ≡ g
-    file_retired {g} e = elim (eqb ((state_of c).holds f.number) 0) as (λ b. (if b then (state_of c).removed f.number else None) ≡ Some g → f ≡ g) [
-      | true ↦ λ z. removed_file c known.sound f g there_still z
-      | false ↦ λ z. absurd (none_file g z)
-    ] e
+    file_retired {g} e = removed_file c known.sound f g there_still (out_if (eqb ((state_of c).holds f.number) 0) e).1
 
     pub is_held : closed_by_retirement c f.number ≡ None → 0 < (state_of c).holds f.number
-    is_held e = dite (ℕ_discrete ((state_of c).holds f.number) 0)
-        (λ none_holds.
-        let b : closed_by_retirement c f.number ≡ (state_of c).removed f.number = rw (eq-eqb ((state_of c).holds f.number) 0 none_holds) in
-        absurd (none_file f (sym e ∙ (b ∙ leaving_file c known.sound f there_still is_leaving))))
-        (λ not_zero. omega (arith, not_zero))
+    is_held e = let r : (state_of c).removed f.number ≡ Some f = leaving_file c known.sound f there_still is_leaving in grind arith
 
     pub retire_turn : (o : Option File) → closed_by_retirement c f.number ≡ o → Leads (state_of c) (close_of o) (state_of d)
         → leaving d ≡ changed_at (leaving c) f.number false → IsTurn v x c d (done (close_of o)) Idle
-    retire_turn None e l leaves = turn [] Idle None _ l.1 refl refl (subst (IsLegal (begin_of v.start) x.front) (sym l.1) known.legal)
-        same_holds (leaves_less leaves) (λ g i _. i) held_nothing (λ g e. absurd (none_file g e))
-    retire_turn (Some g) e l leaves =
-        subst (λ (z : File). Leads (state_of c) ([] ▷ Close z) (state_of d) → IsTurn v x c d (done ([] ▷ Close z)) Idle) (file_retired e)
-        (λ m. out_turn m leaves) l
+    retire_turn None e l leaves = turn [] Idle _ l.1 (omega arith, λ n _. refl) (subst (IsLegal (begin_of v.start) x.front) (sym l.1) known.legal)
+        same_holds (leaves_less leaves) (λ g i _. i) (held_so removes) (λ g e. absurd (none_file g e))
+    retire_turn (Some g) e l leaves = turn ([] ▷ Close g) Idle _ l.1 (omega arith, λ n _. refl) (legal_one (l.0.1, l.1) tt) same_holds (leaves_less leaves)
+        (files_but g l.1 l.0.1.1 (ap (λ (z : ℕ → Bool). z g.number) leaves
+        ∙ changed_here (leaving c) f.number false g.number (ap (λ (z : File). z.number) (sym (file_retired e))))
+        (λ h other i. not_closed (state_of c) g h other i))
+        (held_mine x.number chain (Close g) x.front ∙ held_so removes) (λ h e. absurd (none_file h e))

@@ -4,12 +4,13 @@ use Rattle.fx_baton.proofs.Words.{Event, Doing, Idle, Holding, Retiring, bit_her
 use Rattle.fx_baton.proofs.Words.{removals_by, log_behind, changed_at}
 
 -- a flag that is set at a number, or taken back
-pub flag_set : (f : ℕ → Bool) {q : ℕ} (n : ℕ) → f q ≡ false → cond {A = ℕ} (changed_at f q true n) 1 0 ≡ cond {A = ℕ} (f n) 1 0 + cond {A = ℕ} (eqb q n) 1 0
-flag_set f n is = grind arith
+pub flag_set : (f : ℕ → Bool) {g : ℕ → Bool} {q : ℕ} (n : ℕ) → g ≡ changed_at f q true → f q ≡ false
+    → cond {A = ℕ} (g n) 1 0 ≡ cond {A = ℕ} (f n) 1 0 + cond {A = ℕ} (eqb q n) 1 0
+flag_set f n set is = let a = ap (λ (z : ℕ → Bool). z n) set in grind arith
 
-pub flag_back : (f : ℕ → Bool) {q : ℕ} (n : ℕ) → f q ≡ true
-    → cond {A = ℕ} (changed_at f q false n) 1 0 + cond {A = ℕ} (eqb q n) 1 0 ≡ cond {A = ℕ} (f n) 1 0
-flag_back f n is = grind arith
+pub flag_back : (f : ℕ → Bool) {g : ℕ → Bool} {q : ℕ} (n : ℕ) → g ≡ changed_at f q false → f q ≡ true
+    → cond {A = ℕ} (g n) 1 0 + cond {A = ℕ} (eqb q n) 1 0 ≡ cond {A = ℕ} (f n) 1 0
+flag_back f n back is = let a = ap (λ (z : ℕ → Bool). z n) back in grind arith
 
 pub one_true : {b : Bool} → 1 ≤ cond {A = ℕ} b 1 0 → b ≡ true
 one_true l = grind arith

@@ -1,5 +1,5 @@
 use Rattle.fx_baton.proofs.Words.{sym, ◌∙◌, arith}
-use Rattle.fx_baton.proofs.Calling.{may_lend, slot_inside, room_for, look_called, empty_looked, file_looked}
+use Rattle.fx_baton.proofs.Calling.{may_lend, slot_inside, look_called, empty_looked, file_looked}
 use Rattle.fx_baton.proofs.calls.BatonTableFileTable.look.Goals as goal
 
 pub slot_mut-plain-requires : goal.slot_mut-plain-requires
@@ -7,9 +7,6 @@ slot_mut-plain-requires g c = may_lend c.borrow.ensures
 
 pub look-found-requires-clause-slot : goal.look-found-requires-clause-slot
 look-found-requires-clause-slot g c = slot_inside c.borrow.ensures c.slot_mut-plain.ensures.value c.requires.slot
-
-pub look-found-requires-clause-room : goal.look-found-requires-clause-room
-look-found-requires-clause-room g c = room_for c.borrow.ensures c.slot_mut-plain.ensures.value c.args.slot
 
 pub give_back-requires : goal.give_back-requires
 give_back-requires g c =

@@ -1,11 +1,8 @@
-use Rattle.fx_baton.proofs.Calling.{may_lend, holds_some, release_called, released_so}
+use Rattle.fx_baton.proofs.Calling.{may_lend, release_called, released_so}
 use Rattle.fx_baton.proofs.calls.BatonTableFileTable.release.Goals as goal
 
 pub slot_mut-plain-requires : goal.slot_mut-plain-requires
 slot_mut-plain-requires g c = may_lend c.borrow.ensures
-
-pub release-closed-requires : goal.release-closed-requires
-release-closed-requires g c = holds_some c.borrow.ensures c.slot_mut-plain.ensures.value c.args.hold c.requires.held
 
 pub give_back-requires : goal.give_back-requires
 give_back-requires g c = release_called c.borrow.ensures c.slot_mut-plain.ensures.value c.args.hold c.requires.held c.release-closed.ensures

@@ -1,11 +1,8 @@
-use Rattle.fx_baton.proofs.Calling.{may_lend, leaves_now, retire_called, retired_so}
+use Rattle.fx_baton.proofs.Calling.{may_lend, retire_called, retired_so}
 use Rattle.fx_baton.proofs.calls.BatonTableFileTable.retire.Goals as goal
 
 pub slot_mut-plain-requires : goal.slot_mut-plain-requires
 slot_mut-plain-requires g c = may_lend c.borrow.ensures
-
-pub retire-closed-requires : goal.retire-closed-requires
-retire-closed-requires g c = leaves_now c.borrow.ensures c.slot_mut-plain.ensures.value c.args.retired c.requires.removed
 
 pub give_back-requires : goal.give_back-requires
 give_back-requires g c =

@@ -20,8 +20,6 @@ give-requires-clause-turn c =
 
 pub returns : goal.returns
 returns c =
-    let k = c.args.self.now.table.shared in
-    let p = c.args.pass.now in
+    let t = c.args.self.now.table.shared in
     let e = c.give.ensures in
-    subst (HasGivenBack k.table_id k.key c.args.call p) (sym e.pass)
-    (gives_back k.table_id k.key c.args.call c.args.idle p c.requires c.give.new.pass.seat e.table e.me)
+    subst (HasGivenBack t.table_id t.key c.args.call c.args.pass.now) (sym e.pass) (gives_back c.requires c.give.new.pass.seat e.table e.me)

@@ -1,4 +1,4 @@
-use Rattle.fx_baton.proofs.Words.{◌∙◌, ap, subst, arith, ⊎_elim, none, step, Seated, Grabs}
+use Rattle.fx_baton.proofs.Words.{◌∙◌, ap, arith}
 use Rattle.fx_baton.proofs.GrabKeepsRule.{may_exchange}
 use Rattle.fx_baton.proofs.table.BatonTable.grab.Goals as goal
 
@@ -12,11 +12,3 @@ compare_exchange-requires g c =
       omega arith,
       may_exchange _ _ counts.1 (ap (λ m. m.1) i.me ∙ f.0) (ap (λ m. m.0.loan) i.me ∙ f.1) (ap (λ m. m.0.logs) i.me ∙ o.1),
     )
-
-pub returns-then-compare_exchange-eq1-clause-taken : goal.returns-then-compare_exchange-eq1-clause-taken
-returns-then-compare_exchange-eq1-clause-taken g c x one =
-    let i = c.loop.invariant in
-    let new = c.compare_exchange.new.seat.me in
-    let grabs = subst (λ (m : Seated). Grabs (step c.args.self.now.table.shared.table_id.slots 0 1 0 none) m c.compare_exchange.result new)
-    i.me c.compare_exchange.ensures.2 in
-    ⊎_elim (λ found. found.1 x one) (λ away. absurd (away.0 c.if-compare_exchange-eq1.true)) grabs
