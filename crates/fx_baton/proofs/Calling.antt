@@ -1,5 +1,5 @@
 -- What a pass needs for each call of the table that it has, and what it has to show behind it.
-use Rattle.fx_baton.proofs.Words.{◌≡◌, ℕ, ◌+◌, ◌*◌, ◌<◌, ◌≤◌, Bool, true, false, [], ◌∷◌, map, sym, refl, ap, ◌∙◌, subst, arith, is_none, Option}
+use Rattle.fx_baton.proofs.Words.{◌≡◌, ℕ, ◌+◌, ◌*◌, ◌<◌, ◌≤◌, Bool, true, false, [], ◌∷◌, map, sym, refl, ap, ◌∙◌, subst, arith, Option}
 use Rattle.fx_baton.proofs.Words.{Some, None, option_map, is_some, not, TableId, rest, Closed, State, Steps, changed_at, Contents, IsTable}
 use Rattle.fx_baton.proofs.Words.{state_of, leaving, Leads, action_of, close_of, ◌▷◌, ◌▷▷◌, numbered, identity_of, closed_by_release}
 use Rattle.fx_baton.proofs.Words.{closed_by_retirement, EndsHold, LetsLeave, File, Look, Release, Put, Clear, Take, Allocate, Full}
@@ -7,7 +7,7 @@ use Rattle.fx_baton.proofs.Words.{Close, pass_of_number, number_behind, Opening,
 use Rattle.fx_baton.proofs.Words.{Log, View, Start, Call, BatonPass, opening_of, begin_of, IsTurn, view_of, is_idle, HasTable, UsesNext}
 use Rattle.fx_baton.proofs.Words.{HasCalled, HasGivenBack, first_own, IsHoldOf, IsRetiredOf, next_is_its_own}
 use Rattle.fx_table.specs.Calls.{retiring, Adds, no_use, one_number, new_file, ReleasesFile, RetiresFile, one_look, HasRetired, Released}
-use Rattle.fx_baton.specs.Turns.{holds_now, release_in, retirement_in, actions_of, doing_of, events_of, use_of, table_of_slots}
+use Rattle.fx_baton.specs.Turns.{holds_now, actions_of, doing_of, events_of, use_of, table_of_slots}
 use Rattle.atomic_table.specs.Lent.{seat_with}
 use Rattle.fx_plain.specs.Step.{Allows}
 use Rattle.fx_plain.proofs.Leading.{same_size}
@@ -35,10 +35,6 @@ module _ {id : TableId} {k : Start} {u : PassView} {p : BatonPass} where
     knows = h.knows;
   }
 
--- whether an answer is None
-pub flag_is : {X : Type 0} (x : Option X) {b : Bool} → is_some x ≡ not b → b ≡ is_none x
-flag_is x e = grind arith
-
 -- what answers tell of the file at a slot
 abbrev pub shown : File → ℕ × ℕ
 shown f = (f.number, f.identity.entry)
@@ -46,8 +42,7 @@ shown f = (f.number, f.identity.entry)
 -- what a pass does that found a file, and one that removed it
 idle_told : {X : Type 0} (tell : File → X) (o : Option File) {found : Option X} {flag : Bool} → is_some found ≡ not flag → found ≡ option_map tell o
     → (flag ≡ is_idle (holds_now o)) × (flag ≡ is_idle (retiring o 0))
-idle_told tell None {found} {flag} says e = (flag_is found says ∙ ap is_none e, flag_is found says ∙ ap is_none e)
-idle_told tell (Some f) {found} {flag} says e = (flag_is found says ∙ ap is_none e, flag_is found says ∙ ap is_none e)
+idle_told tell o says e = grind arith
 
 -- what an answer tells: nothing, or a file
 none_found : {X : Type 0} (tell : File → X) (P : Option File → Type 0) (o : Option File) → None ≡ option_map tell o → P o → P None
@@ -102,8 +97,7 @@ module _ {id : TableId} {k : Start} {u : PassView} {c : Contents} {p : BatonPass
     its_own : (pass_of_number k.passes number ≡ log.number) × (256 ≤ number) × (number < 256 + 64 * k.chains)
     its_own =
         let a = next_is_its_own (opening_of k) (view_of p) (let e = same_numbers in omega arith) p.count h.seated.turns in
-        subst (λ (n : ℕ). (pass_of_number k.passes n ≡ log.number) × (256 ≤ n) × (n < 256 + 64 * k.chains)) (sym number_is)
-        (a.0 ∙ sym h.seated.number, a.1, a.2)
+        rw number_is (a.0 ∙ sym h.seated.number, a.1, a.2)
 
     behind_own : number_behind log.own ≤ number
     behind_own =
@@ -210,10 +204,7 @@ module _ {id : TableId} {k : Start} {u : PassView} {c : Contents} {p : BatonPass
   pub allocated_so : {slot number : ℕ} {its file : Closed} {d : Contents} {q : BatonPass} → number ≡ next_of u → its ≡ file
       → HasGivenBack id k (AllocateCall slot number its) (lent d) q → slot < (state_of c).size
       → (slot < size_of o) × Adds o u ([] ▷ Allocate slot (new_file o u file)) Idle one_number (view_of q)
-  allocated_so {slot} {d} {q} next is gives inside = (
-    let e = size_is in omega arith,
-    subst (λ (z : ℕ × Closed). Adds o u ([] ▷ Allocate slot (numbered z.0 z.1)) Idle one_number (view_of q)) (λ i. (next i, is i)) (added gives),
-  )
+  allocated_so next is gives inside = (let e = size_is in omega arith, rw (next, is) at (added gives))
 
   module _ (hold : Hold) (held : IsHoldOf u hold) where
     abbrev f : File
@@ -227,7 +218,7 @@ module _ {id : TableId} {k : Start} {u : PassView} {c : Contents} {p : BatonPass
 
     pub release_called : {d : Contents} {out : Option Closed} → EndsHold c d hold.node out → HasCalled id k ReleaseCall true (lent d)
     release_called {d} {out} ends =
-        let e : EndsHold c d f.number out = subst (λ (n : ℕ). EndsHold c d n out) node_is ends in
+        let e = rw node_is at ends in
         called e.sound (subst (λ (z : Doing). IsTurn view log c d (events_of c log.number p.chain z ReleaseCall) Idle) (sym holds_here)
         (letting_go_turn d p.chain h.knows f holds_here (closed_by_release c f.number) refl (e.steps f refl) e.leaving)) tt (omega arith) (omega arith) refl
 
@@ -238,19 +229,15 @@ module _ {id : TableId} {k : Start} {u : PassView} {c : Contents} {p : BatonPass
       f,
       held.1,
       held.2,
-      by_out (closed_by_release c f.number) refl result (is ∙ ap (λ (n : ℕ). identity_of (closed_by_release c n)) node_is)
-          (subst (λ (z : Doing). Adds o u (release_in c z) Idle no_use (view_of q)) holds_here (added gives)),
+      subst (λ (z : Option Closed). ReleasesFile o u f z (view_of q)) (sym (is ∙ ap (λ (n : ℕ). identity_of (closed_by_release c n)) node_is))
+          (by_out (closed_by_release c f.number) refl (rw holds_here at (added gives))),
     )
       where
-        by_out : (out : Option File) → closed_by_release c f.number ≡ out → (result : Option Closed) → result ≡ identity_of out
-            → Adds o u ([] ▷ Release f ▷▷ close_of out) Idle no_use (view_of q) → ReleasesFile o u f result (view_of q)
-        by_out None e r is a = subst (λ (z : Option Closed). ReleasesFile o u f z (view_of q)) (sym is) a
-        by_out (Some g) e r is a =
-            let same = (file_released c p.chain h.knows f holds_here e).0 in
-            subst (λ (z : Option Closed). ReleasesFile o u f z (view_of q)) (sym is) (
-              ap (λ (z : File). z.identity) (sym same),
-              subst (λ (z : File). Adds o u ([] ▷ Release f ▷ Close z) Idle no_use (view_of q)) (sym same) a,
-            )
+        by_out : (out : Option File) → closed_by_release c f.number ≡ out → Adds o u ([] ▷ Release f ▷▷ close_of out) Idle no_use (view_of q)
+            → ReleasesFile o u f (identity_of out) (view_of q)
+        by_out None e a = a
+        by_out (Some g) e a = let same = sym (file_released c p.chain h.knows f holds_here e).0 in
+            (ap (λ (z : File). z.identity) same, subst (λ (z : File). Adds o u ([] ▷ Release f ▷ Close z) Idle no_use (view_of q)) same a)
 
   module _ (retired : Retired) (removed : IsRetiredOf u retired) where
     abbrev gone : File
@@ -282,20 +269,15 @@ module _ {id : TableId} {k : Start} {u : PassView} {c : Contents} {p : BatonPass
       removed.1,
       removed.2,
       removed.3,
-      by_out (closed_by_retirement c gone.number) refl result (is ∙ ap (λ (n : ℕ). identity_of (closed_by_retirement c n)) place_is)
-          (leads_there d leads) (subst (λ (z : Doing). Adds o u (retirement_in c z) Idle no_use (view_of q)) removes_here (added gives)),
+      subst (λ (z : Option Closed). RetiresFile o u gone z (view_of q)) (sym (is ∙ ap (λ (n : ℕ). identity_of (closed_by_retirement c n)) place_is))
+          (by_out (closed_by_retirement c gone.number) refl (leads_there d leads) (rw removes_here at (added gives))),
     )
       where
-        by_out : (out : Option File) → closed_by_retirement c gone.number ≡ out → (result : Option Closed) → result ≡ identity_of out
-            → Leads (state_of c) (close_of out) (state_of d) → Adds o u (close_of out) Idle no_use (view_of q)
-            → RetiresFile o u gone result (view_of q)
-        by_out None e r is l a =
+        by_out : (out : Option File) → closed_by_retirement c gone.number ≡ out → Leads (state_of c) (close_of out) (state_of d)
+            → Adds o u (close_of out) Idle no_use (view_of q) → RetiresFile o u gone (identity_of out) (view_of q)
+        by_out None e l a =
             let held = is_held c p.chain h.knows gone removed.1 removes_here e in
             let same = ap (λ (s : State). s.holds gone.number) (gives.end ∙ l.1) in
-            subst (λ (z : Option Closed). RetiresFile o u gone z (view_of q)) (sym is) (omega arith, a)
-        by_out (Some g) e r is l a =
-            let same = file_retired c p.chain h.knows gone removed.1 removes_here e in
-            subst (λ (z : Option Closed). RetiresFile o u gone z (view_of q)) (sym is) (
-              ap (λ (z : File). z.identity) (sym same),
-              subst (λ (z : File). Adds o u ([] ▷ Close z) Idle no_use (view_of q)) (sym same) a,
-            )
+            (omega arith, a)
+        by_out (Some g) e l a = let same = sym (file_retired c p.chain h.knows gone removed.1 removes_here e) in
+            (ap (λ (z : File). z.identity) same, subst (λ (z : File). Adds o u ([] ▷ Close z) Idle no_use (view_of q)) same a)

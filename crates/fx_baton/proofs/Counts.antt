@@ -1,6 +1,6 @@
 -- How often a pass stands among the logs of views, and what a pass's doing counts for.
-use Rattle.fx_baton.proofs.Words.{◌≡◌, ℕ, ◌+◌, ◌≤◌, Bool, true, false, cond, List, map, ap, arith, eqb, ◌⊎◌, inl, inr, Some, None, Contains, File}
-use Rattle.fx_baton.proofs.Words.{Event, Doing, Idle, Holding, Retiring, bit_here, one_if, sum_map, sum_of, Log, logs_of, file_in_hand, holds_by}
+use Rattle.fx_baton.proofs.Words.{◌≡◌, ℕ, ◌+◌, ◌≤◌, Bool, true, false, cond, List, map, ap, arith, eqb, ◌⊎◌, Some, Contains, File}
+use Rattle.fx_baton.proofs.Words.{Event, Doing, bit_here, one_if, sum_map, sum_of, Log, logs_of, file_in_hand, holds_by}
 use Rattle.fx_baton.proofs.Words.{removals_by, log_behind, changed_at}
 
 -- a flag that is set at a number, or taken back
@@ -15,9 +15,6 @@ flag_back f n back is = let a = ap (λ (z : ℕ → Bool). z n) back in grind ar
 pub one_true : {b : Bool} → 1 ≤ cond {A = ℕ} b 1 0 → b ≡ true
 one_true l = grind arith
 
-pub one_at_most : (b : Bool) → cond {A = ℕ} b 1 0 ≤ 1
-one_at_most b = grind arith
-
 -- a pass with the number is counted
 pub some_log : {p : ℕ} (xs : List Log) {x : Log} → Contains xs x → x.number ≡ p → 1 ≤ logs_of p xs
 some_log {p} xs {x} h e = let a = sum_of (λ (y : Log). cond {A = ℕ} (eqb y.number p) 1 0) xs x h in let b = bit_here p x.number e in omega arith
@@ -27,12 +24,7 @@ logs_behind p es xs = sum_map (λ (x : Log). one_if (eqb x.number p)) (log_behin
 
 -- a file with which a pass has to do is counted among the held or among the leaving ones
 pub hand_is_counted : (d : Doing) {f : File} → file_in_hand d ≡ Some f → (1 ≤ holds_by f.number d) ⊎ (1 ≤ removals_by f.number d)
-hand_is_counted Idle {f} e = let no : None ≡ Some f = e in absurd (cc no)
-hand_is_counted (Holding g) {f} e = let is : Some g ≡ Some f = e in let same : g ≡ f = cc is in
-    inl (let b = bit_here f.number g.number (ap (λ (z : File). z.number) same) in omega arith)
-hand_is_counted (Retiring g takes) {f} e = let is : Some g ≡ Some f = e in let same : g ≡ f = cc is in
-    inr (let b = bit_here f.number g.number (ap (λ (z : File). z.number) same) in omega arith)
+hand_is_counted d e = grind arith
 
 pub holds_small : (n : ℕ) (d : Doing) → holds_by n d ≤ 1
-holds_small n (Holding f) = one_at_most (eqb f.number n)
-holds_small n _ = omega arith
+holds_small n d = grind arith

@@ -1,5 +1,5 @@
 -- The passes that are dealt out.
-use Rattle.fx_baton.proofs.Words.{◌≡◌, ℕ, ◌+◌, ◌≤◌, true, false, List, [], ◌∷◌, sym, refl, ◌∙◌, ap, subst, arith, TableId, Seat, Contents, PassView}
+use Rattle.fx_baton.proofs.Words.{◌≡◌, ℕ, ◌+◌, ◌≤◌, List, [], ◌∷◌, sym, refl, ◌∙◌, ap, subst, rules, TableId, Seat, Contents, PassView}
 use Rattle.fx_baton.proofs.Words.{IsFront, new_pass, HasDrawnInTurn, Idle, Log, View, Start, BatonPass, Seated, opening_of, new_log}
 use Rattle.fx_baton.proofs.Words.{view_without_first, view_of_first, chains_of_pass, first_front, first_own, view_of, is_idle, IsPassOf, dealt}
 use Rattle.fx_baton.proofs.Words.{IsNewPass}
@@ -50,17 +50,7 @@ module _ (id : TableId) (k : Start) (p n : ℕ) (low : 1 ≤ p) (high : p ≤ k.
       number = sym new.its_number;
       start = ap (λ (m : Seated). m.0.start) me;
       front = subst (IsFront (opening_of k)) (sym is_new) record { legal = record { leads = (tt, refl); releases = tt }; mine = refl };
-      turns = subst (λ (z : ℕ × PassView). HasDrawnInTurn (opening_of k) z.0 z.1) (λ i. (sym new.count i, sym is_new i)) record {
-        whole = refl;
-        number = (low, high);
-        drawn = refl;
-        chain = refl;
-        reached = omega arith;
-        last_drawn = λ e. let no : false ≡ true = e in absurd (cc no);
-        few_left = omega arith;
-        left_inside = omega arith;
-        unused = omega arith;
-      };
+      turns = subst (λ (z : ℕ × PassView). HasDrawnInTurn (opening_of k) z.0 z.1) (λ i. (sym new.count i, sym is_new i)) (search rules);
       flag = new.flag ∙ sym (ap is_idle doing_is);
     };
   }

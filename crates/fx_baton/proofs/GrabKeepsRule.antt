@@ -5,6 +5,7 @@ use Rattle.fx_baton.proofs.Words.{seen_again, contains_none, contains_head, cont
 use Rattle.fx_baton.proofs.Words.{begin_of, logs_of, holds_by, removals_by, HasFreshNumbers, IsLog, IsView, IsHome, IsAway, IsKept, Knows, lent_view}
 use Rattle.fx_baton.proofs.Words.{Grabs, Allows}
 use Rattle.atomic_table.proofs.Lists.{set_here}
+use Rattle.std.proofs.lemmas.List.{set-get_or}
 use Rattle.fx_table.proofs.Members.{stands_at}
 use prog.Atomic.{either}
 use Rattle.fx_baton.proofs.Counts.{holds_small}
@@ -29,6 +30,11 @@ holds_few n {v} (x ∷ xs) e r = let a = holds_small n v.doing in omega arith
 -- a seat with a pass began where the table did
 pub started : {k : Start} {h : List Event} {c : Contents} {v : View} {x : Log} → v.logs ≡ x ∷ [] → IsView k h c v → v.start ≡ k
 started {v} {x} one r = ⊎_elim (λ z. absurd (not_empty one z)) (λ is. is) r.start
+
+-- a step that changes nothing keeps the rule
+pub unmoved : {k : Start} (s : Shared) (id : ℕ) {v : View} {n : ℕ} → get_elem? s.views id ≡ some v → n ≡ get_or s.words 0 0 → IsKept k s
+    → IsKept k record { words = set s.words 0 n; homes = s.homes; views = set s.views id v }
+unmoved s id {v} at is r = rw (is, set-get_or s.words 0 0, set_again s.views id v at) r
 
 module _ (k : Start) (id : ℕ) (v : View) (x : Log) (one : v.logs ≡ x ∷ []) where
   room : (s : Shared) (r : IsKept k s) (n : ℕ) → (state_of r.contents).holds n ≤ 16
@@ -102,13 +108,7 @@ module _ (k : Start) (id : ℕ) (v : View) (x : Log) (one : v.logs ≡ x ∷ [])
         lent s r at,
         takes 0 r.contents,
         ap (λ l. get_elem? l 0) home.1,
-        subst (λ (n : ℕ). IsKept k record {
-          words = set s.words 0 (either (n == 1) 0 n);
-          homes = set s.homes 0 none;
-          views = set s.views id (lent s r at);
-        })
-            (sym word)
-            (keeps_rule k s r id v at (lent s r at) r.contents [] (set s.words 0 0) (set s.homes 0 none) (taken_turns s r at home)),
+        rw word (keeps_rule k s r id v at (lent s r at) r.contents [] (set s.words 0 0) (set s.homes 0 none) (taken_turns s r at home)),
         inl (
           word,
           λ y e. let both : x ∷ [] ≡ y ∷ [] = sym one ∙ e in let is : x ≡ y = cc both in record {
@@ -125,12 +125,7 @@ module _ (k : Start) (id : ℕ) (v : View) (x : Log) (one : v.logs ≡ x ∷ [])
         v,
         keeps,
         tt,
-        subst (λ (n : ℕ). IsKept k record { words = set s.words 0 (either (n == 1) 0 n); homes = s.homes; views = set s.views id v }) (sym word)
-            (subst (IsKept k) (λ i. record {
-              words = (away.words ∙ ap (λ (l : List ℕ). set l 0 0) (sym away.words)) i;
-              homes = s.homes;
-              views = sym (set_again s.views id v at) i;
-            }) r),
+        unmoved s id at (rw word) r,
         inr ((λ one_is. omega (arith, one_is, word)), refl),
       ))
       r.place

@@ -1,10 +1,9 @@
 -- The rule holds when a table is opened.
 use Rattle.fx_baton.proofs.Words.{◌≡◌, ℕ, zero, suc, ◌<◌, ◌≤◌, Bool, true, false, cond, List, [], ◌∷◌, sym, refl, ap, ◌∙◌, subst, arith, inl, inr}
-use Rattle.fx_baton.proofs.Words.{some, some-injective, some-ne-none, get_elem?, Some, None, nat_lt, not, ◌&&◌, State, Contents, state_of, IsTable}
+use Rattle.fx_baton.proofs.Words.{some, some-injective, some-ne-none, get_elem?, Some, None, State, Contents, state_of, IsTable}
 use Rattle.fx_baton.proofs.Words.{is_leaving, node_at, removed_at, Node, numbers_for, contains_none, Idle, Log, View, Start, IsKept, IsLog, IsView}
 use Rattle.fx_baton.proofs.Words.{leaving_count, begin_of, first_view, new_log, contains_map}
 use Rattle.fx_plain.specs.declared.node.Node.TheVariants.{Leaving}
-use Rattle.std.proofs.lemmas.Bool.{lt-ltb, ltb-true}
 use Rattle.atomic_table.specs.Table.{opening as table_opening}
 use Rattle.std.specs.List.{range_with_len}
 use Rattle.std.proofs.lemmas.List.FromFn.{length-map-range_with_len}
@@ -21,13 +20,7 @@ not_leaving number _ e = refl
 
 module _ (k : Start) (c : Contents) (begins : state_of c ≡ begin_of k) (sound : IsTable c) (few : k.passes ≤ 16) where
   fresh_there : {n : ℕ} → 256 ≤ n → n < numbers_for k.chains → (begin_of k).fresh n ≡ true
-  fresh_there {n} low high =
-      elim (nat_lt n (state_of k.plain.value).size) as
-      (λ b. nat_lt n (state_of k.plain.value).size ≡ b → (not b && nat_lt n (numbers_for k.chains)) ≡ true) [
-        | true ↦ λ e. absurd (let l = ltb-true n (state_of k.plain.value).size e in let size = ap (λ (z : State). z.size) begins in
-            let few = sound.few_slots in omega arith)
-        | false ↦ λ e. lt-ltb n (numbers_for k.chains) high
-      ] refl
+  fresh_there {n} low high = let size = ap (λ (z : State). z.size) begins in let few = sound.few_slots in grind arith
 
   new_view : IsView k [] c (first_view k)
   new_view = record {

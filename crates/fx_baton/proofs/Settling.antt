@@ -1,12 +1,13 @@
 -- A table of one pass, which does nothing, tells its history without being closed.
-use Rattle.fx_baton.proofs.Words.{◌≡◌, ℕ, [], ◌∷◌, ◌++◌, sym, refl, ap, ◌∙◌, subst, arith, some, get_elem?, Contains, step, keeps, set_again, Allows}
+use Rattle.fx_baton.proofs.Words.{◌≡◌, ℕ, [], ◌∷◌, ◌++◌, sym, refl, ap, ◌∙◌, subst, arith, some, get_elem?, Contains, step, keeps, Allows}
 use Rattle.fx_baton.proofs.Words.{BatonPass, contains_head, contains_only, IsPassOf, IsKept, Seated, Shared, Start, TableId, Idle, opening_of}
 use Rattle.fx_baton.proofs.Words.{view_of, file_held}
-use Rattle.std.proofs.lemmas.List.{set-get_or, append-nil}
+use Rattle.std.proofs.lemmas.List.{append-nil}
 use Rattle.fx_table.specs.Settling.{IsSettledSoFar}
 use Rattle.fx_table.proofs.Settling.{settles as settles_whole}
 use Rattle.fx_baton.specs.Settling.{Observes}
 use Rattle.fx_baton.proofs.Closing.{known, whole}
+use Rattle.fx_baton.proofs.GrabKeepsRule.{unmoved}
 
 -- any seat may look, and nothing changes
 pub may_observe : {k : Start} (slots id : ℕ) {me : Seated} → me.0.start ≡ k
@@ -15,11 +16,7 @@ may_observe {k} slots id {me} start s r wide at small = (
   me.0,
   keeps,
   tt,
-  subst (IsKept k) (λ i. record {
-    words = sym (set-get_or s.words 0 0) i;
-    homes = s.homes;
-    views = sym (set_again s.views id me.0 at) i;
-  }) r,
+  unmoved s id at refl r,
   record { last = s; rule = subst (λ (z : Start). IsKept z s) (sym start) r; seat = id; view = at; same = refl },
 )
 
