@@ -35,26 +35,20 @@ module _ (id : TableId) (k : Start) where
     all_logs : length v.logs ≡ sum_by (λ (u : View). length u.logs) s.views
     all_logs = ap (length {A = Log}) these_logs ∙ (length-map (reverse ps) log_of ∙ (length-reverse ps ∙ (count ∙ sym r.count)))
 
-    each_else : (P : View → Type 0) → P v → ((i : ℕ) (u : View) → get_elem? s.views i ≡ some u → u.logs ≡ [] → P u)
-        → (i : ℕ) (u : View) → get_elem? s.views i ≡ some u → P u
-    each_else = each_seat (λ (u : View). u.logs) s.views seat v at all_logs
-
-    all_idle : (i : ℕ) (u : View) → get_elem? s.views i ≡ some u → u.doing ≡ Idle
-    all_idle = each_else (λ u. u.doing ≡ Idle) idle (λ i u e none. ((r.views i u e).empty none).0)
-
-    all_free : (i : ℕ) (u : View) → get_elem? s.views i ≡ some u → u.loan ≡ None
-    all_free = each_else (λ u. u.loan ≡ None) free (λ i u e none. ((r.views i u e).empty none).1)
+    all_rest : (i : ℕ) (u : View) → get_elem? s.views i ≡ some u → (u.doing ≡ Idle) × (u.loan ≡ None)
+    all_rest = each_seat (λ (u : View). u.logs) s.views seat v at all_logs (λ u. (u.doing ≡ Idle) × (u.loan ≡ None)) (idle, free)
+        (λ i u e none. (r.views i u e).empty none)
 
     pub at_home : IsHome r.contents s
     at_home = ⊎_elim (λ h. h)
-        (λ (away : IsAway r.contents r.history s). absurd (none-some r.contents (sym (all_free away.holder away.view away.at) ∙ away.loan)))
+        (λ (away : IsAway r.contents r.history s). absurd (none-some r.contents (sym (all_rest away.holder away.view away.at).1 ∙ away.loan)))
         r.place
 
     no_holds : (n : ℕ) → (state_of r.contents).holds n ≡ 0
-    no_holds n = sym (r.held n) ∙ sum_zero_at (λ (u : View). holds_by n u.doing) s.views (λ i u e. ap (holds_by n) (all_idle i u e))
+    no_holds n = sym (r.held n) ∙ sum_zero_at (λ (u : View). holds_by n u.doing) s.views (λ i u e. ap (holds_by n) (all_rest i u e).0)
 
     no_leaving : (n : ℕ) → leaving_count r.contents n ≡ 0
-    no_leaving n = sym (r.leaves n) ∙ sum_zero_at (λ (u : View). removals_by n u.doing) s.views (λ i u e. ap (removals_by n) (all_idle i u e))
+    no_leaving n = sym (r.leaves n) ∙ sum_zero_at (λ (u : View). removals_by n u.doing) s.views (λ i u e. ap (removals_by n) (all_rest i u e).0)
 
     none_removed : (n : ℕ) (node : Node) → node_at r.contents.nodes n ≡ node → removed_at n node ≡ None
     none_removed n (Leaving file) e =
@@ -78,11 +72,16 @@ module _ (id : TableId) (k : Start) where
         let b = sum_gathered (λ (p : BatonPass). p.seat.me.0.logs) log_of (λ x. one_if (eqb x.number n)) ps v.logs these_logs in
         sym b ∙ (sym a ∙ r.numbers n)
 
-    pass_of : {n : ℕ} → 1 ≤ n → n ≤ k.passes → (p : BatonPass) × Contains ps p × (p.number ≡ n)
-    pass_of {n} low high = found_by (λ (p : BatonPass). p.number) n ps (omega (arith, numbers n, once_is k.passes n))
+    pass_of : {n : ℕ} → 1 ≤ n → n ≤ k.passes → (w : PassView) × Contains (map view_of ps) w × (w.number ≡ n)
+    pass_of {n} low high = let p = found_by (λ (p : BatonPass). p.number) n ps (omega (arith, numbers n, once_is k.passes n)) in
+        (view_of p.0, contains_mapped view_of ps p.0 p.1, p.2)
+
+    -- what holds of each pass as it is seen
+    of_views : (P : PassView → Type 0) → ((p : BatonPass) → Contains ps p → P (view_of p)) → (w : PassView) → Contains (map view_of ps) w → P w
+    of_views P each_p w h = let p = contains_map view_of ps w h in subst P (sym p.2) (each_p p.0 p.1)
 
     counts : (w : PassView) → Contains (map view_of ps) w → (count : ℕ) × HasDrawnInTurn (opening_of k) count w
-    counts w h = let p = contains_map view_of ps w h in (p.0.count, subst (HasDrawnInTurn (opening_of k) p.0.count) (sym p.2) (each p.0 p.1).seated.turns)
+    counts = of_views (λ w. (count : ℕ) × HasDrawnInTurn (opening_of k) count w) (λ p h. (p.count, (each p h).seated.turns))
 
     drawn_once : (c : ℕ) → sum_by (times_drawn c) (map view_of ps) ≤ 1
     drawn_once c =
@@ -94,13 +93,12 @@ module _ (id : TableId) (k : Start) where
     whole some_passes = let end : state_of r.contents ≡ state_at (opening_of k) r.history = r.legal.leads.1 in record {
       legal = ends_there k r.legal;
       settled = subst IsSettled end settled;
-      seen = λ w h. let p = contains_map view_of ps w h in subst (λ (z : PassView). IsSeenBy z.front r.history) (sym p.2) (known p.0 p.1).seen;
-      own = λ w h. let p = contains_map view_of ps w h in
-          subst (λ (z : PassView). part_of_pass z.number r.history ≡ z.own) (sym p.2) (known p.0 p.1).own;
-      authors = λ e h. let a = r.authors e h in let p = pass_of a.0 a.1 in (view_of p.0, contains_mapped view_of ps p.0 p.1, sym p.2);
+      seen = of_views (λ w. IsSeenBy w.front r.history) (λ p h. (known p h).seen);
+      own = of_views (λ w. part_of_pass w.number r.history ≡ w.own) (λ p h. (known p h).own);
+      authors = λ e h. let a = r.authors e h in let w = pass_of a.0 a.1 in (w.0, w.1, sym w.2);
       chains_inside = drawn_inside (opening_of k) (map view_of ps) counts;
       drawn_once = drawn_once;
-      all_drawn = all_are_drawn (opening_of k) (map view_of ps) counts some_passes (λ n low high. let p = pass_of low high in (view_of p.0, contains_mapped view_of ps p.0 p.1, p.2));
+      all_drawn = all_are_drawn (opening_of k) (map view_of ps) counts some_passes (λ n low high. pass_of low high);
     }
 
     pub closes : 0 < k.passes → ClosesTable (opening_of k) (map view_of ps) r.contents

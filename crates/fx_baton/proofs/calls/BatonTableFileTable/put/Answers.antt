@@ -1,4 +1,4 @@
-use Rattle.fx_baton.proofs.Words.{sym, subst, Closed, state_of, numbered, LetsLeave, Put}
+use Rattle.fx_baton.proofs.Words.{state_of}
 use Rattle.fx_baton.proofs.calls.BatonTableFileTable.put.Goals as goal
 use Rattle.fx_baton.proofs.Calling.{may_lend, slot_inside, number_fresh, put_called, added}
 use Rattle.fx_table.proofs.Removing.{placed_so}
@@ -17,12 +17,8 @@ put-replaced-requires-clause-fresh g c = number_fresh c.borrow.ensures c.slot_mu
 
 pub give_back-requires : goal.give_back-requires
 give_back-requires g c =
-    let now = c.slot_mut-plain.result.now in
-    let l = c.put-replaced in
-    let number = c.next_number-number in
-    let lets_leave = subst (λ (z : Closed). LetsLeave now l.new.self (Put c.args.slot (numbered number.result z) ((state_of now).at c.args.slot)) ((state_of now).at c.args.slot) l.result)
-    (sym c.identity-identity.ensures) l.ensures.replaced in
-    put_called c.borrow.ensures c.slot_mut-plain.ensures.value c.requires.idle c.requires.numbers number.ensures lets_leave c.is_none.ensures
+    put_called c.borrow.ensures c.slot_mut-plain.ensures.value c.requires.idle c.requires.numbers c.next_number-number.ensures
+    (rw c.identity-identity.ensures c.put-replaced.ensures.replaced) c.is_none.ensures
 
 pub returns-clause-placed : goal.returns-clause-placed
 returns-clause-placed g c =

@@ -1,4 +1,3 @@
-use Rattle.fx_baton.proofs.Words.{sym, subst, Closed, Steps, state_of, numbered, Allocate}
 use Rattle.fx_baton.proofs.Calling.{may_lend, number_fresh, allocate_called, full_called, allocated_so, added}
 use Rattle.fx_baton.proofs.calls.BatonTableFileTable.put_any.Goals as goal
 
@@ -10,10 +9,8 @@ put_any-requires g c = number_fresh c.borrow.ensures c.slot_mut-plain.ensures.va
 
 pub give_back-requires : goal.give_back-requires
 give_back-requires g c =
-    let number = c.next_number-number in
-    let step = subst (λ (z : Closed). Steps (state_of c.slot_mut-plain.result.now) (Allocate c.in-Ok.slot (numbered number.result z))
-    (state_of c.put_any.new.self)) (sym c.identity-identity.ensures) c.in-Ok.ensures.ok in
-    allocate_called c.borrow.ensures c.slot_mut-plain.ensures.value c.requires.idle c.requires.numbers number.ensures step c.put_any.ensures.leaving c.put_any.ensures.sound
+    allocate_called c.borrow.ensures c.slot_mut-plain.ensures.value c.requires.idle c.requires.numbers c.next_number-number.ensures
+    (rw c.identity-identity.ensures c.in-Ok.ensures.ok) c.put_any.ensures.leaving c.put_any.ensures.sound
 
 pub give_back-requires-in-Err : goal.give_back-requires-in-Err
 give_back-requires-in-Err g c =
