@@ -4,7 +4,7 @@ use Rattle.fx_lines.proofs.Words.{IsBytes, encode_lower, IsCutPart, answer_text,
 use Rattle.std.specs.Prelude.{◌⊎◌}
 use Rattle.fx_lines.proofs.Cuts.{cut_has}
 use Rattle.fx_lines.proofs.Hexes.{some_got}
-use Rattle.fx_lines.proofs.Readings.{pair_is}
+use Rattle.fx_lines.proofs.Readings.{parts_are}
 use Rattle.fx_lines.proofs.Results.{result_without}
 
 abbrev pub FitsAnswer : ℤ × List ℕ → Type 0
@@ -44,7 +44,7 @@ one_alone {text} {res} whole is = record {
   printed = is.printed ∙ sym (append-nil (signed_decimal res));
   only = λ other fits same.
       let alone = alone_only whole other fits same in
-      pair_is other res [] (is.only other.0 fits.0 alone.1) alone.0;
+      λ i. (is.only other.0 fits.0 alone.1 i, alone.0 i);
 }
 
 -- no result has a space
@@ -59,8 +59,8 @@ both_only {text} {word} {hex} cuts other fits same =
     elim (alone_or_cut other.1 other.0 same) [
       | inl alone ↦ absurd (not_cut word hex other.0 fits.0 (sym cuts.printed ∙ alone.1))
       | inr both ↦
-          let parts = cuts.only (signed_decimal other.0, encode_lower other.1) (result_without 32 other.0 refl refl fits.0) both.1 in
-          (both.0, sym (ap (λ p. p.0) parts), sym (ap (λ p. p.1) parts))
+          let parts = parts_are 32 cuts (signed_decimal other.0) (encode_lower other.1) (result_without 32 other.0 refl refl fits.0) both.1 in
+          (both.0, parts.0, parts.1)
     ]
 
 pub none_word : {text word hex : List ℕ} → IsPrintedFrom (cut_text 32) (IsCutPart 32) text (word, hex)
@@ -82,5 +82,5 @@ one_both {text} {word} {hex} {res} {got} cuts first last = record {
       ∙ ap (λ (t : List ℕ). signed_decimal res ++ t) (ap (λ (t : List ℕ). 32 ∷ t) last.printed ∙ sym (some_got got last.fits_value.0));
   only = λ other fits same.
       let parts = both_only cuts other fits same in
-      pair_is other res got (first.only other.0 fits.0 parts.1) (last.only other.1 (parts.0, fits.1) parts.2);
+      λ i. (first.only other.0 fits.0 parts.1 i, last.only other.1 (parts.0, fits.1) parts.2 i);
 }

@@ -7,21 +7,12 @@ use Rattle.fx_lines.proofs.Cuts.{without_between, without_right}
 use Rattle.fx_lines.proofs.Decimals.{decimal_without}
 use Rattle.fx_lines.proofs.LinesInTurn.{IsOneLine}
 use Rattle.fx_lines.proofs.Marks.{mark_without}
-
-close_is : {close : NamedClose} {mark : Mark} {name : List ℕ} → close.mark ≡ mark → close.name ≡ name
-    → close ≡ record { mark = mark; name = name }
-close_is {close} {mark} {name} one two =
-    let p : NamedClose = record { mark = close.mark; name = close.name } in
-    let q : NamedClose = record { mark = mark; name = name } in
-    let parts : p ≡ q = cc in
-    parts
+use Rattle.fx_lines.proofs.Readings.{parts_are}
 
 -- the mark and the name of a text that is a closed file's
 pub parts_of_close : {text word name : List ℕ} → IsPrintedFrom (cut_text 32) (IsCutPart 32) text (word, name)
     → (other : NamedClose) → IsMarkInRange other.mark → text ≡ close_text other → (word ≡ mark_text other.mark) × (name ≡ other.name)
-parts_of_close cuts other fits same =
-    let parts = cuts.only (mark_text other.mark, other.name) (mark_without 32 other.mark refl refl refl fits) same in
-    (sym (ap (λ p. p.0) parts), sym (ap (λ p. p.1) parts))
+parts_of_close cuts other fits same = parts_are 32 cuts (mark_text other.mark) other.name (mark_without 32 other.mark refl refl refl fits) same
 
 pub one_close : {text word name : List ℕ} {mark : Mark} → IsPrintedFrom (cut_text 32) (IsCutPart 32) text (word, name)
     → IsPrintedFrom mark_text IsMarkInRange word mark
@@ -31,7 +22,7 @@ one_close {text} {word} {name} {mark} cuts is = record {
   printed = cuts.printed ∙ ap (λ (t : List ℕ). t ++ 32 ∷ name) is.printed;
   only = λ other fits same.
       let parts = parts_of_close cuts other fits same in
-      close_is (is.only other.mark fits parts.0) (sym parts.1);
+      λ i. record { mark = is.only other.mark fits parts.0 i; name = sym parts.1 i };
 }
 
 -- a closed file is one line

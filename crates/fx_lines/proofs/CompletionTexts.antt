@@ -1,5 +1,5 @@
 -- The lines of completions, part by part.
-use Rattle.fx_lines.proofs.Words.{◌≡◌, ℕ, true, List, [], ◌∷◌, ◌++◌, refl, sym, ap, ◌∙◌, inl, inr, ℤ, signed_decimal, append_assoc, Completed, Place}
+use Rattle.fx_lines.proofs.Words.{◌≡◌, ℕ, true, List, [], ◌∷◌, ◌++◌, refl, ap, ◌∙◌, inl, inr, ℤ, signed_decimal, append_assoc, Completed, Place}
 use Rattle.fx_lines.proofs.Words.{IsCutPart, answer_text, completion_text, cut_text, place_text, IsCompletionInRange, IsPlaceInRange, IsResultInRange}
 use Rattle.fx_lines.proofs.Words.{is_without, IsPrintedFrom, completion_line}
 use Rattle.fx_lines.proofs.AnswerTexts.{FitsAnswer, alone_or_cut}
@@ -7,24 +7,15 @@ use Rattle.fx_lines.proofs.Cuts.{without_between}
 use Rattle.fx_lines.proofs.Hexes.{hex_without}
 use Rattle.fx_lines.proofs.LinesInTurn.{IsOneLine}
 use Rattle.fx_lines.proofs.Marks.{place_without}
+use Rattle.fx_lines.proofs.Readings.{parts_are}
 use Rattle.fx_lines.proofs.Results.{result_without}
-
--- a completion is that of its parts
-completion_is : {c : Completed} {place : Place} {res : ℤ} {got : List ℕ} → c.place ≡ place → c.res ≡ res → c.got ≡ got
-    → c ≡ record { place = place; res = res; got = got }
-completion_is {c} {place} {res} {got} one two three =
-    let p : Completed = record { place = c.place; res = c.res; got = c.got } in
-    let q : Completed = record { place = place; res = res; got = got } in
-    let parts : p ≡ q = cc in
-    parts
 
 -- the place and the answer of a line that is a completion's
 pub parts_of_completion : {line word answer : List ℕ} → IsPrintedFrom (cut_text 32) (IsCutPart 32) line (word, answer)
     → {other : Completed} → IsCompletionInRange other → line ≡ completion_text other
     → (word ≡ place_text other.place) × (answer ≡ answer_text (other.res, other.got))
 parts_of_completion cuts {other} fits same =
-    let parts = cuts.only (place_text other.place, answer_text (other.res, other.got)) (place_without 32 other.place refl refl fits.place) same in
-    (sym (ap (λ p. p.0) parts), sym (ap (λ p. p.1) parts))
+    parts_are 32 cuts (place_text other.place) (answer_text (other.res, other.got)) (place_without 32 other.place refl refl fits.place) same
 
 pub one_completion : {line word answer : List ℕ} {place : Place} {res : ℤ} {got : List ℕ}
     → IsPrintedFrom (cut_text 32) (IsCutPart 32) line (word, answer) → IsPrintedFrom place_text IsPlaceInRange word place
@@ -37,7 +28,7 @@ one_completion {line} {word} {answer} {place} {res} {got} cuts first last = reco
   only = λ other fits same.
       let parts = parts_of_completion cuts fits same in
       let told = last.only (other.res, other.got) (fits.res, fits.got) parts.1 in
-      completion_is (first.only other.place fits.place parts.0) (ap (λ p. p.0) told) (ap (λ p. p.1) told);
+      λ i. record { place = first.only other.place fits.place parts.0 i; res = (told i).0; got = (told i).1 };
 }
 
 -- an answer has no line end

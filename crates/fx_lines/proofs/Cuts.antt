@@ -6,7 +6,6 @@ use Rattle.std.proofs.Common.{◌≢◌}
 use Rattle.std.specs.Prelude.{MatchOption}
 use Rattle.std.proofs.lemmas.List.{drop_more}
 use Rattle.std.proofs.lemmas.List.Folds.{list_all-append}
-use Rattle.fx_lines.proofs.Readings.{pair_is}
 
 -- a byte isn't another than itself
 not_self : (at x : ℕ) → at ≡ x → not (x == at) ≡ true → ⊥
@@ -49,7 +48,7 @@ cut_here at text i inside here before =
       printed = parts;
       only = λ other fits same.
           let both = cut_once at other.0 other.1 (take i text) (drop (i + 1) text) fits before (sym same ∙ parts) in
-          pair_is other (take i text) (drop (i + 1) text) both.0 both.1;
+          λ i. (both.0 i, both.1 i);
     }
 
 -- a text with an expected front

@@ -1,6 +1,6 @@
 -- Decimal numbers as they are printed.
 use Rattle.fx_lines.proofs.Words.{◌≡◌, ℕ, ◌+◌, ◌<◌, ◌≤◌, ◌^◌, ◌==◌, zero, suc, Bool, true, false, not, nat_le, List, [], ◌∷◌, length, get_or}
-use Rattle.fx_lines.proofs.Words.{slice_index, refl, sym, ap, ◌∙◌, arith, Some, None, if◌then◌else◌, decimal, list_all, nat_tests, and_from}
+use Rattle.fx_lines.proofs.Words.{refl, sym, ap, ◌∙◌, arith, Some, None, if◌then◌else◌, decimal, list_all, nat_tests, and_from}
 use Rattle.fx_lines.proofs.Words.{and_parts, true≢false, is_digit, is_without, Reads}
 use Rattle.std.specs.Prelude.{◌&&◌, ◌||◌}
 use Rattle.std.specs.Str.Parse.{digits_value}

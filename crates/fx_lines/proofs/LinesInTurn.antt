@@ -4,7 +4,7 @@ use Rattle.fx_lines.proofs.Words.{StartsWith, flat_map, append_assoc, append-nil
 use Rattle.fx_lines.proofs.Words.{lines_before, is_without, Reads, IsPrintedFrom}
 use Rattle.std.proofs.lemmas.List.{flat_map_more}
 use Rattle.std.proofs.lemmas.List.Elements.{All-push, All-tail}
-use Rattle.fx_lines.proofs.Readings.{pair_is}
+use Rattle.fx_lines.proofs.Readings.{parts_are}
 
 -- the first lines of a text, and the rest: whatever lines the text has, these are the first of them
 pub record HasFirst {A : Type 0} (print : A → List ℕ) (fits : A → Type 0) (may : List A → List ℕ → Type 0) (text : List ℕ)
@@ -63,7 +63,7 @@ module _ {A : Type 0} {print : A → List ℕ} {fits : A → Type 0} {may : List
     only = λ other fit same.
         let known = before.only other.0 other.1 fit.0 fit.1 same in
         let both = by_later other fit.1 known.0 known.1 known.3 in
-        pair_is other items rest both.0 both.1;
+        λ i. (both.0 i, both.1 i);
   }
     where
       by_later : (other : List A × List ℕ) → may other.0 other.1 → (later : List A) → other.0 ≡ items ++ later
@@ -88,8 +88,7 @@ module _ {A : Type 0} {print body : A → List ℕ} {fits : A → Type 0} {word 
   module _ {line behind : List ℕ} (cuts : IsPrintedFrom (cut_text 10) (IsCutPart 10) tail (line, behind)) (wide : A → Type 0) where
     parts_of_line : (y : A) (more : List ℕ) → fits y → rest ≡ print y ++ more → (line ≡ body y) × (more ≡ behind)
     parts_of_line y more fit same =
-        let parts = cuts.only (body y, more) (lines.no_end y fit) (tail_of y more same) in
-        (sym (ap (λ p. p.0) parts), ap (λ p. p.1) parts)
+        let parts = parts_are 10 cuts (body y) more (lines.no_end y fit) (tail_of y more same) in (parts.0, sym parts.1)
 
     -- a line of another form is none of these
     pub other_line : ((y : A) → fits y → wide y) → Reads body wide line None → (y : A) (more : List ℕ) → fits y → rest ≡ print y ++ more → ⊥

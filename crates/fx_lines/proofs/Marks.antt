@@ -7,16 +7,38 @@ use Rattle.std.specs.Prelude.{not, true, false, ◌==◌}
 use Rattle.fx_base.specs.declared.mark.Mark.TheVariants.{Registered, Submitted}
 use Rattle.fx_lines.specs.Front.{entry_text}
 use Rattle.fx_lines.proofs.Cuts.{other_first, without_between}
+use Rattle.fx_lines.proofs.Readings.{AreBoth, number_and}
 use Rattle.fx_lines.proofs.Decimals.{decimal_without}
 
--- a place is that of its numbers
-pub place_is : {place : Place} {s c m : ℕ} → place.submission ≡ s → place.chain ≡ c → place.member ≡ m
-    → place ≡ record { submission = s; chain = c; member = m }
-place_is {place} {s} {c} {m} one two three =
-    let p : Place = record { submission = place.submission; chain = place.chain; member = place.member } in
-    let q : Place = record { submission = s; chain = c; member = m } in
-    let numbers : p ≡ q = cc in
-    numbers
+abbrev pub is_small : ℕ → Type 0
+is_small n = n < 2 ^ 32
+
+-- a place, and a place in a list behind it, by their numbers
+pub place_reads : (word : List ℕ) (r : Option (ℕ × (ℕ × ℕ))) → Reads (number_and (number_and decimal)) (AreBoth (AreBoth is_small)) word r
+    → Reads place_text IsPlaceInRange word (option_map (λ x. record { submission = x.0; chain = x.1.0; member = x.1.1 }) r)
+place_reads word None none = λ other fits same. none (other.submission, (other.chain, other.member)) (fits.submission, (fits.chain, fits.member)) same
+place_reads word (Some x) is = record {
+  fits_value = let f = is.fits_value in record { submission = f.0; chain = f.1.0; member = f.1.1 };
+  printed = is.printed;
+  only = λ other fits same.
+      let told = is.only (other.submission, (other.chain, other.member)) (fits.submission, (fits.chain, fits.member)) same in
+      λ i. record { submission = (told i).0; chain = (told i).1.0; member = (told i).1.1 };
+}
+
+pub entry_reads : (word : List ℕ) (r : Option (ℕ × (ℕ × (ℕ × ℕ))))
+    → Reads (number_and (number_and (number_and decimal))) (AreBoth (AreBoth (AreBoth is_small))) word r
+    → Reads entry_text (λ found. IsPlaceInRange found.0 × (found.1 < 2 ^ 32)) word
+    (option_map (λ x. (record { submission = x.0; chain = x.1.0; member = x.1.1.0 }, x.1.1.1)) r)
+entry_reads word None none = λ other fits same.
+    none (other.0.submission, (other.0.chain, (other.0.member, other.1))) (fits.0.submission, (fits.0.chain, (fits.0.member, fits.1))) same
+entry_reads word (Some x) is = record {
+  fits_value = let f = is.fits_value in (record { submission = f.0; chain = f.1.0; member = f.1.1.0 }, f.1.1.1);
+  printed = is.printed;
+  only = λ other fits same.
+      let told = is.only (other.0.submission, (other.0.chain, (other.0.member, other.1)))
+      (fits.0.submission, (fits.0.chain, (fits.0.member, fits.1))) same in
+      λ i. (record { submission = (told i).0; chain = (told i).1.0; member = (told i).1.1.0 }, (told i).1.1.1);
+}
 
 -- the word of a registered mark has a letter in front
 no_letter : (n : ℕ) (rest more : List ℕ) → n < 2 ^ 32 → number_text (n, rest) ≡ 114 ∷ more → ⊥
@@ -57,8 +79,8 @@ submitted_only {word} (Some found) no_r reads = record {
   only = one_submitted no_r reads;
 }
 
--- a word with the letter is that of a registered mark
-pub not_submitted : {word rest : List ℕ} {s : ℕ} (c m e : ℕ) → s < 2 ^ 32 → word ≡ 114 ∷ [] ++ rest → word ≡ mark_text (Submitted s c m e) → ⊥
+-- a word with the letter is that of no submitted mark
+not_submitted : {word rest : List ℕ} {s : ℕ} (c m e : ℕ) → s < 2 ^ 32 → word ≡ 114 ∷ [] ++ rest → word ≡ mark_text (Submitted s c m e) → ⊥
 not_submitted {rest} {s} c m e small begins same =
     no_letter s (number_text (c, number_text (m, decimal e))) rest small (sym (same ∙ submitted_text s c m e) ∙ begins)
 
@@ -92,23 +114,26 @@ mark_without at (Submitted s c m e) none other letter fits =
     (without_between at 46 (decimal c) (number_text (m, decimal e)) (decimal_without at c none (omega arith)) other
     (without_between at 46 (decimal m) (decimal e) (decimal_without at m none (omega arith)) other (decimal_without at e none (omega arith))))
 
--- a word that is that of a registered mark
-pub registered_only : {word rest : List ℕ} {k i : ℕ} → word ≡ 114 ∷ [] ++ rest
-    → ((other : ℕ × ℕ) → (other.0 < 2 ^ 32) × (other.1 < 2 ^ 32) → rest ≡ number_text (other.0, decimal other.1) → (other.0 ≡ k) × (other.1 ≡ i))
-    → (other : Mark) → IsMarkInRange other → word ≡ mark_text other → other ≡ Registered k i
-registered_only {rest} {k} {i} begins only (Registered l j) fits same =
-    let both : 114 ∷ rest ≡ 114 ∷ number_text (l, decimal j) = sym begins ∙ same in
-    let numbers = only (l, j) fits cc in
-    let first : l ≡ k = numbers.0 in
-    let second : j ≡ i = numbers.1 in
-    cc
-registered_only {word} {rest} begins only (Submitted s c m e) fits same = absurd (not_submitted c m e fits.0.submission begins same)
-
--- a word that is that of no registered mark
-pub no_registered : {word rest : List ℕ} → word ≡ 114 ∷ [] ++ rest
-    → ((other : ℕ × ℕ) → (other.0 < 2 ^ 32) × (other.1 < 2 ^ 32) → rest ≡ number_text (other.0, decimal other.1) → ⊥)
+-- a word with the letter is that of a registered mark, and of no other
+no_registered : {word rest : List ℕ} → word ≡ 114 ∷ [] ++ rest → Reads (number_and decimal) (AreBoth is_small) rest None
     → (other : Mark) → IsMarkInRange other → word ≡ mark_text other → ⊥
 no_registered {rest} begins none (Registered l j) fits same =
+    let both : 114 ∷ rest ≡ 114 ∷ number_text (l, decimal j) = sym begins ∙ same in none (l, j) fits cc
+no_registered begins none (Submitted s c m e) fits same = not_submitted c m e fits.0.submission begins same
+
+one_registered : {word rest : List ℕ} {x : ℕ × ℕ} → word ≡ 114 ∷ [] ++ rest → IsPrintedFrom (number_and decimal) (AreBoth is_small) rest x
+    → (other : Mark) → IsMarkInRange other → word ≡ mark_text other → other ≡ Registered x.0 x.1
+one_registered {rest} begins is (Registered l j) fits same =
     let both : 114 ∷ rest ≡ 114 ∷ number_text (l, decimal j) = sym begins ∙ same in
-    none (l, j) fits cc
-no_registered {word} {rest} begins none (Submitted s c m e) fits same = not_submitted c m e fits.0.submission begins same
+    let told = is.only (l, j) fits cc in
+    λ i. Registered (told i).0 (told i).1
+one_registered begins is (Submitted s c m e) fits same = absurd (not_submitted c m e fits.0.submission begins same)
+
+pub registered_reads : {word rest : List ℕ} → word ≡ 114 ∷ [] ++ rest → (r : Option (ℕ × ℕ)) → Reads (number_and decimal) (AreBoth is_small) rest r
+    → Reads mark_text IsMarkInRange word (option_map (λ x. Registered x.0 x.1) r)
+registered_reads begins None none = no_registered begins none
+registered_reads begins (Some x) is = record {
+  fits_value = is.fits_value;
+  printed = begins ∙ ap (λ (t : List ℕ). 114 ∷ t) is.printed;
+  only = one_registered begins is;
+}

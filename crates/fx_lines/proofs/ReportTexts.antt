@@ -6,7 +6,6 @@ use Rattle.fx_lines.proofs.Words.{IsPrintedFrom, Reads, completion_line, complet
 use Rattle.std.specs.Prelude.{is_some}
 use Rattle.fx_lines.specs.Lines.{IsReportBefore, Lines, ReadsReport, lines_of, lines_text}
 use Rattle.fx_lines.proofs.LinesInTurn.{not_begun}
-use Rattle.fx_lines.proofs.Readings.{pair_is}
 use Rattle.fx_print.specs.Text.{name_of}
 use Rattle.std.proofs.lemmas.List.Folds.{flat_map-map}
 use Rattle.fx_base.specs.Tags.{tags_of}
@@ -21,14 +20,6 @@ printed_lines catalogue report =
     let closed = flat_map-map named_line named files in
     let tags = flat_map-map line_of_tag (λ (completion : TagCompletion). completion.user_data) (tags_of files) in
     λ i. completion_lines report.completions ++ (sym closed i ++ sym tags i)
-
-lines_is : {lines : Lines} {cs : List Completed} (closed : List NamedClose) {tags : List ℕ}
-    → lines.completions ≡ cs → lines.closed ≡ closed → lines.tags ≡ tags → lines ≡ record { completions = cs; closed = closed; tags = tags }
-lines_is {lines} {cs} closed {tags} one two three =
-    let p : Lines = record { completions = lines.completions; closed = lines.closed; tags = lines.tags } in
-    let q : Lines = record { completions = cs; closed = closed; tags = tags } in
-    let parts : p ≡ q = cc in
-    parts
 
 abbrev pub behind_closed : Lines × List ℕ → List ℕ
 behind_closed front = flat_map line_of_tag front.0.tags ++ front.1
@@ -105,8 +96,9 @@ module _ {count : ℕ} {text : List ℕ} {cs : List Completed} {rest : List ℕ}
             ∙ sym (regroup (record { completions = cs; closed = closed; tags = tags }, last));
         only = λ other fits same.
             let three = third_of_report other fits same in
-            pair_is other (record { completions = cs; closed = closed; tags = tags }) last
-            (lines_is closed (first_of_report other fits same).0 (second_of_report other fits same).0 three.0) three.1;
+            let first = (first_of_report other fits same).0 in
+            let second = (second_of_report other fits same).0 in
+            λ i. (record { completions = first i; closed = second i; tags = three.0 i }, three.1 i);
       }
 
 -- whether a text begins with a word

@@ -1,39 +1,19 @@
-use Rattle.fx_lines.proofs.Words.{◌≡◌, ℕ, List, ◌∙◌, sym, ap, rules, None, decimal, number_text}
-use Rattle.fx_lines.proofs.Marks.{place_is}
+use Rattle.fx_lines.proofs.Words.{rules, None, Some}
+use Rattle.fx_lines.proofs.Marks.{place_reads}
+use Rattle.fx_lines.proofs.Readings.{from_none, no_number, number_then}
 use Rattle.fx_lines.proofs.completion.place_of.Goals as goal
 
 pub returns-in_err-submission : goal.returns-in_err-submission
-returns-in_err-submission c =
-    let none : c.from_residual.result ≡ None = search rules in
-    rw none (λ other fits same.
-    c.in_err-submission.ensures (other.submission, number_text (other.chain, decimal other.member)) fits.submission same)
+returns-in_err-submission c = from_none (search rules) (place_reads _ None (no_number _ _ c.in_err-submission.ensures))
 
 pub returns-in_err-chain : goal.returns-in_err-chain
-returns-in_err-chain c =
-    let none : c.from_residual-in_err-chain.result ≡ None = search rules in
-    rw none (λ other fits same.
-    let one = c.in_ok-submission.ensures.only (other.submission, number_text (other.chain, decimal other.member)) fits.submission same in
-    c.in_err-chain.ensures (other.chain, decimal other.member) fits.chain (sym (ap (λ p. p.1) one)))
+returns-in_err-chain c = from_none (search rules) (place_reads _ None (number_then _ _ c.in_ok-submission.ensures None (no_number _ _ c.in_err-chain.ensures)))
 
 pub returns-in_err-number : goal.returns-in_err-number
 returns-in_err-number c =
-    let none : c.from_residual-in_err-number.result ≡ None = search rules in
-    rw none (λ other fits same.
-    let one = c.in_ok-submission.ensures.only (other.submission, number_text (other.chain, decimal other.member)) fits.submission same in
-    let two = c.in_ok-chain.ensures.only (other.chain, decimal other.member) fits.chain (sym (ap (λ p. p.1) one)) in
-    c.in_err-number.ensures other.member fits.member (sym (ap (λ p. p.1) two)))
+    from_none (search rules) (place_reads _ None
+    (number_then _ _ c.in_ok-submission.ensures None (number_then _ _ c.in_ok-chain.ensures None c.in_err-number.ensures)))
 
 pub returns : goal.returns
 returns c =
-    let first = c.in_ok-submission.ensures in
-    let second = c.in_ok-chain.ensures in
-    let third = c.in_ok-number.ensures in
-    record {
-      fits_value = record { submission = first.fits_value; chain = second.fits_value; member = third.fits_value };
-      printed = first.printed ∙ ap (λ (t : List ℕ). number_text (c.in_ok-submission.submission, t))
-          (second.printed ∙ ap (λ (t : List ℕ). number_text (c.in_ok-chain.chain, t)) third.printed);
-      only = λ other fits same.
-          let one = first.only (other.submission, number_text (other.chain, decimal other.member)) fits.submission same in
-          let two = second.only (other.chain, decimal other.member) fits.chain (sym (ap (λ p. p.1) one)) in
-          place_is (ap (λ p. p.0) one) (ap (λ p. p.0) two) (third.only other.member fits.member (sym (ap (λ p. p.1) two)));
-    }
+    place_reads _ (Some _) (number_then _ _ c.in_ok-submission.ensures (Some _) (number_then _ _ c.in_ok-chain.ensures (Some _) c.in_ok-number.ensures))

@@ -1,15 +1,14 @@
-use Rattle.std.proofs.Common.{◌≡◌, ◌-◌, ◌<◌, ◌^◌, ◌∙◌, sym, arith, rules, None, to_z, of_z, w32}
+use Rattle.std.proofs.Common.{◌≡◌, ◌-◌, ◌<◌, ◌^◌, ◌∙◌, sym, arith, rules, to_z, of_z, w32}
 use Rattle.std.specs.Prelude.{decimal, pos, negsuc, ◌-ℤ◌}
 use Rattle.std.proofs.lemmas.Int.{ints}
 use Rattle.fx_lines.proofs.Decimals.{number_reads}
-use Rattle.fx_lines.proofs.Readings.{at_none, at_some}
+use Rattle.fx_lines.proofs.Readings.{at_none, at_some, from_none}
 use Rattle.fx_lines.proofs.Results.{negative, no_negative, no_positive, no_zero, positive}
 use Rattle.fx_lines.proofs.number.res_of.Goals as goal
 
 pub returns-in_err-number_up_to : goal.returns-in_err-number_up_to
 returns-in_err-number_up_to c =
-    let none : c.from_residual.result ≡ None = search rules in
-    rw none (no_positive c.in_default.ensures (at_none decimal _ (sym c.number_up_to.ensures ∙ c.in_err-number_up_to.was)
+    from_none (search rules) (no_positive c.in_default.ensures (at_none decimal _ (sym c.number_up_to.ensures ∙ c.in_err-number_up_to.was)
     (number_reads 2147483647 c.args.word.now (omega arith) (omega arith))))
 
 pub returns-in_default : goal.returns-in_default
@@ -21,8 +20,7 @@ returns-in_default c =
 
 pub returns-in_err-n : goal.returns-in_err-n
 returns-in_err-n c =
-    let none : c.from_residual-in_err-n.result ≡ None = search rules in
-    rw none (no_negative c.in-Some.ensures.printed (at_none decimal _ (sym c.number_up_to-2.ensures ∙ c.in_err-n.was)
+    from_none (search rules) (no_negative c.in-Some.ensures.printed (at_none decimal _ (sym c.number_up_to-2.ensures ∙ c.in_err-n.was)
     (number_reads 2147483648 c.in-Some.digits.now (omega arith) (omega arith))))
 
 pub returns-then-n-eq0 : goal.returns-then-n-eq0

@@ -1,4 +1,4 @@
-use Rattle.std.proofs.Common.{◌^◌, arith}
+use Rattle.std.proofs.Common.{arith}
 use Rattle.fx_lines.proofs.Decimals.{number_reads}
 use Rattle.fx_lines.proofs.number.tag.Goals as goal
 

@@ -1,4 +1,4 @@
-use Rattle.fx_lines.proofs.Words.{◌∙◌, sym, codes}
+use Rattle.fx_lines.proofs.Words.{◌∙◌, sym}
 use Rattle.fx_lines.proofs.ReportTexts.{all_parts, begun, closed_behind_tags, no_first, no_second, no_third, unbegun}
 use Rattle.fx_lines.proofs.report.read_report.Goals as goal
 
