@@ -2,5 +2,4 @@ use Rattle.bench_tables.proofs.Vacant.{vacant_settled}
 use Rattle.bench_tables.proofs.guarded.Guarded.into_plain.Goals as goal
 
 pub returns : goal.returns
-returns c =
-    vacant_settled 0 _ c.none.ensures.state
+returns c = vacant_settled 0 c.none.ensures.state

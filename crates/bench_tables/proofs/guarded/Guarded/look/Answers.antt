@@ -4,7 +4,4 @@ use Rattle.bench_tables.proofs.guarded.Guarded.look.Goals as goal
 
 pub invariant_of-self : goal.invariant_of-self
 invariant_of-self c =
-    record {
-      few_holds = look_few c.args.self.now.looks c.args.slot _ (state_of c.args.self.now.plain) (state_of c.look.new.self)
-          c.args.self.now.few_holds c.look.ensures.step;
-    }
+    let old = state_of c.args.self.now.plain in record { few_holds = look_few (old.at c.args.slot) old c.args.self.now.few_holds c.look.ensures.step }

@@ -9,7 +9,5 @@ use Rattle.bench_tables.proofs.guarded.Guarded.release.Goals as goal
 pub invariant_of-self : goal.invariant_of-self
 invariant_of-self c =
     let f : File = record { number = c.args.number; identity = record { mark = Registered 0 0; entry = 0; tag = 0 } } in
-    record {
-      few_holds = release_few c.args.self.now.looks f (closed_by_release c.args.self.now.plain c.args.number)
-          (state_of c.args.self.now.plain) (state_of c.release.new.self) c.args.self.now.few_holds (c.release.ensures.steps f refl);
-    }
+    let plain = c.args.self.now.plain in
+    record { few_holds = release_few f (closed_by_release plain c.args.number) (state_of plain) c.args.self.now.few_holds (c.release.ensures.steps f refl) }

@@ -5,7 +5,5 @@ use Rattle.bench_tables.proofs.guarded.Guarded.retire.Goals as goal
 
 pub invariant_of-self : goal.invariant_of-self
 invariant_of-self c =
-    record {
-      few_holds = retire_few c.args.self.now.looks (closed_by_retirement c.args.self.now.plain c.args.number)
-          (state_of c.args.self.now.plain) (state_of c.retire.new.self) c.args.self.now.few_holds c.retire.ensures.steps;
-    }
+    let plain = c.args.self.now.plain in
+    record { few_holds = retire_few (closed_by_retirement plain c.args.number) (state_of plain) c.args.self.now.few_holds c.retire.ensures.steps }
