@@ -1,7 +1,7 @@
 -- Decimal numbers as they are printed.
-use Rattle.fx_lines.proofs.Words.{◌≡◌, ℕ, ◌+◌, ◌<◌, ◌≤◌, ◌^◌, ◌==◌, zero, suc, Bool, true, false, not, nat_le, List, [], ◌∷◌, length, get_or}
-use Rattle.fx_lines.proofs.Words.{refl, sym, ap, ◌∙◌, arith, Some, None, if◌then◌else◌, decimal, list_all, nat_tests, and_from}
-use Rattle.fx_lines.proofs.Words.{and_parts, true≢false, is_digit, is_without, Reads}
+use Rattle.fx_lines.proofs.Words.{◌≡◌, ℕ, ◌+◌, ◌<◌, ◌≤◌, ◌^◌, ◌==◌, zero, suc, Bool, true, false, not, nat_le, List, [], ◌∷◌, length, get_or, refl}
+use Rattle.fx_lines.proofs.Words.{sym, ap, ◌∙◌, arith, Some, None, if◌then◌else◌, decimal, list_all, nat_tests, and_from, and_parts, true≢false}
+use Rattle.fx_lines.proofs.Words.{is_digit, is_without, Reads}
 use Rattle.std.specs.Prelude.{◌&&◌, ◌||◌}
 use Rattle.std.specs.Str.Parse.{digits_value}
 use Rattle.std.proofs.lemmas.Fmt.{decimal_digit, decimal_nonempty, first_decimal, digits_decimal, digits_value-decimal, decimal-digits_value}

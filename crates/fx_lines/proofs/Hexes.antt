@@ -1,8 +1,9 @@
 -- The bytes of a read, as they are printed.
-use Rattle.fx_lines.proofs.Words.{◌≡◌, ℕ, zero, suc, ◌/◌, ◌%◌, ◌<◌, ◌==◌, Bool, true, false, not, List, [], ◌∷◌, ◌++◌, length, slice_index, refl, ap}
-use Rattle.fx_lines.proofs.Words.{◌∙◌, arith, None, if◌then◌else◌, eqb-true, and_from, and_parts, list_all, IsBytes, encode_lower, is_without}
+use Rattle.fx_lines.proofs.Words.{◌≡◌, ℕ, zero, suc, ◌/◌, ◌%◌, ◌<◌, ◌==◌, Bool, true, not, List, [], ◌∷◌, length, slice_index, refl, ap}
+use Rattle.fx_lines.proofs.Words.{◌∙◌, arith, None, and_from, and_parts, list_all, IsBytes, encode_lower, is_without}
 use Rattle.fx_lines.proofs.Words.{IsPrintedFrom, Reads, got_text}
 use Rattle.std.proofs.Common.{Ok, Err}
+use Rattle.std.proofs.lemmas.Bool.{ne_eqb}
 use Rattle.hex.specs.Hex.{decode_of, encode_with, lower_digits}
 use Rattle.hex.specs.declared.error.FromHexError.{FromHexError}
 use Rattle.hex.proofs.HexLemmas.{decode_of-encode_lower, decode_of-ok, length-encode_with}
@@ -58,11 +59,6 @@ digits_without at (b ∷ got) none nought =
 pub hex_without : (got : List ℕ) → is_without 10 (encode_lower got) ≡ true
 hex_without got = digits_without 10 got refl refl
 
-by_length : (test : Bool) (got : List ℕ) → (test ≡ true → ⊥)
-    → (if test then [] else 32 ∷ [] ++ encode_lower got) ≡ 32 ∷ encode_lower got
-by_length true got some = absurd (some refl)
-by_length false got some = refl
-
 -- the text of a read's bytes, where there are any
 pub some_got : (got : List ℕ) → 0 < length got → got_text got ≡ 32 ∷ encode_lower got
-some_got got some = by_length (length got == 0) got (λ none. let empty : length got ≡ 0 = eqb-true _ _ none in omega arith)
+some_got got some = rw (ne_eqb (length got) 0 (λ none. omega arith))

@@ -33,7 +33,7 @@ module _ {A : Type 0} {print : A → List ℕ} {fits : A → Type 0} {may : List
           (left ∙ append_assoc (print y) (flat_map print later) behind)
 
   -- one line more
-  pub one_more : {x : A} {next : List ℕ} → fits x → rest ≡ print x ++ next → GoesOn
+  one_more : {x : A} {next : List ℕ} → fits x → rest ≡ print x ++ next → GoesOn
       → ((y : A) (more : List ℕ) → fits y → rest ≡ print y ++ more → (y ≡ x) × (more ≡ next))
       → HasFirst print fits may text (items ++ x ∷ []) next
   one_more {x} {next} fits_x is goes_on only_x = record {
@@ -49,7 +49,7 @@ module _ {A : Type 0} {print : A → List ℕ} {fits : A → Type 0} {may : List
   }
 
   -- where the rest goes on and begins with no line, the text has no such lines
-  pub stops : GoesOn → ((y : A) (more : List ℕ) → fits y → rest ≡ print y ++ more → ⊥) → Reads (lines_before print) (IsFront fits may) text None
+  stops : GoesOn → ((y : A) (more : List ℕ) → fits y → rest ≡ print y ++ more → ⊥) → Reads (lines_before print) (IsFront fits may) text None
   stops goes_on none other fit same =
       at_next goes_on other.0 other.1 fit.0 fit.1 same (λ y later whole fits_y fits_later left. none y (flat_map print later ++ other.1) fits_y left)
 
@@ -81,30 +81,31 @@ module _ {A : Type 0} {print body : A → List ℕ} {fits : A → Type 0} {word 
   tail_of : (y : A) (more : List ℕ) → rest ≡ print y ++ more → tail ≡ cut_text 10 (body y, more)
   tail_of y more same = append_cancel_left word tail _ (sym begins ∙ same ∙ lines.line y more)
 
-  -- without a line end there is no line
-  pub no_line : Reads (cut_text 10) (IsCutPart 10) tail None → (y : A) (more : List ℕ) → fits y → rest ≡ print y ++ more → ⊥
-  no_line none y more fit same = none (body y, more) (lines.no_end y fit) (tail_of y more same)
+  module _ {may : List A → List ℕ → Type 0} {text : List ℕ} {items : List A} (before : HasFirst print fits may text items rest)
+      (goes : GoesOn before) where
+    -- without a line end there is no line
+    pub no_line : Reads (cut_text 10) (IsCutPart 10) tail None → Reads (lines_before print) (IsFront fits may) text None
+    no_line none = stops before goes (λ y more fit same. none (body y, more) (lines.no_end y fit) (tail_of y more same))
 
-  module _ {line behind : List ℕ} (cuts : IsPrintedFrom (cut_text 10) (IsCutPart 10) tail (line, behind)) (wide : A → Type 0) where
-    parts_of_line : (y : A) (more : List ℕ) → fits y → rest ≡ print y ++ more → (line ≡ body y) × (more ≡ behind)
-    parts_of_line y more fit same =
-        let parts = parts_are 10 cuts (body y) more (lines.no_end y fit) (tail_of y more same) in (parts.0, sym parts.1)
+    module _ {line behind : List ℕ} (cuts : IsPrintedFrom (cut_text 10) (IsCutPart 10) tail (line, behind)) (wide : A → Type 0)
+        (wider : (y : A) → fits y → wide y) where
+      parts_of_line : (y : A) (more : List ℕ) → fits y → rest ≡ print y ++ more → (line ≡ body y) × (more ≡ behind)
+      parts_of_line y more fit same =
+          let parts = parts_are 10 cuts (body y) more (lines.no_end y fit) (tail_of y more same) in (parts.0, sym parts.1)
 
-    -- a line of another form is none of these
-    pub other_line : ((y : A) → fits y → wide y) → Reads body wide line None → (y : A) (more : List ℕ) → fits y → rest ≡ print y ++ more → ⊥
-    other_line wider none y more fit same = none y (wider y fit) (parts_of_line y more fit same).0
+      -- a line of another form is none of these
+      pub other_line : Reads body wide line None → Reads (lines_before print) (IsFront fits may) text None
+      other_line none = stops before goes (λ y more fit same. none y (wider y fit) (parts_of_line y more fit same).0)
 
-    -- the line is that of one value
-    pub first_line : {x : A} → IsPrintedFrom body wide line x → ((y : A) → fits y → wide y)
-        → (y : A) (more : List ℕ) → fits y → rest ≡ print y ++ more → (y ≡ x) × (more ≡ behind)
-    first_line is wider y more fit same = let parts = parts_of_line y more fit same in (is.only y (wider y fit) parts.0, parts.1)
-
-    pub line_printed : {x : A} → IsPrintedFrom body wide line x → rest ≡ print x ++ behind
-    line_printed {x} is = begins ∙ ap (λ (t : List ℕ). word ++ t) (cuts.printed ∙ ap (λ (t : List ℕ). t ++ 10 ∷ behind) is.printed) ∙ sym (lines.line x behind)
+      -- the line is that of one value
+      pub next_line : {x : A} → fits x → IsPrintedFrom body wide line x → HasFirst print fits may text (items ++ x ∷ []) behind
+      next_line {x} fits_x is = one_more before fits_x (begins
+          ∙ ap (λ (t : List ℕ). word ++ t) (cuts.printed ∙ ap (λ (t : List ℕ). t ++ 10 ∷ behind) is.printed) ∙ sym (lines.line x behind)) goes
+          (λ y more fit same. let parts = parts_of_line y more fit same in (is.only y (wider y fit) parts.0, parts.1))
 
 -- a text that begins with a word, and what stands behind no more lines of that word
-pub goes_on : (word rest tail : List ℕ) → rest ≡ word ++ tail → (behind : List ℕ) → ¬ (StartsWith behind word) → rest ≡ behind → ⊥
-goes_on word rest tail begins behind over same =
+pub goes_on : (word : List ℕ) {rest : List ℕ} (tail : List ℕ) → rest ≡ word ++ tail → (behind : List ℕ) → ¬ (StartsWith behind word) → rest ≡ behind → ⊥
+goes_on word tail begins behind over same =
     over (ap (take (length word)) (sym same ∙ begins) ∙ take_at word tail (length word) refl)
 
 -- a text that doesn't begin with a word

@@ -84,35 +84,30 @@ not_submitted : {word rest : List ℕ} {s : ℕ} (c m e : ℕ) → s < 2 ^ 32 �
 not_submitted {rest} {s} c m e small begins same =
     no_letter s (number_text (c, number_text (m, decimal e))) rest small (sym (same ∙ submitted_text s c m e) ∙ begins)
 
+-- a number and what stands behind its full stop
+number_without : (at n : ℕ) (rest : List ℕ) → is_digit at ≡ false → (46 == at) ≡ false → n < 2 ^ 32 → is_without at rest ≡ true
+    → is_without at (number_text (n, rest)) ≡ true
+number_without at n rest none other small behind = without_between at 46 (decimal n) rest (decimal_without at n none (omega arith)) other behind
+
+last_without : (at n : ℕ) → is_digit at ≡ false → n < 2 ^ 32 → is_without at (decimal n) ≡ true
+last_without at n none small = decimal_without at n none (omega arith)
+
 -- the text of a place has no byte but digits and full stops
 pub place_without : (at : ℕ) (place : Place) → is_digit at ≡ false → (46 == at) ≡ false → IsPlaceInRange place
     → is_without at (place_text place) ≡ true
-place_without at place none other fits =
-    let s = fits.submission in
-    let c = fits.chain in
-    let m = fits.member in
-    without_between at 46 (decimal place.submission) (number_text (place.chain, decimal place.member))
-    (decimal_without at place.submission none (omega arith)) other
-    (without_between at 46 (decimal place.chain) (decimal place.member) (decimal_without at place.chain none (omega arith)) other
-    (decimal_without at place.member none (omega arith)))
+place_without at place none other fits = number_without at place.submission _ none other fits.submission
+    (number_without at place.chain _ none other fits.chain (last_without at place.member none fits.member))
 
 -- the text of a mark has no byte but digits, full stops and its letter
 pub mark_without : (at : ℕ) (mark : Mark) → is_digit at ≡ false → (46 == at) ≡ false → (114 == at) ≡ false → IsMarkInRange mark
     → is_without at (mark_text mark) ≡ true
-mark_without at (Registered k i) none other letter fits =
-    let one = fits.0 in
-    let two = fits.1 in
-    and_from (not (114 == at)) (is_without at (number_text (k, decimal i))) (ap not letter)
-    (without_between at 46 (decimal k) (decimal i) (decimal_without at k none (omega arith)) other (decimal_without at i none (omega arith)))
+mark_without at (Registered k i) none other letter fits = and_from (not (114 == at)) (is_without at (number_text (k, decimal i))) (ap not letter)
+    (number_without at k (decimal i) none other fits.0 (last_without at i none fits.1))
 mark_without at (Submitted s c m e) none other letter fits =
-    let one : s < 2 ^ 32 = fits.0.submission in
-    let two : c < 2 ^ 32 = fits.0.chain in
-    let three : m < 2 ^ 32 = fits.0.member in
-    let four = fits.1 in
-    ap (is_without at) (submitted_text s c m e)
-    ∙ without_between at 46 (decimal s) (number_text (c, number_text (m, decimal e))) (decimal_without at s none (omega arith)) other
-    (without_between at 46 (decimal c) (number_text (m, decimal e)) (decimal_without at c none (omega arith)) other
-    (without_between at 46 (decimal m) (decimal e) (decimal_without at m none (omega arith)) other (decimal_without at e none (omega arith))))
+    let place = fits.0 in
+    ap (is_without at) (submitted_text s c m e) ∙ number_without at s (number_text (c, number_text (m, decimal e))) none other place.submission
+    (number_without at c (number_text (m, decimal e)) none other place.chain
+    (number_without at m (decimal e) none other place.member (last_without at e none fits.1)))
 
 -- a word with the letter is that of a registered mark, and of no other
 no_registered : {word rest : List ℕ} → word ≡ 114 ∷ [] ++ rest → Reads (number_and decimal) (AreBoth is_small) rest None

@@ -90,73 +90,60 @@ word_with {b} more no_c no_t rest = by_first (more ++ rest) no_c no_t
 
 line_begins : (word : List ℕ) (res : ℤ) (rest : List ℕ) → IsWord word → HasNoCloses (result_line word res ++ rest)
 line_begins word res rest is_word =
-    let tail : List ℕ = codes " " ++ (signed_decimal res ++ codes "\n") in
-    subst HasNoCloses (sym (append_assoc word tail rest)) (is_word (tail ++ rest))
+    let tail : List ℕ = codes " " ++ (signed_decimal res ++ codes "\n") in rw (append_assoc word tail rest) (is_word (tail ++ rest))
 
-module _ (old new : RingState) (line others : List ℕ) where
+module _ (old new : RingContents) (line others : List ℕ) (behind : HasNoCloses others) where
   abbrev Begins : Type 0
   Begins = HasNoCloses (line ++ others)
 
   result_begins : (word : List ℕ) (res : ℤ) → IsWord word → line ≡ result_line word res → Begins
-  result_begins word res is_word is =
-      subst (λ (t : List ℕ). HasNoCloses (t ++ others)) (sym is) (line_begins word res others is_word)
+  result_begins word res is_word is = rw is (line_begins word res others is_word)
 
-  closes_begin : (files : List Closed) (word : List ℕ) (res : ℤ) → IsWord word → PrintsClosed old files (result_line word res) line → Begins
+  closes_begin : (files : List Closed) (word : List ℕ) (res : ℤ) → IsWord word → PrintsClosed (ring_of old) files (result_line word res) line → Begins
   closes_begin files word res is_word (closes, are, is) =
-      let tail : List ℕ = closes_text old.catalogue closes.files in
-      subst (λ (t : List ℕ). HasNoCloses (t ++ others)) (sym is)
-      (subst HasNoCloses (sym (append_assoc (result_line word res) tail others)) (line_begins word res (tail ++ others) is_word))
+      let tail : List ℕ = closes_text (ring_of old).catalogue closes.files in
+      rw (is, append_assoc (result_line word res) tail others) (line_begins word res (tail ++ others) is_word)
 
   -- it is refused, or printed as one that is accepted
-  answer_begins : (refusal : Option Errno) (same printed : Type 0) (word : List ℕ) → IsWord word → (printed → Begins)
-      → Answers refusal (same × printed) (IsRefused old new word line) → Begins
+  answer_begins : (refusal : Option Errno) (same printed : Type 0) (word : List ℕ) → IsWord word → (IsWord word → printed → Begins)
+      → Answers refusal (same × printed) (IsRefused (ring_of old) (ring_of new) word line) → Begins
   answer_begins (Some errno) same printed word is_word accepted refused = result_begins word (negated errno) is_word refused.1
-  answer_begins None same printed word is_word accepted (inl ok) = accepted ok.1
+  answer_begins None same printed word is_word accepted (inl ok) = accepted is_word ok.1
   answer_begins None same printed word is_word accepted (inr refused) = result_begins word (negated ENOMEM) is_word refused.1
 
-  range_begins : (refusal : Option Errno) (same printed : Type 0) (word : List ℕ) → IsWord word → (printed → Begins)
-      → MatchOption refusal (same × printed) (IsRefused old new word line) → Begins
+  range_begins : (refusal : Option Errno) (same printed : Type 0) (word : List ℕ) → IsWord word → (IsWord word → printed → Begins)
+      → MatchOption refusal (same × printed) (IsRefused (ring_of old) (ring_of new) word line) → Begins
   range_begins (Some errno) same printed word is_word accepted refused = result_begins word (negated errno) is_word refused.1
-  range_begins None same printed word is_word accepted ok = accepted ok.1
+  range_begins None same printed word is_word accepted ok = accepted is_word ok.1
 
   too_many_begins : (over : Bool) (same reported : Type 0) → MatchBool over (same × (line ≡ too_many_line)) reported → (reported → Begins) → Begins
-  too_many_begins true same reported is ok =
-      subst (λ (t : List ℕ). HasNoCloses (t ++ others)) (sym is.1) (word_with (drop 1 too_many_line) refl refl others)
+  too_many_begins true same reported is ok = rw is.1 (word_with (drop 1 too_many_line) refl refl others)
   too_many_begins false same reported it ok = ok it
 
   refusal_begins : (fault : Option CutFault) (same played : Type 0) → MatchOption fault played (λ cut. same × (line ≡ refused_line cut))
       → (played → Begins) → Begins
-  refusal_begins (Some cut) same played is ok =
-      subst (λ (t : List ℕ). HasNoCloses (t ++ others)) (sym is.1)
+  refusal_begins (Some cut) same played is ok = rw is.1
       (word_with (drop 1 (codes "submit refused ") ++ (kind_name cut.kind ++ (codes " " ++ (decimal cut.at ++ codes "\n")))) refl refl others)
   refusal_begins None same played it ok = ok it
 
+  begins : (command : Instruction) → Prints old command new line → Begins
+  begins (MakesSparse n) prints = answer_begins (sparse_refusal (ring_of old) n) _ _ (codes "sparse") (word_with (drop 1 (codes "sparse")) refl refl)
+      (result_begins (codes "sparse") (pos 0)) prints
+  begins (RegistersList list tags) prints = answer_begins (register_refusal (ring_of old) list (tags_given list tags)) _ _ (codes "register")
+      (word_with (drop 1 (codes "register")) refl refl) (result_begins (codes "register") (pos 0)) prints
+  begins Unregisters prints = answer_begins (unregister_refusal (ring_of old)) _ _ (codes "unregister")
+      (word_with (drop 1 (codes "unregister")) refl refl) (closes_begin (files_of (ring_of old)) (codes "unregister") (pos 0)) prints
+  begins (SetsRange off len) prints = range_begins (range_refusal (ring_of old) off len) _ _ (codes "range")
+      (word_with (drop 1 (codes "range")) refl refl) (result_begins (codes "range") (pos 0)) prints
+  begins (UpdatesRing off list tags) prints = answer_begins (update_refusal (ring_of old) off list (tags_given list tags)) _ _ (codes "regupdate")
+      (word_with (drop 1 (codes "regupdate")) refl refl)
+      (closes_begin (removed_from (ring_of old).at off list) (codes "regupdate") (pos (length list))) prints
+  begins (SubmitsAll asked) prints = refusal_begins (fault_of asked) _ _ prints
+      (λ played. too_many_begins (nat_le MOST_SUBMISSIONS old.submissions) _ _ played (λ it. submission_begins it behind))
+
 pub command_begins : (old : RingContents) (command : Instruction) (new : RingContents) (line : List ℕ) {others : List ℕ} → Prints old command new line
     → HasNoCloses others → HasNoCloses (line ++ others)
-command_begins old (MakesSparse n) new line {others} prints behind =
-    let word = word_with (drop 1 (codes "sparse")) refl refl in
-    answer_begins (ring_of old) (ring_of new) line others (sparse_refusal (ring_of old) n) _ _ (codes "sparse") word
-    (result_begins (ring_of old) (ring_of new) line others (codes "sparse") (pos 0) word) prints
-command_begins old (RegistersList list tags) new line {others} prints behind =
-    let word = word_with (drop 1 (codes "register")) refl refl in
-    answer_begins (ring_of old) (ring_of new) line others (register_refusal (ring_of old) list (tags_given list tags)) _ _ (codes "register") word
-    (result_begins (ring_of old) (ring_of new) line others (codes "register") (pos 0) word) prints
-command_begins old Unregisters new line {others} prints behind =
-    let word = word_with (drop 1 (codes "unregister")) refl refl in
-    answer_begins (ring_of old) (ring_of new) line others (unregister_refusal (ring_of old)) _ _ (codes "unregister") word
-    (closes_begin (ring_of old) (ring_of new) line others (files_of (ring_of old)) (codes "unregister") (pos 0) word) prints
-command_begins old (SetsRange off len) new line {others} prints behind =
-    let word = word_with (drop 1 (codes "range")) refl refl in
-    range_begins (ring_of old) (ring_of new) line others (range_refusal (ring_of old) off len) _ _ (codes "range") word
-    (result_begins (ring_of old) (ring_of new) line others (codes "range") (pos 0) word) prints
-command_begins old (UpdatesRing off list tags) new line {others} prints behind =
-    let word = word_with (drop 1 (codes "regupdate")) refl refl in
-    answer_begins (ring_of old) (ring_of new) line others (update_refusal (ring_of old) off list (tags_given list tags)) _ _ (codes "regupdate") word
-    (closes_begin (ring_of old) (ring_of new) line others (removed_from (ring_of old).at off list) (codes "regupdate") (pos (length list)) word) prints
-command_begins old (SubmitsAll asked) new line {others} prints behind =
-    refusal_begins (ring_of old) (ring_of new) line others (fault_of asked) _ _ prints
-    (λ played. too_many_begins (ring_of old) (ring_of new) line others (nat_le MOST_SUBMISSIONS old.submissions) _ _ played
-    (λ it. submission_begins it behind))
+command_begins old command new line {others} prints behind = begins old new line others behind command prints
 
 pub plays_begin : PlaysBeginWithNoClose
 plays_begin ring [] text ends = end_begins (ring_of ring) ends

@@ -1,28 +1,25 @@
 use Rattle.fx_lines.proofs.Words.{◌<◌, ◌^◌, codes}
 use Rattle.fx_lines.proofs.CloseTexts.{tags_are_lines}
-use Rattle.fx_lines.proofs.LinesInTurn.{ends_here, first_line, goes_on, line_begins, line_printed, no_line, not_begun, one_more, other_line, stops}
+use Rattle.fx_lines.proofs.LinesInTurn.{ends_here, goes_on, line_begins, next_line, no_line, not_begun, other_line}
 use Rattle.fx_lines.proofs.close.read_tags.Goals as goal
 
 pub returns-in_default-cut : goal.returns-in_default-cut
 returns-in_default-cut c =
-    stops c.loop-behind.invariant (goes_on (codes "tag ") c.loop-behind.rest.now c.in-Some.behind.now c.in-Some.ensures.printed)
-    (no_line tags_are_lines c.loop-behind.rest.now c.in-Some.behind.now c.in-Some.ensures.printed c.in_default-cut.ensures)
+    no_line tags_are_lines c.loop-behind.rest.now c.in-Some.behind.now c.in-Some.ensures.printed c.loop-behind.invariant
+    (goes_on (codes "tag ") c.in-Some.behind.now c.in-Some.ensures.printed) c.in_default-cut.ensures
 
 pub returns-in_default-tag : goal.returns-in_default-tag
 returns-in_default-tag c =
-    stops c.loop-behind.invariant (goes_on (codes "tag ") c.loop-behind.rest.now c.in-Some.behind.now c.in-Some.ensures.printed)
-    (other_line tags_are_lines c.loop-behind.rest.now c.in-Some.behind.now c.in-Some.ensures.printed c.in-Some-cut.ensures
-    (λ tag. tag < 2 ^ 64) (λ y fit. fit) c.in_default-tag.ensures)
+    other_line tags_are_lines c.loop-behind.rest.now c.in-Some.behind.now c.in-Some.ensures.printed c.loop-behind.invariant
+    (goes_on (codes "tag ") c.in-Some.behind.now c.in-Some.ensures.printed) c.in-Some-cut.ensures
+    (λ tag. tag < 2 ^ 64) (λ y fit. fit) c.in_default-tag.ensures
 
 pub loop-behind-preserved : goal.loop-behind-preserved
 loop-behind-preserved c =
     rw c.in_ok-push.ensures.items
-    (one_more c.loop-behind.invariant c.in-Some-tag.ensures.fits_value
-    (line_printed tags_are_lines c.loop-behind.rest.now c.in-Some.behind.now c.in-Some.ensures.printed c.in-Some-cut.ensures
-    (λ tag. tag < 2 ^ 64) c.in-Some-tag.ensures)
-    (goes_on (codes "tag ") c.loop-behind.rest.now c.in-Some.behind.now c.in-Some.ensures.printed)
-    (first_line tags_are_lines c.loop-behind.rest.now c.in-Some.behind.now c.in-Some.ensures.printed c.in-Some-cut.ensures
-    (λ tag. tag < 2 ^ 64) c.in-Some-tag.ensures (λ y fit. fit)))
+    (next_line tags_are_lines c.loop-behind.rest.now c.in-Some.behind.now c.in-Some.ensures.printed c.loop-behind.invariant
+    (goes_on (codes "tag ") c.in-Some.behind.now c.in-Some.ensures.printed) c.in-Some-cut.ensures
+    (λ tag. tag < 2 ^ 64) (λ y fit. fit) c.in-Some-tag.ensures.fits_value c.in-Some-tag.ensures)
 
 pub returns : goal.returns
 returns c =
