@@ -1,8 +1,6 @@
 -- What stands in an order, and what of it is a chain's.
 use Rattle.fx_judge.proofs.Words.{inl, inr, ℕ, List, [], ◌∷◌, sym, subst, AllByRecursion, Contains, accesses_of, accesses_of_chain, contains_head}
-use Rattle.fx_judge.proofs.Words.{contains_tail, Access, ChainAccess, IsPossible}
-use Rattle.fx_order.proofs.Accesses.{of_chain, own_first}
-use Rattle.fx_table.proofs.Members.{contains_cases, contains_none}
+use Rattle.fx_judge.proofs.Words.{contains_tail, Access, ChainAccess, IsPossible, of_chain, own_first, contains_cases, contains_none}
 
 -- what is possible of an order is possible of its chains
 pub possible_of_chain : (size : ℕ) (range : ℕ × ℕ) (chain : ℕ) (order : List ChainAccess) → AllByRecursion (IsPossible size range) (accesses_of order)

@@ -1,6 +1,6 @@
 -- An order leads from a ring to a ring.
-use Rattle.fx_judge.proofs.Words.{◌≡◌, ◌≤◌, List, sym, subst, IsAccepted, Asked, RingState, IsRing, ring_of}
-use Rattle.fx_judge.proofs.Words.{Reported, submitted_rings, IsOneOrder, each_order_is_a_history, NonePast, ring_with_files, shows_ring}
+use Rattle.fx_judge.proofs.Words.{◌≡◌, ◌≤◌, List, sym, subst, IsAccepted, Asked, RingState, IsRing, ring_of, Reported, submitted_rings, IsOneOrder}
+use Rattle.fx_judge.proofs.Words.{each_order_is_a_history, NonePast, ring_with_files, shows_ring}
 
 pub order_rings : {old left : RingState} {requests : List Asked} {report : Reported} → IsRing old → NonePast old.size old.at → old.size ≤ 256
     → IsAccepted requests → IsOneOrder old requests report left → IsRing left

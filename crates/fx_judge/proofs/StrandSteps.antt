@@ -1,9 +1,8 @@
 -- The strands of chains, one chain after another.
 use Rattle.fx_judge.proofs.Words.{◌≡◌, ◌⊎◌, inl, inr, ℕ, zero, suc, ◌+◌, ◌≤◌, Bool, true, false, List, [], ◌∷◌, ◌++◌, length, filter, cond, refl, sym}
-use Rattle.fx_judge.proofs.Words.{ap, subst, ◌∙◌, arith, slice_get, Some, if◌then◌else◌, Vec, AllZip, append-nil, cases_lt, Closed, by_equality}
-use Rattle.fx_judge.proofs.Words.{accesses_of_chain, Access, ChainAccess, AreClaims, Fits, touched, AreStrands, has_slot, keeps, seen, slot_of}
-use Rattle.fx_judge.proofs.Words.{strand_for, Cell, Claim, At, Full, Strand}
-use Rattle.std.proofs.lemmas.List.{nil_from_length}
+use Rattle.fx_judge.proofs.Words.{ap, ◌∙◌, arith, slice_get, Some, if◌then◌else◌, Vec, AllZip, append-nil, Closed, by_equality, accesses_of_chain}
+use Rattle.fx_judge.proofs.Words.{Access, ChainAccess, AreClaims, Fits, touched, AreStrands, keeps, seen, slot_of, strand_for, Cell, Claim, At, Full}
+use Rattle.fx_judge.proofs.Words.{Strand, ⊎_elim, nil_from_length, AllZip-long}
 
 -- a claim is of the slot of its access
 same_slot : (closes : List Closed) (claim : Claim) (a : Access) → Fits closes claim a → touched a ≡ slot_of claim
@@ -14,17 +13,14 @@ same_slot closes Full a fits = ap touched fits
 pub zip_kept : (closes : List Closed) (cells : List Cell) (claims : List Claim) (accesses : List Access) → AllZip (Fits closes) claims accesses
     → AllZip (Fits closes) (filter (keeps cells) claims) (seen cells accesses)
 zip_kept closes cells [] [] all = tt
-zip_kept closes cells [] (a ∷ rest) all = absurd all
-zip_kept closes cells (x ∷ claims) [] all = absurd all
 zip_kept closes cells (x ∷ claims) (a ∷ rest) all =
-    both (keeps cells x) (has_slot cells (touched a)) (sym (ap (has_slot cells) (same_slot closes x a all.0))) (zip_kept closes cells claims rest all.1)
+    rw (same_slot closes x a all.0) (both (keeps cells x) (zip_kept closes cells claims rest all.1))
   where
-    both : (b d : Bool) → b ≡ d → AllZip (Fits closes) (filter (keeps cells) claims) (seen cells rest)
-        → AllZip (Fits closes) (cond b (x ∷ filter (keeps cells) claims) (filter (keeps cells) claims)) (cond d (a ∷ seen cells rest) (seen cells rest))
-    both true true is more = (all.0, more)
-    both true false is more = absurd (cc)
-    both false true is more = absurd (cc)
-    both false false is more = more
+    both : (b : Bool) → AllZip (Fits closes) (filter (keeps cells) claims) (seen cells rest)
+        → AllZip (Fits closes) (cond b (x ∷ filter (keeps cells) claims) (filter (keeps cells) claims)) (cond b (a ∷ seen cells rest) (seen cells rest))
+    both true more = (all.0, more)
+    both false more = more
+zip_kept closes cells claims accesses all = absurd all
 
 get_old : {X : Type 0} (xs ys : List X) (k : ℕ) {x : X} → slice_get xs k ≡ Some x → slice_get (xs ++ ys) k ≡ Some x
 get_old [] ys k is = absurd (cc)
@@ -35,14 +31,12 @@ get_last : {X : Type 0} (xs : List X) (x : X) → slice_get (xs ++ x ∷ []) (le
 get_last [] x = refl
 get_last (z ∷ xs) x = get_last xs x
 
-pub get_push : {X : Type 0} (xs : List X) {y : X} (k : ℕ) {x : X} → slice_get (xs ++ y ∷ []) k ≡ Some x → (slice_get xs k ≡ Some x) ⊎ ((k ≡ length xs) × (y ≡ x))
+pub get_push : {X : Type 0} (xs : List X) {y : X} (k : ℕ) {x : X} → slice_get (xs ++ y ∷ []) k ≡ Some x
+    → (slice_get xs k ≡ Some x) ⊎ ((k ≡ length xs) × (y ≡ x))
 get_push [] zero is = inr (refl, cc)
 get_push [] (suc k) is = absurd (cc)
 get_push (z ∷ xs) zero is = inl is
-get_push (z ∷ xs) {y} (suc k) {x} is = elim (get_push xs k is) [
-  | inl old ↦ inl old
-  | inr new ↦ inr (ap suc new.0, new.1)
-]
+get_push (z ∷ xs) {y} (suc k) {x} is = ⊎_elim (λ old. inl old) (λ new. inr (ap suc new.0, new.1)) (get_push xs k is)
 
 -- the strands of the first chains
 pub record SoFar (cells : List Cell) (chains : List (Vec Claim)) (i : ℕ) (strands : List Strand) : Type 0 where
@@ -59,22 +53,14 @@ none_yet cells chains = record {
   };
 }
 
-none_zip : (closes : List Closed) (accesses : List Access) → AllZip (Fits closes) [] accesses → accesses ≡ []
-none_zip closes [] all = refl
-none_zip closes (x ∷ accesses) all = absurd all
-
-module _ (cells : List Cell) (chains : List (Vec Claim)) (i : ℕ) (strands : List Strand) (claims own : Vec Claim) (is : slice_get chains i ≡ Some claims)
-    (kept : own.items ≡ filter (keeps cells) claims.items) (so : SoFar cells chains i strands) where
+module _ (cells : List Cell) (chains : List (Vec Claim)) (i : ℕ) (strands : List Strand) (claims own : Vec Claim)
+    (is : slice_get chains i ≡ Some claims) (kept : own.items ≡ filter (keeps cells) claims.items) (so : SoFar cells chains i strands) where
   mine : (closes : List Closed) (order : List ChainAccess) → AreClaims closes chains order
       → AllZip (Fits closes) own.items (seen cells (accesses_of_chain (i + 1) order))
-  mine closes order told = subst (λ (l : List Claim). AllZip (Fits closes) l (seen cells (accesses_of_chain (i + 1) order))) (sym kept)
-      (zip_kept closes cells claims.items (accesses_of_chain (i + 1) order) (told i claims is))
+  mine closes order told = rw kept (zip_kept closes cells claims.items (accesses_of_chain (i + 1) order) (told i claims is))
 
   last_or_before : {chain : ℕ} → chain ≤ i + 1 → (chain ≤ i) ⊎ (chain ≡ i + 1)
-  last_or_before {chain} high = elim (cases_lt i chain) [
-    | inl more ↦ inr (omega arith)
-    | inr less ↦ inl less
-  ]
+  last_or_before {chain} high = grind arith
 
   without : length own.items ≡ 0 → SoFar cells chains (i + 1) strands
   without none = record {
@@ -83,10 +69,9 @@ module _ (cells : List Cell) (chains : List (Vec Claim)) (i : ℕ) (strands : Li
       fits = before.fits;
       each = λ chain low high. elim (last_or_before high) [
         | inl old ↦ before.each chain low old
-        | inr new ↦ inr (ap (λ (n : ℕ). seen cells (accesses_of_chain n order)) new
-            ∙ none_zip closes (seen cells (accesses_of_chain (i + 1) order))
-            (subst (λ (l : List Claim). AllZip (Fits closes) l (seen cells (accesses_of_chain (i + 1) order)))
-            (nil_from_length own.items none) (mine closes order told)))
+        | inr new ↦
+            let seen_now = seen cells (accesses_of_chain (i + 1) order) in
+            inr (rw new (nil_from_length seen_now (AllZip-long (Fits closes) own.items seen_now (mine closes order told) ∙ none)))
       ];
       once = before.once;
     };
@@ -99,12 +84,12 @@ module _ (cells : List Cell) (chains : List (Vec Claim)) (i : ℕ) (strands : Li
   with_own = record {
     low = λ k strand at. elim (get_push strands k at) [
       | inl old ↦ let before = so.low k strand old in omega arith
-      | inr new ↦ let chain : i + 1 ≡ strand.chain = ap (λ (s : Strand). s.chain) new.1 in omega arith
+      | inr new ↦ rw (sym new.1) (omega arith)
     ];
     are = λ closes order told. let before = so.are closes order told in record {
       fits = λ k strand at. elim (get_push strands k at) [
         | inl old ↦ before.fits k strand old
-        | inr new ↦ subst (λ (s : Strand). AllZip (Fits closes) s.claims.items (seen cells (accesses_of_chain s.chain order))) new.1 (mine closes order told)
+        | inr new ↦ rw (sym new.1) (mine closes order told)
       ];
       each = λ chain low high. elim (last_or_before high) [
         | inl old ↦ elim (before.each chain low old) [
@@ -116,14 +101,10 @@ module _ (cells : List Cell) (chains : List (Vec Claim)) (i : ℕ) (strands : Li
       once = λ k j one other at too same. elim (get_push strands k at) [
         | inl old ↦ elim (get_push strands j too) [
           | inl older ↦ before.once k j one other old older same
-          | inr new ↦
-              let chain : i + 1 ≡ other.chain = ap (λ (s : Strand). s.chain) new.1 in
-              let low = so.low k one old in absurd (omega arith)
+          | inr new ↦ absurd (omega (arith, so.low k one old, ap (λ (s : Strand). s.chain) new.1))
         ]
         | inr last ↦ elim (get_push strands j too) [
-          | inl older ↦
-              let chain : i + 1 ≡ one.chain = ap (λ (s : Strand). s.chain) last.1 in
-              let low = so.low j other older in absurd (omega arith)
+          | inl older ↦ absurd (omega (arith, so.low j other older, ap (λ (s : Strand). s.chain) last.1))
           | inr new ↦ last.0 ∙ sym new.0
         ]
       ];
@@ -131,8 +112,5 @@ module _ (cells : List Cell) (chains : List (Vec Claim)) (i : ℕ) (strands : Li
   }
 
   pub one_more : (next : List Strand) → next ≡ strands ++ strand_for (i + 1) own → SoFar cells chains (i + 1) next
-  one_more next grown =
-      by_equality (length own.items) 0 (λ b. next ≡ strands ++ (if b then [] else added ∷ []) → SoFar cells chains (i + 1) next)
-      (λ none same. subst (SoFar cells chains (i + 1)) (sym (same ∙ append-nil strands)) (without none))
-      (λ some same. subst (SoFar cells chains (i + 1)) (sym same) with_own)
-      grown
+  one_more next grown = rw grown (by_equality (length own.items) 0 (λ b. SoFar cells chains (i + 1) (strands ++ (if b then [] else added ∷ [])))
+      (λ none. rw append-nil (without none)) (λ _. with_own))

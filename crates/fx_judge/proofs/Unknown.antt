@@ -1,15 +1,12 @@
 -- A file that was at no slot, and that no chain's claim leaves, is in no order removed.
-use Rattle.fx_judge.proofs.Words.{◌≡◌, inl, inr, ℕ, zero, suc, ◌+◌, ◌≤◌, if◌then◌else◌, List, [], ◌∷◌, length, sym, ap, subst, ◌∙◌}
-use Rattle.fx_judge.proofs.Words.{arith, All-contains, Contains, Option, Some, None, slice_index_or, Vec, AllZip, Closed}
-use Rattle.fx_judge.proofs.Words.{by_equality, changed_at, Table, Permits, PermitsAll, table_with, accesses_of}
-use Rattle.fx_judge.proofs.Words.{accesses_of_chain, contains_head, contains_tail, Access}
-use Rattle.fx_judge.proofs.Words.{ChainAccess, Fits, found_by, left_by, touched, HasNoOrder, Claim, At, Full, Same, Empty, File}
+use Rattle.fx_judge.proofs.Words.{◌≡◌, inl, inr, ℕ, zero, suc, ◌+◌, ◌≤◌, if◌then◌else◌, List, [], ◌∷◌, length, sym, ◌∙◌, arith, All-contains}
+use Rattle.fx_judge.proofs.Words.{Contains, Option, Some, None, slice_index_or, Vec, AllZip, Closed, by_equality, Table, Permits, PermitsAll}
+use Rattle.fx_judge.proofs.Words.{table_with, accesses_of, accesses_of_chain, contains_head, contains_tail, Access, ChainAccess, Fits, found_by}
+use Rattle.fx_judge.proofs.Words.{left_by, touched, HasNoOrder, Claim, At, Full, Same, Empty, File, table_of_slots, same_Some, slice_get_cases}
+use Rattle.fx_judge.proofs.Words.{none-some, Brings, contains_none, Slots}
 use Rattle.std.proofs.Common.{◌-◌}
-use Rattle.std.proofs.lemmas.Option.{slice_get_cases}
 use Rattle.fx_order.proofs.Placed.{Removes, emptied, removes_contained}
-use Rattle.fx_order.specs.Slots.{table_of_slots}
-use Rattle.fx_order.specs.declared.slots.Slots.{Slots}
-use Rattle.fx_judge.specs.Known.{Brings, IsBrought, IsKnown}
+use Rattle.fx_judge.specs.Known.{IsBrought, IsKnown}
 use Rattle.fx_judge.proofs.CellSteps.{at_after, found_at, some_or_none, untouched}
 use Rattle.fx_judge.proofs.OfChain.{of_its_chain}
 
@@ -20,24 +17,20 @@ module _ (closes : List Closed) (file : Closed) where
 
   finds : (a : Access) (claim : Claim) → Fits closes claim a → (Brings claim file → ⊥) → FindsIt a
   finds a (At slot wants Same) (at, wanted, same) none = λ left. sym same ∙ left
-  finds a (At slot wants Empty) (at, wanted, (removed, gone)) none = λ left. let bad : None ≡ Some file = sym gone ∙ left in absurd (cc)
+  finds a (At slot wants Empty) (at, wanted, (removed, gone)) none = λ left. absurd (none-some file (sym gone ∙ left))
   finds a (At slot wants (File r)) (at, wanted, (removed, (f, is, resident))) none = λ left.
-      let one : Some f ≡ Some file = sym is ∙ left in
-      let same : f ≡ file = cc in
-      absurd (none (resident.same ∙ same))
-  finds a Full fits none = λ left. let bad : None ≡ Some file = ap left_by (sym fits) ∙ left in absurd (cc)
+      absurd (none (resident.same ∙ same_Some f file (sym is ∙ left)))
+  finds a Full fits none = λ left. absurd (none-some file (rw fits at left))
 
   -- each access of a chain fits one of its claims
   fitting : (claims : List Claim) (accesses : List Access) {a : Access} → AllZip (Fits closes) claims accesses → Contains accesses a
       → (claim : Claim) × Contains claims claim × Fits closes claim a
-  fitting [] [] all has = let lt = has.1 in absurd (omega arith)
-  fitting [] (x ∷ accesses) all has = absurd all
-  fitting (c ∷ claims) [] all has = absurd all
-  fitting (c ∷ claims) (x ∷ accesses) all (zero, lt, is) = (c, contains_head c claims, subst (Fits closes c) is all.0)
+  fitting (c ∷ claims) (x ∷ accesses) all (zero, lt, is) = (c, contains_head c claims, rw (sym is) all.0)
   fitting (c ∷ claims) (x ∷ accesses) {a} all (suc k, lt, is) =
       let rest = fitting claims accesses all.1 (k, omega arith, is) in
-      let inside = rest.1.1 in
-      (rest.0, (suc rest.1.0, omega arith, rest.1.2), rest.2)
+      (rest.0, contains_tail c claims rest.0 rest.1, rest.2)
+  fitting claims [] {a} all has = absurd (contains_none a has)
+  fitting [] accesses all has = absurd all
 
   -- no slot has the file
   abbrev IsNowhere : Table → Type 0
@@ -46,10 +39,9 @@ module _ (closes : List Closed) (file : Closed) where
   nowhere_after : (table : Table) (a : Access) → Permits table a → FindsIt a → IsNowhere table → IsNowhere (table_with table a)
   nowhere_after table a may found none = elim (some_or_none (touched a)) [
     | inl there ↦ λ slot is.
-        let at : changed_at table.at there.0 (left_by a) slot ≡ Some file = ap (λ (f : ℕ → Option Closed). f slot) (sym (at_after table a there.1 may)) ∙ is in
         by_equality slot there.0 (λ b. (if b then left_by a else table.at slot) ≡ Some file → ⊥)
-        (λ _ left. none there.0 (sym (found_at table a there.1 may) ∙ found left)) (λ _ old. none slot old) at
-    | inr full ↦ subst (λ (f : ℕ → Option Closed). (slot : ℕ) → f slot ≡ Some file → ⊥) (sym (untouched table a full)) none
+        (λ _ left. none there.0 (sym (found_at table a there.1 may) ∙ found left)) (λ _ old. none slot old) (rw (at_after table a there.1 may) at is)
+    | inr full ↦ rw (untouched table a full) none
   ]
 
   never_removed : (order : List ChainAccess) (table : Table) → PermitsAll table (accesses_of order) → IsNowhere table
@@ -69,8 +61,7 @@ module _ (closes : List Closed) (file : Closed) where
       let place : k + 1 ≡ x.chain = omega arith in
       elim (slice_get_cases chains k).1 [
         | inl own ↦
-            let fit = fitting own.0.items (accesses_of_chain x.chain order)
-            (subst (λ (n : ℕ). AllZip (Fits closes) own.0.items (accesses_of_chain n order)) place (told k own.0 own.2)) (of_its_chain order inside) in
+            let fit = fitting own.0.items (accesses_of_chain x.chain order) (rw place at (told k own.0 own.2)) (of_its_chain order inside) in
             finds x.access fit.0 fit.2 (λ brings. not_brought (k, own.0, own.1, own.3, (fit.1.0, fit.0, fit.1.1, fit.1.2, brings)))
         | inr past ↦ let beyond = past.0 in absurd (omega arith)
       ])
@@ -79,7 +70,7 @@ module _ (closes : List Closed) (file : Closed) where
 -- what is read at a slot is one of the list
 at_slot : (slots : List (Option Closed)) {file : Closed} (k : ℕ) → slice_index_or slots k None ≡ Some file → Contains slots (Some file)
 at_slot [] k is = absurd (cc)
-at_slot (x ∷ slots) zero is = subst (λ (y : Option Closed). Contains (x ∷ slots) y) is (contains_head x slots)
+at_slot (x ∷ slots) zero is = rw (sym is) (contains_head x slots)
 at_slot (x ∷ slots) {file} (suc k) is = contains_tail x slots (Some file) (at_slot slots k is)
 
 pub never_known : {closes : List Closed} {file : Closed} (slots : Slots) (chains : List (Vec Claim)) → Contains closes file

@@ -1,6 +1,8 @@
-use Rattle.fx_judge.proofs.Words.{◌≡◌, ◌∙◌, ◌+◌, length, sym, arith, eq-eqb, true, false, slice_index_or, length-map, get_or_default, Chain, members_of}
-use Rattle.fx_judge.proofs.Words.{completed_of, all_asked}
-use Rattle.fx_judge.proofs.AllChains.{none_told, few_completions, chain_stops, chain_told, none_left}
+use Rattle.fx_judge.proofs.Words.{◌≡◌, ◌+◌, ◌∙◌, ◌∷◌, ap, arith, drop, drop_all, eq-eqb, length, sym, true≢false, length-map, map, slice_index_or}
+use Rattle.fx_judge.proofs.Words.{get_or_default, Chain, members_of, completed_of, all_asked, asked_of, add-one, mapped_at, own_completed}
+use Rattle.fx_judge.proofs.Words.{others_completed}
+use Rattle.fx_judge.proofs.AllChains.{none_told, few_completions, chain_stops, chain_told}
+use Rattle.fx_judge.proofs.chain.claims_of_chains.Goals.{After-members-members}
 use Rattle.fx_judge.proofs.chain.claims_of_chains.Goals as goal
 
 pub loop-i-init : goal.loop-i-init
@@ -9,34 +11,40 @@ loop-i-init c = rw c.new-claims.ensures.items (none_told _ _ _ _ _ _ _)
 abbrev no_chain : Chain
 no_chain = record { first = 0; len = 0 }
 
+-- the chain that is next, and those behind it
+next : (c : After-members-members)
+    → drop c.loop-i.i (map (members_of (all_asked c.args.parts.now.requests.now)) c.args.parts.now.chains.now) ≡ all_asked c.members-members.result.now
+    ∷ drop (c.loop-i.i + 1) (map (members_of (all_asked c.args.parts.now.requests.now)) c.args.parts.now.chains.now)
+next c =
+    let chains = c.args.parts.now.chains.now in
+    rw (c.members-members.ensures.members, add-one c.loop-i.i)
+    (mapped_at (members_of (all_asked c.args.parts.now.requests.now)) chains c.loop-i.i (slice_index_or chains c.loop-i.i no_chain) c.loop-i-test.true
+    (get_or_default chains c.loop-i.i no_chain _ c.loop-i-test.true))
+
 pub returns-then-rest-members : goal.returns-then-rest-members
 returns-then-rest-members c =
-    few_completions _ _ _ _ _ (all_asked c.args.parts.now.requests.now) c.args.parts.now.chains.now _ c.loop-i.i c.loop-i.rest.now c.loop-i.claims.items
-    (slice_index_or c.args.parts.now.chains.now c.loop-i.i no_chain) c.members-members.result.now c.loop-i.invariant c.loop-i-test.true
-    (get_or_default c.args.parts.now.chains.now c.loop-i.i no_chain _ c.loop-i-test.true) c.members-members.ensures.members c.if-rest-members.true
+    few_completions c.loop-i.invariant (next (goal.at.returns-then-rest-members c).After-members-members)
+    (omega (arith, length-map c.loop-i.rest.now completed_of, length-map c.members-members.result.now asked_of, c.if-rest-members.true))
 
 pub loop-i-preserved : goal.loop-i-preserved
 loop-i-preserved c =
-    rw c.in_ok-push.ensures.items
-    (chain_told _ _ _ _ _ (all_asked c.args.parts.now.requests.now) c.args.parts.now.chains.now _ c.loop-i.i c.loop-i.rest.now c.loop-i.claims.items
-    (slice_index_or c.args.parts.now.chains.now c.loop-i.i no_chain) c.members-members.result.now c.loop-i.invariant c.loop-i-test.true
-    (get_or_default c.args.parts.now.chains.now c.loop-i.i no_chain _ c.loop-i-test.true) c.members-members.ensures.members
-    c.split_at.result.0.now c.split_at.result.1.now (c.loop-i.i + 1) (omega arith) c.split_at.ensures.front c.split_at.ensures.back c.in-Ok.told c.in-Ok.ensures)
+    rw c.in_ok-push.ensures.items (chain_told c.loop-i.invariant (next (goal.at.loop-i-preserved c).After-members-members)
+    (own_completed c.members-members.result.now c.loop-i.rest.now _ c.split_at.ensures.front)
+    (others_completed c.members-members.result.now c.loop-i.rest.now _ c.split_at.ensures.back) c.in-Ok.told c.in-Ok.ensures)
 
 pub returns-in-Err : goal.returns-in-Err
 returns-in-Err c =
-    chain_stops _ _ _ _ _ (all_asked c.args.parts.now.requests.now) c.args.parts.now.chains.now _ c.loop-i.i c.loop-i.rest.now c.loop-i.claims.items
-    (slice_index_or c.args.parts.now.chains.now c.loop-i.i no_chain) c.members-members.result.now c.loop-i.invariant c.loop-i-test.true
-    (get_or_default c.args.parts.now.chains.now c.loop-i.i no_chain _ c.loop-i-test.true) c.members-members.ensures.members
-    c.split_at.result.0.now c.split_at.result.1.now (c.loop-i.i + 1) (omega arith) c.split_at.ensures.front c.split_at.ensures.back c.in-Err.stop c.in-Err.ensures
+    chain_stops c.loop-i.invariant (next (goal.at.returns-in-Err c).After-members-members)
+    (own_completed c.members-members.result.now c.loop-i.rest.now _ c.split_at.ensures.front)
+    (others_completed c.members-members.result.now c.loop-i.rest.now _ c.split_at.ensures.back) c.in-Err.stop c.in-Err.ensures
 
 pub returns-then-not-is_empty : goal.returns-then-not-is_empty
-returns-then-not-is_empty c =
-    none_left
-    (let long = length-map c.args.parts.now.chains.now (members_of (all_asked c.args.parts.now.requests.now)) in omega arith) c.loop-i.invariant
-    (λ none. let long = length-map c.loop-i.rest.now completed_of in
-    let zero_now : length c.loop-i.rest.now ≡ 0 = omega arith in
-    let yes : true ≡ false = sym (c.is_empty.ensures ∙ eq-eqb (length c.loop-i.rest.now) 0 zero_now) ∙ c.if-not-is_empty.true in absurd (cc))
+returns-then-not-is_empty c = λ order done.
+    let parts = c.args.parts.now in
+    let past = drop_all c.loop-i.i (map (members_of (all_asked parts.requests.now)) parts.chains.now)
+    (omega (arith, length-map parts.chains.now (members_of (all_asked parts.requests.now)))) in
+    let none = rw past at (c.loop-i.invariant.each order done).0 in
+    true≢false (sym (c.is_empty.ensures ∙ eq-eqb _ 0 (sym (length-map c.loop-i.rest.now completed_of) ∙ ap length none)) ∙ c.if-not-is_empty.true)
 
 pub returns : goal.returns
 returns c =

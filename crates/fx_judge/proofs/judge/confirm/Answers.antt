@@ -1,7 +1,6 @@
-use Rattle.fx_judge.proofs.Words.{refl, all_asked, ring_with_slots, told_report}
+use Rattle.fx_judge.proofs.Words.{refl, none_past}
 use Rattle.fx_judge.proofs.RingsAfter.{order_rings}
 use Rattle.fx_judge.proofs.judge.confirm.Goals as goal
-use Rattle.fx_order.proofs.Shown.{none_past}
 
 pub returns-clause-came : goal.returns-clause-came
 returns-clause-came c = λ _ room. (

@@ -1,5 +1,4 @@
-use Rattle.fx_judge.proofs.Words.{ℕ, ◌<◌, slice_index_or, Claim}
-use Rattle.fx_judge.specs.Known.{Brings}
+use Rattle.fx_judge.proofs.Words.{ℕ, ◌<◌, slice_index_or, Claim, Brings}
 use Rattle.fx_judge.proofs.known.has_bringing.Given as goal
 
 -- none of those that were looked at does

@@ -1,4 +1,4 @@
-use Rattle.std.proofs.lemmas.List.Elements.{Contains-get_or}
+use Rattle.fx_judge.proofs.Words.{Contains-get_or}
 use Rattle.fx_judge.proofs.known.has_unknown.Goals as goal
 
 pub returns-then-is_unknown : goal.returns-then-is_unknown

@@ -1,6 +1,5 @@
-use Rattle.fx_judge.proofs.Words.{All, Claim, Vec, take}
+use Rattle.fx_judge.proofs.Words.{All, Claim, Vec, take, Brings}
 use Rattle.std.specs.Prelude.{Any}
-use Rattle.fx_judge.specs.Known.{Brings}
 use Rattle.fx_judge.proofs.known.is_brought.Given as goal
 
 -- none of those that were looked at does

@@ -1,14 +1,14 @@
-use Rattle.fx_judge.proofs.Words.{refl}
-use Rattle.fx_judge.proofs.RequestClaims.{close_here, close_missed, no_table, past_table}
+use Rattle.fx_judge.proofs.Words.{eq-eqb, le-leb, ne_eqb, refl}
+use Rattle.fx_judge.proofs.RequestClaims.{close_here, close_missed}
 use Rattle.fx_judge.proofs.Telling.{tells_so}
 use Rattle.fx_judge.proofs.request.claims_of_close.Goals as goal
 
 pub returns-then-setting-eq0 : goal.returns-then-setting-eq0
-returns-then-setting-eq0 c = tells_so _ _ _ _ (λ own. no_table _ _ _ c.if-setting-eq0.true) (c.refused.ensures c.args.setting.now.closes.now)
+returns-then-setting-eq0 c = tells_so _ _ _ _ (λ own done. rw (eq-eqb _ 0 c.if-setting-eq0.true) at done) (c.refused.ensures c.args.setting.now.closes.now)
 
 pub returns-then-slot-setting : goal.returns-then-slot-setting
 returns-then-slot-setting c =
-    tells_so _ _ _ _ (λ own. past_table _ _ _ _ _ c.if-setting-eq0.false c.if-slot-setting.true)
+    tells_so _ _ _ _ (λ own done. rw (ne_eqb _ 0 c.if-setting-eq0.false, le-leb _ _ c.if-slot-setting.true) at done)
     (c.refused-then-slot-setting.ensures c.args.setting.now.closes.now)
 
 pub returns-then-is_failure : goal.returns-then-is_failure

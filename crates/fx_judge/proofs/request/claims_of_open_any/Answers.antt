@@ -1,11 +1,11 @@
-use Rattle.fx_judge.proofs.Words.{ℤ, refl, ap, subst, ◌∙◌, [], Closed, completed, IsResident}
-use Rattle.fx_judge.proofs.RequestClaims.{any_full, any_here, no_table, not_below}
+use Rattle.fx_judge.proofs.Words.{ℤ, refl, ap, eq-eqb, ◌∙◌, [], completed}
+use Rattle.fx_judge.proofs.RequestClaims.{any_full, any_here, not_below}
 use Rattle.fx_judge.proofs.Telling.{tells_so}
 use Rattle.fx_judge.proofs.request.claims_of_open_any.Goals as goal
 
 pub returns-then-setting-eq0 : goal.returns-then-setting-eq0
 returns-then-setting-eq0 c =
-    tells_so _ _ _ _ (λ own done. no_table _ _ _ c.if-setting-eq0.true done.1) (c.refused.ensures c.args.setting.now.closes.now)
+    tells_so _ _ _ _ (λ own done. rw (eq-eqb _ 0 c.if-setting-eq0.true) at done.1) (c.refused.ensures c.args.setting.now.closes.now)
 
 pub returns-then-is_failure : goal.returns-then-is_failure
 returns-then-is_failure c =
@@ -16,5 +16,4 @@ pub returns : goal.returns
 returns c =
     tells_so _ _ _ _ (λ own done. any_here _ _ _ _ own c.if-setting-eq0.false
     (c.if-not-is_answer.ensures.0 refl ∙ ap (λ (z : ℤ). completed c.args.place z []) (not_below _ c.if-c-lt0.false))
-    (subst (λ (f : Closed). IsResident c.args.setting.now.closes.now f c.resident_for-file.result) c.installed.ensures c.resident_for-file.ensures) done.1)
-    (c.one-2.ensures c.args.setting.now.closes.now)
+    (rw c.installed.ensures at c.resident_for-file.ensures) done.1) (c.one-2.ensures c.args.setting.now.closes.now)

@@ -1,5 +1,4 @@
-use Rattle.fx_judge.proofs.Words.{true}
-use Rattle.fx_plain.proofs.Cells.{read_default}
+use Rattle.fx_judge.proofs.Words.{true, read_default}
 use Rattle.fx_judge.proofs.request.fits_of.Goals as goal
 
 pub loop-entry-init : goal.loop-entry-init
