@@ -1,9 +1,7 @@
 -- The calls between submissions that take memory: where a text leads that goes on with what one prints.
 use Rattle.fx_check.proofs.Words.{◌≡◌, ◌↔◌, ◌<◌, ◌^◌, ℕ, List, ◌++◌, sym, ap, subst, ◌∙◌, inl, inr, ⊎_elim, Option, Some, None, Result, IfOk, drop}
-use Rattle.fx_check.proofs.Words.{IfOk-weaker, FileEntry, Errno, ENOMEM, RingContents, RingState, IsRing, ring_of, Instruction, Prints, RingSlots, IsMet, IsStep, Met, Here}
-use Rattle.fx_check.proofs.Words.{Apart, ring_with_slots, result_line}
-use Rattle.std.proofs.Common.{Global, String}
-use Rattle.fx_chain.specs.Completed.{negated}
+use Rattle.fx_check.proofs.Words.{IfOk-weaker, FileEntry, Errno, ENOMEM, RingContents, RingState, IsRing, ring_of, Instruction, Prints, RingSlots}
+use Rattle.fx_check.proofs.Words.{IsMet, IsStep, Met, Here, Apart, ring_with_slots, result_line, Global, String, negated}
 use Rattle.fx_calls.proofs.Calls.{Call, Called, TakesMemory, Tells, call_of, called, not_refused, one_line}
 use Rattle.fx_check.proofs.OneText.{exactly, goes, whole}
 

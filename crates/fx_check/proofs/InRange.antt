@@ -1,23 +1,16 @@
 -- The lines of an accepted submission's report have numbers that their types have.
-use Rattle.fx_check.proofs.Words.{◌≡◌, inl, inr, ℕ, zero, suc, ◌+◌, ◌<◌, ◌≤◌, ◌^◌, ◌==◌, pos, List, [], ◌∷◌}
-use Rattle.fx_check.proofs.Words.{length, take, drop, All, refl, sym, subst, arith, Option, Some, None, slice_get, get_or_from_slice_get}
-use Rattle.fx_check.proofs.Words.{slice_get_within, All-append, All-cons, All-get_or, All-head, All-nil, All-tail}
-use Rattle.fx_check.proofs.Words.{has_name, FileEntry, Errno, ENOENT, EBADF, ENFILE, Completed, completed, next_member, canceled}
-use Rattle.fx_check.proofs.Words.{first_member, severs, Asked, Operation, Opens, Reads, Closes, Updates, Place, Target, Slot, Any, accesses_of}
-use Rattle.fx_check.proofs.Words.{accesses_of_chain, Access, ChainAccess, IsOpenDone, IsRequestDone, IsChainDone, AreChainsDone}
-use Rattle.fx_check.proofs.Words.{either_way, AreFiles, allocates, puts, updates}
-use Rattle.std.proofs.lemmas.Bool.{cases_lt, ltb-false, or_parts}
-use Rattle.std.proofs.lemmas.List.{get_or-drop, get_or-take, get_or_past, length-drop, length-take}
+use Rattle.fx_check.proofs.Words.{◌≡◌, inl, inr, ℕ, zero, suc, ◌+◌, ◌<◌, ◌≤◌, ◌^◌, ◌==◌, pos, List, [], ◌∷◌, length, take, drop, All, refl, subst}
+use Rattle.fx_check.proofs.Words.{arith, Option, Some, None, slice_get, get_or_from_slice_get, slice_get_within, All-append, All-cons, All-get_or}
+use Rattle.fx_check.proofs.Words.{All-head, All-nil, All-tail, has_name, FileEntry, Errno, ENOENT, EBADF, ENFILE, Completed, completed, next_member}
+use Rattle.fx_check.proofs.Words.{canceled, first_member, severs, Asked, Operation, Opens, Reads, Closes, Updates, Place, Target, Slot, Any}
+use Rattle.fx_check.proofs.Words.{accesses_of, accesses_of_chain, Access, ChainAccess, IsOpenDone, IsRequestDone, IsChainDone, AreChainsDone}
+use Rattle.fx_check.proofs.Words.{either_way, AreFiles, allocates, puts, updates, length-drop, get_or-drop, get_or-take, get_or_past, length-take}
+use Rattle.fx_check.proofs.Words.{IsCompletionInRange, IsPlaceInRange, cases_lt, ltb-false, or_parts, refusal, bytes_at, part_of, LONGEST_ENTRY}
+use Rattle.fx_check.proofs.Words.{ECANCELED, both_parts}
 use Rattle.std.specs.List.{AllByRecursion}
 use Rattle.hex.specs.Hex.{IsBytes}
-use Rattle.fx_base.specs.Catalogue.{bytes_at, part_of}
-use Rattle.fx_base.specs.declared.catalogue.TheConstants.{LONGEST_ENTRY}
-use Rattle.fx_base.specs.declared.errno.Errno.TheVariants.{ECANCELED}
-use Rattle.fx_chain.specs.Completed.{refusal}
 use Rattle.fx_judge.proofs.OfChain.{possible_of_chain}
 use Rattle.fx_judge.specs.Claims.{IsPossible}
-use Rattle.fx_lines.specs.Lines.{IsCompletionInRange, IsPlaceInRange}
-use Rattle.fx_order.proofs.ChainFront.{both_parts}
 use Rattle.fx_order.proofs.RequestCases.{closes, reads}
 
 -- an element of a list of which each is so
@@ -84,7 +77,7 @@ module _ (catalogue : List FileEntry) (are : AreFiles catalogue) (size : ℕ) (s
         → IsRequestDone catalogue size place operation accesses c → IsCompletionInRange c
     request_so (Opens name target) accesses {c} inside =
         either_way (has_name name catalogue) (λ _ x. open_so x.0 target accesses inside x.2)
-        (λ _ x. subst IsCompletionInRange (sym x.1) (error ENOENT))
+        (λ _ x. rw x.1 (error ENOENT))
     request_so (Reads slot off len) accesses {c} inside =
         reads size place InRange error accesses c catalogue slot off len (error EBADF) (λ file.
         let g = given file.entry off len are in record { place = is; res = g.small; got = g.bytes })
@@ -108,24 +101,23 @@ module _ (catalogue : List FileEntry) (are : AreFiles catalogue) (size : ℕ) (s
   chain_so : (place : Place) (requests : List Asked) (accesses : List Access) (cs : List Completed) → IsPlaceInRange place
       → place.member + length requests < 2 ^ 32 → AreInside accesses → IsChainDone catalogue size place requests accesses cs
       → All IsCompletionInRange cs
-  chain_so place [] accesses cs is few inside x = subst (All IsCompletionInRange) (sym x.1) (All-nil IsCompletionInRange)
+  chain_so place [] accesses cs is few inside x = rw x.1 (All-nil IsCompletionInRange)
   chain_so place (r ∷ rs) accesses cs is few inside x =
-      let (front, behind) = both_parts (IsPossible size range) x.0 x.1 (subst AreInside x.4 inside) in
+      let (front, behind) = both_parts (IsPossible size range) x.0 x.1 (rw x.4 at inside) in
       let next : IsPlaceInRange (next_member place) = moved (length rs) is few in
-      subst (All IsCompletionInRange) (sym x.5) (All-cons IsCompletionInRange x.2 x.3 (request_so place is r.operation x.0 front x.6)
+      rw x.5 (All-cons IsCompletionInRange x.2 x.3 (request_so place is r.operation x.0 front x.6)
       (either_way {R = All IsCompletionInRange x.3} (severs r x.2)
-      (λ _ y. subst (All IsCompletionInRange) (sym y.1) (canceled_so (next_member place) rs next (omega arith)))
+      (λ _ y. rw y.1 (canceled_so (next_member place) rs next (omega arith)))
       (λ _ y. chain_so (next_member place) rs x.1 x.3 next (omega arith) behind y) x.7))
 
   -- the completions of an order
   pub chains_so : {submission : ℕ} (first : ℕ) (runs : List (List Asked)) (order : List ChainAccess) (cs : List Completed) → submission < 2 ^ 32
       → first + length runs < 2 ^ 32 → All (λ run. length run ≤ 16) runs → AreInside (accesses_of order)
       → AreChainsDone catalogue size submission first runs order cs → All IsCompletionInRange cs
-  chains_so first [] order cs low few short inside x = subst (All IsCompletionInRange) (sym x) (All-nil IsCompletionInRange)
+  chains_so first [] order cs low few short inside x = rw x (All-nil IsCompletionInRange)
   chains_so {submission} first (run ∷ runs) order cs low few short inside x =
       let one : length run ≤ 16 = All-head (λ (r : List Asked). length r ≤ 16) run runs short in
-      subst (All IsCompletionInRange) (sym x.2)
-      (All-append IsCompletionInRange x.0 x.1
+      rw x.2 (All-append IsCompletionInRange x.0 x.1
       (chain_so (first_member submission first) run (accesses_of_chain first order) x.0
       (record { submission = low; chain = omega arith; member = omega arith }) (omega arith) (possible_of_chain size range first order inside) x.3)
       (chains_so (first + 1) runs order x.1 low (omega arith) (All-tail (λ (r : List Asked). length r ≤ 16) run runs short) inside x.4))

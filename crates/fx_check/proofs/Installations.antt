@@ -3,17 +3,15 @@ use Rattle.fx_check.proofs.Words.{◌≡◌, inl, inr, ⊎_elim, ℕ, zero, suc,
 use Rattle.fx_check.proofs.Words.{subst, ◌∙◌, arith, Some, slice_get, flat_map, has_name, FileEntry, Mark, Submitted, Closed, installed, Completed}
 use Rattle.fx_check.proofs.Words.{completed, next_member, first_member, severs, Asked, Operation, Opens, Reads, Closes, Updates, Place, Target, Slot}
 use Rattle.fx_check.proofs.Words.{Any, accesses_of_chain, Access, Allocates, ChainAccess, IsOpenDone, IsRequestDone, IsChainDone, AreChainsDone}
-use Rattle.fx_check.proofs.Words.{length-done, Has, placed, allocates, puts, updates, either_way, by_equality, Installed, OneInstalled}
-use Rattle.fx_order.specs.declared.access.Access.TheVariants.{Puts}
-use Rattle.fx_order.specs.Requests.{IsEntryDone, AreEntriesDone}
-use Rattle.fx_order.proofs.Placed.{close_none, has_either, placed-append, read_none}
+use Rattle.fx_check.proofs.Words.{length-done, Has, placed, allocates, puts, updates, either_way, by_equality, Installed, OneInstalled, add-zero}
+use Rattle.fx_check.proofs.Words.{zero-add, Puts, close_none, has_either, placed-append, read_none, IsEntryDone, AreEntriesDone}
 
 module _ (s : ℕ) (f : Closed) where
   abbrev Places : List Access → Type 0
   Places accesses = Has (placed accesses) s f
 
   none_placed : (accesses : List Access) {those : List Access} → accesses ≡ those → placed those ≡ [] → Places accesses → ⊥
-  none_placed accesses is none has = subst (λ (l : List (ℕ × Closed)). Has l s f) (ap placed is ∙ none) has
+  none_placed accesses is none has = rw (is, none) at has
 
   -- the file of an access that places one
   one_placed : (accesses : List Access) {slot : ℕ} {file : Closed} → placed accesses ≡ (slot, file) ∷ [] → Places accesses → f ≡ file
@@ -52,8 +50,7 @@ module _ (s : ℕ) (f : Closed) where
       at = 0;
       file = n;
       number = refl;
-      is_mark = ap (λ (y : Closed). y.mark) (one_placed accesses (ap placed x.1) has)
-          ∙ ap (Submitted place.submission place.chain place.member) (let e : in_list ≡ in_list + 0 = omega arith in e);
+      is_mark = rw add-zero (ap (λ (y : Closed). y.mark) (one_placed accesses (ap placed x.1) has));
     }
     one_listed slot (negsuc zero) list accesses has x = absurd (none_placed accesses x.1 refl has)
     one_listed slot (negsuc (suc n)) list accesses has x = absurd (none_placed accesses x refl has)
@@ -68,7 +65,7 @@ module _ (s : ℕ) (f : Closed) where
           number = l.number;
           is_mark = l.is_mark ∙ ap (Submitted place.submission place.chain place.member) (let e : in_list + 1 + l.at ≡ in_list + suc l.at = omega arith in e);
         })
-        (has_either (placed x.0) (placed x.1) s f (subst (λ (l : List (ℕ × Closed)). Has l s f) (ap placed x.2 ∙ placed-append x.0 x.1) has))
+        (has_either (placed x.0) (placed x.1) s f (rw (x.2, placed-append x.0 x.1) at has))
 
     request_installed : (operation : Operation) (accesses : List Access) (c : Completed) → IsRequestDone catalogue size place operation accesses c
         → IfPlaced operation accesses c
@@ -82,7 +79,7 @@ module _ (s : ℕ) (f : Closed) where
         updates size place (IfPlaced (Updates off list)) (λ _ there. absurd there) accesses c (length catalogue) off list (λ _ _ x there.
         let l = listed 0 off list accesses there x in record {
           entry = l.at;
-          is_mark = l.is_mark ∙ ap (Submitted place.submission place.chain place.member) (let e : 0 + l.at ≡ l.at = omega arith in e);
+          is_mark = rw zero-add at l.is_mark;
           listed = (l.file, l.number);
           res = length list;
           accepted = refl;
@@ -93,37 +90,33 @@ module _ (s : ℕ) (f : Closed) where
         → IsChainDone catalogue size place requests accesses cs → OneInstalled requests cs f.mark
     chain_installed place [] accesses cs has x = absurd (none_placed accesses x.0 refl has)
     chain_installed place (r ∷ rs) accesses cs has x =
-        subst (λ (l : List Completed). OneInstalled (r ∷ rs) l f.mark) (sym x.5)
-        (⊎_elim
+        rw x.5 (⊎_elim
         (λ here. inl (request_installed catalogue size place r r.operation x.0 x.2 x.6 here))
         (λ later. inr (either_way {R = OneInstalled rs x.3 f.mark} (severs r x.2) (λ _ y. absurd (none_placed x.1 y.0 refl later))
         (λ _ y. chain_installed (next_member place) rs x.1 x.3 later y) x.7))
-        (has_either (placed x.0) (placed x.1) s f (subst (λ (l : List (ℕ × Closed)). Has l s f) (ap placed x.4 ∙ placed-append x.0 x.1) has)))
+        (has_either (placed x.0) (placed x.1) s f (rw (x.4, placed-append x.0 x.1) at has)))
 
 front_installed : (requests more : List Asked) (cs others : List Completed) (mark : Mark) → OneInstalled requests cs mark
     → OneInstalled (requests ++ more) (cs ++ others) mark
-front_installed [] more cs others mark one = absurd one
-front_installed (r ∷ rs) more [] others mark one = absurd one
 front_installed (r ∷ rs) more (c ∷ cs) others mark one =
     ⊎_elim (λ here. inl here) (λ later. inr (front_installed rs more cs others mark later)) one
+front_installed requests more cs others mark one = absurd one
 
 behind_installed : (requests more : List Asked) (cs others : List Completed) (mark : Mark) → length cs ≡ length requests
     → OneInstalled more others mark → OneInstalled (requests ++ more) (cs ++ others) mark
 behind_installed [] more [] others mark same one = one
-behind_installed [] more (c ∷ cs) others mark same one = absurd (omega arith)
-behind_installed (r ∷ rs) more [] others mark same one = absurd (omega arith)
 behind_installed (r ∷ rs) more (c ∷ cs) others mark same one = inr (behind_installed rs more cs others mark (omega arith) one)
+behind_installed requests more cs others mark same one = absurd (omega arith)
 
 pub chains_installed : (s : ℕ) (f : Closed) (catalogue : List FileEntry) (size submission first : ℕ) (runs : List (List Asked)) (order : List ChainAccess)
     (cs : List Completed) → AreChainsDone catalogue size submission first runs order cs → {c : ℕ} → first ≤ c → c < first + length runs
     → Has (placed (accesses_of_chain c order)) s f → OneInstalled (flat_map (λ run. run) runs) cs f.mark
 chains_installed s f catalogue size submission first [] order cs x low high has = absurd (omega arith)
 chains_installed s f catalogue size submission first (run ∷ runs) order cs x {c} low high has =
-    subst (λ (l : List Completed). OneInstalled (run ++ flat_map (λ r. r) runs) l f.mark) (sym x.2)
+    rw x.2
     (by_equality c first (λ _. OneInstalled (run ++ flat_map (λ r. r) runs) (x.0 ++ x.1) f.mark)
     (λ same. front_installed run (flat_map (λ r. r) runs) x.0 x.1 f.mark
-    (chain_installed s f catalogue size (first_member submission first) run (accesses_of_chain first order) x.0
-    (subst (λ (k : ℕ). Has (placed (accesses_of_chain k order)) s f) same has) x.3))
+    (chain_installed s f catalogue size (first_member submission first) run (accesses_of_chain first order) x.0 (rw same at has) x.3))
     (λ other. behind_installed run (flat_map (λ r. r) runs) x.0 x.1 f.mark
     (length-done catalogue size (first_member submission first) run (accesses_of_chain first order) x.0 x.3)
     (chains_installed s f catalogue size submission (first + 1) runs order x.1 x.4 (omega arith) (omega arith) has)))

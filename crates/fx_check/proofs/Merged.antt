@@ -1,12 +1,9 @@
 -- Places, as an order has their accesses.
 use Rattle.fx_check.proofs.Words.{◌≡◌, ◌≢◌, ◌-◌, ℕ, Some, slice_get, slice_set, ◌+◌, ◌<◌, ◌≤◌, ◌==◌, List, [], ◌∷◌, ◌++◌, All, length, take, drop}
-use Rattle.fx_check.proofs.Words.{map, filter, if◌then◌else◌, refl, sym, ap, subst, ◌∙◌, arith, append-nil, length-append, slice_index_or}
-use Rattle.fx_check.proofs.Words.{take-append-drop, take_all, take_more, take-length, Vec}
-use Rattle.fx_check.proofs.Words.{All-get_or, accesses_of, accesses_of_chain, ChainAccess, by_equality, IsListFor, places_of_chain, AccessPlace}
-use Rattle.std.proofs.lemmas.List.{get_or_read_under, length_push, map_push}
-use Rattle.fx_plain.proofs.Cells.{each_set}
-use Rattle.std.proofs.lemmas.Option.{same_Some, slice_get_read}
-use Rattle.std.proofs.lemmas.List.Elements.{filter-append}
+use Rattle.fx_check.proofs.Words.{map, filter, refl, sym, ap, subst, ◌∙◌, arith, append-nil, length-append, slice_index_or, take-append-drop}
+use Rattle.fx_check.proofs.Words.{take_all, take_more, take-length, Vec, All-get_or, accesses_of_chain, ChainAccess, by_equality, IsListFor}
+use Rattle.fx_check.proofs.Words.{places_of_chain, AccessPlace, eq-eqb, ne_eqb, get_or_read_under, length_push, map_push, filter-append, each_set}
+use Rattle.fx_check.proofs.Words.{same_Some, slice_get_read}
 use Rattle.fx_order.proofs.Accesses.{accesses_of_chain-append}
 
 -- how many accesses a chain has in an order
@@ -22,12 +19,10 @@ module _ {X : Type 0} (chain_of : X → ℕ) (chain : ℕ) (xs : List X) (x : X)
   kept l = filter (λ (y : X). chain_of y == chain) l
 
   one_more : chain_of x ≡ chain → kept (xs ++ x ∷ []) ≡ kept xs ++ x ∷ []
-  one_more same = filter-append (λ (y : X). chain_of y == chain) xs (x ∷ [])
-      ∙ by_equality (chain_of x) chain (λ b. kept xs ++ (if b then x ∷ [] else []) ≡ kept xs ++ x ∷ []) (λ _. refl) (λ other. absurd (other same))
+  one_more same = rw (filter-append (λ (y : X). chain_of y == chain) xs (x ∷ []), eq-eqb (chain_of x) chain same)
 
   none_more : chain_of x ≢ chain → kept (xs ++ x ∷ []) ≡ kept xs
-  none_more other = filter-append (λ (y : X). chain_of y == chain) xs (x ∷ [])
-      ∙ by_equality (chain_of x) chain (λ b. kept xs ++ (if b then x ∷ [] else []) ≡ kept xs) (λ same. absurd (other same)) (λ _. append-nil (kept xs))
+  none_more other = rw (filter-append (λ (y : X). chain_of y == chain) xs (x ∷ []), ne_eqb (chain_of x) chain other, append-nil)
 
 -- the next access of an order; how many accesses of its chain were read, and its chain's list of places
 pub record IsNext (lists : List (Vec AccessPlace)) (order : List ChainAccess) (i : ℕ) (x : ChainAccess) (next : List ℕ) (n : ℕ)
@@ -69,13 +64,10 @@ module _ {lists : List (Vec AccessPlace)} {order : List ChainAccess} {i : ℕ} {
     (r : IsNext lists order i x next n list) where
   count_more : {chain : ℕ} → x.chain ≡ chain → count_of chain (take (i + 1) order) ≡ count_of chain (take i order) + 1
   count_more {chain} same =
-      ap (count_of chain) r.taken ∙ ap (λ (l : List ChainAccess). length (accesses_of l)) (one_more (λ (y : ChainAccess). y.chain) chain (take i order) x same)
-      ∙ simp (map_push, length_push)
+      rw (r.taken, one_more (λ (y : ChainAccess). y.chain) chain (take i order) x same) (simp (map_push, length_push))
 
   count_still : {chain : ℕ} → x.chain ≢ chain → count_of chain (take (i + 1) order) ≡ count_of chain (take i order)
-  count_still {chain} other =
-      ap (count_of chain) r.taken
-      ∙ ap (λ (l : List ChainAccess). length (accesses_of l)) (none_more (λ (y : ChainAccess). y.chain) chain (take i order) x other)
+  count_still {chain} other = rw (r.taken, none_more (λ (y : ChainAccess). y.chain) chain (take i order) x other)
 
   -- there is one more place in the list
   pub one_left : n < length list.items
@@ -111,19 +103,20 @@ module _ {lists : List (Vec AccessPlace)} {order : List ChainAccess} {i : ℕ} {
     lists_more k {own} got so_far =
         by_equality x.chain (k + 1) (λ _. places_of_chain (k + 1) (places ++ p ∷ []) ≡ take (count_of (k + 1) (take (i + 1) order)) own.items)
         (λ same.
+        let m = count_of (k + 1) (take i order) in
         let j : k ≡ x.chain - 1 = omega arith in
         let mine : list ≡ own = same_Some list own (sym r.there ∙ ap (slice_get lists) (sym j) ∙ got) in
-        let now : n ≡ count_of (k + 1) (take i order) = r.count ∙ ap (λ (chain : ℕ). count_of chain (take i order)) same in
-        let here : p ≡ slice_index_or own.items (count_of (k + 1) (take i order)) p = read ∙ (λ t. slice_index_or (mine t).items (now t) p) in
-        let inside : count_of (k + 1) (take i order) < length own.items =
-        subst (λ (m : ℕ). m < length own.items) now (subst (λ (v : Vec AccessPlace). n < length v.items) mine one_left) in
-        one_more (λ (q : AccessPlace). q.chain) (k + 1) places p (of_chain ∙ same) ∙ (λ t. so_far t ++ here t ∷ [])
-        ∙ sym (take_more own.items (count_of (k + 1) (take i order)) p inside) ∙ ap (λ (m : ℕ). take m own.items) (sym (count_more same))) (λ other.
-        none_more (λ (q : AccessPlace). q.chain) (k + 1) places p (λ same. other (sym of_chain ∙ same)) ∙ so_far
-        ∙ ap (λ (m : ℕ). take m own.items) (sym (count_still other)))
+        let now : n ≡ m = r.count ∙ ap (λ (chain : ℕ). count_of chain (take i order)) same in
+        let here : p ≡ slice_index_or own.items m p = rw (mine, now) at read in
+        rw (
+          one_more (λ (q : AccessPlace). q.chain) (k + 1) places p (of_chain ∙ same),
+          count_more same,
+          take_more own.items m p (rw (mine, now) at one_left),
+          so_far,
+          sym here,
+        ))
+        (λ other. rw (none_more (λ (q : AccessPlace). q.chain) (k + 1) places p (λ same. other (sym of_chain ∙ same)), count_still other) so_far)
 
 pub all_taken : (order : List ChainAccess) {i : ℕ} → length order ≤ i → (chain : ℕ) {list : List AccessPlace} → length list ≡ count_of chain order
     → take (count_of chain (take i order)) list ≡ list
-all_taken order {i} past chain {list} as_many =
-    ap (λ (l : List ChainAccess). take (count_of chain l) list) (take_all i order past)
-    ∙ ap (λ (n : ℕ). take n list) (sym as_many) ∙ take-length list
+all_taken order {i} past chain {list} as_many = rw (take_all i order past, sym as_many, take-length)

@@ -1,15 +1,10 @@
 -- The commands that find one answer, whatever memory there is: a range that is set or refused, and a submission that is refused.
-use Rattle.fx_check.proofs.Words.{◌≡◌, ◌↔◌, ◌≤◌, Bool, true, nat_le, List, ℕ, pos, codes, refl, sym, ap, subst, ◌∙◌, Option, Some, None, Result, Ok}
-use Rattle.fx_check.proofs.Words.{Err, IfSome, MatchBool, FileEntry, Errno, fault_of, Asked, RingContents, RingState, ring_of, MOST_SUBMISSIONS}
-use Rattle.fx_check.proofs.Words.{Prints, SetsRange, SubmitsAll, RingSlots, IsMet, IsStep, Met, ring_with_slots, result_line, IsRefused}
-use Rattle.std.proofs.Common.{IfNone}
-use Rattle.std.specs.Option.{MatchOption}
-use Rattle.std.proofs.lemmas.Bool.{le-leb}
+use Rattle.fx_check.proofs.Words.{◌≡◌, ◌↔◌, ◌≤◌, Bool, nat_le, List, ℕ, pos, codes, refl, sym, ap, subst, ◌∙◌, Option, Some, None, Result, Ok, Err}
+use Rattle.fx_check.proofs.Words.{IfSome, MatchBool, FileEntry, Errno, fault_of, Asked, RingContents, RingState, ring_of, MOST_SUBMISSIONS, Prints}
+use Rattle.fx_check.proofs.Words.{SetsRange, SubmitsAll, RingSlots, IsMet, IsStep, Met, ring_with_slots, result_line, IsRefused, IfNone, le-leb}
+use Rattle.fx_check.proofs.Words.{PrintsReport, refused_line, too_many_line, MatchOption, range_refusal}
 use Rattle.fx_chain.specs.declared.fault.CutFault.{CutFault}
-use Rattle.fx_ring.specs.Registration.{range_refusal}
-use Rattle.fx_script.specs.Play.{PrintsReport}
 use Rattle.fx_check.proofs.OneText.{exactly, goes}
-use Rattle.fx_print.specs.Text.{refused_line, too_many_line}
 
 -- what a submission prints that has this fault, where this says whether the ring counts no more of them
 abbrev pub Submitted : RingContents → RingState → List Asked → Option CutFault → Bool → RingContents → List ℕ → Type 0

@@ -6,8 +6,7 @@ use Rattle.fx_calls.proofs.Shown.{shown}
 
 pub rest_behind : {text line others : List ℕ} {count : ℕ} → BeginsWith text count line → text ≡ line ++ others → others ≡ drop count text
 rest_behind {text} {line} {others} {count} found split =
-    let size : length line ≡ count = ap length (sym found.is_line) ∙ length-take-le count text found.inside in
-    sym (ap (λ (t : List ℕ). drop count t) split ∙ ap (λ (n : ℕ). drop n (line ++ others)) (sym size) ∙ drop-append_seam line others)
+    let size : length line ≡ count = ap length (sym found.is_line) ∙ length-take-le count text found.inside in rw (sym size, split, drop-append_seam)
 
 pub whole : (text line : List ℕ) (count : ℕ) → BeginsWith text count line → line ++ drop count text ≡ text
 whole text line count found = ap (λ (l : List ℕ). l ++ drop count text) (sym found.is_line) ∙ take-append-drop count text

@@ -1,17 +1,12 @@
 -- An accepted submission: a text goes on with its lines in one way alone.
-use Rattle.fx_check.proofs.Words.{◌≡◌, ℕ, ◌<◌, ◌≤◌, false, List, ◌++◌, length, sym, ap, subst, ◌∙◌, Some, None, Result, Ok, Err, lt-leb, FileEntry}
+use Rattle.fx_check.proofs.Words.{◌≡◌, ℕ, ◌<◌, ◌≤◌, List, ◌++◌, length, sym, ap, subst, ◌∙◌, Some, None, Result, Ok, Err, lt-leb, FileEntry}
 use Rattle.fx_check.proofs.Words.{IsAccepted, all_completed, Asked, runs_of, RingContents, RingState, ring_of, Reported, MOST_SUBMISSIONS, IsOneOrder}
 use Rattle.fx_check.proofs.Words.{SubmitsAll, report_text, Lines, ReadsReport, lines_of, lines_text, lines_in, ReportLines, told_report, RingSlots}
 use Rattle.fx_check.proofs.Words.{Told, IsKept, BeginsWith, GoesOn, LeadsNowhere, LeadsTo, AreApart, HasLines, TellsKnown, Fault, printed_lines}
-use Rattle.fx_check.proofs.Words.{ring_with_slots}
-use Rattle.fx_order.proofs.OneRing.{each_report_leads_to_one_ring}
+use Rattle.fx_check.proofs.Words.{ring_with_slots, IsReportBefore, Tells, each_report_leads_to_one_ring, one_at, IsRefuted}
 use Rattle.fx_order.proofs.Ordered.{each_history_is_an_order}
-use Rattle.fx_lines.specs.Lines.{IsReportBefore}
 use Rattle.fx_lines.proofs.CompletionCounts.{each_request}
-use Rattle.fx_judge.specs.Verdict.{IsRefuted}
-use Rattle.fx_check.specs.Told.{Tells}
 use Rattle.fx_check.proofs.OrderFiles.{are_from, may_close_all}
-use Rattle.fx_calls.proofs.FilesThere.{one_at}
 use Rattle.fx_check.proofs.OneAnswer.{submitted}
 use Rattle.fx_check.proofs.OneText.{rest_behind}
 use Rattle.fx_check.proofs.ReportInRange.{report_in_range}

@@ -1,23 +1,17 @@
 -- The files that an order closes, and those that it leaves.
 use Rattle.fx_check.proofs.Words.{◌≡◌, ◌^◌, inl, inr, ⊎_elim, ℕ, ◌<◌, ◌≤◌, List, length, All, Contains, sym, ap, subst, ◌∙◌, arith, All-map}
 use Rattle.fx_check.proofs.Words.{FileEntry, Submitted, Closed, AreInRange, IsInRange, IsAccepted, IsChain, members_of, Asked, runs_of, Chain}
-use Rattle.fx_check.proofs.Words.{each_all, RingState, IsRing, Reported, accesses_of, Access, RingSlots, IsOneOrder, table_of, table_of_slots, ring_with_slots, Has}
-use Rattle.fx_check.proofs.Words.{placed, AreFrom, IsAtSlot, MayClose, OneInstalled}
-use Rattle.std.proofs.Common.{◌⊎◌}
-use Rattle.std.proofs.lemmas.List.Elements.{All-weaker}
+use Rattle.fx_check.proofs.Words.{each_all, RingState, IsRing, Reported, accesses_of, Access, RingSlots, IsOneOrder, table_of, table_of_slots}
+use Rattle.fx_check.proofs.Words.{ring_with_slots, Has, placed, AreFrom, IsAtSlot, MayClose, OneInstalled, ◌⊎◌, IsMarkInRange, All-weaker, HasNone}
+use Rattle.fx_check.proofs.Words.{MayCloseAll, left_from, removes_contained, each_closed_file_is_known, in_limits, HasCounted, removed_in}
 use Rattle.std.proofs.lemmas.List.Sorted.{Contains-permutation, IsPermutation-sym}
 use Rattle.fx_chain.specs.Chains.{chains_of}
 use Rattle.fx_chain.proofs.Chains.{accepted-chains, members-are-runs}
 use Rattle.fx_chain.proofs.Runs.{are_runs}
-use Rattle.fx_ring.specs.Ring.{HasCounted}
-use Rattle.fx_order.specs.Access.{removed_in}
 use Rattle.fx_order.specs.Laws.{AreKnown, IsOfNext, IsThere}
-use Rattle.fx_order.proofs.OneRing.{each_closed_file_is_known, in_limits}
-use Rattle.fx_order.proofs.Placed.{left_from, removed_from, removes_contained}
+use Rattle.fx_order.proofs.Placed.{removed_from}
 use Rattle.fx_order.proofs.PlacedNew.{AnyPlace, InLimits, chain_places, has_in_chain}
 use Rattle.fx_check.proofs.Installations.{chains_installed}
-use Rattle.fx_check.specs.Told.{HasNone, MayCloseAll}
-use Rattle.fx_lines.specs.Lines.{IsMarkInRange}
 
 -- the runs of an accepted submission are short
 pub short_runs : (asked : List Asked) → IsAccepted asked → All (λ run. length run ≤ 16) (runs_of asked)

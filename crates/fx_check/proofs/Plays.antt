@@ -1,26 +1,17 @@
 -- The plays of a script go along with the text, command by command.
-use Rattle.fx_check.proofs.Words.{◌≡◌, ℕ, suc, ◌+◌, ◌<◌, ◌≤◌, List, [], ◌∷◌, ◌++◌, length, take, drop, refl, sym, ap, subst, ◌∙◌, arith}
-use Rattle.fx_check.proofs.Words.{slice_index_or, Option, append-nil, append_assoc, length-drop, option_to_list, drop-map, take-append-drop, take_all}
-use Rattle.fx_check.proofs.Words.{RingContents, RingState, new_ring, ring_of, Instruction, instruction_of, instructions_of, Prints, PrintsEnd}
-use Rattle.fx_check.proofs.Words.{RingSlots, MayPrintBy, GoesOn, LeadsNowhere, LeadsTo, Fault, Order}
-use Rattle.fx_calls.proofs.FromHere.{from_here}
-use Rattle.std.proofs.lemmas.List.{drop-drop}
-use Rattle.std.proofs.Math.Seq.{take-add}
+use Rattle.fx_check.proofs.Words.{◌≡◌, ℕ, suc, ◌+◌, ◌<◌, ◌≤◌, List, [], ◌∷◌, ◌++◌, length, take, drop, refl, sym, ap, subst, arith, slice_index_or}
+use Rattle.fx_check.proofs.Words.{Option, append-nil, append_assoc, length-drop, option_to_list, take-append-drop, take_all, RingContents, RingState}
+use Rattle.fx_check.proofs.Words.{new_ring, ring_of, Instruction, instruction_of, instructions_of, Prints, PrintsEnd, RingSlots, MayPrintBy, GoesOn}
+use Rattle.fx_check.proofs.Words.{LeadsNowhere, LeadsTo, Fault, Order, add-zero, zero-add, add-one, drop-drop, HasNoCloses, IsText, PrintsAll}
+use Rattle.fx_check.proofs.Words.{take-add, Meaning, IsTextBy, MayPrintAllBy, PrintsAllBy, mapped_at}
 use Rattle.fx_order.proofs.Shown.{ring_with_files, shows_ring}
-use Rattle.fx_language.specs.Script.{Meaning}
 use Rattle.fx_language.specs.declared.command.Command.{Command}
-use Rattle.fx_script.specs.Play.{IsText, PrintsAll}
-use Rattle.fx_lines.specs.Lines.{HasNoCloses}
 use Rattle.fx_lines.proofs.PlaysBegin.{command_begins, plays_begin}
 use Rattle.fx_check.specs.Judged.{IsBroken, MayPrintFront, PrintsBeginning}
-use Rattle.fx_check.specs.Ordered.{IsTextBy, MayPrintAllBy, PrintsAllBy}
 
 pub next_instruction : (commands : List Command) {all : List Instruction} {done : ℕ} {command : Command} → instructions_of commands ≡ all
     → done < length commands → command ≡ slice_index_or commands done command → drop done all ≡ instruction_of command ∷ drop (done + 1) all
-next_instruction commands {done} {command} same inside is =
-    subst (λ (l : List Instruction). drop done l ≡ instruction_of command ∷ drop (done + 1) l) same
-    (drop-map instruction_of done commands ∙ ap (λ (l : List Command). instructions_of l) (from_here commands done command inside is)
-    ∙ ap (λ (l : List Instruction). instruction_of command ∷ l) (sym (drop-map instruction_of (done + 1) commands)))
+next_instruction commands {done} {command} same inside is = rw (sym same, add-one done) (mapped_at instruction_of commands done command inside is)
 
 -- what commands are to print: the whole text, with the end of the script, or a beginning of it, and leave this
 pub data Aim : Type 0 where
@@ -84,29 +75,21 @@ module _ (script : Meaning) (text : List ℕ) where
 
   pub at_start : GoesWith script text 0 0 [] first
   at_start = record {
-    along = λ aim more can.
-        let e : 0 + more ≡ more = omega arith in subst (λ (n : ℕ). CanPrint aim first (take n script.commands) text) e can;
+    along = λ aim more can. rw zero-add at can;
     back = λ aim commands others later may. may;
   }
 
   whole : (n : ℕ) → length script.commands ≤ n → IsText script text → CanPrint Whole first (take n script.commands) text
-  whole n all (ring, starts, prints) = record {
-    ring = ring;
-    same = starts;
-    prints = subst (λ (cs : List Instruction). PrintsAll ring cs text) (sym (take_all n script.commands all)) prints;
-  }
+  whole n all (ring, starts, prints) = record { ring = ring; same = starts; prints = rw (take_all n script.commands all) prints }
 
   module _ (done at : ℕ) (orders : List Order) (now : RingState) (so_far : GoesWith script text done at orders now) where
     behind : (aim : Aim) → CanPrint aim first (take done script.commands) text → CanPrint aim now [] (drop at text)
-    behind aim can =
-        let e : done ≡ done + 0 = omega arith in so_far.along aim 0 (subst (λ (n : ℕ). CanPrint aim first (take n script.commands) text) e can)
+    behind aim can = so_far.along aim 0 (rw add-zero can)
 
     printed : (aim : Aim) (commands : List Instruction) (others all : List ℕ) → take done script.commands ≡ commands → take at text ++ others ≡ all
         → MayPrintTo aim now [] others [] → MayPrintTo aim first commands all orders
     printed aim commands others all same is may =
-        let front = append-nil (take done script.commands) ∙ same in
-        subst (λ (z : List Instruction × List ℕ × List Order). MayPrintTo aim first z.0 z.1 z.2) (λ t. (front t, is t, append-nil orders t))
-        (so_far.back aim [] others [] may)
+        rw (append-nil (take done script.commands), same, is, append-nil orders) at (so_far.back aim [] others [] may)
 
     broken : (ring : RingSlots) (fault : Fault) → done ≤ length script.commands → at ≤ length text → (IsText script text → ⊥) → (done < length script.commands → (left : List ℕ)
         → CanPrint (Leaves left) first (take (done + 1) script.commands) text → ⊥)
@@ -149,7 +132,7 @@ module _ (script : Meaning) (text : List ℕ) where
           let here = so_far.along aim (suc more) can in
           let later = take more (drop (done + 1) script.commands) in
           let (next, line, others, prints, split, rest) = parts aim here.ring command later
-          (subst (λ (cs : List Instruction). PrintsTo aim here.ring (take (suc more) cs) (drop at text)) is here.prints) in (
+          (rw is at here.prints) in (
             next,
             others,
             record {
@@ -178,23 +161,11 @@ module _ (script : Meaning) (text : List ℕ) where
       goes_on count own {grown} {new} may leads grows = record {
         along = λ aim more can.
             let e : (done + 1) + more ≡ done + suc more = omega arith in
-            let (next, others, goes, rest) = played aim more (subst (λ (n : ℕ). CanPrint aim first (take n script.commands) text) e can) in
+            let (next, others, goes, rest) = played aim more (rw e at can) in
             let there = leads next others goes in
-            record {
-              ring = next;
-              same = there.0;
-              prints = subst (λ (t : List ℕ). PrintsTo aim next (take more (drop (done + 1) script.commands)) t) (there.1 ∙ drop-drop count at text) rest;
-            };
+            record { ring = next; same = there.0; prints = rw (there.1, drop-drop) at rest };
         back = λ aim commands others later rest.
             let line = take count (drop at text) in
-            let cs : take done script.commands ++ command ∷ commands ≡ take (done + 1) script.commands ++ commands =
-            sym (append_assoc (take done script.commands) (command ∷ []) commands) ∙ ap (λ (l : List Instruction). l ++ commands)
-            (ap (λ (l : List Instruction). take done script.commands ++ take 1 l) (sym is) ∙ sym (take-add done 1 script.commands)) in
-            let t : take at text ++ (line ++ others) ≡ take (at + count) text ++ others =
-            sym (append_assoc (take at text) line others) ∙ ap (λ (l : List ℕ). l ++ others) (sym (take-add at count text)) in
-            let all : orders ++ (option_to_list own ++ later) ≡ grown ++ later =
-            sym (append_assoc orders (option_to_list own) later) ∙ ap (λ (l : List Order). l ++ later) (sym grows) in
-            subst (λ (z : List Instruction × List ℕ × List Order). MayPrintTo aim first z.0 z.1 z.2) (λ i. (cs i, t i, all i))
-            (so_far.back aim (command ∷ commands) (line ++ others) (option_to_list own ++ later)
-            (one_before aim command commands line others own later may rest));
+            rw (grows, take-add at count text, take-add done 1 script.commands, is) (simp append_assoc (so_far.back aim (command ∷ commands) (line ++ others)
+            (option_to_list own ++ later) (one_before aim command commands line others own later may rest)));
       }

@@ -1,10 +1,8 @@
 -- The rings that the calls between submissions leave, as they are kept.
 use Rattle.fx_check.proofs.Words.{◌≡◌, ◌≤◌, ◌<◌, ◌+◌, ℕ, ℤ, List, [], length, refl, sym, ap, subst, ◌∙◌, arith, Option, Some, None, slice_index_or}
 use Rattle.fx_check.proofs.Words.{Vec, FileEntry, Closed, AreInRange, MOST_SLOTS, Table, ring_with_slots, table_of_slots, Slots, files_after}
-use Rattle.fx_check.proofs.Words.{registered, registered_sparse, updated, IsRing, RingState, RingSlots, IsKept}
-use Rattle.fx_ring.specs.declared.ring.TheConstants.{MOST_REGISTRATIONS}
+use Rattle.fx_check.proofs.Words.{registered, registered_sparse, updated, IsRing, RingState, RingSlots, IsKept, IsOfScript, MOST_REGISTRATIONS}
 use Rattle.fx_ring.proofs.Rings.{none_rings}
-use Rattle.fx_check.specs.Kept.{IsOfScript}
 
 abbrev pub empty_table : ℕ → Table
 empty_table n = record { size = n; range = (0, n); at = λ _. None }

@@ -1,13 +1,10 @@
 -- The lines of an accepted submission's report have numbers that their types have, and names without a line end.
-use Rattle.fx_check.proofs.Words.{◌≡◌, ℕ, ◌<◌, ◌≤◌, ◌^◌, ◌==◌, not, List, [], filter, length, map, All}
-use Rattle.fx_check.proofs.Words.{refl, sym, ap, subst, arith, slice_get-get_or, slice_index_or, option_map, All-map}
-use Rattle.fx_check.proofs.Words.{FileEntry, tag_completion, tags_of, Closed, TagCompletion, IsInRange, IsAccepted, Asked, runs_of, each_all}
-use Rattle.fx_check.proofs.Words.{RingState, Reported, accesses_of, IsOneOrder, table_of, AreFiles, lines_of, named_close, RingSlots, IsKept}
-use Rattle.fx_check.proofs.Words.{MayClose, ring_with_slots, name_of}
-use Rattle.std.proofs.Common.{IsTrue, unwrap_or}
-use Rattle.std.proofs.lemmas.List.Elements.{All-filter}
+use Rattle.fx_check.proofs.Words.{◌≡◌, ℕ, ◌<◌, ◌≤◌, ◌^◌, ◌==◌, not, List, [], filter, length, map, All, refl, sym, ap, subst, arith, slice_get-get_or}
+use Rattle.fx_check.proofs.Words.{slice_index_or, option_map, All-map, FileEntry, tag_completion, tags_of, Closed, TagCompletion, IsInRange}
+use Rattle.fx_check.proofs.Words.{IsAccepted, Asked, runs_of, each_all, RingState, Reported, accesses_of, IsOneOrder, table_of, AreFiles, lines_of}
+use Rattle.fx_check.proofs.Words.{named_close, RingSlots, IsKept, MayClose, ring_with_slots, name_of, IsTrue, unwrap_or, AreLinesInRange}
+use Rattle.fx_check.proofs.Words.{IsCloseInRange, is_without, All-filter}
 use Rattle.fx_judge.proofs.Refuting.{possible_all}
-use Rattle.fx_lines.specs.Lines.{AreLinesInRange, IsCloseInRange, is_without}
 use Rattle.fx_lines.proofs.Names.{name_without_end}
 use Rattle.fx_check.proofs.InRange.{chains_so}
 use Rattle.fx_check.proofs.OrderFiles.{closed_in_range, may_close_all, short_runs}

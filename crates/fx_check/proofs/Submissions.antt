@@ -1,11 +1,11 @@
 -- An accepted submission whose lines a text goes on with.
-use Rattle.fx_check.proofs.Words.{◌≡◌, ℕ, ◌+◌, ◌<◌, ◌≤◌, false, List, length, map, filter, not, ◌==◌, take, sym, ap, subst, ◌∙◌, arith, Some, None}
-use Rattle.fx_check.proofs.Words.{refl, lt-leb, FileEntry, tags_of, tag_completion, all_completed, fault_of, Asked, runs_of, IsOneOrder, ChainAccess}
+use Rattle.fx_check.proofs.Words.{◌≡◌, ℕ, ◌+◌, ◌<◌, ◌≤◌, List, length, map, filter, not, ◌==◌, take, sym, ap, subst, ◌∙◌, arith, Some, None, refl}
+use Rattle.fx_check.proofs.Words.{lt-leb, FileEntry, tags_of, tag_completion, all_completed, fault_of, Asked, runs_of, IsOneOrder, ChainAccess}
 use Rattle.fx_check.proofs.Words.{MOST_SLOTS, RingState, IsRing, ring_of, Reported, MOST_SUBMISSIONS, SubmitsAll, report_text, Closed, TagCompletion}
 use Rattle.fx_check.proofs.Words.{close_of, lines_in, ReportLines, Lines, lines_of, lines_text, named_closes, CameBy, told_report, RingSlots, Told}
-use Rattle.fx_check.proofs.Words.{IsKept, BeginsWith, MayPrintBy, ArePlaces, AreChainsDone, Order, ring_with_slots, printed_lines}
+use Rattle.fx_check.proofs.Words.{IsKept, BeginsWith, MayPrintBy, ArePlaces, AreChainsDone, Order, ring_with_slots, printed_lines, IsOrderOf}
+use Rattle.fx_check.proofs.Words.{ring_left}
 use Rattle.fx_table.specs.declared.limits.TheConstants.{MAX_CHAINS}
-use Rattle.fx_order.specs.Order.{IsOrderOf, ring_left}
 use Rattle.fx_order.proofs.Histories.{each_order_is_a_history}
 use Rattle.std.proofs.lemmas.Simd.{map-map}
 use Rattle.fx_check.proofs.OneAnswer.{submitted}
@@ -46,18 +46,13 @@ module _ (catalogue : List FileEntry) (old new : RingSlots) (asked : List Asked)
 
   -- an order of the submission, at the ring behind it
   pub ordered_is : {accesses : List ChainAccess} → CameBy before asked told accesses after → IsOrderOf accesses before asked (told_report before told 0)
-  ordered_is came =
-      let first : IsOneOrder before asked (told_report before told 0) after = (came 0).0 in
-      subst (λ (l : List ChainAccess). IsOrderOf l before asked (told_report before told 0)) (came 0).1 first.is
+  ordered_is came = rw (came 0).1 at (came 0).0.is
 
   pub ordered_done : {accesses : List ChainAccess} → CameBy before asked told accesses after
       → AreChainsDone catalogue (length new.slots.at.items) new.submissions 1 (runs_of asked) accesses (all_completed told.completions.items)
   ordered_done {accesses} came =
-      let first : IsOneOrder before asked (told_report before told 0) after = (came 0).0 in
-      let counted : new.submissions ≡ old.submissions + 1 = ap (λ (r : RingState). r.submissions) first.after in
-      let size : length new.slots.at.items ≡ length old.slots.at.items = ap (λ (r : RingState). r.size) first.after in
-      subst (λ (z : ℕ × ℕ). AreChainsDone catalogue z.0 z.1 1 (runs_of asked) accesses (all_completed told.completions.items))
-      (λ t. (sym size t, sym counted t)) (ordered_is came).done
+      let one = (came 0).0 in
+      rw (ap (λ (r : RingState). r.size) one.after, ap (λ (r : RingState). r.submissions) one.after) (ordered_is came).done
 
   abbrev pub PlacesAt : ℕ → ℕ → Order → Type 0
   PlacesAt size submission order =

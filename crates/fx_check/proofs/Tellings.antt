@@ -1,15 +1,13 @@
 -- What lines tell is one list of files, or none.
-use Rattle.fx_check.proofs.Words.{◌≡◌, false, ⊎_elim, ℕ, zero, suc, ◌+◌, ◌<◌, ◌≤◌, List, [], ◌∷◌, length, map, drop, refl, sym, ap, subst, ◌∙◌, arith}
-use Rattle.fx_check.proofs.Words.{Some, slice_index_or, length-map, slice_get-get_or, is_lt, FileEntry, name_at, Mark, Closed, all_completed}
-use Rattle.fx_check.proofs.Words.{completed_of, all_asked, asked_of, Completion, Request, Slots, close_of, NamedClose, named_close, named_closes}
-use Rattle.fx_check.proofs.Words.{ClosedLine, AreApart, Installed, IsAtSlot, MayClose, OneInstalled, name_of}
-use Rattle.std.proofs.lemmas.List.{drop_all, get_or-map, get_or_default}
+use Rattle.fx_check.proofs.Words.{◌≡◌, false, ⊎_elim, ℕ, zero, suc, ◌+◌, ◌<◌, ◌≤◌, List, [], ◌∷◌, length, map, drop, refl, sym, ap, ◌∙◌, arith, Some}
+use Rattle.fx_check.proofs.Words.{slice_index_or, length-map, slice_get-get_or, is_lt, FileEntry, name_at, Mark, Closed, all_completed, completed_of}
+use Rattle.fx_check.proofs.Words.{all_asked, asked_of, Completion, Request, Slots, close_of, named_close, named_closes, ClosedLine, AreApart}
+use Rattle.fx_check.proofs.Words.{Installed, IsAtSlot, MayClose, OneInstalled, name_of, drop_all, get_or-map, get_or_default, HasDistinctMarks}
+use Rattle.fx_check.proofs.Words.{from_here}
 use Rattle.fx_base.proofs.Marks.{same_cmp as derived_cmp}
 use Rattle.fx_base.specs.CloseList.{IsInOrderOfMark}
 use Rattle.fx_base.specs.contracts.mark.MarkOrd.TheImpl.{ghosts}
-use Rattle.fx_check.specs.Told.{HasDistinctMarks}
 use Rattle.fx_calls.proofs.ClosesInOrder.{neither_below, same_cmp}
-use Rattle.fx_calls.proofs.FromHere.{from_here}
 
 -- an entry of the catalogue has its name
 name_at_entry : (catalogue : List FileEntry) (entry : ℕ) → entry < length catalogue → name_at catalogue entry ≡ Some (name_of catalogue entry)
@@ -39,8 +37,7 @@ close_at catalogue files lines {i} {line} d same inside is =
     let many = sym (length-map files (named_close catalogue)) ∙ ap length same ∙ length-map lines close_of in (
       omega arith,
       sym (get_or-map (named_close catalogue) files i d (close_of line) (omega arith))
-          ∙ ap (λ (xs : List NamedClose). slice_index_or xs i (close_of line)) same
-          ∙ get_or-map close_of lines i line (close_of line) inside ∙ ap close_of (sym is),
+          ∙ rw (same, get_or-map close_of lines i line (close_of line) inside, sym is),
     )
 
 -- a file in order of mark isn't at or before the one in front of it
@@ -63,9 +60,7 @@ pub next_installed : (requests : List Request) (completions : List Completion) {
     → OneInstalled (all_asked (drop i requests)) (all_completed (drop i completions)) mark
     → OneInstalled (all_asked (drop (i + 1) requests)) (all_completed (drop (i + 1) completions)) mark
 next_installed requests completions {mark} {i} {r} {c} low few is are none one =
-    ⊎_elim (λ here. absurd (none here)) (λ later. later)
-    (subst (λ (both : List Request × List Completion). OneInstalled (all_asked both.0) (all_completed both.1) mark)
-    (λ t. (from_here requests i r low is t, from_here completions i c few are t)) one)
+    ⊎_elim (λ here. absurd (none here)) (λ later. later) (rw (from_here requests i r low is, from_here completions i c few are) at one)
 
 none_there : (requests : List Request) (mark : Mark) → OneInstalled (all_asked requests) [] mark → ⊥
 none_there [] mark one = one
@@ -74,5 +69,4 @@ none_there (r ∷ requests) mark one = one
 -- past the completions there is none
 pub none_installed : (requests : List Request) (completions : List Completion) (mark : Mark) {i : ℕ} → length completions ≤ i
     → OneInstalled (all_asked (drop i requests)) (all_completed (drop i completions)) mark → ⊥
-none_installed requests completions mark {i} past one = none_there (drop i requests) mark
-    (subst (λ (left : List Completion). OneInstalled (all_asked (drop i requests)) (all_completed left) mark) (drop_all i completions past) one)
+none_installed requests completions mark {i} past one = none_there (drop i requests) mark (rw (drop_all i completions past) at one)

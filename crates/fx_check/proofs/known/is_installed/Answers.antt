@@ -1,5 +1,6 @@
 use Rattle.fx_check.proofs.Tellings.{next_installed, none_installed}
-use Rattle.fx_check.proofs.known.is_installed.Goals.{else-i-completions-via-then-i-completions+else-has_installed, else-i-completions-via-else-i-completions}
+use Rattle.fx_check.proofs.known.is_installed.Goals.{else-i-completions-via-then-i-completions+else-has_installed}
+use Rattle.fx_check.proofs.known.is_installed.Goals.{else-i-completions-via-else-i-completions}
 use Rattle.fx_check.proofs.known.is_installed.Goals as goal
 
 pub loop-i-preserved : goal.loop-i-preserved

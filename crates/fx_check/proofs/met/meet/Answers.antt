@@ -1,5 +1,4 @@
-use Rattle.fx_check.proofs.Words.{◌≡◌, ◌++◌, List, ℕ, true, false, sym, ap, ◌∙◌, Decides-eqb}
-use Rattle.std.proofs.lemmas.Slice.Eq.{starts_is}
+use Rattle.fx_check.proofs.Words.{◌≡◌, ◌++◌, List, ℕ, true, false, sym, ap, ◌∙◌, Decides-eqb, starts_is}
 use Rattle.fx_check.proofs.met.meet.Goals as goal
 
 pub returns : goal.returns

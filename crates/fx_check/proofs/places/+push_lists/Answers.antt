@@ -1,8 +1,6 @@
-use Rattle.fx_check.proofs.Words.{rules, IsChain, all_asked, Chain}
-use Rattle.std.proofs.lemmas.Result.{on_ok_weaker}
-use Rattle.fx_order.proofs.ChainsFront.{few_completions}
-use Rattle.fx_order.proofs.FirstAndRest.{all_of_rest}
-use Rattle.fx_check.proofs.Lists.{cut_lists_put}
+use Rattle.fx_check.proofs.Words.{rules, IsChain, all_asked, Chain, first_run, others_completed, own_completed, few_completions, all_of_rest}
+use Rattle.fx_check.proofs.Words.{on_ok_weaker}
+use Rattle.fx_check.proofs.Lists.{lists_put}
 use Rattle.fx_check.proofs.places.+push_lists.Goals as goal
 
 abbrev none : Chain
@@ -25,8 +23,10 @@ push_lists-requires t c = (
 
 pub returns : goal.returns
 returns t c = on_ok_weaker c.push_lists.result
-    (λ told catalogue order. cut_lists_put catalogue c.args.answered.now.size c.args.answered.now.submission order c.args.chain
-    (all_asked c.args.answered.now.requests.now) c.args.chains.now none c.members-members.result.now c.args.completions.now c.args.lists.now.items c.push_chain.new.places c.in-len1-up.len_at_least
-    c.members-members.ensures.members c.split_at.ensures.front c.split_at.ensures.back c.new-places.ensures.items c.in_ok-push.ensures.items
-    (c.in_ok-push_chain.ensures catalogue) (told catalogue order))
+    (λ told catalogue order. lists_put catalogue c.args.answered.now.size c.args.answered.now.submission order c.args.chain _
+    c.args.lists.now.items c.push_chain.new.places (first_run (all_asked c.args.answered.now.requests.now) c.args.chains.now none
+    c.members-members.result.now c.in-len1-up.len_at_least c.members-members.ensures.members)
+    (own_completed c.members-members.result.now c.args.completions.now _ c.split_at.ensures.front)
+    (others_completed c.members-members.result.now c.args.completions.now _ c.split_at.ensures.back)
+    c.new-places.ensures.items c.in_ok-push.ensures.items (c.in_ok-push_chain.ensures catalogue) (told catalogue order))
     c.push_lists.ensures

@@ -1,6 +1,5 @@
 use Rattle.fx_check.proofs.Words.{◌-◌, ◌+◌, ◌≤◌, length, ap, ◌∙◌, arith, None, map, slice_index_or, Vec, ChainAccess, places_of_chain, AccessPlace}
-use Rattle.std.proofs.lemmas.List.{length-set}
-use Rattle.fx_order.specs.declared.access.Access.TheVariants.{Looks}
+use Rattle.fx_check.proofs.Words.{length-set, Looks}
 use Rattle.fx_check.proofs.Merged.{IsNext, all_taken, chains_listed, counts_more, is_next, lists_more, one_left}
 use Rattle.fx_check.proofs.places.in_order.Goals.{After-index-lists-chain}
 use Rattle.fx_check.proofs.places.in_order.Goals as goal

@@ -1,5 +1,4 @@
-use Rattle.fx_check.proofs.Words.{sym, ap, append-nil, false, true, ◌∙◌, ◌≡◌, ℤ, pos, negsuc, int_le, rules, slice_index_or, to_z, of_z, Vec, AccessPlace}
-use Rattle.std.proofs.Common.{w32}
+use Rattle.fx_check.proofs.Words.{sym, ap, append-nil, ◌∙◌, ◌≡◌, ℤ, pos, negsuc, int_le, rules, slice_index_or, to_z, of_z, Vec, AccessPlace, w32}
 use Rattle.fx_check.proofs.Listed.{entries_more}
 use Rattle.fx_check.proofs.places.push_entries.Goals.{then-number-geminus1+in_ok-push, else-number-geminus1}
 use Rattle.fx_check.proofs.places.push_entries.Goals as goal

@@ -1,26 +1,17 @@
-use Rattle.fx_check.proofs.Words.{◌≡◌, ◌+◌, ◌-◌, ◌∷◌, Option, List, [], ℕ, length, length-drop, drop, take, sym, ap, subst, append-nil, ◌++◌, ◌∙◌}
-use Rattle.fx_check.proofs.Words.{arith, Vec, option_to_list, length-map, take-length, RingState, new_ring, Instruction, instruction_of}
-use Rattle.fx_check.proofs.Words.{instructions_of, PrintsEnd, Order, ring_with_slots}
+use Rattle.fx_check.proofs.Words.{◌≡◌, ◌+◌, ◌∷◌, List, length, length-drop, drop, sym, ap, append-nil, ◌++◌, ◌∙◌, arith, option_to_list, length-map}
+use Rattle.fx_check.proofs.Words.{RingState, Instruction, instruction_of, ring_with_slots, take_rest}
 use Rattle.fx_check.specs.Answer.{IsAnswer}
 use Rattle.fx_check.specs.declared.answer.Answer.{Answer}
-use Rattle.fx_check.specs.declared.answer.Answer.TheVariants.{Broken, Printed}
 use Rattle.fx_check.proofs.Plays.{GoesWith, at_start, ended, goes_on, next_instruction, not_ended, stops}
 use Rattle.fx_check.proofs.play.judge.Goals.{in-Some+in_ok-push-in-Printed, in_default, In_ok-count, In_ok-play_end}
 use Rattle.fx_check.proofs.play.judge.Goals as goal
-
-rest_so : (at : ℕ) (text : List ℕ) → take (length text - at) (drop at text) ≡ drop at text
-rest_so at text = ap (λ (n : ℕ). take n (drop at text)) (sym (length-drop at text)) ∙ take-length (drop at text)
 
 pub loop-done-init : goal.loop-done-init
 loop-done-init c = record {
   inside = omega arith;
   kept = c.new_ring-ring.ensures.kept c.catalogue-catalogue.result.now c.catalogue-catalogue.ensures.files;
-  so_far =
-      let state = ring_with_slots c.catalogue-catalogue.result.now c.new_ring-ring.result in
-      subst (λ (l : List Order). GoesWith c.args.script.now c.args.text.now 0 0 l state) (sym c.new-orders.ensures.items)
-      (subst (λ (s : RingState). GoesWith c.args.script.now c.args.text.now 0 0 [] s)
-      (sym (c.new_ring-ring.ensures.ring c.catalogue-catalogue.result.now ∙ ap new_ring c.catalogue-catalogue.ensures.value))
-      (at_start c.args.script.now c.args.text.now));
+  so_far = rw (c.new-orders.ensures.items, c.new_ring-ring.ensures.ring c.catalogue-catalogue.result.now, c.catalogue-catalogue.ensures.value)
+      (at_start c.args.script.now c.args.text.now);
 }
 
 -- the next command was answered
@@ -32,24 +23,17 @@ module _ (c : In_ok-count) where
   answered : {a : Answer} → c.in_ok-count.field-0 ≡ a
       → IsAnswer c.catalogue-catalogue.result.now c.loop-done.ring (instruction_of c.index-commands-done.result) (drop c.loop-done.at c.args.text.now) a
       c.play_command.new.ring
-  answered is =
-      subst (λ (b : Answer). IsAnswer c.catalogue-catalogue.result.now c.loop-done.ring (instruction_of c.index-commands-done.result)
-      (drop c.loop-done.at c.args.text.now) b c.play_command.new.ring) is
-      (subst (λ (t : List ℕ). IsAnswer c.catalogue-catalogue.result.now c.loop-done.ring (instruction_of c.index-commands-done.result) t c.in_ok-count.field-0
-      c.play_command.new.ring) (rest_so c.loop-done.at c.args.text.now) c.in_ok-count.ensures.answer)
+  answered is = rw (take_rest c.args.text.now c.loop-done.at, is) at c.in_ok-count.ensures.answer
 
 pub loop-done-preserved : goal.loop-done-preserved
 loop-done-preserved c =
     let a = (goal.at.loop-done-preserved c).In_ok-count in
     let orders = c.loop-done.orders.items in
     let grown : c.match-order.orders.items ≡ orders ++ option_to_list c.in-Printed.order = elim c.match-order.branch [
-      | in-Some+in_ok-push-in-Printed w ↦ ap (λ (v : Vec Order). v.items) w.orders-is ∙ w.in_ok-push-in-Printed.ensures.items
-          ∙ ap (λ (o : Option Order). orders ++ option_to_list o) (sym w.in-Some.is)
-      | in_default w ↦ ap (λ (v : Vec Order). v.items) w.orders-is ∙ sym (append-nil orders) ∙ ap (λ (o : Option Order). orders ++ option_to_list o) (sym w.in_default.is)
+      | in-Some+in_ok-push-in-Printed w ↦ rw (w.orders-is, w.in-Some.is) w.in_ok-push-in-Printed.ensures.items
+      | in_default w ↦ rw (w.orders-is, w.in_default.is, append-nil)
     ] in
-    let answer : IsAnswer c.catalogue-catalogue.result.now c.loop-done.ring (instruction_of c.index-commands-done.result)
-    (drop c.loop-done.at c.args.text.now) (Printed c.in-Printed.count c.in-Printed.order) c.play_command.new.ring =
-    answered a c.in-Printed.is in
+    let answer = answered a c.in-Printed.is in
     record {
       inside =
           let front = answer.0 in
@@ -74,30 +58,25 @@ module _ (c : In_ok-play_end) where
   now = ring_with_slots c.catalogue-catalogue.result.now c.loop-done.ring
 
   as_many : length c.commands-commands.result.now ≡ length c.args.script.now.commands
-  as_many =
-      let each = length-map c.commands-commands.result.now instruction_of in
-      let all : length (instructions_of c.commands-commands.result.now) ≡ length c.args.script.now.commands =
-      ap (λ (cs : List Instruction). length cs) c.commands-commands.ensures in
-      omega arith
+  as_many = sym (length-map c.commands-commands.result.now instruction_of) ∙ ap (λ (cs : List Instruction). length cs) c.commands-commands.ensures
 
   all_done : GoesWith c.args.script.now c.args.text.now (length c.commands-commands.result.now) c.loop-done.at c.loop-done.orders.items now
   all_done =
       let past = c.loop-done-test.false in
       let below = c.loop-done.auto.done-end in
       let all : c.loop-done.done ≡ length c.commands-commands.result.now = omega arith in
-      subst (λ (n : ℕ). GoesWith c.args.script.now c.args.text.now n c.loop-done.at c.loop-done.orders.items now) all c.loop-done.invariant.so_far
+      rw all at c.loop-done.invariant.so_far
 
 pub returns-in-Some-2 : goal.returns-in-Some-2
 returns-in-Some-2 c =
     let e = (goal.at.returns-in-Some-2 c).In_ok-play_end in
     let never = rw c.in-Some-2.is at c.in_ok-play_end.ensures.only in
     not_ended c.args.script.now c.args.text.now (length c.commands-commands.result.now) c.loop-done.at c.loop-done.orders.items (now e) (all_done e) (as_many e)
-    _ _ c.loop-done.invariant.inside (λ end. never (subst (λ (t : List ℕ). PrintsEnd (now e) t) (sym (rest_so c.loop-done.at c.args.text.now)) end))
+    _ _ c.loop-done.invariant.inside (λ end. never (rw (take_rest c.args.text.now c.loop-done.at) end))
 
 pub returns-in-None : goal.returns-in-None
 returns-in-None c =
     let e = (goal.at.returns-in-None c).In_ok-play_end in
-    let end : PrintsEnd (now e) (take (length c.args.text.now - c.loop-done.at) (drop c.loop-done.at c.args.text.now)) =
-    rw c.in-None.is at c.in_ok-play_end.ensures.end in
+    let end = rw c.in-None.is at c.in_ok-play_end.ensures.end in
     ended c.args.script.now c.args.text.now (length c.commands-commands.result.now) c.loop-done.at c.loop-done.orders.items (now e) (all_done e) (as_many e)
-    (subst (λ (t : List ℕ). PrintsEnd (now e) t) (rest_so c.loop-done.at c.args.text.now) end)
+    (rw (take_rest c.args.text.now c.loop-done.at) at end)

@@ -1,8 +1,5 @@
-use Rattle.fx_check.proofs.Words.{◌≡◌, ◌∙◌, sym, Decides-eqb, all_closed, all_of_ring, few_of_ring, ring_with_slots}
-use Rattle.std.proofs.lemmas.Bool.{true≢false}
-use Rattle.std.proofs.lemmas.Slice.Eq.{slice_eq-Decides}
-use Rattle.fx_calls.proofs.FilesThere.{end_printed}
-use Rattle.fx_print.specs.Text.{teardown_text}
+use Rattle.fx_check.proofs.Words.{◌≡◌, ◌∙◌, sym, Decides-eqb, all_closed, all_of_ring, few_of_ring, ring_with_slots, true≢false, teardown_text}
+use Rattle.fx_check.proofs.Words.{end_printed, slice_eq-Decides}
 use Rattle.fx_check.proofs.play.play_end.Goals as goal
 
 pub close_in_order-requires-clause-entries : goal.close_in_order-requires-clause-entries

@@ -1,4 +1,4 @@
-use Rattle.std.proofs.Common.{sym}
+use Rattle.fx_check.proofs.Words.{sym}
 use Rattle.fx_check.proofs.OneAnswer.{range_set}
 use Rattle.fx_check.proofs.registration.play_range.Goals as goal
 

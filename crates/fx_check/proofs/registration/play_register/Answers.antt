@@ -1,8 +1,6 @@
-use Rattle.fx_check.proofs.Words.{◌≡◌, ap, arith, codes, length, option_map, pos, refl, sym, MOST_ENTRIES, RegistersList, Table}
-use Rattle.fx_check.proofs.Words.{ring_with_slots, table_of_slots, registered, tags_for, result_line}
-use Rattle.fx_ring.proofs.Origins.{registered_rings}
+use Rattle.fx_check.proofs.Words.{◌≡◌, ap, arith, codes, length, option_map, pos, refl, sym, MOST_ENTRIES, RegistersList, Table, ring_with_slots}
+use Rattle.fx_check.proofs.Words.{table_of_slots, registered, tags_for, result_line, registered_rings, good_registered}
 use Rattle.fx_check.proofs.Calls.{accepted, no_memory, refused}
-use Rattle.fx_calls.proofs.Entries.{good_registered}
 use Rattle.fx_check.proofs.Registrations.{counted_keeps, counted_with, none_in_range, registered_now}
 use Rattle.fx_check.proofs.registration.play_register.Goals.{In_ok-_none-in-Here}
 use Rattle.fx_check.proofs.registration.play_register.Goals as goal

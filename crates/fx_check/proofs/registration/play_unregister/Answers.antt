@@ -1,5 +1,5 @@
-use Rattle.fx_check.proofs.Words.{◌∙◌, ◌++◌, List, ℕ, ap, arith, codes, pos, refl, string_bytes, subst, sym, Closed, Unregisters, Slots}
-use Rattle.fx_check.proofs.Words.{HasClosed, files_of, PrintsClosed, all_closed, all_of_ring, few_of_ring, ring_with_slots, closes_text, result_line}
+use Rattle.fx_check.proofs.Words.{◌∙◌, ◌++◌, List, ℕ, ap, arith, codes, pos, refl, string_bytes, subst, sym, Closed, Unregisters, Slots, HasClosed}
+use Rattle.fx_check.proofs.Words.{files_of, PrintsClosed, all_closed, all_of_ring, few_of_ring, ring_with_slots, closes_text, result_line}
 use Rattle.fx_check.proofs.Calls.{accepted, no_memory, refused}
 use Rattle.fx_check.proofs.Registrations.{emptied, none_left, with_slots}
 use Rattle.fx_check.proofs.registration.play_unregister.Goals.{After-meet-met}

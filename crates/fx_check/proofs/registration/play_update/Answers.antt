@@ -1,11 +1,8 @@
 use Rattle.fx_check.proofs.Words.{◌≡◌, ◌+◌, ◌<◌, ◌^◌, ◌∙◌, ◌++◌, List, ℕ, ap, arith, codes, length, of_z, option_map, pos, rules, string_bytes, subst}
-use Rattle.fx_check.proofs.Words.{sym, to_z, MOST_ENTRIES, Closed, Instruction, UpdatesRing, Table, ring_with_slots, table_of_slots}
-use Rattle.fx_check.proofs.Words.{files_after, removed_from, updated, HasClosed, tags_for, PrintsClosed, all_closed, AreInRange, closes_text}
-use Rattle.fx_check.proofs.Words.{result_line}
-use Rattle.std.proofs.Common.{w64}
-use Rattle.fx_ring.proofs.Origins.{updated_rings}
+use Rattle.fx_check.proofs.Words.{sym, to_z, MOST_ENTRIES, Closed, Instruction, UpdatesRing, Table, ring_with_slots, table_of_slots, files_after}
+use Rattle.fx_check.proofs.Words.{removed_from, updated, HasClosed, tags_for, PrintsClosed, all_closed, AreInRange, closes_text, result_line, w64}
+use Rattle.fx_check.proofs.Words.{updated_rings, AreOf, all_of_list, few_of_list, good_larger}
 use Rattle.fx_check.proofs.Calls.{accepted, no_memory, refused}
-use Rattle.fx_calls.proofs.Entries.{AreOf, all_of_list, few_of_list, good_larger}
 use Rattle.fx_check.proofs.Registrations.{copied, counted_keeps, counted_with, updated_now}
 use Rattle.fx_check.proofs.registration.play_update.Goals.{After-deref-2, After-meet-met}
 use Rattle.fx_check.proofs.registration.play_update.Goals as goal

@@ -1,6 +1,5 @@
-use Rattle.fx_check.proofs.Words.{◌-◌, List, ℕ, Some, None, Ok, length, subst, sym, length-map, Asked, all_asked}
-use Rattle.fx_check.proofs.Words.{asked_of, ReadsReport, lines_text, lines_in, Vec, ChainAccess, CameBy, all_completed, runs_of}
-use Rattle.fx_check.proofs.Words.{BeginsWith, ArePlaces, AreApart, HasLines, TellsKnown, Order, ring_with_slots}
+use Rattle.fx_check.proofs.Words.{◌-◌, List, Some, Ok, length, sym, length-map, Asked, all_asked, asked_of, ReadsReport, lines_text, lines_in, CameBy}
+use Rattle.fx_check.proofs.Words.{BeginsWith, AreApart, HasLines, TellsKnown, Order, ring_with_slots}
 use Rattle.fx_check.proofs.OneText.{begins_with}
 use Rattle.fx_check.proofs.OnlyAccepted.{none_ordered, none_read, none_told, one_ordered}
 use Rattle.fx_check.proofs.Submissions.{IsOrdered, PlacesAt, accepted_goes, accepted_keeps, ordered_done, ordered_is, same_slots}
@@ -10,9 +9,7 @@ use Rattle.fx_check.proofs.submission.play_accepted.Goals as goal
 -- the lines that were read are those of a report
 module _ (c : In-Some) where
   found : ReadsReport (length (all_asked c.args.requests.now)) c.args.text.now (Some (lines_in c.in-Some.front.0, c.in-Some.front.1.now))
-  found =
-      subst (λ (n : ℕ). ReadsReport n c.args.text.now (Some (lines_in c.in-Some.front.0, c.in-Some.front.1.now))) (sym (length-map c.args.requests.now asked_of))
-      (rw c.in-Some.is at c.in_ok-front.ensures)
+  found = rw (sym (length-map c.args.requests.now asked_of), c.in-Some.is) at c.in_ok-front.ensures
 
   begins : BeginsWith c.args.text.now (length c.args.text.now - length c.in-Some.front.1.now) (lines_text (lines_in c.in-Some.front.0))
   begins = begins_with c.in-Some.front.1.now found.printed
@@ -68,12 +65,9 @@ returns-in-Legal-clause-answer c =
     let new = c.judge_submission.new.ring in
     let asked : List Asked = all_asked c.args.requests.now in
     let by : CameBy before asked c.in-Ok.told order.accesses.items (ring_with_slots c.args.catalogue.now new) =
-    subst (λ (v : Vec ChainAccess). CameBy before asked c.in-Ok.told v.items (ring_with_slots c.args.catalogue.now new))
-    (sym c.in_ok-order-in-Legal.ensures.accesses) (came l) in
+    rw c.in_ok-order-in-Legal.ensures.accesses (came l) in
     let listed : PlacesAt c.args.catalogue.now c.args.ring.now new asked c.in-Ok.told (length new.slots.at.items) new.submissions order =
-    subst (λ (v : Vec ChainAccess). ArePlaces c.args.catalogue.now (length new.slots.at.items) new.submissions (runs_of asked)
-    (all_completed c.in-Ok.told.completions.items) v.items order.places.items) (sym c.in_ok-order-in-Legal.ensures.accesses)
-    (c.in_ok-order-in-Legal.ensures.places c.args.catalogue.now
+    rw c.in_ok-order-in-Legal.ensures.accesses (c.in_ok-order-in-Legal.ensures.places c.args.catalogue.now
     (ordered_done c.args.catalogue.now c.args.ring.now new asked c.in-Ok.told (came l))) in
     let goes = accepted_goes c.args.catalogue.now c.args.ring.now new asked c.in-Ok.told c.requires.kept c.requires.accepted c.requires.few by
     c.in_ok-order-in-Legal.ensures.submission listed (has o) (begins s) in (
@@ -86,8 +80,7 @@ returns-in-Legal-clause-answer c =
 pub returns-in_default-clause-answer : goal.returns-in_default-clause-answer
 returns-in_default-clause-answer c =
     none_read c.args.catalogue.now c.args.ring.now c.requires.kept (all_asked c.args.requests.now) c.args.text.now c.requires.accepted c.requires.few c.requires.chains
-    (subst (λ (n : ℕ). ReadsReport n c.args.text.now None) (sym (length-map c.args.requests.now asked_of))
-    (rw c.in_default.is at c.in_ok-front.ensures))
+    (rw (sym (length-map c.args.requests.now asked_of), c.in_default.is) at c.in_ok-front.ensures)
 
 pub returns-in-Err-clause-answer : goal.returns-in-Err-clause-answer
 returns-in-Err-clause-answer c =

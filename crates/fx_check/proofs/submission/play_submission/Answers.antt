@@ -1,4 +1,4 @@
-use Rattle.fx_check.proofs.Words.{List, ℕ, Err, length, refl, subst, fault_of, runs_of, all_asked, SubmitsAll, IsMet}
+use Rattle.fx_check.proofs.Words.{length, refl, fault_of, runs_of, all_asked, SubmitsAll}
 use Rattle.fx_check.proofs.OneAnswer.{fault_told, refused, too_many}
 use Rattle.fx_check.proofs.submission.play_submission.Goals as goal
 
@@ -8,7 +8,7 @@ returns-in-Err-clause-answer c =
     (refused c.args.catalogue.now c.args.ring.now c.args.text.now c.meet.result (all_asked c.args.requests.now) c.in-Err.fault
     (fault_told (fault_of (all_asked c.args.requests.now)) (length (runs_of (all_asked c.args.requests.now))) refl
     c.in-Err.ensures.fault c.in-Err.ensures.chains)
-    (subst (λ (l : List ℕ). IsMet c.args.text.now l c.meet.result) c.in_ok-refused_line.ensures c.meet.ensures)) refl
+    (rw c.in_ok-refused_line.ensures at c.meet.ensures)) refl
 
 pub returns-then-ring-ge-MOST_SUBMISSIONS-clause-answer : goal.returns-then-ring-ge-MOST_SUBMISSIONS-clause-answer
 returns-then-ring-ge-MOST_SUBMISSIONS-clause-answer c =
@@ -16,5 +16,4 @@ returns-then-ring-ge-MOST_SUBMISSIONS-clause-answer c =
     c.args.text.now
     (too_many c.args.catalogue.now c.args.ring.now c.args.text.now c.meet-then-ring-ge-MOST_SUBMISSIONS.result (all_asked c.args.requests.now)
     c.in_default.ensures.accepted c.if-ring-ge-MOST_SUBMISSIONS.true
-    (subst (λ (l : List ℕ). IsMet c.args.text.now l c.meet-then-ring-ge-MOST_SUBMISSIONS.result) c.in_ok-too_many_line.ensures
-    c.meet-then-ring-ge-MOST_SUBMISSIONS.ensures)) refl
+    (rw c.in_ok-too_many_line.ensures at c.meet-then-ring-ge-MOST_SUBMISSIONS.ensures)) refl

@@ -1,5 +1,4 @@
-use Rattle.fx_check.proofs.Words.{◌≡◌, ◌==◌, List, filter, map, not, sym, ap, ◌∙◌, Closed, close_of, ClosedLine}
-use Rattle.fx_check.proofs.Words.{Lines, named_closes}
+use Rattle.fx_check.proofs.Words.{◌≡◌, ◌==◌, List, filter, map, not, sym, ap, ◌∙◌, Closed, close_of, ClosedLine, Lines, named_closes}
 use Rattle.fx_check.proofs.Submissions.{tags_again, told_lines}
 use Rattle.fx_check.proofs.submission.told_by.Goals as goal
 

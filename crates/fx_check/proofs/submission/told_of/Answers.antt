@@ -1,5 +1,4 @@
-use Rattle.fx_check.proofs.Words.{◌≡◌, ◌∙◌, List, ap, subst, sym, Closed, Completed, all_completed, all_asked, Lines}
-use Rattle.fx_check.proofs.Words.{AreFrom, HasLines}
+use Rattle.fx_check.proofs.Words.{◌≡◌, ◌∙◌, ap, sym, all_completed, all_asked, Lines, HasLines}
 use Rattle.fx_check.proofs.submission.told_of.Goals as goal
 
 pub returns-in-Some-clause-only : goal.returns-in-Some-clause-only
@@ -11,6 +10,4 @@ returns-in-Some-clause-only c = λ apart report may from same.
     let only = rw c.in-Ok.is at c.in_ok-told.ensures.only in
     let files : c.in-Ok.told.closes.items ≡ report.closes.files = only apart report may same in
     let completions : all_completed c.in-Ok.told.completions.items ≡ report.completions = ap (λ (l : Lines). l.completions) (has 0 0 ∙ sym same) in
-    c.in-Some.ensures
-    (subst (λ (cs : List Completed). AreFrom slots asked cs c.in-Ok.told.closes.items) (sym completions)
-    (subst (λ (fs : List Closed). AreFrom slots asked report.completions fs) (sym files) from))
+    c.in-Some.ensures (rw (completions, files) from)

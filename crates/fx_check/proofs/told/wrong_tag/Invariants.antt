@@ -1,4 +1,4 @@
-use Rattle.std.proofs.Common.{◌≡◌, ℕ, ◌<◌, ◌≤◌, length, get_or}
+use Rattle.fx_check.proofs.Words.{length, ℕ, ◌<◌, ◌≡◌, ◌≤◌, get_or}
 use Rattle.fx_check.proofs.told.wrong_tag.Given as goal
 
 abbrev pub invariant-loop-i : goal.invariant-loop-i
