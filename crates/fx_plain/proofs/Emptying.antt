@@ -1,8 +1,8 @@
 -- The files of the slots are closed, one slot after another.
 use Rattle.fx_plain.proofs.Words.{length-set, get_or_default, ◌≡◌, ℕ, zero, suc, ◌+◌, ◌<◌, ◌≤◌, List, ◌++◌, length, length-append, add-one, refl, sym}
-use Rattle.fx_plain.proofs.Words.{ap, subst, ◌∙◌, slice_index_or, Option, Some, None, arith, inl, inr, cases_lt, option_to_list, File, files_in_order}
-use Rattle.fx_plain.proofs.Words.{identities_of, AllPlaced, SameButPlaced, slot_at, node_at, file_at, placed_at, file_named, file_in, nodes_without}
-use Rattle.fx_plain.proofs.Words.{removed_count_of, At, Gone, sum_by, Node, sum_by-set, identity_of}
+use Rattle.fx_plain.proofs.Words.{ap, ◌∙◌, slice_index_or, Option, Some, None, arith, inl, inr, cases_lt, option_to_list, File, files_in_order}
+use Rattle.fx_plain.proofs.Words.{identities_of, AllPlaced, SameButPlaced, slot_at, node_at, file_at, file_named, nodes_without, removed_count_of, At}
+use Rattle.fx_plain.proofs.Words.{Gone, sum_by, Node, sum_by-set, identity_of}
 use Rattle.fx_plain.proofs.Cells.{each_set}
 use Rattle.fx_plain.proofs.Writes.{inside_of-At}
 use Rattle.fx_plain.proofs.Moving.{IsLeft, left_without, named_same}
@@ -35,8 +35,7 @@ read_slot slots s {x} inside read = read ∙ sym (get_or_default slots s None x 
 module _ (slots : List (Option ℕ)) (first nodes : List Node) (s : ℕ) (placed : AllPlaced slots first) (left : IsLeft slots first nodes s) where
   named_is : (x : Option ℕ) → slot_at slots s ≡ x → file_named first x ≡ identity_of (file_at first x)
   named_is None is = refl
-  named_is (Some n) is = let there = placed s n is in
-      ap file_in there.1 ∙ sym (ap (λ (node : Node). identity_of (placed_at n node)) there.1)
+  named_is (Some n) is = rw (placed s n is).1 refl
 
   -- the file that is taken is the one of the slot, and the one that is closed is the next in order
   pub next_taken : file_named nodes (slot_at slots s) ≡ identity_of (file_at first (slot_at slots s))
@@ -57,8 +56,8 @@ module _ (slots : List (Option ℕ)) (first nodes : List Node) (s : ℕ) (placed
       record {
         len = length-set nodes m Gone ∙ w.len;
         left = left_without slots first nodes s placed left (Some m) is;
-        same = λ n. each_set (λ k x. SameButPlaced (node_at first k) x) nodes m Gone Gone inside (subst (λ (node : Node). SameButPlaced node Gone)
-            (sym there.1) (record { same_fresh = refl; same_leaving = refl; same_retired = refl; same_removed = λ _. refl })) n (λ _. w.same n);
+        same = λ n. each_set (λ k x. SameButPlaced (node_at first k) x) nodes m Gone Gone inside (rw there.1
+            (record { same_fresh = refl; same_leaving = refl; same_retired = refl; same_removed = λ _. refl })) n (λ _. w.same n);
         opened = omega arith;
       }
 

@@ -57,9 +57,7 @@ module _ (P : File → Type 0) where
   holds_of_closes start [] all may new f is = absurd is
   holds_of_closes start (e ∷ h) all may new f (inl before) = holds_of_closes start h all may.0 (λ g is. new g (inl is)) f before
   holds_of_closes start (e ∷ h) all may new f (inr now) =
-      let st = state_after start (map action_of h) in
-      let allowed : Allows st (Close f) = subst (Allows st) now may.1 in
-      (holds_at_end start h all may.0 (λ g is. new g (inl is))).removed f.number f allowed.0
+      (holds_at_end start h all may.0 (λ g is. new g (inl is))).removed f.number f (rw now at may.1).0
 
 pub every_file_was_there_or_installed : (start end : State) (h : List Event) (f : File) → ((number : ℕ) → start.removed number ≡ None)
     → IsLegal start h end → IsAtSlot end f ⊎ IsClosed h f → IsAtSlot start f ⊎ IsInstalled h f

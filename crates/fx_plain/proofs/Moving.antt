@@ -1,8 +1,8 @@
 -- Each file moves to the node of its slot's number, one slot after another.
 use Rattle.fx_plain.proofs.Words.{◌≡◌, ◌≢◌, ℕ, ◌+◌, ◌<◌, ◌≤◌, List, [], ◌∷◌, ◌++◌, length, refl, sym, ap, ◌∙◌, slice_set, Option, Some, None, arith}
-use Rattle.fx_plain.proofs.Words.{set-set, length-set, get_or-set_other, get_or_append_left, Closed, AllPlaced, IsFiled, IsVacant, subst, slot_at}
-use Rattle.fx_plain.proofs.Words.{node_at, file_named, file_in, opening_slot, moved_node, nodes_without, file_count_of, At, Gone, sum_by, Node}
-use Rattle.fx_plain.proofs.Words.{sum_by-set, set-get_or, HaveOwnNumbers}
+use Rattle.fx_plain.proofs.Words.{set-set, length-set, get_or-set_other, get_or_append_left, Closed, AllPlaced, IsFiled, subst, slot_at, node_at}
+use Rattle.fx_plain.proofs.Words.{file_named, file_in, opening_slot, moved_node, nodes_without, file_count_of, At, Gone, sum_by, Node, sum_by-set}
+use Rattle.fx_plain.proofs.Words.{set-get_or, HaveOwnNumbers}
 use Rattle.std.proofs.Math.Seq.{get_or-append_seam}
 use Rattle.fx_plain.proofs.Cells.{by_equality, each_set}
 use Rattle.fx_plain.proofs.Writes.{inside_of-At}
@@ -94,19 +94,14 @@ module _ (slots : List (Option ℕ)) (first nodes : List Node) {s : ℕ} (placed
 module _ (slots : List (Option ℕ)) (nodes : List Node) {s : ℕ} (at : slot_at slots s ≡ Some s) where
   pub node_settled : {file : Closed} → node_at nodes s ≡ At s file
       → nodes ≡ slice_set (nodes_without nodes (slot_at slots s)) s (moved_node (file_named nodes (slot_at slots s)) s)
-  node_settled named =
-      sym (ap (λ (x : Option ℕ). slice_set (nodes_without nodes x) s (moved_node (file_named nodes x) s)) at
-      ∙ set-set nodes s Gone (moved_node (file_in (node_at nodes s)) s)
-      ∙ ap (λ (node : Node). slice_set nodes s (moved_node (file_in node) s)) named
-      ∙ ap (slice_set nodes s) (sym named) ∙ set-get_or nodes s Gone)
+  node_settled named = rw (at, set-set, named) (sym (rw named at (set-get_or nodes s Gone)))
 
 -- the node that a slot's file moved to
 pub filed_by_move : (slots : List (Option ℕ)) (nodes : List Node) (s : ℕ) {node : Node} → node ≡ moved_node (file_named nodes (slot_at slots s)) s
     → IsFiled slots nodes s node
 filed_by_move slots nodes s is = record {
-  file = λ n at. is ∙ ap (λ (x : Option ℕ). moved_node (file_named nodes x) s) at;
-  vacant = λ none. subst IsVacant (sym (is ∙ ap (λ (x : Option ℕ). moved_node (file_named nodes x) s) none))
-      (record { used = refl; none_removed = refl });
+  file = λ n named. rw named at is;
+  vacant = λ none. rw (is, none) (record { used = refl; none_removed = refl });
 }
 
 -- files that stand in nodes of which more were made

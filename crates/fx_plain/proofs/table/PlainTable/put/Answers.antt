@@ -1,5 +1,5 @@
-use Rattle.fx_plain.proofs.Words.{rules, ◌≡◌, ◌<◌, ◌+◌, Some, None, sym, length, slice_set, arith, ap, ◌∙◌, ℕ, Option, ◌^◌, refl, Put, Contents}
-use Rattle.fx_plain.proofs.Words.{IsTable, IsCounted, state_of, At, slot_at, file_count_of, numbered, HaveOwnOutside, LetsLeave, the_view}
+use Rattle.fx_plain.proofs.Words.{rules, ◌≡◌, ◌<◌, ◌+◌, Some, None, sym, length, slice_set, arith, ◌∙◌, ℕ, Option, ◌^◌, refl, Put, Contents, IsTable}
+use Rattle.fx_plain.proofs.Words.{IsCounted, state_of, At, slot_at, file_count_of, numbered, HaveOwnOutside, LetsLeave, the_view}
 use Rattle.fx_plain.proofs.Writes.{has_file-At, unnamed}
 use Rattle.fx_plain.proofs.Removals.{put_at, IsFree, fresh_free, seen_at, still_names, put_removes, put_counted}
 use Rattle.fx_plain.proofs.OwnNumbers.{own_in_wider}
@@ -67,5 +67,5 @@ returns-in-Some-clause-replaced c = let a = (goal.at.returns-in-Some-clause-repl
 -- a slot that has a file isn't empty
 pub returns-in-Some-clause-settled : goal.returns-in-Some-clause-settled
 returns-in-Some-clause-settled c empty settled = let a = (goal.at.returns-in-Some-clause-settled c).After-index-replaced in
-    let none = unnamed c.args.slot c.self.invariant.0.0 (ap (λ (k : Contents). (state_of k).at c.args.slot) c.self.view_is ∙ empty) in
+    let none = unnamed c.args.slot c.self.invariant.0.0 (rw (sym c.self.view_is) at empty) in
     let e : None ≡ Some c.in-Some.old = sym none ∙ at a c.in-Some.is in absurd (cc e)

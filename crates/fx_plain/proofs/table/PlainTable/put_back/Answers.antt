@@ -1,5 +1,5 @@
-use Rattle.fx_plain.proofs.Words.{rules, false, ◌≡◌, ◌^◌, None, ◌+◌, ◌<◌, Some, length, sym, ap, subst, ◌∙◌, arith, IsSettled, changed_at}
-use Rattle.fx_plain.proofs.Words.{with_removed, slot_at, file_at, Contents, IsTable, IsCounted, state_of, numbered, IsPrepared, the_view}
+use Rattle.fx_plain.proofs.Words.{rules, false, ◌≡◌, ◌^◌, None, ◌+◌, ◌<◌, Some, length, sym, ◌∙◌, arith, changed_at, with_removed, slot_at, file_at}
+use Rattle.fx_plain.proofs.Words.{Contents, IsTable, IsCounted, state_of, numbered, the_view}
 use Rattle.fx_plain.proofs.Cells.{unchanged}
 use Rattle.fx_plain.proofs.Writes.{unnamed}
 use Rattle.fx_plain.proofs.Removals.{IsFree, own_free, put_at, state_of-put, put_counted}
@@ -15,11 +15,11 @@ module _ (c : After-set_node) where
   inside = search rules
 
   empty : slot_at v.slots c.args.slot ≡ None
-  empty = unnamed c.args.slot c.self.invariant.0.0 (ap (λ (k : Contents). (state_of k).at c.args.slot) c.self.view_is ∙ c.requires.empty)
+  empty = unnamed c.args.slot c.self.invariant.0.0 (rw (sym c.self.view_is) at c.requires.empty)
 
   free : IsFree v c.args.slot c.args.slot
-  free = own_free c.self.invariant.0.0 (subst (λ (k : Contents). IsSettled (state_of k)) (sym c.self.view_is) c.requires.settled) inside
-      (let lt = inside in let p = subst IsPrepared (sym c.self.view_is) c.requires.prepared in omega (arith, lt, p)) empty
+  free = let prepared = rw (sym c.self.view_is) at c.requires.prepared in
+      own_free c.self.invariant.0.0 (rw (sym c.self.view_is) at c.requires.settled) inside (omega (arith, inside, prepared)) empty
 
   abbrev after : Contents
   after = put_at v c.args.slot None c.args.slot c.args.file
