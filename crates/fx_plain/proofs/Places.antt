@@ -29,20 +29,10 @@ place_below n [] is = absurd is
 place_below n (x ∷ l) (inl is) = grind arith
 place_below n (x ∷ l) (inr there) = let below = place_below n l there in grind arith
 
-at_length : (x : ℕ) (l : List ℕ) → number_at (length l) (x ∷ l) ≡ Some x
-at_length x l = grind arith
-
-before_length : {k : ℕ} (x : ℕ) (l : List ℕ) → k < length l → number_at k (x ∷ l) ≡ number_at k l
-before_length x l below = grind arith
-
 pub number_at_place : (n : ℕ) (l : List ℕ) → IsIn n l → number_at (place_of n l) l ≡ Some n
 number_at_place n [] is = absurd is
-number_at_place n (x ∷ l) is = by_equality x n (λ b. number_at (if b then length l else place_of n l) (x ∷ l) ≡ Some n)
-    (λ same. at_length x l ∙ ap Some same)
-    (λ other. elim is [
-      | inl here ↦ absurd (other here)
-      | inr there ↦ before_length x l (place_below n l there) ∙ number_at_place n l there
-    ])
+number_at_place n (x ∷ l) (inl is) = grind arith
+number_at_place n (x ∷ l) (inr there) = let below = place_below n l there in let earlier = number_at_place n l there in grind arith
 
 pub place_of_number : (k : ℕ) {n : ℕ} (l : List ℕ) → AreDistinct l → number_at k l ≡ Some n → place_of n l ≡ k
 place_of_number k [] distinct is = cc
