@@ -117,14 +117,12 @@ module _ (o : Opening) (vs : List PassView) (counts : (v : PassView) → Contain
       let small : b % n < n = mod-lt b some in
       let q : ℕ = b / n in
       let rest : ℕ = b % n in
-      let p = pass_of (rest + 1) (omega arith) (omega (arith, small)) in
-      let t = counts p.0 p.1 in
+      let (v, at, number) = pass_of (rest + 1) (omega arith) (omega (arith, small)) in
+      let (count, t) = counts v at in
       let u : ℕ = q * n in
       let whole : u + rest ≡ b = div-add-mod' b n in
-      let is : c ≡ p.0.number + u = omega (arith, whole, p.2, low) in
-      let past : o.chains < p.0.number + t.0 * n = t.1.last_drawn (ended p.0 p.1) in
-      let fewer : q < t.0 = lt_of_not-le (λ le. let m : t.0 * n ≤ q * n = mul-le-mul_right n le in omega (arith, m, past, is, high)) in (
-        p.0,
-        p.1,
-        rw t.1.drawn (subst (Contains (chains_of_pass p.0.number n t.0)) (sym is) (chain_is_there p.0.number n t.0 q fewer)),
-      )
+      let is : c ≡ v.number + u = omega (arith, whole, number, low) in
+      let past : o.chains < v.number + count * n = t.last_drawn (ended v at) in
+      let fewer : q < count = lt_of_not-le (λ le. let m : count * n ≤ q * n = mul-le-mul_right n le in omega (arith, m, past, is, high)) in
+      let there = subst (Contains (chains_of_pass v.number n count)) (sym is) (chain_is_there v.number n count q fewer) in
+      (v, at, rw t.drawn there)
