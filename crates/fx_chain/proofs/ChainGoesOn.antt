@@ -47,31 +47,24 @@ module _ (catalogue : List FileEntry) (size : ℕ) where
       → n ≡ place.member + length requests → Explains catalogue size place requests events cs
       → AnswersBehind catalogue size (record place { member = n }) (any_severs requests cs) r own c
       → Explains catalogue size place (requests ++ r ∷ []) (events ▷▷ own) (cs ++ c ∷ [])
-  explains_next place [] r events own cs c n n_is (none, nobody) answers = (
-    own,
-    [],
-    c,
-    [],
-    ap (λ (h : List Action). own ++ h) none ∙ append-nil own,
-    ap (λ (xs : List Completed). xs ++ c ∷ []) nobody,
-    let same : n ≡ place.member = omega arith in rw same at answers,
-    either (severs r c) (refl, refl) (refl, refl),
-  )
+  explains_next place [] r events own cs c n n_is (none, nobody) answers =
+      let same : n ≡ place.member = omega arith in
+      (own, [], c, [], rw (none, append-nil), rw nobody, rw same at answers, either (severs r c) (refl, refl) (refl, refl))
   explains_next place (x ∷ requests) r events own cs c n n_is (first, others, d, rest, is, cs_is, front, goes) answers =
       let here = rw cs_is at answers in (
         first,
         others ▷▷ own,
         d,
         rest ++ c ∷ [],
-        ap (λ (h : List Action). own ++ h) is ∙ sym (append_assoc own others first),
-        ap (λ (xs : List Completed). xs ++ c ∷ []) cs_is,
+        rw (is, append_assoc),
+        rw cs_is,
         front,
         elim (cases_Bool (severs x d)) [
           | inl stops ↦
               let ended = MatchBool-at_true _ _ stops goes in
               let refused = rw stops at here in
               rw stops (
-                ap (λ (h : List Action). own ++ h) ended.0 ∙ append-nil own ∙ refused.0,
+                rw (ended.0, append-nil) refused.0,
                 (λ k. ended.1 k ++ refused.1 k ∷ []) ∙ sym (canceled_more (next_member place) requests r n (omega arith)),
               )
           | inr on ↦ rw on

@@ -45,14 +45,10 @@ applies_more : (place : Place) (in_list slot : ℕ) (list : List ℤ) (z : ℤ) 
 applies_more place in_list slot [] z at to events own at_is to_is none applies =
     let same_place : at ≡ in_list = omega arith in
     let same_slot : to ≡ slot = omega arith in
-    (own, [], ap (λ (h : List Action). own ++ h) none ∙ append-nil own, rw (same_place, same_slot) at applies, refl)
-applies_more place in_list slot (x ∷ list) z at to events own at_is to_is (first, others, is, front, rest) applies = (
-  first,
-  others ▷▷ own,
-  ap (λ (h : List Action). own ++ h) is ∙ sym (append_assoc own others first),
-  front,
-  applies_more place (in_list + 1) (slot + 1) list z at to others own (omega arith) (omega arith) rest applies,
-)
+    (own, [], rw (none, append-nil), rw (same_place, same_slot) at applies, refl)
+applies_more place in_list slot (x ∷ list) z at to events own at_is to_is (first, others, is, front, rest) applies =
+    let more = applies_more place (in_list + 1) (slot + 1) list z at to others own (omega arith) (omega arith) rest applies in
+    (first, others ▷▷ own, rw (is, append_assoc), front, more)
 
 -- the entries that are left install what this one and those behind it do
 pub installs_left : (list : List ℤ) (i : ℕ) → i < length list → list_installs (drop i list)

@@ -1,8 +1,7 @@
 -- The runs of a list are the one way to part it.
-use Rattle.fx_chain.proofs.Words.{◌≡◌, ◌<◌, Bool, true, false, not, if◌then◌else◌, List, [], ◌∷◌, ◌++◌, length, refl, sym, ap, ◌∙◌, All, arith, inl}
-use Rattle.fx_chain.proofs.Words.{inr, cases_Bool, not-true, list_all, flat_map, append-nil, AllPass-from_list_all, list_all-from_AllPass, All-nil}
-use Rattle.fx_chain.proofs.Words.{All-cons, All-head, All-tail, Asked, is_link, but_last, is_over, AreRuns, AreTheOnlyRuns, in_front, runs_of}
-use Rattle.fx_chain.proofs.Words.{open_run}
+use Rattle.fx_chain.proofs.Words.{◌≡◌, ◌<◌, true, false, not, if◌then◌else◌, List, [], ◌∷◌, ◌++◌, length, refl, sym, ap, ◌∙◌, All, arith, inl, inr}
+use Rattle.fx_chain.proofs.Words.{cases_Bool, not-true, flat_map, append-nil, list_all-from_AllPass, All-nil, All-cons, All-head, All-tail, Asked}
+use Rattle.fx_chain.proofs.Words.{is_link, but_last, is_over, AreRuns, AreTheOnlyRuns, in_front, runs_of, open_run}
 
 -- what each request does that is a member of a run and not its last
 abbrev pub AllLink : List Asked → Type 0
@@ -20,12 +19,6 @@ IsOver run = is_over run ≡ true
 
 abbrev pub Links : Asked → Type 0
 Links request = is_link request.flags ≡ true
-
-pub runs_link : (r : Asked) (rs : List Asked) → is_link r.flags ≡ true → runs_of (r ∷ rs) ≡ in_front r (runs_of rs)
-runs_link r rs links = ap (λ (b : Bool). if b then in_front r (runs_of rs) else (r ∷ []) ∷ runs_of rs) links
-
-pub runs_end : (r : Asked) (rs : List Asked) → is_link r.flags ≡ false → runs_of (r ∷ rs) ≡ (r ∷ []) ∷ runs_of rs
-runs_end r rs ends = ap (λ (b : Bool). if b then in_front r (runs_of rs) else (r ∷ []) ∷ runs_of rs) ends
 
 pub runs_one : (r : Asked) → runs_of (r ∷ []) ≡ (r ∷ []) ∷ []
 runs_one r = elim (is_link r.flags) as (λ b. (if b then (r ∷ []) ∷ [] else (r ∷ []) ∷ []) ≡ (r ∷ []) ∷ []) [ true ↦ refl | false ↦ refl ]
@@ -86,7 +79,7 @@ one_run (x ∷ y ∷ run) some linked =
 -- a run that is over is the first run
 pub first_run : (run rest : List Asked) → IsLinked run → is_over run ≡ true → runs_of (run ++ rest) ≡ run ∷ runs_of rest
 first_run [] rest linked over = cc
-first_run (x ∷ []) rest linked over = runs_end x rest (not-true (is_link x.flags) over)
+first_run (x ∷ []) rest linked over = rw (not-true (is_link x.flags) over)
 first_run (x ∷ y ∷ run) rest linked over =
     rw (All-head Links x (but_last (y ∷ run)) linked, first_run (y ∷ run) rest (All-tail Links x (but_last (y ∷ run)) linked) over)
 
@@ -106,15 +99,9 @@ only_runs requests runs are = sym (parted runs are.not_empty are.linked are.over
 pub the_only_runs : (requests : List Asked) → AreTheOnlyRuns requests (runs_of requests)
 the_only_runs requests = record { are = are_runs requests; only = only_runs requests }
 
-pub AllLink-test : (requests : List Asked) → AllLink requests → list_all (λ r. is_link r.flags) requests ≡ true
-AllLink-test requests link = list_all-from_AllPass (λ r. is_link r.flags) requests link
-
-pub test-AllLink : (requests : List Asked) → list_all (λ r. is_link r.flags) requests ≡ true → AllLink requests
-test-AllLink requests test = AllPass-from_list_all (λ r. is_link r.flags) requests test
-
 pub open_run-all : (requests : List Asked) → AllLink requests → open_run requests ≡ requests
 open_run-all [] link = refl
-open_run-all (r ∷ rs) link = ap (λ (b : Bool). if b then r ∷ rs else open_run rs) (AllLink-test (r ∷ rs) link)
+open_run-all (r ∷ rs) link = rw (list_all-from_AllPass (λ it. is_link it.flags) (r ∷ rs) link)
 
 in_front-some : (x : Asked) (runs : List (List Asked)) → 0 < length (in_front x runs)
 in_front-some x [] = omega arith

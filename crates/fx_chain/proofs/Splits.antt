@@ -1,11 +1,10 @@
 -- A run and its last request, and the open run behind runs that are over.
-use Rattle.fx_chain.proofs.Words.{◌≡◌, inl, inr, ◌<◌, ◌⊎◌, Bool, true, false, not, ◌&&◌, if◌then◌else◌, List, [], ◌∷◌, ◌++◌, length, refl, sym, ap}
+use Rattle.fx_chain.proofs.Words.{◌≡◌, inl, inr, ◌<◌, ◌⊎◌, true, false, not, ◌&&◌, if◌then◌else◌, List, [], ◌∷◌, ◌++◌, length, refl, sym, ap}
 use Rattle.fx_chain.proofs.Words.{◌∙◌, subst, arith, ◌+◌, ◌==◌, list_all, and_right, and_cases, both_ways, cases_Bool, not-true, ne_eqb, All-nil}
 use Rattle.fx_chain.proofs.Words.{All-cons, All-head, All-tail, All-push, append-nil, Asked, is_link, but_last, is_over, in_front, runs_of, open_run}
-use Rattle.fx_chain.proofs.Words.{StandsIn}
+use Rattle.fx_chain.proofs.Words.{StandsIn, AllPass-from_list_all, list_all-from_AllPass}
 use Rattle.std.proofs.lemmas.List.{append_assoc, length-append}
-use Rattle.fx_chain.proofs.Runs.{AllLink, IsLinked, IsOver, HasMembers, Links, open_run-all, AllLink-test, test-AllLink, one_run, runs_link, runs_end}
-use Rattle.fx_chain.proofs.Runs.{runs-some}
+use Rattle.fx_chain.proofs.Runs.{AllLink, IsLinked, IsOver, HasMembers, Links, open_run-all, one_run, runs-some}
 
 -- a list is all but its last element, and then that one
 pub but_last-last : {X : Type 0} (x : X) (xs : List X) → (last : X) × (x ∷ xs ≡ but_last (x ∷ xs) ++ last ∷ [])
@@ -77,7 +76,7 @@ one_more x xs closed differs parts (inl none) linked = elim (and_cases (is_link 
   | inl ends ↦ inr (rw none (ap not ends))
   | inr some ↦
       let all : xs ≡ open_run xs = parts ∙ ap (λ ys. ys ++ open_run xs) none in
-      absurd (both_ways _ some (AllLink-test xs (subst AllLink (sym all) linked)))
+      absurd (both_ways _ some (list_all-from_AllPass (λ r. is_link r.flags) xs (subst AllLink (sym all) linked)))
 ]
 one_more x xs closed differs parts (inr over) linked = inr (is_over-append (x ∷ []) closed over)
 
@@ -85,17 +84,15 @@ ends_of : (front : List Asked) → Ends front
 ends_of [] = record { closed = []; parts = refl; is_closed = inl refl; linked = All-nil Links }
 ends_of (x ∷ xs) = elim (cases_Bool (list_all (λ r. is_link r.flags) (x ∷ xs))) [
   | inl all ↦
-      let link : AllLink (x ∷ xs) = test-AllLink (x ∷ xs) all in
-      let open_is : open_run (x ∷ xs) ≡ x ∷ xs = open_run-all (x ∷ xs) link in
-      record { closed = []; parts = sym open_is; is_closed = inl refl; linked = subst AllLink (sym open_is) link }
+      let link = AllPass-from_list_all (λ r. is_link r.flags) (x ∷ xs) all in
+      record { closed = []; parts = rw all; is_closed = inl refl; linked = rw all link }
   | inr differs ↦
       let rest = ends_of xs in
-      let open_is : open_run (x ∷ xs) ≡ open_run xs = ap (λ (b : Bool). if b then x ∷ xs else open_run xs) differs in
       record {
         closed = x ∷ rest.closed;
-        parts = ap (λ ys. x ∷ ys) rest.parts ∙ ap (λ ys. x ∷ rest.closed ++ ys) (sym open_is);
+        parts = rw differs (ap (λ ys. x ∷ ys) rest.parts);
         is_closed = one_more x xs rest.closed differs rest.parts rest.is_closed rest.linked;
-        linked = subst AllLink (sym open_is) rest.linked;
+        linked = rw differs rest.linked;
       }
 ]
 
@@ -111,8 +108,8 @@ begins_one r (run ∷ runs) = (run, runs, refl)
 
 begins_at : (run : List Asked) (r : Asked) (behind : List Asked) → AllLink run → Begins run r behind
 begins_at [] r behind linked = elim (cases_Bool (is_link r.flags)) [
-  | inl links ↦ let one = begins_one r (runs_of behind) in record { rest = one.0; later = one.1; parts = runs_link r behind links ∙ one.2 }
-  | inr ends ↦ record { rest = []; later = runs_of behind; parts = runs_end r behind ends }
+  | inl links ↦ let one = begins_one r (runs_of behind) in record { rest = one.0; later = one.1; parts = rw links one.2 }
+  | inr ends ↦ record { rest = []; later = runs_of behind; parts = rw ends }
 ]
 begins_at (x ∷ run) r behind linked =
     let next = begins_at run r behind (All-tail Links x run linked) in
