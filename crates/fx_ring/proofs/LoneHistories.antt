@@ -99,9 +99,6 @@ module _ {catalogue : List FileEntry} {o : Opening} {before after : PassView} {d
   abbrev less : List Event
   less = map (chain_less base) since
 
-  at_rest : IsAtRest st
-  at_rest = at_rest_of first
-
   behind : IsLegal st since end
   behind = legal_behind (start_of o) end before.own since (none_held before.own authors first.held)
       (subst (λ (h : List Event). IsLegal (start_of o) h end) own last.legal)
@@ -121,7 +118,7 @@ module _ {catalogue : List FileEntry} {o : Opening} {before after : PassView} {d
 
   opened : (r : Renaming) × (left : State) × (r.chain ≡ (λ c. c - base))
       × IsLegal (opening st (numbers_for (length runs))) (map (renamed_event r) since) left × HasOtherNumbers end left
-  opened = opened_anew (λ c. c - base) (numbers_for (length runs)) st end since at_rest
+  opened = opened_anew (λ c. c - base) (numbers_for (length runs)) st end since (at_rest_of first)
       (let same : st.size ≡ size_of o = same_size (start_of o) st (map action_of before.own) first.legal.leads in
       omega (arith, few_numbers, few_slots, same)) behind
 
@@ -143,7 +140,7 @@ module _ {catalogue : List FileEntry} {o : Opening} {before after : PassView} {d
     history = history;
     end = left;
     legal = subst (λ (z : State × List Event). IsLegal z.0 z.1 left) (λ i. (
-      sym (opened_so st at_rest.inside (numbers_for (length runs))) i,
+      sym (opened_so st (at_rest_of first).inside (numbers_for (length runs))) i,
       map (renamed_event (record opened.0 { chain = opened.2 i })) since,
     )) opened.3;
     settled = opened.4.settled last.settled;

@@ -1,6 +1,6 @@
 -- Lists with a part for each number from one on, and lists of which one element alone has a part.
-use Rattle.fx_ring.proofs.Words.{◌≡◌, ℕ, ◌+◌, ◌<◌, ◌≤◌, List, [], ◌∷◌, ◌++◌, flat_map, filter, reverse, Bool, All, sum_by, refl, sym, ap, subst, ◌∙◌}
-use Rattle.fx_ring.proofs.Words.{arith, append-nil, ⊎_elim, reverse-append, flat_map-append, All-nil, All-append, filter-append, IsPermutation-refl}
+use Rattle.fx_ring.proofs.Words.{◌≡◌, ℕ, ◌+◌, ◌<◌, ◌≤◌, List, [], ◌∷◌, ◌++◌, flat_map, reverse, All, sum_by, refl, sym, ap, subst, ◌∙◌}
+use Rattle.fx_ring.proofs.Words.{arith, append-nil, ⊎_elim, reverse-append, flat_map-append, All-nil, All-append, IsPermutation-refl}
 use Rattle.fx_ring.proofs.Words.{IsPermutation-trans, IsPermutation-append_left, IsPermutation-append_comm, sum_by-cons, sum_of, Contains}
 use Rattle.fx_ring.proofs.Words.{range_with_len, length-range_with_len, get_or-range_with_len, IsPermutation, contains_none, contains_head}
 use Rattle.fx_ring.proofs.Words.{contains_tail, contains_cases}
@@ -36,9 +36,12 @@ module _ {W X : Type 0} (g : W → List X) where
   all_parts P (w ∷ ws) each =
       All-append P (g w) (flat_map g ws) (each w (contains_head w ws)) (all_parts P ws (λ v h. each v (contains_tail w ws v h)))
 
-  pub filter_parts : (p : X → Bool) (ws : List W) → filter p (flat_map g ws) ≡ flat_map (λ w. filter p (g w)) ws
-  filter_parts p [] = refl
-  filter_parts p (w ∷ ws) = filter-append p (g w) (flat_map g ws) ∙ ap (λ (l : List X). filter p (g w) ++ l) (filter_parts p ws)
+  -- what is made of the parts, one behind another
+  pub made_of_parts : {Y : Type 0} (made : List X → List Y) → made [] ≡ [] → ((xs ys : List X) → made (xs ++ ys) ≡ made xs ++ made ys)
+      → (ws : List W) → made (flat_map g ws) ≡ flat_map (λ w. made (g w)) ws
+  made_of_parts made none both [] = none
+  made_of_parts {Y} made none both (w ∷ ws) =
+      both (g w) (flat_map g ws) ∙ ap (λ (l : List Y). made (g w) ++ l) (made_of_parts made none both ws)
 
   pub parts_reversed : (ws : List W) → IsPermutation (flat_map g ws) (flat_map g (reverse ws))
   parts_reversed [] = IsPermutation-refl []

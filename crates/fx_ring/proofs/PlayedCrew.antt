@@ -1,9 +1,10 @@
 -- What a crew has come to, as its passes and outcomes say it once they lie in lists of their own.
-use Rattle.fx_ring.proofs.Words.{◌≡◌, ℕ, List, [], ◌∷◌, ◌++◌, map, flat_map, reverse, length, All, true, sum_by, refl, sym, ap, ◌∙◌, arith}
+use Rattle.fx_ring.proofs.Words.{◌≡◌, ℕ, List, map, flat_map, reverse, length, All, true, sum_by, refl, sym, ap, ◌∙◌, arith}
 use Rattle.fx_ring.proofs.Words.{length-map, reverse-reverse, map-append, map-map, length-flat_map, All-map, All-weaker, IsShortRun, Closed}
 use Rattle.fx_ring.proofs.Words.{FileEntry, Contents, ClosesTable, Opening, size_of, PassView, new_passes, sum_reverse, all_completed, completed_of}
 use Rattle.fx_ring.proofs.Words.{members_of, all_asked, runs_of, Chain, Request, IsChain, Completion, state_of_worker, HasWorked, WorkerState}
 use Rattle.fx_ring.proofs.Words.{Outcome, Worker, flat_map-map}
+use Rattle.fx_ring.proofs.NumberedParts.{made_of_parts}
 use Rattle.fx_ring.proofs.NewCrew.{map_reversed, numbers_are}
 use Rattle.fx_ring.proofs.WorkersTogether.{HavePlayed, pass_of, number_of, completed_by, closed_by_worker}
 use Rattle.fx_ring.proofs.PartsExplained.{IsShort}
@@ -14,10 +15,6 @@ completions_of outcome = outcome.completions.items
 
 abbrev pub files_of : Outcome → List Closed
 files_of outcome = outcome.closes.files
-
-map_parts : {X Y Z : Type 0} (f : Y → Z) (g : X → List Y) (xs : List X) → map f (flat_map g xs) ≡ flat_map (λ x. map f (g x)) xs
-map_parts f g [] = refl
-map_parts {X} {Y} {Z} f g (x ∷ xs) = map-append f (g x) (flat_map g xs) ∙ ap (λ (l : List Z). map f (g x) ++ l) (map_parts f g xs)
 
 module _ {P : Type 0} (V : P → PassView) where
   abbrev pub states : List (Worker P) → List WorkerState
@@ -36,7 +33,7 @@ module _ {P : Type 0} (V : P → PassView) where
     completions_joined =
         ap (λ (l : List Outcome). all_completed (flat_map completions_of l)) turned
         ∙ (ap all_completed (flat_map-map completions_of (λ w. w.outcome) ws)
-        ∙ (map_parts completed_of (λ w. w.outcome.completions.items) ws ∙ sym (flat_map-map completed_by (state_of_worker V) ws)))
+        ∙ (made_of_parts (λ w. w.outcome.completions.items) (map completed_of) refl (map-append completed_of) ws ∙ sym (flat_map-map completed_by (state_of_worker V) ws)))
 
     pub files_joined : flat_map files_of (reverse outcomes) ≡ flat_map closed_by_worker (states ws)
     files_joined = ap (flat_map files_of) turned

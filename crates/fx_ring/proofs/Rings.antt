@@ -73,10 +73,10 @@ pub entries_closed : (ring : RingState) {files : List Closed} {closes : CloseLis
 entries_closed ring {files} {closes} all closed = All-permutation (IsEntry (length ring.catalogue)) files closes.files closed.same_files all
 
 -- a list of all files of a ring, once it is in order
-pub all_closed : {ring seen : RingContents} {given : List Closed} {closes : CloseListView} → ring ≡ seen → IsRing (ring_of ring)
+pub all_closed : {ring seen : RingContents} {given : List Closed} (closes : CloseListView) → ring ≡ seen → IsRing (ring_of ring)
     → given ≡ files_of_state (state_of ring.table) → IsPermutation given closes.files → IsInOrderOfMark closes.files
     → HasClosed (files_of (ring_of seen)) closes × AreEntries (ring_of seen) closes.files
-all_closed {ring} {given} {closes} same is all permutation order =
+all_closed {ring} {given} closes same is all permutation order =
     let closed = list_closed (all ∙ sym (files_of-state (state_of ring.table).at (state_of ring.table).size)) permutation order in
     subst (λ (c : RingContents). HasClosed (files_of (ring_of c)) closes × AreEntries (ring_of c) closes.files) same
     (closed, entries_closed (ring_of ring) (entries_of (ring_of ring) is) closed)

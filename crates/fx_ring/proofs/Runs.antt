@@ -1,7 +1,7 @@
 -- Where the members of a chain stand in the list of requests.
 use Rattle.fx_ring.proofs.Words.{◌≡◌, ℕ, ◌+◌, ◌-◌, ◌≤◌, List, [], length, map, take, drop, slice_index_or, sym, ap, subst, ◌∙◌, All, arith}
 use Rattle.fx_ring.proofs.Words.{get_or-map, length-map, IsChain, IsShortRun, members_of, Asked, all_asked, runs_of, all_installs, Chain, Request}
-use Rattle.fx_ring.proofs.Words.{InstallAtMost, run_of_chain, All-contains, Contains, contains_map, contains_mapped, each_all}
+use Rattle.fx_ring.proofs.Words.{InstallAtMost, run_of_chain, All-contains, All-map, All-weaker, Contains, contains_mapped, each_all}
 use Rattle.fx_chain.proofs.Asking.{asked_part}
 
 -- the part of a list that a chain is
@@ -15,21 +15,18 @@ module _ (requests : List Request) (chains : List Chain) (c : ℕ) (d : Chain) (
   abbrev chain : Chain
   chain = slice_index_or chains (c - 1) d
 
-  asked_at : all_asked (take (chain.first + chain.len - chain.first) (drop chain.first requests)) ≡ members_of (all_asked requests) chain
-  asked_at = asked_of_part requests chain
+  abbrev asked : List Asked
+  asked = all_asked (take (chain.first + chain.len - chain.first) (drop chain.first requests))
 
-  pub run_at : map (members_of (all_asked requests)) chains ≡ runs_of (all_asked requests)
-      → all_asked (take (chain.first + chain.len - chain.first) (drop chain.first requests)) ≡ run_of_chain (runs_of (all_asked requests)) c
-  run_at members = asked_at ∙ sym (get_or-map (members_of (all_asked requests)) chains (c - 1) d [] (omega arith))
+  pub run_at : map (members_of (all_asked requests)) chains ≡ runs_of (all_asked requests) → asked ≡ run_of_chain (runs_of (all_asked requests)) c
+  run_at members = asked_of_part requests chain ∙ sym (get_or-map (members_of (all_asked requests)) chains (c - 1) d [] (omega arith))
       ∙ ap (λ (runs : List (List Asked)). run_of_chain runs c) members
 
-  pub short_at : All (IsChain (all_asked requests)) chains
-      → IsShortRun (all_asked (take (chain.first + chain.len - chain.first) (drop chain.first requests)))
-  short_at within = subst IsShortRun (sym asked_at) (within (c - 1) d (omega arith)).run
+  pub short_at : All (IsChain (all_asked requests)) chains → IsShortRun asked
+  short_at within = subst IsShortRun (sym (asked_of_part requests chain)) (within (c - 1) d (omega arith)).run
 
-  pub few_at : (most : ℕ) → InstallAtMost (all_asked requests) most chains
-      → all_installs (all_asked (take (chain.first + chain.len - chain.first) (drop chain.first requests))) ≤ most
-  few_at most few = subst (λ (run : List Asked). all_installs run ≤ most) (sym asked_at) (few (c - 1) d (omega arith))
+  pub few_at : (most : ℕ) → InstallAtMost (all_asked requests) most chains → all_installs asked ≤ most
+  few_at most few = subst (λ (run : List Asked). all_installs run ≤ most) (sym (asked_of_part requests chain)) (few (c - 1) d (omega arith))
 
 -- there are as many chains as runs
 pub as_many : (requests : List Request) (chains : List Chain) → map (members_of (all_asked requests)) chains ≡ runs_of (all_asked requests)
@@ -46,6 +43,5 @@ chains_install asked chains {most} members all = each_all (λ chain. all_install
 -- the runs of chains within the limits are short
 pub runs_within : {requests : List Asked} (chains : List Chain) → map (members_of requests) chains ≡ runs_of requests
     → All (IsChain requests) chains → All IsShortRun (runs_of requests)
-runs_within {requests} chains members within = subst (All IsShortRun) members (each_all IsShortRun (map (members_of requests) chains) (λ run h.
-    let m = contains_map (members_of requests) chains run h in
-    subst IsShortRun (sym m.2) (All-contains (IsChain requests) chains m.0 within m.1).run))
+runs_within {requests} chains members within = subst (All IsShortRun) members (All-map IsShortRun (members_of requests) chains
+    (All-weaker (IsChain requests) (λ chain. IsShortRun (members_of requests chain)) (λ chain is. is.run) chains within))

@@ -6,7 +6,7 @@ use Rattle.fx_ring.proofs.Words.{IsRing, IsAtRest, HasCounted, AreEntries, ring_
 use Rattle.fx_ring.proofs.Words.{MOST_SUBMISSIONS}
 use Rattle.fx_plain.proofs.FilesWereInstalled.{HoldsOfAll, holds_of_closes, all_closes_in}
 use Rattle.fx_ring.proofs.Rings.{counted_still, file_told, not_yet, opening_files, entries_closed}
-use Rattle.fx_ring.proofs.NewMarks.{IsPut, HasNewMarks, Puts}
+use Rattle.fx_ring.proofs.NewMarks.{IsPut, Puts}
 use Rattle.fx_ring.proofs.Installs.{IsOfMembers, explained_puts}
 use Rattle.fx_ring.proofs.ChainsApart.{IsOfChain, part_actions, put_in_part, installed_put, whole_new}
 use Rattle.fx_ring.proofs.MarksApart.{IsApart, IsUnlike, apart_after}
@@ -49,12 +49,6 @@ module _ (old new : RingContents) (requests : List Asked) (report : Reported) (i
       let files = opening_files (state_of old.table) (numbers_for (length (runs_of requests))) refl in
       sym (ap (λ (told : ℕ → Option Closed). told slot) files) ∙ ap identity_of at
 
-  began : IsApart WasThere [] start.at
-  began = record {
-    from = λ slot f at. inl (is.counted slot f.identity (at_start slot at), is.entries slot f.identity (at_start slot at));
-    distinct = λ slot other f g at too marks. is.distinct slot other f.identity g.identity (at_start slot at) (at_start other too) marks;
-  }
-
   parts : (e : Event) → Contains one.history e
       → Puts (IsOfMembers (length old.catalogue) (first_member report.submission e.chain)) (part_actions e.chain one.history)
   parts e there =
@@ -68,19 +62,19 @@ module _ (old new : RingContents) (requests : List Asked) (report : Reported) (i
       let member = (parts e there).0 f own in
       (e.chain, (member.0, member.1, member.3.0), member.3.1)
 
-  no_mark_twice : HasNewMarks actions
-  no_mark_twice = whole_new report.submission one.history
-      (λ e there. ((parts e there).1, λ f own. let member = (parts e there).0 f own in (member.0, member.1, member.3.0)))
-
   unlike : IsUnlike WasThere actions
   unlike f g put was same =
       let (c, (m, j, mark), entry) = put_is_new f put in
       let e : g.identity.mark ≡ Submitted (old.submissions + 1) c m j = sym same ∙ (mark ∙ ap (λ s. Submitted s c m j) one.submission) in
       not_yet before g.identity.mark c m j was.0 e
 
+  -- each file that was there, or was installed, keeps its mark apart
   ended : IsApart WasThere actions one.end.at
-  ended = subst (λ (st : State). IsApart WasThere actions st.at) (sym one.legal.leads.1)
-      (apart_after WasThere start actions began no_mark_twice unlike)
+  ended = subst (λ (st : State). IsApart WasThere actions st.at) (sym one.legal.leads.1) (apart_after WasThere start actions (record {
+    from = λ slot f at. inl (is.counted slot f.identity (at_start slot at), is.entries slot f.identity (at_start slot at));
+    distinct = λ slot other f g at too marks. is.distinct slot other f.identity g.identity (at_start slot at) (at_start other too) marks;
+  }) (whole_new report.submission one.history
+      (λ e there. ((parts e there).1, λ f own. let member = (parts e there).0 f own in (member.0, member.1, member.3.0)))) unlike)
 
   put_counted : (f : File) → IsPut actions f → HasCounted behind f.identity.mark
   put_counted f put =

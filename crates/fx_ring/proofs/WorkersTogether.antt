@@ -1,6 +1,6 @@
 -- What the workers of a submission did, taken together.
 use Rattle.fx_ring.proofs.Words.{◌≡◌, ℕ, ◌+◌, ◌-◌, ◌<◌, ◌≤◌, ◌==◌, true, List, [], map, flat_map, reverse, length, All, sum_by, count_by}
-use Rattle.fx_ring.proofs.Words.{slice_index_or, closed_by, filter, refl, sym, ap, subst, ◌∙◌, arith, eqb, IsNonDecreasingBy, All-contains}
+use Rattle.fx_ring.proofs.Words.{slice_index_or, closed_by, filter, filter-append, refl, sym, ap, subst, ◌∙◌, arith, eqb, IsNonDecreasingBy, All-contains}
 use Rattle.fx_ring.proofs.Words.{IsPermutation-trans, length_permutation, FileEntry, IsInOrderOfMark, CloseListView, Closed, opening, Contents}
 use Rattle.fx_ring.proofs.Words.{state_of, IsLegal, action_of, part_of_chain, Event, ClosesTable, times_drawn, numbers_for, Opening, size_of}
 use Rattle.fx_ring.proofs.Words.{state_at, PassView, IsOfDrawnChains, some_times, part_of_drawn, sum_reverse, sum_map, Completed, Explains}
@@ -9,7 +9,7 @@ use Rattle.fx_ring.proofs.Words.{completions_of_chain, Contains, IsPermutation, 
 use Rattle.fx_ring.proofs.Words.{each_all, range_with_len, flat_map-map}
 use Rattle.fx_ring.proofs.ClosesInParts.{closes_of, closes_by_key, closes_sum}
 use Rattle.fx_table.proofs.Chains.{in_part}
-use Rattle.fx_ring.proofs.NumberedParts.{number_within, one_part, all_parts, filter_parts, parts_reversed, same_parts}
+use Rattle.fx_ring.proofs.NumberedParts.{number_within, one_part, all_parts, made_of_parts, parts_reversed, same_parts}
 use Rattle.fx_ring.proofs.CompletionPlaces.{place_key}
 use Rattle.fx_ring.proofs.Rings.{ring_as}
 use Rattle.fx_ring.proofs.Parts.{few_by_key, none_kept}
@@ -95,7 +95,7 @@ module _ {catalogue : List FileEntry} {submission : ℕ} {runs : List (List Aske
   part_is : {c : ℕ} {w : WorkerState} → Contains crew w → Contains w.pass.drawn c
       → completions_of_chain c joined ≡ completions_of_chain c w.completions
   part_is {c} {w} h drew =
-      filter_parts completed_by (λ x. x.place.chain == c) crew
+      made_of_parts completed_by (filter (λ x. x.place.chain == c)) refl (filter-append (λ x. x.place.chain == c)) crew
       ∙ one_part (λ w. completions_of_chain c w.completions) crew (once c) h (some_times c w.pass.drawn drew)
       (λ v i zero. none_of_chain c v.pass.drawn v.completions (works v i).completed zero)
 

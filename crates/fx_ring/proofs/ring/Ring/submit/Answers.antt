@@ -32,10 +32,10 @@ returns-in-Err-clause-err g c =
 
 pub returns-in-Some-clause-refused : goal.returns-in-Some-clause-refused
 returns-in-Some-clause-refused g c =
-    let same = sym (ap (λ (ring : RingContents). (ring_of ring).submissions) c.self.view_is) in
-    rw (sym (c.refusal_behind.ensures.value (ring_of c.args.self.now) same) ∙ c.in-Some.is) refl
+    rw (sym (c.refusal_behind.ensures.value (ring_of c.args.self.now) (sym (ap (λ (ring : RingContents). ring.submissions) c.self.view_is)))
+    ∙ c.in-Some.is) refl
 
 pub returns-in-Some-clause-only_refusal : goal.returns-in-Some-clause-only_refusal
 returns-in-Some-clause-only_refusal g c =
-    let same = sym (ap (λ (ring : RingContents). (ring_of ring).submissions) c.self.view_is) in
-    rw (sym (c.refusal_behind.ensures.value (ring_of c.args.self.now) same) ∙ c.in-Some.is) tt
+    rw (sym (c.refusal_behind.ensures.value (ring_of c.args.self.now) (sym (ap (λ (ring : RingContents). ring.submissions) c.self.view_is)))
+    ∙ c.in-Some.is) tt

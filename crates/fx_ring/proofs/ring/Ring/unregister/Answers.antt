@@ -1,16 +1,14 @@
-use Rattle.fx_ring.proofs.Words.{ap, rules, State, identity_of, AreEntries, HasClosed, ring_of, files_of}
+use Rattle.fx_ring.proofs.Words.{ap, rules, State, identity_of}
 use Rattle.fx_ring.proofs.Rings.{all_closed, emptied_settled, none_rings}
-use Rattle.fx_ring.proofs.ring.Ring.unregister.Goals.{After-sort}
 use Rattle.fx_ring.proofs.ring.Ring.unregister.Goals as goal
 
-closed : (c : After-sort) → HasClosed (files_of (ring_of c.args.self.now)) c.sort.new.self × AreEntries (ring_of c.args.self.now) c.sort.new.self.files
-closed c = all_closed c.self.view_is c.self.invariant.ring (search rules) c.sort.ensures.same_files c.sort.ensures.in_order
-
 pub returns-clause-closes : goal.returns-clause-closes
-returns-clause-closes c = (closed (goal.at.returns-clause-closes c).After-sort).0
+returns-clause-closes c =
+    (all_closed c.sort.new.self c.self.view_is c.self.invariant.ring (search rules) c.sort.ensures.same_files c.sort.ensures.in_order).0
 
 pub returns-clause-entries : goal.returns-clause-entries
-returns-clause-entries c = (closed (goal.at.returns-clause-entries c).After-sort).1
+returns-clause-entries c =
+    (all_closed c.sort.new.self c.self.view_is c.self.invariant.ring (search rules) c.sort.ensures.same_files c.sort.ensures.in_order).1
 
 pub invariant_of-self : goal.invariant_of-self
 invariant_of-self c = record {
