@@ -65,7 +65,8 @@ module _ {o : Opening} {catalogue : List FileEntry} {submission : ℕ} {runs : L
   new_events = each_all (λ e. chain_of e ≡ chain) events of_chain
 
   new_completions : All (λ c. chain_of_completed c ≡ chain) played.0
-  new_completions k d l = ((explained_of_members catalogue (size_of o) (first_member submission chain) asked played.2.actions played.2.says).within k d l).0
+  new_completions k d l = let are = explained_of_members catalogue (size_of o) (first_member submission chain) asked played.2.actions played.2.says in
+      (are.within k d l).0
 
   -- those before are of chains before it
   old_events : All (λ e. chain_of e ≢ chain) v.own
@@ -76,11 +77,13 @@ module _ {o : Opening} {catalogue : List FileEntry} {submission : ℕ} {runs : L
   old_completions k d l same = let low = (worked.inside _ (worked.completed k d l)).1 in absurd (omega arith)
 
   abbrev Done : ℕ → Type 0
-  Done c = IsDone catalogue (size_of o) submission runs c (map action_of (part_of_chain c (events ++ v.own))) (completions_of_chain c (before ++ played.0))
+  Done c = IsDone catalogue (size_of o) submission runs c (map action_of (part_of_chain c (events ++ v.own)))
+      (completions_of_chain c (before ++ played.0))
 
   done_now : Done chain
   done_now =
-      let part = ap (map action_of) (only_first chain_of chain events v.own new_events old_events) ∙ actions_again (drawing o v chain) played.2.actions in
+      let part = ap (map action_of) (only_first chain_of chain events v.own new_events old_events)
+      ∙ actions_again (drawing o v chain) played.2.actions in
       let mine = only_second chain_of_completed chain before played.0 old_completions new_completions in
       subst (λ (z : List Action × List Completed × List Asked). Explains catalogue (size_of o) (first_member submission chain) z.2 z.0 z.1
       × (length (closes_in z.0) ≤ all_weights z.2)) (λ i. (sym part i, sym mine i, are i)) (played.2.says, played.2.few_files)

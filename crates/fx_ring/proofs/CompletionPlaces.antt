@@ -47,5 +47,6 @@ pub explained_of_members : (catalogue : List FileEntry) (size : ℕ) (place : Pl
 explained_of_members catalogue size place [] events it = subst (AreOfMembers place []) (sym it.1) (none_of_members place)
 explained_of_members catalogue size place (request ∷ requests) events (own, others, c, cs, parts, are, answers, behind) =
     subst (AreOfMembers place (request ∷ requests)) (sym are) (more_of_members request (answered catalogue place size request.operation answers).at
-    (either_case (severs request c) (λ cut. subst (AreOfMembers (next_member place) requests) (sym cut.1) (canceled_of_members (next_member place) requests))
+    (either_case (severs request c)
+    (λ cut. subst (AreOfMembers (next_member place) requests) (sym cut.1) (canceled_of_members (next_member place) requests))
     (λ more. explained_of_members catalogue size (next_member place) requests others more) behind))

@@ -51,6 +51,14 @@ module _ (catalogue : List FileEntry) (place : Place) where
   refuses : {P : File → Type 0} (errno : Errno) {events : List Action} {c : Completed} → Refuses place errno events c → Gives place P events c
   refuses {P} errno it = record { at = ap place_of it.1; puts = subst (Puts P) (sym it.0) (puts_none P [] (λ f is. is)) }
 
+  -- one step that installs nothing
+  installs_nothing : {P : File → Type 0} (a : Action) {events : List Action} {c answer : Completed} → installed_by a ≡ None → events ≡ [] ▷ a
+      → c ≡ answer → answer.place ≡ place → Gives place P events c
+  installs_nothing {P} a none is so at = record {
+    at = ap place_of so ∙ at;
+    puts = subst (Puts P) (sym is) (puts_one P a (λ f new. no_file P f (sym none ∙ new)));
+  }
+
   opens : (size : ℕ) {entry : ℕ} (target : Target) {events : List Action} {c : Completed} → entry < entries
       → OpensAt size place entry target events c → Gives place (Here 0) events c
   opens size (Slot slot) {events} inside it =
@@ -63,12 +71,13 @@ module _ (catalogue : List FileEntry) (place : Place) where
         at = ap place_of found.4;
         puts = subst (Puts (Here 0)) (sym found.3) (installs_here (Allocate found.0 found.1) refl found.2 inside);
       })
-      (λ full. record { at = ap place_of full.1; puts = subst (Puts (Here 0)) (sym full.0) (puts_one (Here 0) Full (no_file (Here 0))) })) it
+      (λ full. installs_nothing Full refl full.0 full.1 refl)) it
 
   applies_entry : {j : ℕ} (slot : ℕ) (z : ℤ) (events : List Action) → is_bad_entry entries z ≡ false → AppliesEntry place j slot z events
       → Puts (Here j) events
   applies_entry {j} slot (pos entry) events good (f, replaced, is, may) =
-      puts_may_close (Here j) ([] ▷ Put slot f replaced) replaced events may (installs_here (Put slot f replaced) refl is (leb-false entries entry good))
+      puts_may_close (Here j) ([] ▷ Put slot f replaced) replaced events may
+      (installs_here (Put slot f replaced) refl is (leb-false entries entry good))
   applies_entry {j} slot (negsuc zero) events good (removed, may) =
       puts_may_close (Here j) ([] ▷ Clear slot removed) removed events may (puts_one (Here j) (Clear slot removed) (no_file (Here j)))
   applies_entry {j} slot (negsuc (suc n)) events good is = subst (Puts (Here j)) (sym is) (puts_none (Here j) [] (λ f it. it))
@@ -95,7 +104,7 @@ module _ (catalogue : List FileEntry) (place : Place) where
       record { at = o.at; puts = puts_so (Here 0) (Listed 0) events (λ f at. (0, omega arith, at)) o.puts }) (refuses ENOENT) it
   answered size (Reads slot off len) {events} it =
       either_case (nat_le size slot) (refuses EBADF) (⊎_elim (λ large. refuses ENOMEM large.1) (⊎_elim
-      (λ none. record { at = ap place_of none.1; puts = subst (Puts (Listed 0)) (sym none.0) (puts_one (Listed 0) (Look slot None) (no_file (Listed 0))) })
+      (λ none. installs_nothing (Look slot None) refl none.0 none.1 refl)
       (λ found. record {
         at = ap place_of found.2;
         puts = puts_may_close (Listed 0) ([] ▷ Look slot (Some found.0) ▷ Release found.0) (Some found.0) events found.1
@@ -104,7 +113,7 @@ module _ (catalogue : List FileEntry) (place : Place) where
       }))) it
   answered size (Closes slot) {events} it =
       either_case (size == 0) (refuses ENXIO) (either_case (nat_le size slot) (refuses EINVAL) (⊎_elim
-      (λ none. record { at = ap place_of none.1; puts = subst (Puts (Listed 0)) (sym none.0) (puts_one (Listed 0) (Take slot None) (no_file (Listed 0))) })
+      (λ none. installs_nothing (Take slot None) refl none.0 none.1 refl)
       (λ taken. record {
         at = ap place_of taken.2;
         puts = puts_may_close (Listed 0) ([] ▷ Take slot (Some taken.0)) (Some taken.0) events taken.1

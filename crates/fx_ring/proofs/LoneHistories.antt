@@ -56,11 +56,14 @@ module _ (r : Renaming) (base : ℕ) where
   anew = record r { chain = λ c. c - base }
 
   parts_same : (c : ℕ) (since : List Event)
-      → map action_of (part_of_chain c (map (renamed_event anew) since)) ≡ map (renamed anew) (map action_of (part_of_chain c (map (chain_less base) since)))
+      → map action_of (part_of_chain c (map (renamed_event anew) since))
+      ≡ map (renamed anew) (map action_of (part_of_chain c (map (chain_less base) since)))
   parts_same c [] = refl
-  parts_same c (e ∷ since) = elim (e.chain - base == c) as (λ b.
-      map action_of (cond b (renamed_event anew e ∷ part_of_chain c (map (renamed_event anew) since)) (part_of_chain c (map (renamed_event anew) since)))
-      ≡ map (renamed anew) (map action_of (cond b (chain_less base e ∷ part_of_chain c (map (chain_less base) since)) (part_of_chain c (map (chain_less base) since))))) [
+  parts_same c (e ∷ since) =
+      let others = part_of_chain c (map (renamed_event anew) since) in
+      let less = part_of_chain c (map (chain_less base) since) in
+      elim (e.chain - base == c) as (λ b.
+      map action_of (cond b (renamed_event anew e ∷ others) others) ≡ map (renamed anew) (map action_of (cond b (chain_less base e ∷ less) less))) [
         | true ↦ ap (λ (l : List Action). renamed anew e.action ∷ l) (parts_same c since)
         | false ↦ parts_same c since
       ]
@@ -69,7 +72,8 @@ module _ (r : Renaming) (base : ℕ) where
   closed_same (Rattle.fx_plain.specs.declared.event.Action.TheVariants.Close f) = refl
   closed_same _ = refl
 
-  closes_same : (since : List Event) → closes_in (map action_of (map (renamed_event anew) since)) ≡ closes_in (map action_of (map (chain_less base) since))
+  closes_same : (since : List Event)
+      → closes_in (map action_of (map (renamed_event anew) since)) ≡ closes_in (map action_of (map (chain_less base) since))
   closes_same [] = refl
   closes_same (e ∷ since) = ap (λ (x : List Closed × List Closed). x.0 ++ x.1) (λ i. (closes_same since i, closed_same e.action i))
 

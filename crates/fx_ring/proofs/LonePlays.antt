@@ -83,7 +83,8 @@ module _ {P : Type 0} {V : P → PassView} {Fits : P → Type 0} {o : Opening} {
           let requests_next = sum_behind (λ (run : List Asked). length run) (runs_of requests) [] i (omega arith) inside in
           omega (arith, requests_next, goes.looks_left, played.2.few_looks, ap length are, so_far.looks);
       since = since;
-      own = played.2.acts.adds.own ∙ ap (λ (l : List Event). map (event_of w) played.2.actions ++ l) (ap (λ (z : PassView). z.own) drew.3 ∙ so_far.own)
+      own = played.2.acts.adds.own
+          ∙ ap (λ (l : List Event). map (event_of w) played.2.actions ++ l) (ap (λ (z : PassView). z.own) drew.3 ∙ so_far.own)
           ∙ sym (append_assoc (map (event_of w) played.2.actions) so_far.since start.own);
       worked = worked_on so_far.worked further inside are played goes;
     };

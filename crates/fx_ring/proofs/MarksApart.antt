@@ -38,7 +38,8 @@ module _ (P : File → Type 0) where
     cases : {slot : ℕ} {f : File} → changed_at at place (installed_by a) slot ≡ Some f
         → ((slot ≡ place) × (installed_by a ≡ Some f)) ⊎ (at slot ≡ Some f)
     cases {slot} {f} = by_equality slot place
-        (λ b. ◌≡◌ {A = Option File} (if b then installed_by a else at slot) (Some f) → ((slot ≡ place) × (installed_by a ≡ Some f)) ⊎ (at slot ≡ Some f))
+        (λ b. ◌≡◌ {A = Option File} (if b then installed_by a else at slot) (Some f)
+        → ((slot ≡ place) × (installed_by a ≡ Some f)) ⊎ (at slot ≡ Some f))
         (λ here now. inl (here, now)) (λ _ is. inr is)
 
     changed_apart : IsApart (a ∷ h) (changed_at at place (installed_by a))

@@ -55,7 +55,8 @@ module _ {X : Type 0} (key : X → ℕ) where
       (λ is. sym is)
       (λ behind. absurd
       (let above : key x < key y = All-contains (λ z. key x < key z) xs y rises.0 behind in
-      let none = keyed_above (key x) (y ∷ ys) (λ k d lt. let low : key y ≤ key (slice_index_or (y ∷ ys) k d) = up 0 k d (omega arith) lt in omega arith) in
+      let none = keyed_above (key x) (y ∷ ys) (λ k d lt.
+      let low : key y ≤ key (slice_index_or (y ∷ ys) k d) = up 0 k d (omega arith) lt in omega arith) in
       let once = keyed_once x (x ∷ xs) (0, omega arith, refl) in
       let counts = same.often (key x) in
       omega arith))

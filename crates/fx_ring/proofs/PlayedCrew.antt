@@ -33,7 +33,8 @@ module _ {P : Type 0} (V : P → PassView) where
     completions_joined =
         ap (λ (l : List Outcome). all_completed (flat_map completions_of l)) turned
         ∙ (ap all_completed (flat_map-map completions_of (λ w. w.outcome) ws)
-        ∙ (made_of_parts (λ w. w.outcome.completions.items) (map completed_of) refl (map-append completed_of) ws ∙ sym (flat_map-map completed_by (state_of_worker V) ws)))
+        ∙ (made_of_parts (λ w. w.outcome.completions.items) (map completed_of) refl (map-append completed_of) ws
+        ∙ sym (flat_map-map completed_by (state_of_worker V) ws)))
 
     pub files_joined : flat_map files_of (reverse outcomes) ≡ flat_map closed_by_worker (states ws)
     files_joined = ap (flat_map files_of) turned
@@ -56,7 +57,8 @@ module _ {P : Type 0} (V : P → PassView) where
 
   -- a crew has played, once its passes are back: what each worker did is known, and each was told that no chains are left
   pub crew_has_played : {catalogue : List FileEntry} {submission : ℕ} (requests : List Request) (chains : List Chain) {o : Opening}
-      (ps : List P) (begun ws : List (Worker P)) {back : List P} {left : Contents} → map (members_of (all_asked requests)) chains ≡ runs_of (all_asked requests)
+      (ps : List P) (begun ws : List (Worker P)) {back : List P} {left : Contents}
+      → map (members_of (all_asked requests)) chains ≡ runs_of (all_asked requests)
       → All (IsChain (all_asked requests)) chains → o.chains ≡ length chains → map (λ p. V p) ps ≡ new_passes o.passes
       → map (λ w. w.pass) begun ≡ reverse ps → map (λ w. (V w.pass).number) ws ≡ map (λ w. (V w.pass).number) begun
       → back ≡ reverse (map (λ w. w.pass) ws)

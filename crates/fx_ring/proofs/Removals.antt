@@ -16,8 +16,10 @@ pub can_retire : {first : State} (before : State) {leaves : ℕ → Bool} (going
     → CanRetire leaves before number
 can_retire before {leaves} going None s holds left is = subst (CanRetire leaves before) (sym is) tt
 can_retire before {leaves} going (Some f) s holds left is =
-    subst (CanRetire leaves before) (sym is)
-    (ap (λ (l : ℕ → Bool). l f.number) left ∙ changed_here going f.number true f.number refl, ap (λ (h : ℕ → ℕ). h f.number) holds ∙ s.unheld f.number)
+    subst (CanRetire leaves before) (sym is) (
+      ap (λ (l : ℕ → Bool). l f.number) left ∙ changed_here going f.number true f.number refl,
+      ap (λ (h : ℕ → ℕ). h f.number) holds ∙ s.unheld f.number,
+    )
 
 -- what was removed is found by its number
 removed_found : (first before : State) (removed : Option File) → before.removed ≡ with_removed first.removed removed

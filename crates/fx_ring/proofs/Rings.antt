@@ -107,7 +107,8 @@ ring_is ring st size range files same_size same_range same_files =
     λ i. record ring { size = same_size i; range = same_range i; at = same_files i }
 
 -- a ring whose table has the files of a state, their numbers aside
-pub ring_as : (c : RingContents) {st : State} (t : Contents) → HasSameFiles st (state_of t) → ring_of (record c { table = t }) ≡ with_table (ring_of c) st
+pub ring_as : (c : RingContents) {st : State} (t : Contents) → HasSameFiles st (state_of t)
+    → ring_of (record c { table = t }) ≡ with_table (ring_of c) st
 ring_as c t same = λ i. record (ring_of c) { size = same.size i; range = same.range i; at = λ slot. same.files slot i }
 
 -- a ring whose table came back where it could not be opened

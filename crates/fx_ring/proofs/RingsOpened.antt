@@ -27,7 +27,8 @@ pub counts_shown : {P : Type 0} (V : P → PassView) (catalogue : List FileEntry
 counts_shown V catalogue o submissions registrations [] = refl
 counts_shown V catalogue o submissions registrations (p ∷ others) = refl
 
-module _ {P : Type 0} (V : P → PassView) (Fits : P → Type 0) (catalogue : List FileEntry) (o : Opening) (size chains drawn most submissions registrations : ℕ) where
+module _ {P : Type 0} (V : P → PassView) (Fits : P → Type 0) (catalogue : List FileEntry) (o : Opening)
+    (size chains drawn most submissions registrations : ℕ) where
   pub closed_ring : (items : List P) {left : Contents} → IsKeptOpen V Fits catalogue o size chains drawn most submissions registrations items
       → ClosesTable o (map V items) left
       → (ring_of (ring_with catalogue left submissions registrations) ≡ ring_of (ring_shown V catalogue o submissions registrations items))
@@ -80,7 +81,7 @@ module _ {P : Type 0} (V : P → PassView) (Fits : P → Type 0) (catalogue : Li
             refl,
             record {
               alone = opened.passes;
-              few_slots = subst (λ (c : Contents). (state_of c).size ≤ MOST_SLOTS) (sym opened.contents) (subst (λ (n : ℕ). n ≤ MOST_SLOTS) slots few);
+              few_slots = let same = ap (λ (c : Contents). (state_of c).size) opened.contents in omega (arith, same, slots, few);
               fits = its.0;
               idle = its.1;
               more = ap (λ (v : PassView). v.no_chains_left) is;

@@ -11,8 +11,8 @@ same_history old same new requests report is one = record {
       (λ i. (sym is i).size) (λ i. (sym is i).range) (λ slot i. (sym is i).at slot) (numbers_for (length (runs_of requests)))) one.legal;
   settled = one.settled;
   chains = one.chains;
-  explained = subst (λ (r : RingState). ExplainsParts r.catalogue r.size report.submission 1 (runs_of requests) one.history report.completions) (sym is)
-      one.explained;
+  explained = subst (λ (r : RingState). ExplainsParts r.catalogue r.size report.submission 1 (runs_of requests) one.history report.completions)
+      (sym is) one.explained;
   closed = one.closed;
   submission = subst (λ (r : RingState). report.submission ≡ r.submissions + 1) (sym is) one.submission;
   after = subst (λ (r : RingState). ring_of new ≡ record (with_table r one.end) { submissions = r.submissions + 1 }) (sym is) one.after;

@@ -12,8 +12,8 @@ use Rattle.fx_ring.proofs.ChainsApart.{IsOfChain, part_actions, put_in_part, ins
 use Rattle.fx_ring.proofs.MarksApart.{IsApart, IsUnlike, apart_after}
 
 -- each chain's part of the history installs files of the catalogue with marks of its own, and no mark twice
-part_puts : (catalogue : List FileEntry) (size : ℕ) {submission : ℕ} (first : ℕ) (runs : List (List Asked)) (history : List Event) (completions : List Completed)
-    → ExplainsParts catalogue size submission first runs history completions → {chain : ℕ} → first ≤ chain → chain < first + length runs
+part_puts : (catalogue : List FileEntry) (size : ℕ) {submission : ℕ} (first : ℕ) (runs : List (List Asked)) (history : List Event)
+    (completions : List Completed) → ExplainsParts catalogue size submission first runs history completions → {chain : ℕ} → first ≤ chain → chain < first + length runs
     → Puts (IsOfMembers (length catalogue) (first_member submission chain)) (part_actions chain history)
 part_puts catalogue size first [] history completions explained low high = absurd (omega arith)
 part_puts catalogue size {submission} first (run ∷ runs) history completions (own, others, parts, one, more) {chain} low high =
@@ -91,7 +91,7 @@ module _ (old new : RingContents) (requests : List Asked) (report : Reported) (i
     counted = λ slot file at.
         let (f, there, told) = file_told (one.end.at slot) file at in
         subst (λ (x : Closed). HasCounted behind x.mark) told
-        (⊎_elim (λ was. counted_still before behind f.identity.mark (omega arith) (omega arith) was.0) (λ put. put_counted f put) (ended.from slot f there));
+        (⊎_elim (λ was. counted_still before behind f.identity.mark (omega arith) (omega arith) was.0) (put_counted f) (ended.from slot f there));
     distinct = λ slot other file same at at_other marks.
         let (f, there, told) = file_told (one.end.at slot) file at in
         let (g, also, said) = file_told (one.end.at other) same at_other in

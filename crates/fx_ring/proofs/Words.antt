@@ -11,8 +11,7 @@ pub use Rattle.fx_base.specs.declared.open_file.Closed.{Closed}
 pub use Rattle.fx_chain.proofs.Accepted.{accepted-each, accepted-length, all_weights-small}
 pub use Rattle.fx_chain.proofs.Cases.{either_case, either_way}
 pub use Rattle.fx_chain.specs.Accepted.{IsAccepted, IsChain, IsShortRun, members_of}
-pub use Rattle.fx_chain.specs.Answers.{Answers, AppliesEntry, AppliesList, Empties, MayClose, OpensAt, ReadsFrom, Refuses, UpdatesFrom, installed}
-pub use Rattle.fx_chain.specs.Answers.{is_bad_entry}
+pub use Rattle.fx_chain.specs.Answers.{Answers, AppliesEntry, AppliesList, MayClose, OpensAt, Refuses, installed, is_bad_entry}
 pub use Rattle.fx_chain.specs.Completed.{Completed, all_completed, completed_of, next_member}
 pub use Rattle.fx_chain.specs.Explains.{Explains, canceled, first_member, severs}
 pub use Rattle.fx_chain.specs.Operation.{Asked, Closes, Opens, Operation, Reads, Updates, all_asked, asked_of, operation_of}
@@ -43,7 +42,7 @@ pub use Rattle.fx_plain.specs.declared.table.TheConstants.{MOST_SLOTS}
 pub use Rattle.fx_ring.specs.OpenRings.{HasPlayedAlone, IsAloneAt, IsKeptOpen, OpenRingContents, begun_behind, chain_less, chains_to, listed, node_if}
 pub use Rattle.fx_ring.specs.OpenRings.{number_if, ring_led_by, ring_shown, table_with_files}
 pub use Rattle.fx_ring.specs.Outcomes.{HasRoomFor}
-pub use Rattle.fx_ring.specs.Playing.{IsReady, number_of_worker, setting_of, state_of_worker}
+pub use Rattle.fx_ring.specs.Playing.{number_of_worker, state_of_worker}
 pub use Rattle.fx_ring.specs.Registration.{file_after, file_listed, files_after, is_bad_file, registered, removed_by, removed_from, updated}
 pub use Rattle.fx_ring.specs.Ring.{AreEntries, HasClosed, HasCounted, IsAtRest, IsRing, RingContents, RingState, files_in_order, files_of, ring_of}
 pub use Rattle.fx_ring.specs.Ring.{ring_with, with_table}

@@ -154,8 +154,8 @@ module _ {catalogue : List FileEntry} {submission : ℕ} {runs : List (List Aske
       omega arith
 
 -- the headline, once the completions are in order of place and the closes in order of mark
-pub one_history : {catalogue : List FileEntry} {submissions : ℕ} {requests : List Asked} {o : Opening} {crew : List WorkerState} {passes : List PassView}
-    {left : Contents} {sorted : List Completed} {closes : CloseListView} (registrations : ℕ)
+pub one_history : {catalogue : List FileEntry} {submissions : ℕ} {requests : List Asked} {o : Opening} {crew : List WorkerState}
+    {passes : List PassView} {left : Contents} {sorted : List Completed} {closes : CloseListView} (registrations : ℕ)
     → HavePlayed catalogue (submissions + 1) (runs_of requests) o crew passes left
     → IsPermutation (flat_map completed_by crew) sorted → IsNonDecreasingBy place_key sorted
     → IsPermutation (flat_map closed_by_worker crew) closes.files → IsInOrderOfMark closes.files
@@ -166,7 +166,8 @@ one_history {catalogue} {submissions} {requests} {o} {crew} {left} registrations
     record {
       history = history;
       end = state_at o history;
-      legal = subst (λ (n : ℕ). IsLegal (opening (state_of o.contents) (numbers_for n)) history (state_at o history)) played.chains played.closing.legal;
+      legal = subst (λ (n : ℕ). IsLegal (opening (state_of o.contents) (numbers_for n)) history (state_at o history)) played.chains
+          played.closing.legal;
       settled = played.closing.settled;
       chains = events_inside played;
       explained = in_order_explained catalogue (size_of o) (submissions + 1) history (flat_map completed_by crew) (runs_of requests) played.short

@@ -15,10 +15,12 @@ returns-clause-played g c registrations =
     let p = c.play_alone.ensures.played in
     let alone = c.requires.alone in
     let count = as_many s.requests.now c.args.chains.now c.requires.members in
-    let one = part_is_one_history p.since s.earlier asked alone.few_slots (runs_within c.args.chains.now c.requires.members c.requires.within) alone.settled
+    let one = part_is_one_history p.since s.earlier asked alone.few_slots (runs_within c.args.chains.now c.requires.members c.requires.within)
+    alone.settled
     (subst (λ (v : PassView). Rattle.fx_table.specs.Settling.IsSettledSoFar o v) c.settle.ensures.same c.settle.ensures.settled)
-    (authors_of alone.settled ((g.met.T.FileTable g.world.𝓛 g.world.𝓜 g.world.𝓡 ((λ s x. x), (λ x. x), (λ x. x), λ x. x)).fronts _ _ alone.fits)) p.own p.worked
-    (λ chain low high. all_drawn (length c.args.chains.now) chain low (let same = count in omega (arith, high, same))) registrations c.sort.ensures.completions c.sort.ensures.in_order
+    (authors_of alone.settled ((g.met.T.FileTable g.world.𝓛 g.world.𝓜 g.world.𝓡 ((λ s x. x), (λ x. x), (λ x. x), λ x. x)).fronts _ _ alone.fits))
+    p.own p.worked (λ chain low high. all_drawn (length c.args.chains.now) chain low (omega (arith, high, count))) registrations
+    c.sort.ensures.completions c.sort.ensures.in_order
     (record { same_files = c.sort.ensures.closes; in_order = c.sort.ensures.in_order_of_mark }) in
     subst (λ (z : Reported × PassView). IsOneHistory (ring_led_by s.catalogue.now o before s.earlier registrations) asked z.0
     (ring_led_by s.catalogue.now o z.1 (s.earlier + 1) registrations))

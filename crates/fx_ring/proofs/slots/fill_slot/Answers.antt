@@ -5,7 +5,8 @@ use Rattle.fx_ring.proofs.slots.fill_slot.Goals as goal
 pub close_removed-requires-clause-removed : goal.close_removed-requires-clause-removed
 close_removed-requires-clause-removed c =
     let put = c.put-replaced.ensures.replaced in
-    can_retire (state_of c.put-replaced.new.self) (leaving c.args.table.now) ((state_of c.args.table.now).at c.args.slot) c.requires.settled (ap (λ (st : State). st.holds) put.step.1) put.leaving put.answer
+    can_retire (state_of c.put-replaced.new.self) (leaving c.args.table.now) ((state_of c.args.table.now).at c.args.slot) c.requires.settled
+    (ap (λ (st : State). st.holds) put.step.1) put.leaving put.answer
 
 pub returns : goal.returns
 returns c =

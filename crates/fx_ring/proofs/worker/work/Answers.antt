@@ -4,7 +4,8 @@ use Rattle.fx_ring.proofs.ChainPlayed.{enough, worked_next, room_next, worked_al
 use Rattle.fx_ring.proofs.Runs.{as_many}
 use Rattle.fx_ring.proofs.worker.work.Goals as goal
 
-count : {T R G P : Type 0} {t : _} (play : Play T R G P t) → (t.opening play.table.now).chains ≡ length (runs_of (all_asked play.submission.now.requests.now))
+count : {T R G P : Type 0} {t : _} (play : Play T R G P t)
+    → (t.opening play.table.now).chains ≡ length (runs_of (all_asked play.submission.now.requests.now))
 count play = play.count ∙ sym (as_many play.submission.now.requests.now play.chains.now play.members)
 
 pub run_chain-requires-clause-looks : goal.run_chain-requires-clause-looks

@@ -32,7 +32,8 @@ pub returns-then-most_installs-self-clause-no_room : goal.returns-then-most_inst
 returns-then-most_installs-self-clause-no_room g c room =
     let asked = all_asked c.args.requests.now in
     let shown = ap (λ (opened : OpenRingContents). opened.most) c.self.view_is in
-    let members = subst (λ (l : List Chain). map (members_of asked) l ≡ runs_of asked) (sym c.as_slice-chains.ensures.value) c.in-Ok.ensures.members in
+    let members =
+    subst (λ (l : List Chain). map (members_of asked) l ≡ runs_of asked) (sym c.as_slice-chains.ensures.value) c.in-Ok.ensures.members in
     let few = c.most_installs.ensures.least c.args.self.now.most (chains_install asked c.as_slice-chains.result.now members room.installs) in
     let more = c.if-most_installs-self.true in
     absurd (omega (arith, shown, few, more))
