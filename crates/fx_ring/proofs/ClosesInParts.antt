@@ -41,7 +41,5 @@ module _ (key : Event → ℕ) where
 pub closes_sum : (h : List Event) → length (closes_of h) ≡ sum_by (λ e. length (closed_by e.action)) h
 closes_sum [] = refl
 closes_sum (e ∷ h) =
-    let both = length-append (closes_of h) (closed_by e.action) in
     let sum = sum_by-cons (λ (e : Event). length (closed_by e.action)) e h in
-    let rest = closes_sum h in
-    omega arith
+    omega (arith, length-append (closes_of h) (closed_by e.action), sum, closes_sum h)

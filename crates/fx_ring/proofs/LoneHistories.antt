@@ -44,10 +44,7 @@ given_by e = length (with_number_of (installed_by e.action) [])
 given_sum : (h : List Event) → given h ≡ sum_by given_by h
 given_sum [] = refl
 given_sum (e ∷ h) =
-    let one = given_one e.action (numbers_given (map action_of h)) in
-    let sum = sum_by-cons given_by e h in
-    let rest = given_sum h in
-    omega arith
+    omega (arith, given_one e.action (numbers_given (map action_of h)), sum_by-cons given_by e h, given_sum h)
 
 -- the history with other numbers and chains
 

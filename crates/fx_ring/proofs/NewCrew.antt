@@ -52,10 +52,8 @@ module _ {P : Type 0} (V : P → PassView) (ps : List P) (n : ℕ) (new : map (�
 weights_joined : (runs : List (List Asked)) → all_weights (flat_map (λ run. run) runs) ≡ sum_by all_weights runs
 weights_joined [] = refl
 weights_joined (run ∷ runs) =
-    let a = sum_by-append (λ request. weight_of request.operation) run (flat_map (λ run. run) runs) in
-    let b = sum_by-cons all_weights run runs in
-    let r = weights_joined runs in
-    omega arith
+    let both = sum_by-append (λ request. weight_of request.operation) run (flat_map (λ run. run) runs) in
+    omega (arith, both, sum_by-cons all_weights run runs, weights_joined runs)
 
 -- the runs have all requests, and what those weigh
 pub runs_have_all : (requests : List Asked) → sum_by (λ run. length run) (runs_of requests) ≡ length requests

@@ -1,7 +1,7 @@
 -- A list in strict order is the only one of its elements that is in order.
 use Rattle.fx_ring.proofs.Words.{◌≡◌, ℕ, suc, ◌<◌, ◌≤◌, cond, List, [], ◌∷◌, All, Contains, sum_by, IsPermutation, refl, sym, ap, subst, ◌==◌, arith}
 use Rattle.fx_ring.proofs.Words.{⊎_elim, slice_index_or, eq-eqb, ne_eqb, IsNonDecreasingBy, All-head, All-tail, All-contains, sum_by-cons}
-use Rattle.fx_ring.proofs.Words.{get_or-le-sum_by, Contains-permutation, IsPermutation-sym, sum_by-IsPermutation, contains_cases}
+use Rattle.fx_ring.proofs.Words.{sum_of, Contains-permutation, IsPermutation-sym, sum_by-IsPermutation, contains_cases}
 
 module _ {X : Type 0} (key : X → ℕ) where
   -- each element's key is below those behind it
@@ -23,17 +23,13 @@ module _ {X : Type 0} (key : X → ℕ) where
       omega arith
 
   keyed_once : (x : X) (xs : List X) → Contains xs x → 1 ≤ keyed (key x) xs
-  keyed_once x xs (k, lt, is) =
-      let few = get_or-le-sum_by (λ y. cond (key y == key x) 1 0) xs k x lt in
-      let one : cond {A = ℕ} (key (slice_index_or xs k x) == key x) 1 0 ≡ 1 =
-      ap (λ b. cond {A = ℕ} b 1 0) (eq-eqb (key (slice_index_or xs k x)) (key x) (ap key is)) in
-      omega arith
+  keyed_once x xs there =
+      let one : cond {A = ℕ} (key x == key x) 1 0 ≡ 1 = ap (λ b. cond {A = ℕ} b 1 0) (eq-eqb (key x) (key x) refl) in
+      omega (arith, sum_of (λ y. cond (key y == key x) 1 0) xs x there, one)
 
   keyed_behind : (k : ℕ) (x : X) (xs ys : List X) → keyed k (x ∷ xs) ≡ keyed k (x ∷ ys) → keyed k xs ≡ keyed k ys
   keyed_behind k x xs ys same =
-      let left = sum_by-cons (λ y. cond (key y == k) 1 0) x xs in
-      let right = sum_by-cons (λ y. cond (key y == k) 1 0) x ys in
-      omega arith
+      omega (arith, same, sum_by-cons (λ y. cond (key y == k) 1 0) x xs, sum_by-cons (λ y. cond (key y == k) 1 0) x ys)
 
   -- each element of the second list is one of the first, and both have each key as often
   record HasSame (xs ys : List X) : Type 0 where

@@ -92,7 +92,4 @@ one_removed_by _ (Some f) = omega arith
 pub few_removed : (at : ℕ → Option Closed) (slot : ℕ) (list : List ℤ) → length (removed_from at slot list) ≤ length list
 few_removed at slot [] = omega arith
 few_removed at slot (z ∷ list) =
-    let one = one_removed_by z (at slot) in
-    let rest = few_removed at (slot + 1) list in
-    let both = length-append (removed_by z (at slot)) (removed_from at (slot + 1) list) in
-    omega arith
+    omega (arith, one_removed_by z (at slot), few_removed at (slot + 1) list, length-append (removed_by z (at slot)) (removed_from at (slot + 1) list))

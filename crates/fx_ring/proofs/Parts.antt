@@ -90,8 +90,7 @@ module _ {X : Type 0} (key : X → ℕ) (c : ℕ) where
 
   pub none_kept : (xs : List X) → All (λ x. key x ≢ c) xs → with_key xs ≡ []
   none_kept [] none = refl
-  none_kept (x ∷ xs) none = rw (ne_eqb (key x) c (All-head (λ x. key x ≢ c) x xs none))
-      (none_kept xs (All-tail (λ x. key x ≢ c) x xs none))
+  none_kept (x ∷ xs) none = rw (ne_eqb (key x) c (All-head (λ x. key x ≢ c) x xs none)) (none_kept xs (All-tail (λ x. key x ≢ c) x xs none))
 
   module _ (xs ys : List X) where
     pub not_first : All (λ x. key x ≢ c) xs → with_key (xs ++ ys) ≡ with_key ys

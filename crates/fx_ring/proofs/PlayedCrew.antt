@@ -42,18 +42,18 @@ module _ {P : Type 0} (V : P → PassView) where
 
     pub as_many_completions : sum_by (λ outcome. length outcome.completions.items) outcomes ≡ length (flat_map completed_by (states ws))
     as_many_completions =
-        let a = sum_reverse (λ outcome. length outcome.completions.items) outcomes in
-        let b = length-flat_map completions_of (reverse outcomes) in
-        let c = length-map (flat_map completions_of (reverse outcomes)) completed_of in
-        let d = ap length completions_joined in
-        omega arith
+        omega (
+          arith,
+          sum_reverse (λ outcome. length outcome.completions.items) outcomes,
+          length-flat_map completions_of (reverse outcomes),
+          length-map (flat_map completions_of (reverse outcomes)) completed_of,
+          ap length completions_joined,
+        )
 
     pub as_many_files : sum_by (λ outcome. length outcome.closes.files) outcomes ≡ length (flat_map closed_by_worker (states ws))
     as_many_files =
-        let a = sum_reverse (λ outcome. length outcome.closes.files) outcomes in
-        let b = length-flat_map files_of (reverse outcomes) in
-        let d = ap length files_joined in
-        omega arith
+        let sum = sum_reverse (λ outcome. length outcome.closes.files) outcomes in
+        omega (arith, sum, length-flat_map files_of (reverse outcomes), ap length files_joined)
 
   -- a crew has played, once its passes are back: what each worker did is known, and each was told that no chains are left
   pub crew_has_played : {catalogue : List FileEntry} {submission : ℕ} (requests : List Request) (chains : List Chain) {o : Opening}

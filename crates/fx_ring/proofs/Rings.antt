@@ -101,8 +101,7 @@ vacant_files is = ap files_at is
 
 -- a ring by the parts of its table
 pub ring_is : (ring : RingState) (st : State) (size : ℕ) (range : ℕ × ℕ) (files : ℕ → Option Closed)
-    → st.size ≡ size → st.range ≡ range → files_at st ≡ files
-    → with_table ring st ≡ record ring { size = size; range = range; at = files }
+    → st.size ≡ size → st.range ≡ range → files_at st ≡ files → with_table ring st ≡ record ring { size = size; range = range; at = files }
 ring_is ring st size range files same_size same_range same_files =
     λ i. record ring { size = same_size i; range = same_range i; at = same_files i }
 

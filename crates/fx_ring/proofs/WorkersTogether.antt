@@ -86,11 +86,8 @@ module _ {catalogue : List FileEntry} {submission : ℕ} {runs : List (List Aske
 
   once : (c : ℕ) → sum_by (λ w. times_drawn c w.pass) crew ≤ 1
   once c =
-      let a = ap (sum_by (times_drawn c)) played.are in
-      let b = sum_reverse (times_drawn c) (map pass_of crew) in
-      let d = sum_map (times_drawn c) pass_of crew in
-      let e = closing.drawn_once c in
-      omega arith
+      let same = ap (sum_by (times_drawn c)) played.are in
+      omega (arith, same, sum_reverse (times_drawn c) (map pass_of crew), sum_map (times_drawn c) pass_of crew, closing.drawn_once c)
 
   part_is : {c : ℕ} {w : WorkerState} → Contains crew w → Contains w.pass.drawn c
       → completions_of_chain c joined ≡ completions_of_chain c w.completions
@@ -106,8 +103,7 @@ module _ {catalogue : List FileEntry} {submission : ℕ} {runs : List (List Aske
   abbrev pub ExplainsChain : ℕ → List Event → List Completed → Type 0
   ExplainsChain c h completions = Explains catalogue (size_of o) (first_member submission c) (run_of_chain runs c) (map action_of h) completions
 
-  pub explained : (c : ℕ) → 1 ≤ c → c ≤ length runs
-      → ExplainsChain c (part_of_chain c closing.history) (completions_of_chain c joined)
+  pub explained : (c : ℕ) → 1 ≤ c → c ≤ length runs → ExplainsChain c (part_of_chain c closing.history) (completions_of_chain c joined)
   explained c low high =
       let d = drawer c low high in
       subst (λ (h : List Event). ExplainsChain c h (completions_of_chain c joined)) (sym (history_is c d.0 d.1 d.2))

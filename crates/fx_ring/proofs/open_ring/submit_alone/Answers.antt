@@ -28,9 +28,6 @@ returns-clause-played g c registrations =
 
 pub returns-clause-looks : goal.returns-clause-looks
 returns-clause-looks g c =
-    let V : g.row.T-Pass.Denot → PassView = λ p. g.T.FileTable.view p in
-    let s = c.args.submission.now in
-    let all = runs_have_all (all_asked s.requests.now) in
-    let few = c.play_alone.ensures.played.looks in
-    let count = length-map s.requests.now asked_of in
-    let same = ap (λ (v : PassView). v.looks_left) c.settle.ensures.same in omega (arith, all, few, count, same)
+    let requests = c.args.submission.now.requests.now in
+    let same = ap (λ (v : PassView). v.looks_left) c.settle.ensures.same in
+    omega (arith, runs_have_all (all_asked requests), c.play_alone.ensures.played.looks, length-map requests asked_of, same)

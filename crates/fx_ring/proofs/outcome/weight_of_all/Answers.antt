@@ -9,12 +9,15 @@ weight_of_one r = weight_of (operation_of r.op)
 one_more : (requests : List Request) {i : ℕ} {x : Request} → i < length requests → x ≡ get_or requests i x → IsAccepted (all_asked requests)
     → sum_by weight_of_one (take i requests) + weight_of_one x ≤ 261888
 one_more requests {i} {x} inside is accepted =
-    let more = sum_by_more_le weight_of_one requests i x inside in
-    let same = ap weight_of_one is in
-    let all = sum_map (λ a. weight_of a.operation) asked_of requests in
-    let few = accepted-length (all_asked requests) accepted in
     let small = all_weights-small (all_asked requests) (accepted-each (all_asked requests) accepted) in
-    omega arith
+    omega (
+      arith,
+      sum_by_more_le weight_of_one requests i x inside,
+      ap weight_of_one is,
+      sum_map (λ a. weight_of a.operation) asked_of requests,
+      accepted-length (all_asked requests) accepted,
+      small,
+    )
 
 pub overflow_cast-weight : goal.overflow_cast-weight
 overflow_cast-weight c =

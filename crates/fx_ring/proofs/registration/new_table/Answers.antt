@@ -6,8 +6,7 @@ use Rattle.fx_ring.proofs.registration.new_table.Goals.{In-Ok}
 use Rattle.fx_ring.proofs.registration.new_table.Goals as goal
 
 pub dismiss-requires-clause-empty : goal.dismiss-requires-clause-empty
-dismiss-requires-clause-empty c =
-    vacant_empty (ap state_of c.in_default.ensures.err ∙ c.in_ok-table.ensures.state)
+dismiss-requires-clause-empty c = vacant_empty (ap state_of c.in_default.ensures.err ∙ c.in_ok-table.ensures.state)
 
 pub invariant_of-numbers-clause-good : goal.invariant_of-numbers-clause-good
 invariant_of-numbers-clause-good c = good_files (length c.args.catalogue.now) c.args.list.now c.requires.good

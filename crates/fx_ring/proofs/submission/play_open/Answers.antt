@@ -55,21 +55,23 @@ module _ (g : Over) (c : After-close-left g) where
 
 pub joined-all-requires-clause-completions : goal.joined-all-requires-clause-completions
 joined-all-requires-clause-completions g c =
-    let all = one_of_each (played g c) in
     let sum = as_many_completions (V g c) (ws g c) c.scatter.ensures.outcomes in
-    let have = runs_have_all (all_asked c.args.submission.now.requests.now) in
-    let room = c.requires.room.all.room in
     let none = ap (λ (l : List Completion). length l) c.requires.room.all.no_completions in
-    let len = c.args.room.all.completions.ok.0 in
-    omega arith
+    omega (
+      arith,
+      one_of_each (played g c),
+      sum,
+      runs_have_all (all_asked c.args.submission.now.requests.now),
+      c.requires.room.all.room,
+      none,
+      c.args.room.all.completions.ok.0,
+    )
 
 pub joined-all-requires-clause-closes : goal.joined-all-requires-clause-closes
 joined-all-requires-clause-closes g c =
-    let few = closes_weigh (played g c) in
     let sum = as_many_files (V g c) (ws g c) c.scatter.ensures.outcomes in
-    let weigh = runs_weigh_all (all_asked c.args.submission.now.requests.now) in
     let room = ap (λ (l : CloseListView). l.room) c.requires.room.all.closes in
-    omega arith
+    omega (arith, closes_weigh (played g c), sum, runs_weigh_all (all_asked c.args.submission.now.requests.now), room)
 
 pub returns-clause-played : goal.returns-clause-played
 returns-clause-played g c registrations =

@@ -10,10 +10,12 @@ count play = play.count ∙ sym (as_many play.submission.now.requests.now play.c
 
 pub run_chain-requires-clause-looks : goal.run_chain-requires-clause-looks
 run_chain-requires-clause-looks g c κs within =
-    let same = length-map c.members_of_chain.result.now asked_of in
-    let looks = (enough (g.T.FileTable.opening c.args.play.now.table.now) c.loop-chain.invariant.ready.room (count c.args.play.now)
-    c.in-Some.ensures.drawn c.members_of_chain.ensures.run).0 in
-    omega arith
+    omega (
+      arith,
+      length-map c.members_of_chain.result.now asked_of,
+      (enough (g.T.FileTable.opening c.args.play.now.table.now)
+          c.loop-chain.invariant.ready.room (count c.args.play.now) c.in-Some.ensures.drawn c.members_of_chain.ensures.run).0,
+    )
 
 pub run_chain-requires-clause-room : goal.run_chain-requires-clause-room
 run_chain-requires-clause-room g c κs within = (enough (g.T.FileTable.opening c.args.play.now.table.now) c.loop-chain.invariant.ready.room

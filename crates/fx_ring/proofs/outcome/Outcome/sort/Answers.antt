@@ -7,10 +7,9 @@ IsNonDecreasingBy-map : {X Y : Type 0} (f : X → Y) (n : Y → ℕ) (xs : List 
 IsNonDecreasingBy-map f n [] rises i j d low inside = absurd (omega arith)
 IsNonDecreasingBy-map f n (x ∷ xs) rises i j d low inside =
     let len = length-map (x ∷ xs) f in
-    let a = ap n (get_or-map f (x ∷ xs) i x d (omega arith)) in
-    let b = ap n (get_or-map f (x ∷ xs) j x d (omega arith)) in
-    let r = rises i j x low (omega arith) in
-    omega arith
+    let first = ap n (get_or-map f (x ∷ xs) i x d (omega arith)) in
+    let behind = ap n (get_or-map f (x ∷ xs) j x d (omega arith)) in
+    omega (arith, first, behind, rises i j x low (omega arith))
 
 pub returns-clause-completions : goal.returns-clause-completions
 returns-clause-completions c = IsPermutation-map completed_of _ _ c.sort_unstable_by_key.ensures.permutation
