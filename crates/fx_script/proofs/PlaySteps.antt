@@ -18,8 +18,7 @@ pub Appends-append : (a b c : Option (List ℕ)) (xs ys : List ℕ) → Appends 
 Appends-append None b c xs ys first second = tt
 Appends-append (Some a) None c xs ys first second = absurd first
 Appends-append (Some a) (Some b) None xs ys first second = absurd second
-Appends-append (Some a) (Some b) (Some c) xs ys first second =
-    second ∙ ap (λ (k : List ℕ). k ++ ys) first ∙ append_assoc a xs ys
+Appends-append (Some a) (Some b) (Some c) xs ys first second = second ∙ ap (λ (k : List ℕ). k ++ ys) first ∙ append_assoc a xs ys
 
 -- what is known of a play without memory may be put otherwise
 fault_maps : (fault : PlayFault) {one other : Type 0} → (one → other) → IsPlayFault fault one → IsPlayFault fault other

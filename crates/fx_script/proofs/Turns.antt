@@ -23,15 +23,15 @@ both_consumed (Some xs) (Some ys) (Some zs) x y first second = first ∙ (ap (λ
 
 -- one more read
 pub one_read : {n : ℕ} (count : ℕ) {old now next : Option (List ℕ)} {input more : List ℕ} (buffer : List ℕ) → Kept n old now input
-    → Consumes now next (take count buffer)
-    → more ≡ input ++ take (n - length input) (take count buffer) → Kept n old next more
+    → Consumes now next (take count buffer) → more ≡ input ++ take (n - length input) (take count buffer) → Kept n old next more
 one_read {n} count {old} {now} {next} buffer kept gone grown = record {
   read = kept.read ++ take count buffer;
   gone = both_consumed old now next kept.read (take count buffer) kept.gone gone;
   kept = grown ∙ (ap (λ (xs : List ℕ). xs ++ take (n - length xs) (take count buffer)) kept.kept ∙ take_append n kept.read (take count buffer));
 }
 
-pub few_kept : {n : ℕ} (input : List ℕ) {more : List ℕ} (part : List ℕ) → length input ≤ n → more ≡ input ++ take (n - length input) part → length more ≤ n
+pub few_kept : {n : ℕ} (input : List ℕ) {more : List ℕ} (part : List ℕ) → length input ≤ n → more ≡ input ++ take (n - length input) part
+    → length more ≤ n
 few_kept input part few grown = omega (arith, ap length grown, length-append {A = ℕ}, length-take {A = ℕ})
 
 -- a read that gave nothing at the end: all was read

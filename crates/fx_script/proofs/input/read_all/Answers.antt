@@ -1,4 +1,4 @@
-use Rattle.fx_script.proofs.Words.{rules, ◌≡◌, ◌++◌, ◌+◌, ◌-◌, ℕ, List, length, take, LONGEST_SCRIPT}
+use Rattle.fx_script.proofs.Words.{rules, ◌≡◌, ◌++◌, ◌+◌, ◌-◌, length, take, LONGEST_SCRIPT}
 use Rattle.fx_script.proofs.Turns.{one_read, at_end, few_kept}
 use Rattle.fx_script.proofs.input.read_all.Goals as goal
 
@@ -10,12 +10,9 @@ returns-then-n-eq0-clause-kept g c =
 
 pub reading-preserved : goal.reading-preserved
 reading-preserved g c =
-    let remaining = g.I.Read.remaining in
-    let most : ℕ = LONGEST_SCRIPT + 1 in
-    let input : List ℕ = c.reading.input.items in
-    let more : List ℕ = c.extend_from_slice.new.self.items in
-    let grown : more ≡ input ++ take (most - length input) (take c.in-Ok.n c.read.new.buf) = search rules in
+    let grown : c.extend_from_slice.new.self.items
+    ≡ c.reading.input.items ++ take (LONGEST_SCRIPT + 1 - length c.reading.input.items) (take c.in-Ok.n c.read.new.buf) = search rules in
     record {
       kept = one_read c.in-Ok.n c.read.new.buf c.reading.invariant.kept c.in-Ok.ensures.bytes.0 grown;
-      few = few_kept input (take c.in-Ok.n c.read.new.buf) c.reading.invariant.few grown;
+      few = few_kept c.reading.input.items (take c.in-Ok.n c.read.new.buf) c.reading.invariant.few grown;
     }

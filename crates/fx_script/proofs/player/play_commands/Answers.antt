@@ -16,7 +16,9 @@ returns-in-Err-clause-fault g c = ends_early c.loop-played.invariant.so_far c.in
     (rw (take_rest c.args.commands.now c.loop-played.played, c.in-Err.is) at c.play_some-after.ensures.fault)
 
 pub returns-clause-ok : goal.returns-clause-ok
-returns-clause-ok g c = on_ok_weaker c.play_end-ended.result (ends c.loop-played.invariant.so_far c.loop-played-test.false _) c.play_end-ended.ensures.ok
+returns-clause-ok g c =
+    on_ok_weaker c.play_end-ended.result (ends c.loop-played.invariant.so_far c.loop-played-test.false _) c.play_end-ended.ensures.ok
 
 pub returns-clause-fault : goal.returns-clause-fault
-returns-clause-fault g c = IfErr-weaker c.play_end-ended.result _ _ (λ fault. fails c.loop-played.invariant.so_far fault _) c.play_end-ended.ensures.fault
+returns-clause-fault g c =
+    IfErr-weaker c.play_end-ended.result _ _ (λ fault. fails c.loop-played.invariant.so_far fault _) c.play_end-ended.ensures.fault
