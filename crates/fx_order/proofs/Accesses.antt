@@ -1,11 +1,10 @@
 -- The accesses among the steps of a history: all steps but releases and closes, without the numbers of files.
 use Rattle.fx_order.proofs.Words.{◌≡◌, ℕ, ◌==◌, List, [], ◌∷◌, ◌++◌, map, filter, refl, sym, ap, subst, ◌∙◌, append_assoc, Option, Some, None}
-use Rattle.fx_order.proofs.Words.{if◌then◌else◌, IsSome, cond, append-nil, map-append, filter-append, Closed, File, Event, Action, Look, Put, Clear}
-use Rattle.fx_order.proofs.Words.{Take, Allocate, Full, State, opening, Allows, after, changed_at, ◌▷▷◌, state_after, AllowsAll, action_of}
-use Rattle.fx_order.proofs.Words.{part_of_chain, identity_of, by_equality, Table, Looks, Puts, Clears, Takes, Allocates, FindsFull, PermitsAll}
-use Rattle.fx_order.proofs.Words.{table_with, table_after, Access, access_of, accesses_of, accesses_of_chain, ChainAccess, ◌⊎◌, inl, inr, Bool, false}
-use Rattle.fx_order.proofs.Words.{true}
-use Rattle.fx_plain.proofs.Prepared.{same_identity}
+use Rattle.fx_order.proofs.Words.{same_identity, if◌then◌else◌, IsSome, cond, append-nil, map-append, filter-append, Closed, File, Event, Action}
+use Rattle.fx_order.proofs.Words.{Look, Put, Clear, Take, Allocate, Full, State, opening, Allows, after, changed_at, ◌▷▷◌, state_after, AllowsAll}
+use Rattle.fx_order.proofs.Words.{action_of, part_of_chain, identity_of, by_equality, Table, Looks, Puts, Clears, Takes, Allocates, FindsFull}
+use Rattle.fx_order.proofs.Words.{PermitsAll, table_with, table_after, Access, access_of, accesses_of, accesses_of_chain, ChainAccess, ◌⊎◌, inl, inr}
+use Rattle.fx_order.proofs.Words.{Bool, false, true}
 
 -- a state without the numbers of its files, its holds and what it has given up
 abbrev pub shown : State → Table

@@ -1,16 +1,14 @@
 -- What explains an answer by accesses explains it by the steps that they are at once.
 use Rattle.fx_order.proofs.Words.{◌≡◌, inl, inr, ℕ, zero, suc, ◌+◌, ◌==◌, ◌||◌, nat_le, nat_lt, ℤ, pos, negsuc, List, [], ◌∷◌, ◌++◌, length, map}
-use Rattle.fx_order.proofs.Words.{refl, sym, ap, subst, ◌∙◌, append_assoc, Option, Some, None, list_any, append-nil, FileEntry, has_name, Errno}
-use Rattle.fx_order.proofs.Words.{ENOENT, ENXIO, EBADF, ENOMEM, EINVAL, ENFILE, Closed, File, Event, Action, Look, Put, Clear, Take, ◌▷◌, ◌▷▷◌}
-use Rattle.fx_order.proofs.Words.{action_of, part_of_chain, close_of, Refuses, MayClose, OpensAt, ReadsFrom, Empties, AppliesEntry, AppliesList}
-use Rattle.fx_order.proofs.Words.{UpdatesFrom, Answers, is_bad_entry, Completed, next_member, Explains, severs, first_member, Operation, Opens, Reads}
-use Rattle.fx_order.proofs.Words.{Closes, Updates, Asked, Place, Target, Slot, Any, ExplainsParts, accesses_of_chain, Access, ChainAccess, IsRefused}
-use Rattle.fx_order.proofs.Words.{IsOpenDone, IsReadDone, IsCloseDone, IsEntryDone, AreEntriesDone, IsUpdateDone, IsRequestDone, IsChainDone}
-use Rattle.fx_order.proofs.Words.{AreChainsDone, gives}
-use Rattle.fx_chain.proofs.Cases.{same_cases}
+use Rattle.fx_order.proofs.Words.{same_cases, file_told, refl, sym, ap, subst, ◌∙◌, append_assoc, Option, Some, None, list_any, append-nil, FileEntry}
+use Rattle.fx_order.proofs.Words.{has_name, Errno, ENOENT, ENXIO, EBADF, ENOMEM, EINVAL, ENFILE, Closed, File, Event, Action, Look, Put, Clear, Take}
+use Rattle.fx_order.proofs.Words.{◌▷◌, ◌▷▷◌, action_of, part_of_chain, close_of, Refuses, MayClose, OpensAt, ReadsFrom, Empties, AppliesEntry}
+use Rattle.fx_order.proofs.Words.{AppliesList, UpdatesFrom, Answers, is_bad_entry, Completed, next_member, Explains, severs, first_member, Operation}
+use Rattle.fx_order.proofs.Words.{Opens, Reads, Closes, Updates, Asked, Place, Target, Slot, Any, ExplainsParts, accesses_of_chain, Access}
+use Rattle.fx_order.proofs.Words.{ChainAccess, IsRefused, IsOpenDone, IsReadDone, IsCloseDone, IsEntryDone, AreEntriesDone, IsUpdateDone}
+use Rattle.fx_order.proofs.Words.{IsRequestDone, IsChainDone, AreChainsDone, gives}
 use Rattle.fx_order.proofs.AtOnce.{Does, release_of, no_file}
 use Rattle.fx_order.proofs.Made.{AllDo}
-use Rattle.fx_ring.proofs.Rings.{file_told}
 
 -- the actions of accesses in two parts
 record Parted (xs ys : List Access) (actions : List Action) : Type 0 where
@@ -32,7 +30,7 @@ parted (x ∷ xs) {ys} all = let rest : Parted xs ys all.1 = parted xs all.4 in 
 
 -- no access, no action
 none_done : {accesses : List Access} {events : List Action} → accesses ≡ [] → AllDo accesses events → events ≡ []
-none_done {events} is all = subst (λ (l : List Access). AllDo l events) is all
+none_done is all = rw is at all
 
 -- one access
 one_done : {access : Access} {accesses : List Access} (events : List Action) → accesses ≡ access ∷ [] → AllDo accesses events → Does access events
@@ -55,13 +53,10 @@ list_applied : (accesses : List Access) (events : List Action) → AllDo accesse
     → AreEntriesDone place in_list slot list accesses → AppliesList place in_list slot list events
 list_applied accesses events all place in_list slot [] x = none_done x all
 list_applied accesses events all place in_list slot (entry ∷ list) x =
-    let two : Parted x.0 x.1 events = parted x.0 (subst (λ (l : List Access). AllDo l events) x.2 all) in (
-      two.first,
-      two.last,
-      two.whole,
-      entry_applied x.0 two.first two.do_first place in_list slot entry x.3,
-      list_applied x.1 two.last two.do_last place (in_list + 1) (slot + 1) list x.4,
-    )
+    let two : Parted x.0 x.1 events = parted x.0 (rw x.2 at all) in
+    let own = entry_applied x.0 two.first two.do_first place in_list slot entry x.3 in
+    let others = list_applied x.1 two.last two.do_last place (in_list + 1) (slot + 1) list x.4 in
+    (two.first, two.last, two.whole, own, others)
 
 module _ (catalogue : List FileEntry) (size : ℕ) (place : Place) (accesses : List Access) (events : List Action) (all : AllDo accesses events)
     (c : Completed) where
@@ -122,30 +117,22 @@ module _ (catalogue : List FileEntry) (size : ℕ) (place : Place) (accesses : L
 module _ (catalogue : List FileEntry) (size : ℕ) where
   -- a chain
   chain_explained : (accesses : List Access) (events : List Action) → AllDo accesses events
-      → (place : Place) (requests : List Asked) (cs : List Completed) → IsChainDone catalogue size place requests accesses cs → Explains catalogue size place requests events cs
+      → (place : Place) (requests : List Asked) (cs : List Completed)
+      → IsChainDone catalogue size place requests accesses cs → Explains catalogue size place requests events cs
   chain_explained accesses events all place [] cs x = (none_done x.0 all, x.1)
   chain_explained accesses events all place (request ∷ requests) cs x =
-      let two : Parted x.0 x.1 events = parted x.0 (subst (λ (l : List Access). AllDo l events) x.4 all) in (
-        two.first,
-        two.last,
-        x.2,
-        x.3,
-        two.whole,
-        x.5,
-        answered catalogue size place x.0 two.first two.do_first x.2 request.operation x.6,
-        same_cases (severs request x.2) (λ y. (none_done y.0 two.do_last, y.1))
-            (chain_explained x.1 two.last two.do_last (next_member place) requests x.3) x.7,
-      )
+      let two : Parted x.0 x.1 events = parted x.0 (rw x.4 at all) in
+      let own = answered catalogue size place x.0 two.first two.do_first x.2 request.operation x.6 in
+      let rest = chain_explained x.1 two.last two.do_last (next_member place) requests x.3 in
+      let others = same_cases (severs request x.2) (λ y. (none_done y.0 two.do_last, y.1)) rest x.7 in
+      (two.first, two.last, x.2, x.3, two.whole, x.5, own, others)
 
   -- all chains
   pub all_chains_explained : (submission chain : ℕ) (runs : List (List Asked)) (order : List ChainAccess) (h : List Event) (cs : List Completed)
       → ((c : ℕ) → AllDo (accesses_of_chain c order) (map action_of (part_of_chain c h)))
       → AreChainsDone catalogue size submission chain runs order cs → ExplainsParts catalogue size submission chain runs h cs
   all_chains_explained submission chain [] order h cs parts x = x
-  all_chains_explained submission chain (run ∷ runs) order h cs parts x = (
-    x.0,
-    x.1,
-    x.2,
-    chain_explained (accesses_of_chain chain order) (map action_of (part_of_chain chain h)) (parts chain) (first_member submission chain) run x.0 x.3,
-    all_chains_explained submission (chain + 1) runs order h x.1 parts x.4,
-  )
+  all_chains_explained submission chain (run ∷ runs) order h cs parts x =
+      let place = first_member submission chain in
+      let own = chain_explained (accesses_of_chain chain order) (map action_of (part_of_chain chain h)) (parts chain) place run x.0 x.3 in
+      (x.0, x.1, x.2, own, all_chains_explained submission (chain + 1) runs order h x.1 parts x.4)

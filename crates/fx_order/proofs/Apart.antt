@@ -1,15 +1,11 @@
 -- Where no mark is placed twice, and none that is in the table, what was removed isn't there afterwards, and was removed once.
 use Rattle.fx_order.proofs.Words.{◌≡◌, ◌≢◌, ◌⊎◌, inl, inr, ⊎_elim, ℕ, List, [], ◌∷◌, ◌++◌, sym, ◌∙◌, Some, Closed, Table, Puts, Allocates, Permits}
-use Rattle.fx_order.proofs.Words.{PermitsAll, table_with, table_after, removed_by, Access, removed_in, Bool, None, Option, false, refl}
-use Rattle.fx_order.proofs.Words.{slice_index_or, option_to_list}
+use Rattle.fx_order.proofs.Words.{not-true, Decides-not, Contains-get_or, recursion_from_All, IsDistinct-cons, PermitsAll, table_with, table_after}
+use Rattle.fx_order.proofs.Words.{removed_by, Access, removed_in, Bool, None, Option, false, refl, slice_index_or, option_to_list}
+use Rattle.std.specs.List.{IsDistinct}
 use Rattle.fx_order.proofs.Placed.{Has, Removes, emptied, has_left, has_right, left_from, placed, placed_by, removed_from, removes_contained}
 use Rattle.fx_order.proofs.Placed.{step_from}
 use Rattle.fx_order.proofs.SameFiles.{decides_mark, same_mark}
-use Rattle.std.proofs.lemmas.Bool.{not-true}
-use Rattle.std.proofs.lemmas.Bool.Decides.{Decides-not}
-use Rattle.std.proofs.lemmas.List.Elements.{Contains-get_or, recursion_from_All}
-use Rattle.std.proofs.lemmas.Map.Keys.{IsDistinct-cons}
-use Rattle.std.specs.List.{IsDistinct}
 
 -- no mark is placed twice
 abbrev pub PlacesOnce : List (ℕ × Closed) → Type 0

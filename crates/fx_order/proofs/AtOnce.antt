@@ -1,11 +1,10 @@
 -- An access as steps: a look-up is released at once, and what was removed is closed at once.
 use Rattle.fx_order.proofs.Words.{◌≡◌, ℕ, ◌+◌, ◌-◌, ◌<◌, ◌≤◌, ◌==◌, true, false, List, [], ◌++◌, map, refl, sym, ◌∙◌, arith, Option, Some, None}
-use Rattle.fx_order.proofs.Words.{IsSome, if◌then◌else◌, option_to_list, Closed, File, Event, Action, Look, Release, Put, Clear, Take, Allocate, Full}
-use Rattle.fx_order.proofs.Words.{Close, State, IsSettled, ◌▷◌, ◌▷▷◌, state_after, AllowsAll, AllReleaseTheirOwn, held_by, close_of, closes_in}
-use Rattle.fx_order.proofs.Words.{identity_of, by_equality, Looks, Puts, Clears, Takes, Allocates, FindsFull, Permits, table_with, removed_by, Access}
-use Rattle.fx_order.proofs.Words.{table_after, closed_by, Allows, after, with_removed, ap}
+use Rattle.fx_order.proofs.Words.{ReleasesItsOwn, IsSome, if◌then◌else◌, option_to_list, Closed, File, Event, Action, Look, Release, Put, Clear, Take}
+use Rattle.fx_order.proofs.Words.{Allocate, Full, Close, State, IsSettled, ◌▷◌, ◌▷▷◌, state_after, AllowsAll, AllReleaseTheirOwn, held_by, close_of}
+use Rattle.fx_order.proofs.Words.{closes_in, identity_of, by_equality, Looks, Puts, Clears, Takes, Allocates, FindsFull, Permits, table_with}
+use Rattle.fx_order.proofs.Words.{removed_by, Access, table_after, closed_by, Allows, after, with_removed, ap}
 use Rattle.fx_order.proofs.Accesses.{accesses_by, at_itself, shown, shown-after}
-use Rattle.fx_plain.specs.History.{ReleasesItsOwn}
 
 -- the release of what a look-up found, if it found a file
 abbrev pub release_of : Option File → List Action

@@ -1,10 +1,9 @@
 -- What the first member of a chain made stands at the front of what the chain made.
 use Rattle.fx_order.proofs.Words.{◌≡◌, ◌↔◌, ℕ, ◌+◌, Bool, false, IsTrue, List, [], ◌∷◌, ◌++◌, length, take, drop, refl, sym, ap, ◌∙◌, arith, min}
-use Rattle.fx_order.proofs.Words.{MatchBool, when_false, take-append-drop, length-append, take-append_seam, drop-append_seam, FileEntry, Completed}
-use Rattle.fx_order.proofs.Words.{next_member, canceled, severs, Asked, Place, Access, IsChainDone, IsRequestDone}
-use Rattle.std.specs.List.{AllByRecursion}
+use Rattle.fx_order.proofs.Words.{AllByRecursion, either_way, MatchBool, when_false, take-append-drop, length-append, take-append_seam}
+use Rattle.fx_order.proofs.Words.{drop-append_seam, FileEntry, Completed, next_member, canceled, severs, Asked, Place, Access, IsChainDone}
+use Rattle.fx_order.proofs.Words.{IsRequestDone}
 use Rattle.fx_chain.proofs.ChainGoesOn.{canceled_count}
-use Rattle.fx_chain.proofs.Cases.{either_way}
 
 -- the first part of a list of a known length
 pub front_is : {X : Type 0} (xs ys zs : List X) (n : ℕ) → zs ≡ xs ++ ys → length xs ≡ n → (take n zs ≡ xs) × (drop n zs ≡ ys)

@@ -45,5 +45,5 @@ pub each_order_is_a_history : (old : RingContents) (requests : List Asked) (repo
     → (new : RingContents) × (ring_of new ≡ left) × IsOneHistory old requests report new
 each_order_is_a_history old requests report left few accepted o =
     let same = shows_ring left (subst (λ (r : RingState). NonePast r.size r.at) (sym o.after)
-    (none_past_accesses (table_of (ring_of old)) (accesses_of o.order) o.is.permitted (none_past_table old))) in
+    (none_past_accesses (accesses_of o.order) (table_of (ring_of old)) o.is.permitted (none_past_table old))) in
     (ring_with_files left, same, history_of_order few accepted (subst (IsOneOrder (ring_of old) requests report) (sym same) o))

@@ -1,13 +1,13 @@
 -- An order of a submission without a fault installs no more files than its chains have numbers.
 use Rattle.fx_order.proofs.Words.{◌≡◌, ℕ, zero, suc, ◌+◌, ◌*◌, ◌<◌, ◌≤◌, ◌==◌, ℤ, pos, negsuc, true, false, not, cond, List, [], ◌∷◌, ◌++◌, filter}
-use Rattle.fx_order.proofs.Words.{length, sym, ap, subst, arith, All, All-head, All-tail, All-map, sum_by-cons, FileEntry, has_name, IsAccepted}
-use Rattle.fx_order.proofs.Words.{members_of, Completed, next_member, severs, first_member, Operation, Opens, Reads, Closes, Updates, Asked, runs_of}
-use Rattle.fx_order.proofs.Words.{Place, Slot, Any, by_equality, accesses_of, accesses_of_chain, Access, ChainAccess, IsEntryDone, AreEntriesDone}
-use Rattle.fx_order.proofs.Words.{IsRequestDone, IsChainDone, AreChainsDone, chains_of, entry_installs, list_installs, installs_of, all_installs}
-use Rattle.fx_order.proofs.Words.{accepted-chains, members-are-runs, list_installs-cons, has, lacks, kept_lacking, within_lacking, none_within}
+use Rattle.fx_order.proofs.Words.{either_case, length, sym, ap, subst, arith, All, All-head, All-tail, All-map, sum_by-cons, FileEntry, has_name}
+use Rattle.fx_order.proofs.Words.{IsAccepted, members_of, Completed, next_member, severs, first_member, Operation, Opens, Reads, Closes, Updates}
+use Rattle.fx_order.proofs.Words.{Asked, runs_of, Place, Slot, Any, by_equality, accesses_of, accesses_of_chain, Access, ChainAccess, IsEntryDone}
+use Rattle.fx_order.proofs.Words.{AreEntriesDone, IsRequestDone, IsChainDone, AreChainsDone, chains_of, entry_installs, list_installs, installs_of}
+use Rattle.fx_order.proofs.Words.{all_installs, accepted-chains, members-are-runs, list_installs-cons, has, lacks, kept_lacking, within_lacking}
+use Rattle.fx_order.proofs.Words.{none_within}
 use Rattle.fx_order.proofs.AtOnce.{installs}
 use Rattle.fx_order.proofs.Made.{installs_in}
-use Rattle.fx_chain.proofs.Cases.{either_case}
 use Rattle.fx_order.proofs.RequestCases.{allocates, closes, puts, reads, updates}
 
 installs_in-append : (xs ys : List Access) → installs_in (xs ++ ys) ≡ installs_in xs + installs_in ys

@@ -1,20 +1,16 @@
 -- One report of a submission leads to one ring, and what it closes is known.
 use Rattle.fx_order.proofs.Words.{◌≡◌, inl, inr, ⊎_elim, ℕ, ◌+◌, ◌≤◌, List, length, refl, sym, ap, subst, ◌∙◌, arith, Option, Some, None, All}
-use Rattle.fx_order.proofs.Words.{Contains, slice_get, slice_index_or, All-map, Contains-permutation, IsPermutation-sym, IsCatalogue, Submitted}
-use Rattle.fx_order.proofs.Words.{Closed, IsAccepted, members_of, chains_of, first_member, Asked, runs_of, accepted-chains, members-are-runs}
-use Rattle.fx_order.proofs.Words.{RingState, IsRing, Reported, table_after, removed_in, accesses_of, accesses_of_chain, AreKnown, IsOfNext}
-use Rattle.fx_order.proofs.Words.{IsOneOrder, IsOrderOf, table_of, Access, ChainAccess, ◌<◌, cases_lt, false≢true, Decides-like}
+use Rattle.fx_order.proofs.Words.{not_yet, same_from_decides, IsDistinct-IsPermutation, apart_from_distinct, get_or_from_slice_get, slice_get_within}
+use Rattle.fx_order.proofs.Words.{IsDistinct, Contains, slice_get, slice_index_or, All-map, Contains-permutation, IsPermutation-sym, IsCatalogue}
+use Rattle.fx_order.proofs.Words.{Submitted, Closed, IsAccepted, members_of, chains_of, first_member, Asked, runs_of, accepted-chains}
+use Rattle.fx_order.proofs.Words.{members-are-runs, RingState, IsRing, Reported, table_after, removed_in, accesses_of, accesses_of_chain, AreKnown}
+use Rattle.fx_order.proofs.Words.{IsOfNext, IsOneOrder, IsOrderOf, table_of, Access, ChainAccess, ◌<◌, cases_lt, false≢true, Decides-like}
 use Rattle.fx_order.proofs.Apart.{IsApart, alike, removed_is_gone, removes_once}
 use Rattle.fx_order.proofs.Placed.{Has, Removes, contains_removed, left_from, left_or_removed, placed, removed_from, removes_contained}
 use Rattle.fx_order.proofs.PlacedNew.{AnyPlace, InLimits, IsOfMembers, OwnOf, ReachesAll, chain_places, has_in_chain, has_of_chain, order_places_once}
 use Rattle.fx_order.proofs.PlacedNew.{reaches_all_any, reaches_all_limits}
 use Rattle.fx_order.proofs.PlacedSame.{chains_same}
-use Rattle.fx_ring.proofs.Rings.{not_yet}
 use Rattle.fx_order.proofs.SameFiles.{decides_mark}
-use Rattle.std.proofs.lemmas.Bool.Decides.{same_from_decides}
-use Rattle.std.proofs.lemmas.Map.Keys.{IsDistinct-IsPermutation, apart_from_distinct}
-use Rattle.std.proofs.lemmas.Option.{get_or_from_slice_get, slice_get_within}
-use Rattle.std.specs.List.{IsDistinct}
 
 module _ (old : RingState) (requests : List Asked) (report : Reported) (is : IsRing old) where
   abbrev chains : ℕ

@@ -1,8 +1,7 @@
 -- An open that was done so with one entry of a name was done so with the entry of the file that it installed.
 use Rattle.fx_order.proofs.Words.{◌≡◌, ◌↔◌, inl, inr, ℕ, ◌==◌, nat_le, Bool, true, IsTrue, List, [], ◌∷◌, Option, Some, MatchBool, has_name}
-use Rattle.fx_order.proofs.Words.{FileEntry, name_at, ENOENT, Closed, installed, Completed, Place, Target, Slot, Any, Puts, Allocates, Access}
-use Rattle.fx_order.proofs.Words.{IsOpenDone, IsRefused}
-use Rattle.fx_chain.proofs.Cases.{same_cases}
+use Rattle.fx_order.proofs.Words.{same_cases, FileEntry, name_at, ENOENT, Closed, installed, Completed, Place, Target, Slot, Any, Puts, Allocates}
+use Rattle.fx_order.proofs.Words.{Access, IsOpenDone, IsRefused}
 
 module _ (catalogue : List FileEntry) (name : List ℕ) (size : ℕ) (place : Place) (entry : ℕ) (own : List Access) (c : Completed)
     (at_a_slot : (slot : ℕ) (file : Closed) (removed : Option Closed) → name_at catalogue file.entry ≡ Some name

@@ -22,7 +22,8 @@ module _ (order : List ChainAccess) (i : ℕ) (d : ChainAccess) (within : i < le
 
   pub more_removed : {before now : List Closed} {found : Option Closed} → before ≡ removed_in (accesses_of (take i order))
       → found ≡ removed_by x → now ≡ before ++ option_to_list found → now ≡ removed_in (accesses_of (take (i + 1) order))
-  more_removed so_far is grown = rw (accesses_more, removed_in-append (accesses_of (take i order)) (x ∷ []), append-nil (option_to_list (removed_by x)))
+  more_removed so_far is grown =
+      rw (accesses_more, removed_in-append (accesses_of (take i order)) (x ∷ []), append-nil (option_to_list (removed_by x)))
       (grown ∙ (λ j. so_far j ++ option_to_list (is j)))
 
 -- each access of an order may be made where it stands

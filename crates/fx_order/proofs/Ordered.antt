@@ -1,10 +1,9 @@
 -- What one history leads to, the order of its accesses leads to.
 use Rattle.fx_order.proofs.Words.{◌≡◌, ℕ, ◌+◌, ◌≤◌, List, [], ◌∷◌, map, length, refl, sym, ap, subst, ◌∙◌, All, Contains, Option, IsPermutation}
-use Rattle.fx_order.proofs.Words.{All-nil, All-append, IsPermutation-trans, Closed, Event, Action, State, opening, state_of, action_of, closes_in}
-use Rattle.fx_order.proofs.Words.{numbers_for, Asked, runs_of, RingContents, RingState, ring_of, IsOneHistory, Reported, Table, Looks, PermitsAll}
-use Rattle.fx_order.proofs.Words.{table_with, Access, ChainAccess, table_after, removed_in, accesses_of, IsOneOrder, table_of, contains_head}
-use Rattle.fx_order.proofs.Words.{contains_tail, All-map}
-use Rattle.fx_plain.proofs.Prepared.{opening_is_start}
+use Rattle.fx_order.proofs.Words.{opening_is_start, All-nil, All-append, IsPermutation-trans, Closed, Event, Action, State, opening, state_of}
+use Rattle.fx_order.proofs.Words.{action_of, closes_in, numbers_for, Asked, runs_of, RingContents, RingState, ring_of, IsOneHistory, Reported, Table}
+use Rattle.fx_order.proofs.Words.{Looks, PermitsAll, table_with, Access, ChainAccess, table_after, removed_in, accesses_of, IsOneOrder, table_of}
+use Rattle.fx_order.proofs.Words.{contains_head, contains_tail, All-map}
 use Rattle.fx_order.proofs.Accesses.{shown, accesses_by, accesses_in, order_in, by_chain, accesses_of-order_in, permitted_along, shown-opening}
 use Rattle.fx_order.proofs.Requests.{all_explained}
 use Rattle.fx_order.proofs.Removed.{removed_is_closed}

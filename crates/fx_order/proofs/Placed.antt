@@ -1,9 +1,8 @@
 -- What accesses place at slots, what is at the slots then, and what they removed.
 use Rattle.fx_order.proofs.Words.{◌≡◌, ◌≢◌, ◌⊎◌, inl, inr, ⊎_elim, ℕ, ◌<◌, List, [], ◌∷◌, ◌++◌, Contains, refl, sym, ap, ◌∙◌, append_assoc, arith}
-use Rattle.fx_order.proofs.Words.{Option, Some, None, if◌then◌else◌, option_to_list, Contains-append_right, Closed, by_equality, contains_none}
-use Rattle.fx_order.proofs.Words.{contains_head, contains_cases, Table, Looks, Puts, Clears, Takes, Allocates, Permits, PermitsAll, table_with}
-use Rattle.fx_order.proofs.Words.{table_after, removed_by, removed_in, Access, FileEntry, Place, Completed, IsReadDone, IsCloseDone}
-use Rattle.fx_order.specs.Access.{IsAt, with_file}
+use Rattle.fx_order.proofs.Words.{IsAt, with_file, Option, Some, None, if◌then◌else◌, option_to_list, Contains-append_right, Closed, by_equality}
+use Rattle.fx_order.proofs.Words.{contains_none, contains_head, contains_cases, Table, Looks, Puts, Clears, Takes, Allocates, Permits, PermitsAll}
+use Rattle.fx_order.proofs.Words.{table_with, table_after, removed_by, removed_in, Access, FileEntry, Place, Completed, IsReadDone, IsCloseDone}
 use Rattle.fx_order.proofs.Accesses.{at_itself}
 use Rattle.fx_order.proofs.RequestCases.{closes, reads}
 

@@ -1,17 +1,15 @@
 -- What a submission places: files of the catalogue without a tag, with marks of its own, and no mark twice.
 use Rattle.fx_order.proofs.Words.{◌≡◌, ◌≢◌, inl, inr, ⊎_elim, ℕ, zero, suc, ◌+◌, ◌<◌, ◌≤◌, ℤ, pos, negsuc, false, List, [], ◌∷◌, ◌++◌, length, refl}
-use Rattle.fx_order.proofs.Words.{sym, ap, subst, ◌∙◌, arith, All, list_any, leb-false, ltb-false, All-head, All-tail, has_name, FileEntry, Errno}
-use Rattle.fx_order.proofs.Words.{Submitted, Closed, IsWithinLimits, installed, is_bad_entry, Completed, next_member, severs, first_member}
-use Rattle.fx_order.proofs.Words.{is_long_update, MOST_MEMBERS, LONGEST_UPDATE, Operation, Opens, Reads, Closes, Updates, Asked, Place, Target, Slot}
-use Rattle.fx_order.proofs.Words.{Any, by_equality, accesses_of, accesses_of_chain, Access, ChainAccess, IsOpenDone, IsEntryDone, AreEntriesDone}
-use Rattle.fx_order.proofs.Words.{IsRequestDone, IsChainDone, AreChainsDone, refusal, Puts, Allocates, FindsFull}
+use Rattle.fx_order.proofs.Words.{either_way, or_parts, sym, ap, subst, ◌∙◌, arith, All, list_any, leb-false, ltb-false, All-head, All-tail, has_name}
+use Rattle.fx_order.proofs.Words.{FileEntry, Errno, Submitted, Closed, IsWithinLimits, installed, is_bad_entry, Completed, next_member, severs}
+use Rattle.fx_order.proofs.Words.{first_member, is_long_update, MOST_MEMBERS, LONGEST_UPDATE, Operation, Opens, Reads, Closes, Updates, Asked, Place}
+use Rattle.fx_order.proofs.Words.{Target, Slot, Any, by_equality, accesses_of, accesses_of_chain, Access, ChainAccess, IsOpenDone, IsEntryDone}
+use Rattle.fx_order.proofs.Words.{AreEntriesDone, IsRequestDone, IsChainDone, AreChainsDone, refusal, Puts, Allocates, FindsFull}
 use Rattle.fx_base.proofs.Entries.{entry_named}
 use Rattle.fx_order.proofs.Accesses.{of_chain, own_first}
-use Rattle.fx_chain.proofs.Cases.{either_way}
 use Rattle.fx_order.proofs.Apart.{PlacesOnce, once_behind, once_between}
 use Rattle.fx_order.proofs.Placed.{Has, has_either, has_left, has_right, placed, placed_by, placed-append, close_none, read_none}
 use Rattle.fx_order.proofs.RequestCases.{allocates, puts, updates}
-use Rattle.std.proofs.lemmas.Bool.{or_parts}
 
 -- each file that was placed is such a one, and no mark was placed twice
 abbrev pub Own : (Closed → Type 0) → List (ℕ × Closed) → Type 0
@@ -64,9 +62,8 @@ IsOfMembers entries B place f = (m : ℕ) × (j : ℕ) × (place.member ≤ m) �
 -- B holds of the places of a request's list; an open has the place 0 alone
 abbrev Reaches : (ℕ → Type 0) → Operation → Type 0
 Reaches B (Opens name target) = B 0
-Reaches B (Reads slot off len) = Unit {0}
-Reaches B (Closes slot) = Unit {0}
 Reaches B (Updates off list) = (j : ℕ) → j < length list → B j
+Reaches B operation = Unit {0}
 
 -- of those of each member from this one on
 abbrev pub ReachesAll : (ℕ → ℕ → Type 0) → ℕ → List Asked → Type 0

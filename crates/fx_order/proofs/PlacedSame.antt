@@ -1,10 +1,9 @@
 -- What answers of a submission tell of what was placed: two orders with one list of completions place the same files at the same slots.
 use Rattle.fx_order.proofs.Words.{◌≡◌, inl, inr, ℕ, zero, suc, ◌+◌, ◌<◌, ◌≤◌, ◌==◌, ◌||◌, nat_le, nat_lt, ℤ, pos, negsuc, Bool, true, false, List, []}
-use Rattle.fx_order.proofs.Words.{◌∷◌, ◌++◌, length, sym, ap, subst, ◌∙◌, arith, list_any, false≢true, has_name, FileEntry, IsCatalogue, installed}
-use Rattle.fx_order.proofs.Words.{is_bad_entry, Completed, next_member, severs, first_member, Operation, Opens, Reads, Closes, Updates, Asked, Place}
-use Rattle.fx_order.proofs.Words.{Target, Slot, Any, by_equality, accesses_of_chain, Access, ChainAccess, IsOpenDone, IsEntryDone, AreEntriesDone}
-use Rattle.fx_order.proofs.Words.{IsUpdateDone, IsRequestDone, IsChainDone, AreChainsDone, drop-append_seam, take-append_seam}
-use Rattle.fx_chain.proofs.Cases.{both_ways}
+use Rattle.fx_order.proofs.Words.{both_ways, ◌∷◌, ◌++◌, length, sym, ap, subst, ◌∙◌, arith, list_any, false≢true, has_name, FileEntry, IsCatalogue}
+use Rattle.fx_order.proofs.Words.{installed, is_bad_entry, Completed, next_member, severs, first_member, Operation, Opens, Reads, Closes, Updates}
+use Rattle.fx_order.proofs.Words.{Asked, Place, Target, Slot, Any, by_equality, accesses_of_chain, Access, ChainAccess, IsOpenDone, IsEntryDone}
+use Rattle.fx_order.proofs.Words.{AreEntriesDone, IsUpdateDone, IsRequestDone, IsChainDone, AreChainsDone, drop-append_seam, take-append_seam}
 use Rattle.fx_order.proofs.ChainFront.{front_is, length-done}
 use Rattle.fx_order.proofs.Placed.{placed, placed-append, close_none, read_none}
 

@@ -1,12 +1,11 @@
 -- The files that a history closes are those that its accesses took from their slots.
 use Rattle.fx_order.proofs.Words.{◌≡◌, ◌≢◌, ℕ, ◌<◌, ◌≤◌, ◌==◌, List, [], ◌∷◌, ◌++◌, map, refl, sym, ap, subst, ◌∙◌, append_assoc, Option, Some, None}
-use Rattle.fx_order.proofs.Words.{if◌then◌else◌, arith, IsPermutation, append-nil, IsPermutation-refl, IsPermutation-sym, IsPermutation-trans}
-use Rattle.fx_order.proofs.Words.{IsPermutation-cons, IsPermutation-middle, IsPermutation-map, IsPermutation-pop_more, option_to_list, Closed, File}
-use Rattle.fx_order.proofs.Words.{Event, Action, Look, Put, Clear, Take, Close, State, IsSettled, Allows, after, with_removed, state_after, AllowsAll}
-use Rattle.fx_order.proofs.Words.{action_of, closes_in, closed_by, IsStart, by_equality, removed_by, removed_in, Access, named, named_same, present}
-use Rattle.fx_order.proofs.Words.{placed_one, tally, tally_all, tally_start, changed_at, nat_tests}
+use Rattle.fx_order.proofs.Words.{IsPermutation-push_more, if◌then◌else◌, arith, IsPermutation, append-nil, IsPermutation-refl, IsPermutation-sym}
+use Rattle.fx_order.proofs.Words.{IsPermutation-trans, IsPermutation-cons, IsPermutation-middle, IsPermutation-map, IsPermutation-pop_more}
+use Rattle.fx_order.proofs.Words.{option_to_list, Closed, File, Event, Action, Look, Put, Clear, Take, Close, State, IsSettled, Allows, after}
+use Rattle.fx_order.proofs.Words.{with_removed, state_after, AllowsAll, action_of, closes_in, closed_by, IsStart, by_equality, removed_by, removed_in}
+use Rattle.fx_order.proofs.Words.{Access, named, named_same, present, placed_one, tally, tally_all, tally_start, changed_at, nat_tests}
 use Rattle.fx_order.proofs.Accesses.{accesses_in, accesses_by, at_itself}
-use Rattle.std.proofs.lemmas.List.Sorted.{IsPermutation-push_more}
 
 abbrev identity : File → Closed
 identity f = f.identity

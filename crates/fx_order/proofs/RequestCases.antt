@@ -1,9 +1,8 @@
 -- What holds of what a request did, by its cases: it was refused, it made one access, or those of a list.
 use Rattle.fx_order.proofs.Words.{◌≡◌, inl, inr, ℕ, ◌+◌, ◌==◌, ◌||◌, nat_le, nat_lt, ℤ, pos, false, List, [], ◌∷◌, length, refl, sym, subst, Option}
-use Rattle.fx_order.proofs.Words.{Some, None, list_any, FileEntry, Errno, EBADF, EINVAL, ENFILE, ENOMEM, ENXIO, Closed, installed, is_bad_entry}
-use Rattle.fx_order.proofs.Words.{Completed, completed, refusal, Place, Any, Slot, Looks, Puts, Takes, Allocates, FindsFull, Access, IsRefused, gives}
-use Rattle.fx_order.proofs.Words.{IsOpenDone, IsReadDone, IsCloseDone, IsUpdateDone, AreEntriesDone}
-use Rattle.fx_chain.proofs.Cases.{either_way}
+use Rattle.fx_order.proofs.Words.{either_way, Some, None, list_any, FileEntry, Errno, EBADF, EINVAL, ENFILE, ENOMEM, ENXIO, Closed, installed}
+use Rattle.fx_order.proofs.Words.{is_bad_entry, Completed, completed, refusal, Place, Any, Slot, Looks, Puts, Takes, Allocates, FindsFull, Access}
+use Rattle.fx_order.proofs.Words.{IsRefused, gives, IsOpenDone, IsReadDone, IsCloseDone, IsUpdateDone, AreEntriesDone}
 
 module _ (size : ℕ) (place : Place) (P : List Access → Completed → Type 0) (refused : (errno : Errno) → P [] (refusal place errno))
     (own : List Access) (c : Completed) where

@@ -1,12 +1,11 @@
 -- What explains an answer by steps explains it by their accesses.
-use Rattle.fx_order.proofs.Words.{◌≡◌, inl, inr, ℕ, zero, suc, ◌+◌, ◌==◌, ◌||◌, nat_le, nat_lt, ℤ, pos, negsuc, List, [], ◌∷◌, length, map, sym, ap}
-use Rattle.fx_order.proofs.Words.{subst, ◌∙◌, Option, Some, None, list_any, append-nil, FileEntry, has_name, Errno, ENOENT, ENXIO, EBADF, ENOMEM}
-use Rattle.fx_order.proofs.Words.{EINVAL, ENFILE, Closed, File, Event, Action, Look, Release, Put, Clear, Take, ◌▷◌, action_of, part_of_chain}
-use Rattle.fx_order.proofs.Words.{identity_of, Refuses, MayClose, OpensAt, ReadsFrom, Empties, AppliesEntry, AppliesList, UpdatesFrom, Answers}
-use Rattle.fx_order.proofs.Words.{is_bad_entry, Completed, next_member, Explains, severs, first_member, Operation, Opens, Reads, Closes, Updates}
-use Rattle.fx_order.proofs.Words.{Asked, Place, Target, Slot, Any, ExplainsParts, Puts, Allocates, Access, IsRefused, IsOpenDone, IsReadDone}
-use Rattle.fx_order.proofs.Words.{IsCloseDone, IsEntryDone, AreEntriesDone, IsUpdateDone, IsRequestDone, IsChainDone, AreChainsDone}
-use Rattle.fx_chain.proofs.Cases.{same_cases}
+use Rattle.fx_order.proofs.Words.{◌≡◌, inl, inr, ℕ, zero, suc, ◌+◌, ◌==◌, ◌||◌, nat_le, nat_lt, ℤ, pos, negsuc, List, [], ◌∷◌, length, map, ap}
+use Rattle.fx_order.proofs.Words.{same_cases, ◌∙◌, Option, Some, None, list_any, append-nil, FileEntry, has_name, Errno, ENOENT, ENXIO, EBADF, ENOMEM}
+use Rattle.fx_order.proofs.Words.{EINVAL, ENFILE, File, Event, Action, Look, Release, Put, Clear, Take, ◌▷◌, action_of, part_of_chain, identity_of}
+use Rattle.fx_order.proofs.Words.{Refuses, MayClose, OpensAt, ReadsFrom, Empties, AppliesEntry, AppliesList, UpdatesFrom, Answers, is_bad_entry}
+use Rattle.fx_order.proofs.Words.{Completed, next_member, Explains, severs, first_member, Operation, Opens, Reads, Closes, Updates, Asked, Place}
+use Rattle.fx_order.proofs.Words.{Target, Slot, Any, ExplainsParts, Puts, Allocates, IsRefused, IsOpenDone, IsReadDone, IsCloseDone, IsEntryDone}
+use Rattle.fx_order.proofs.Words.{AreEntriesDone, IsUpdateDone, IsRequestDone, IsChainDone, AreChainsDone}
 use Rattle.fx_order.proofs.Accesses.{accesses_in, accesses_in-then, order_in, accesses_of_chain-order_in}
 
 accesses_may_close : (steps : List Action) (removed : Option File) (events : List Action) → MayClose steps removed events
@@ -20,23 +19,18 @@ accesses_may_close steps (Some f) events closes = elim closes [
 module _ (place : Place) (in_list slot : ℕ) where
   entry_applied : (entry : ℤ) (events : List Action) → AppliesEntry place in_list slot entry events
       → IsEntryDone place in_list slot entry (accesses_in events)
-  entry_applied (pos entry) events x = (
-    identity_of x.1,
-    accesses_may_close ([] ▷ Put slot x.0 x.1) x.1 events x.3 ∙ ap (λ (file : Closed). Puts slot file (identity_of x.1) ∷ []) x.2,
-  )
+  entry_applied (pos entry) events x =
+      (identity_of x.1, accesses_may_close ([] ▷ Put slot x.0 x.1) x.1 events x.3 ∙ (λ i. Puts slot (x.2 i) (identity_of x.1) ∷ []))
   entry_applied (negsuc zero) events x = (identity_of x.0, accesses_may_close ([] ▷ Clear slot x.0) x.0 events x.1)
   entry_applied (negsuc (suc n)) events x = ap accesses_in x
 
 list_applied : (place : Place) (in_list slot : ℕ) (list : List ℤ) (events : List Action) → AppliesList place in_list slot list events
     → AreEntriesDone place in_list slot list (accesses_in events)
 list_applied place in_list slot [] events x = ap accesses_in x
-list_applied place in_list slot (entry ∷ list) events x = (
-  accesses_in x.0,
-  accesses_in x.1,
-  ap accesses_in x.2 ∙ accesses_in-then x.0 x.1,
-  entry_applied place in_list slot entry x.0 x.3,
-  list_applied place (in_list + 1) (slot + 1) list x.1 x.4,
-)
+list_applied place in_list slot (entry ∷ list) events x =
+    let own = entry_applied place in_list slot entry x.0 x.3 in
+    let others = list_applied place (in_list + 1) (slot + 1) list x.1 x.4 in
+    (accesses_in x.0, accesses_in x.1, ap accesses_in x.2 ∙ accesses_in-then x.0 x.1, own, others)
 
 module _ (catalogue : List FileEntry) (size : ℕ) (place : Place) (events : List Action) (c : Completed) where
   refused : (errno : Errno) → Refuses place errno events c → IsRefused place errno (accesses_in events) c
@@ -47,7 +41,7 @@ module _ (catalogue : List FileEntry) (size : ℕ) (place : Place) (events : Lis
       same_cases (size == 0) (refused ENXIO) (same_cases (nat_le size slot) (refused EINVAL)
       (λ x. let put = entry_applied place 0 slot (pos entry) events (x.0, x.1, x.2, x.3) in (put.0, (put.1, x.4))))
   opened entry Any = same_cases (size == 0) (refused ENFILE) (λ x. elim x [
-    | inl y ↦ inl (y.0, (ap accesses_in y.3 ∙ ap (λ (file : Closed). Allocates y.0 file ∷ []) y.2, y.4))
+    | inl y ↦ inl (y.0, (ap accesses_in y.3 ∙ (λ i. Allocates y.0 (y.2 i) ∷ []), y.4))
     | inr y ↦ inr (ap accesses_in y.0, y.1)
   ])
 
@@ -85,27 +79,15 @@ module _ (catalogue : List FileEntry) (size : ℕ) where
   explained : (place : Place) (requests : List Asked) (events : List Action) (cs : List Completed)
       → Explains catalogue size place requests events cs → IsChainDone catalogue size place requests (accesses_in events) cs
   explained place [] events cs x = (ap accesses_in x.0, x.1)
-  explained place (request ∷ requests) events cs x = (
-    accesses_in x.0,
-    accesses_in x.1,
-    x.2,
-    x.3,
-    ap accesses_in x.4 ∙ accesses_in-then x.0 x.1,
-    x.5,
-    answered catalogue size place x.0 x.2 request.operation x.6,
-    same_cases (severs request x.2) (λ y. (ap accesses_in y.0, y.1)) (explained (next_member place) requests x.1 x.3) x.7,
-  )
+  explained place (request ∷ requests) events cs x =
+      let own = answered catalogue size place x.0 x.2 request.operation x.6 in
+      let others = same_cases (severs request x.2) (λ y. (ap accesses_in y.0, y.1)) (explained (next_member place) requests x.1 x.3) x.7 in
+      (accesses_in x.0, accesses_in x.1, x.2, x.3, ap accesses_in x.4 ∙ accesses_in-then x.0 x.1, x.5, own, others)
 
   -- and all chains
   pub all_explained : (submission chain : ℕ) (runs : List (List Asked)) (h : List Event) (cs : List Completed)
       → ExplainsParts catalogue size submission chain runs h cs → AreChainsDone catalogue size submission chain runs (order_in h) cs
   all_explained submission chain [] h cs x = x
-  all_explained submission chain (run ∷ runs) h cs x = (
-    x.0,
-    x.1,
-    x.2,
-    subst (λ (accesses : List Access). IsChainDone catalogue size (first_member submission chain) run accesses x.0)
-        (sym (accesses_of_chain-order_in chain h))
-        (explained (first_member submission chain) run (map action_of (part_of_chain chain h)) x.0 x.3),
-    all_explained submission (chain + 1) runs h x.1 x.4,
-  )
+  all_explained submission chain (run ∷ runs) h cs x =
+      let own = explained (first_member submission chain) run (map action_of (part_of_chain chain h)) x.0 x.3 in
+      (x.0, x.1, x.2, rw (accesses_of_chain-order_in chain h) own, all_explained submission (chain + 1) runs h x.1 x.4)

@@ -1,12 +1,9 @@
 -- Which lists have the same files: how often a file stands in each of them.
 use Rattle.fx_order.proofs.Words.{◌≡◌, ◌≢◌, ℕ, suc, ◌+◌, ◌<◌, ◌≤◌, ◌==◌, ◌&&◌, Bool, false, cond, List, [], ◌∷◌, ◌++◌, length, take, drop, IsTrue}
-use Rattle.fx_order.proofs.Words.{◌↔◌, subst, refl, sym, ap, ◌∙◌, arith, slice_index_or, Decides, IsPermutation, sum_by, remove, false≢true}
-use Rattle.fx_order.proofs.Words.{Decides-eqb, Decides-and, Decides-like, append-nil, length-append, take_all, take_more, split_at}
-use Rattle.fx_order.proofs.Words.{sum_by-IsPermutation, length_permutation, IsPermutation-more, sum_by-append, sum_by-cons, Mark, Registered}
-use Rattle.fx_order.proofs.Words.{Submitted, Closed}
-use Rattle.std.proofs.lemmas.Bool.{not-true}
-use Rattle.std.proofs.lemmas.Bool.Decides.{Decides-not}
-use Rattle.std.proofs.lemmas.List.{nil_from_length}
+use Rattle.fx_order.proofs.Words.{not-true, Decides-not, nil_from_length, ◌↔◌, subst, refl, sym, ap, ◌∙◌, arith, slice_index_or, Decides}
+use Rattle.fx_order.proofs.Words.{IsPermutation, sum_by, remove, false≢true, Decides-eqb, Decides-and, Decides-like, append-nil, length-append}
+use Rattle.fx_order.proofs.Words.{take_all, take_more, split_at, sum_by-IsPermutation, length_permutation, IsPermutation-more, sum_by-append}
+use Rattle.fx_order.proofs.Words.{sum_by-cons, Mark, Registered, Submitted, Closed}
 
 abbrev pub same_mark : Mark → Mark → Bool
 same_mark (Registered k i) (Registered l j) = (k == l) && (i == j)

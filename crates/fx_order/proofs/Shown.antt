@@ -1,14 +1,10 @@
 -- A ring with files at its slots, and none past them, is what a table shows.
 use Rattle.fx_order.proofs.Words.{◌≡◌, ℕ, ◌<◌, ◌≤◌, List, [], ◌∷◌, refl, ap, ◌∙◌, arith, Option, Some, None, FileEntry, if◌then◌else◌, Closed, State}
-use Rattle.fx_order.proofs.Words.{file_at, changed_at, identity_of, by_equality, RingContents, RingState, ring_of, Table, Looks, Puts, Clears, Takes}
-use Rattle.fx_order.proofs.Words.{Allocates, FindsFull, PermitsAll, table_with, table_after, Access, get_or-eq_default}
-use Rattle.fx_plain.specs.State.{vacant}
-use Rattle.fx_plain.specs.Table.{numbered}
+use Rattle.fx_order.proofs.Words.{vacant, numbered, ring_with, ring_with_slots, file_at, changed_at, identity_of, by_equality, RingContents}
+use Rattle.fx_order.proofs.Words.{RingState, ring_of, Table, Puts, Clears, Takes, Allocates, PermitsAll, table_after, Access, get_or-eq_default}
 use Rattle.fx_ring.proofs.TableOfState.{ring_so}
 use Rattle.fx_ring.specs.OpenRings.{table_with_files}
-use Rattle.fx_ring.specs.Ring.{ring_with}
 use Rattle.std.specs.Prelude.{option_map}
-use Rattle.fx_order.specs.Slots.{ring_with_slots}
 use Rattle.fx_order.specs.declared.ring_slots.RingSlots.{RingSlots}
 
 abbrev pub NonePast : ℕ → (ℕ → Option Closed) → Type 0
@@ -36,24 +32,19 @@ pub none_past_table : (c : RingContents) → NonePast (ring_of c).size (ring_of 
 none_past_table c slot past =
     ap (λ (number : Option ℕ). identity_of (file_at c.table.nodes number)) (get_or-eq_default c.table.slots None past)
 
-module _ (size slot : ℕ) (at : ℕ → Option Closed) (x : Option Closed) (within : slot < size) (none : NonePast size at) where
-  none_past_change : NonePast size (changed_at at slot x)
-  none_past_change other past =
-      by_equality other slot (λ b. (if b then x else at other) ≡ None) (λ same. absurd (omega arith)) (λ _. none other past)
+none_past_change : {size slot : ℕ} {at : ℕ → Option Closed} (x : Option Closed) → slot < size → NonePast size at
+    → NonePast size (changed_at at slot x)
+none_past_change {slot} {at} x within none other past =
+    by_equality other slot (λ b. (if b then x else at other) ≡ None) (λ same. absurd (omega arith)) (λ _. none other past)
 
-pub none_past_accesses : (table : Table) (accesses : List Access) → PermitsAll table accesses → NonePast table.size table.at
+pub none_past_accesses : (accesses : List Access) (table : Table) → PermitsAll table accesses → NonePast table.size table.at
     → NonePast table.size (table_after table accesses).at
-none_past_accesses table [] may none = none
-none_past_accesses table (Looks slot found ∷ accesses) may none = none_past_accesses table accesses may.1 none
-none_past_accesses table (Puts slot file removed ∷ accesses) may none =
-    none_past_accesses (table_with table (Puts slot file removed)) accesses may.1 (none_past_change table.size slot table.at (Some file) may.0.0 none)
-none_past_accesses table (Clears slot removed ∷ accesses) may none =
-    none_past_accesses (table_with table (Clears slot removed)) accesses may.1 (none_past_change table.size slot table.at None may.0.0 none)
-none_past_accesses table (Takes slot removed ∷ accesses) may none =
-    none_past_accesses (table_with table (Takes slot removed)) accesses may.1 (none_past_change table.size slot table.at None may.0.0 none)
-none_past_accesses table (Allocates slot file ∷ accesses) may none =
-    none_past_accesses (table_with table (Allocates slot file)) accesses may.1 (none_past_change table.size slot table.at (Some file) may.0.0.0 none)
-none_past_accesses table (FindsFull ∷ accesses) may none = none_past_accesses table accesses may.1 none
+none_past_accesses [] table may none = none
+none_past_accesses (Puts slot file removed ∷ xs) table may none = none_past_accesses xs _ may.1 (none_past_change _ may.0.0 none)
+none_past_accesses (Clears slot removed ∷ xs) table may none = none_past_accesses xs _ may.1 (none_past_change _ may.0.0 none)
+none_past_accesses (Takes slot removed ∷ xs) table may none = none_past_accesses xs _ may.1 (none_past_change _ may.0.0 none)
+none_past_accesses (Allocates slot file ∷ xs) table may none = none_past_accesses xs _ may.1 (none_past_change _ may.0.0.0 none)
+none_past_accesses (x ∷ xs) table may none = none_past_accesses xs table may.1 none
 
 pub none_past : (catalogue : List FileEntry) (ring : RingSlots) → NonePast (ring_with_slots catalogue ring).size (ring_with_slots catalogue ring).at
 none_past catalogue ring slot past = get_or-eq_default ring.slots.at.items None past

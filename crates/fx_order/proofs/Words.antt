@@ -4,16 +4,16 @@ pub use Rattle.fx_base.specs.Catalogue.{FileEntry, IsCatalogue, name_at}
 pub use Rattle.fx_base.specs.CloseList.{IsInOrderOfMark, mark_cmp}
 pub use Rattle.fx_base.specs.contracts.mark.MarkOrd.TheImpl.{ghosts}
 pub use Rattle.fx_base.specs.declared.errno.Errno.{Errno}
-pub use Rattle.fx_base.specs.declared.errno.Errno.TheVariants.{EAGAIN, EBADF, EBUSY, ECANCELED, EINVAL, EMFILE, ENFILE, ENOENT, ENOMEM, ENXIO}
+pub use Rattle.fx_base.specs.declared.errno.Errno.TheVariants.{EBADF, ECANCELED, EINVAL, ENFILE, ENOENT, ENOMEM, ENXIO}
 pub use Rattle.fx_base.specs.declared.mark.Mark.{Mark}
 pub use Rattle.fx_base.specs.declared.mark.Mark.TheVariants.{Registered, Submitted}
 pub use Rattle.fx_base.specs.declared.open_file.Closed.{Closed}
-pub use Rattle.fx_chain.proofs.Asking.{asked_part}
+pub use Rattle.fx_chain.proofs.Cases.{both_ways, either_case, either_way, same_cases}
 pub use Rattle.fx_chain.proofs.Chains.{accepted-chains, members-are-runs}
 pub use Rattle.fx_chain.proofs.EntryKinds.{list_installs-cons}
 pub use Rattle.fx_chain.specs.Accepted.{IsAccepted, IsChain, IsWithinLimits, members_of}
-pub use Rattle.fx_chain.specs.Answers.{Answers, AppliesEntry, AppliesList, Empties, MayClose, OpensAt, ReadsAt, ReadsFrom, Refuses, UpdatesFrom}
-pub use Rattle.fx_chain.specs.Answers.{installed, is_bad_entry}
+pub use Rattle.fx_chain.specs.Answers.{Answers, AppliesEntry, AppliesList, Empties, MayClose, OpensAt, ReadsFrom, Refuses, UpdatesFrom, installed}
+pub use Rattle.fx_chain.specs.Answers.{is_bad_entry}
 pub use Rattle.fx_chain.specs.Chains.{chains_of}
 pub use Rattle.fx_chain.specs.Completed.{Completed, all_completed, completed, completed_of, negated, next_member, refusal}
 pub use Rattle.fx_chain.specs.Explains.{Explains, canceled, first_member, severs}
@@ -31,12 +31,12 @@ pub use Rattle.fx_chain.specs.declared.request.Target.{Target}
 pub use Rattle.fx_chain.specs.declared.request.Target.TheVariants.{Any, Slot}
 pub use Rattle.fx_chain.specs.declared.request.TheConstants.{LONGEST_UPDATE}
 pub use Rattle.fx_order.specs.Access.{Allocates, Clears, FindsFull, Looks, Permits, PermitsAll, Puts, Table, Takes, access_of, accesses_of}
-pub use Rattle.fx_order.specs.Access.{accesses_of_chain, removed_by, removed_in, table_after, table_with}
+pub use Rattle.fx_order.specs.Access.{accesses_of_chain, removed_by, removed_in, table_after, table_with, IsAt, with_file}
 pub use Rattle.fx_order.specs.Laws.{AreKnown, IsOfNext}
 pub use Rattle.fx_order.specs.Order.{IsOneOrder, IsOrderOf, ring_left, table_of}
 pub use Rattle.fx_order.specs.Requests.{AreChainsDone, AreEntriesDone, IsChainDone, IsCloseDone, IsEntryDone, IsOpenDone, IsReadDone, IsRefused}
 pub use Rattle.fx_order.specs.Requests.{IsRequestDone, IsUpdateDone, Makes, gives}
-pub use Rattle.fx_order.specs.Slots.{ring_of_slots, table_of_slots}
+pub use Rattle.fx_order.specs.Slots.{ring_of_slots, table_of_slots, ring_with_slots}
 pub use Rattle.fx_order.specs.declared.access.Access.{Access}
 pub use Rattle.fx_order.specs.declared.access.ChainAccess.{ChainAccess}
 pub use Rattle.fx_order.specs.declared.slots.Slots.{Slots}
@@ -44,20 +44,21 @@ pub use Rattle.fx_plain.proofs.Cells.{by_equality}
 pub use Rattle.fx_plain.proofs.LawTallies.{placed_one, present, tally, tally_all, tally_start}
 pub use Rattle.fx_plain.proofs.Leading.{closes_in-then, leads_then}
 pub use Rattle.fx_plain.proofs.Named.{named, named_same}
-pub use Rattle.fx_plain.specs.Contents.{Contents, file_at, moved_node, node_at, placed_at, state_of}
+pub use Rattle.fx_plain.proofs.Prepared.{opening_is_start, same_identity}
+pub use Rattle.fx_plain.specs.Contents.{file_at, state_of}
 pub use Rattle.fx_plain.specs.History.{AllReleaseTheirOwn, AllowsAll, Leads, action_of, close_of, closed_by, closes_in, held_by, part_of_chain}
-pub use Rattle.fx_plain.specs.History.{state_after, ◌▷▷◌, ◌▷◌}
+pub use Rattle.fx_plain.specs.History.{state_after, ◌▷▷◌, ◌▷◌, ReleasesItsOwn}
 pub use Rattle.fx_plain.specs.Laws.{IsStart}
-pub use Rattle.fx_plain.specs.State.{IsSettled, State, file_numbered, opening}
+pub use Rattle.fx_plain.specs.State.{IsSettled, State, opening, vacant}
 pub use Rattle.fx_plain.specs.Step.{Allows, after, changed_at, with_removed}
-pub use Rattle.fx_plain.specs.Table.{identity_of}
+pub use Rattle.fx_plain.specs.Table.{identity_of, numbered}
 pub use Rattle.fx_plain.specs.declared.event.Action.{Action}
 pub use Rattle.fx_plain.specs.declared.event.Action.TheVariants.{Allocate, Clear, Close, Full, Look, Put, Release, Take}
 pub use Rattle.fx_plain.specs.declared.event.Event.{Event}
 pub use Rattle.fx_plain.specs.declared.event.File.{File}
-pub use Rattle.fx_plain.specs.declared.node.Node.{Node}
 pub use Rattle.fx_ring.proofs.Parts.{has, kept_lacking, lacks, none_within, within_lacking}
-pub use Rattle.fx_ring.specs.Ring.{HasClosed, HasCounted, IsRing, RingContents, RingState, ring_of}
+pub use Rattle.fx_ring.proofs.Rings.{file_told, not_yet}
+pub use Rattle.fx_ring.specs.Ring.{HasClosed, IsRing, RingContents, RingState, ring_of, ring_with}
 pub use Rattle.fx_ring.specs.Submission.{ExplainsParts, IsOneHistory, Reported}
 pub use Rattle.fx_table.proofs.Members.{contains_cases, contains_head, contains_none, contains_tail}
 pub use Rattle.fx_table.specs.Numbers.{numbers_for}
@@ -67,22 +68,24 @@ pub use Rattle.std.proofs.Common.{nat_lt, negsuc, not, of_z, option_map, pos, re
 pub use Rattle.std.proofs.Common.{true, w32, zero, ℕ, ℤ, ⊎_elim, ◌&&◌, ◌*◌, ◌++◌, ◌+◌, ◌-◌, ◌<◌, ◌==◌, ◌||◌, ◌↔◌, ◌∙◌, ◌∷◌, ◌≡◌, ◌≢◌, ◌≤◌, ◌⊎◌}
 pub use Rattle.std.proofs.Math.ListN.{get_or-eq_default}
 pub use Rattle.std.proofs.Math.Seq.{drop-append_seam, split_at, take-append_seam, take-length}
-pub use Rattle.std.proofs.lemmas.Bool.{cases_lt, false≢true, le-ltb, leb-false, lt-ltb, ltb-false}
-pub use Rattle.std.proofs.lemmas.Bool.Decides.{Decides-and, Decides-eqb, Decides-like, nat_tests, when_false, when_true}
+pub use Rattle.std.proofs.lemmas.Bool.{cases_lt, false≢true, le-ltb, leb-false, lt-ltb, ltb-false, not-true, or_parts}
+pub use Rattle.std.proofs.lemmas.Bool.Decides.{Decides-and, Decides-eqb, Decides-like, nat_tests, when_false, when_true, Decides-not}
+pub use Rattle.std.proofs.lemmas.Bool.Decides.{not_from_Decides, same_from_decides}
 pub use Rattle.std.proofs.lemmas.List.{append-nil, drop-map, get_or-map, length-append, length-map, map-append, take-append-drop, take-map, take_all}
-pub use Rattle.std.proofs.lemmas.List.{take_more}
+pub use Rattle.std.proofs.lemmas.List.{take_more, get_or_default, nil_from_length}
 pub use Rattle.std.proofs.lemmas.List.Elements.{All-append, All-cons, All-head, All-map, All-nil, All-tail, All-weaker, Contains-append_cases}
-pub use Rattle.std.proofs.lemmas.List.Elements.{Contains-append_right, filter-append}
+pub use Rattle.std.proofs.lemmas.List.Elements.{Contains-append_right, filter-append, All-contains, Contains-get_or, recursion_from_All}
 pub use Rattle.std.proofs.lemmas.List.Sorted.{Contains-permutation, IsPermutation-cons, IsPermutation-map, IsPermutation-middle, IsPermutation-more}
 pub use Rattle.std.proofs.lemmas.List.Sorted.{IsPermutation-pop_more, IsPermutation-refl, IsPermutation-sym, IsPermutation-to_front}
-pub use Rattle.std.proofs.lemmas.List.Sorted.{IsPermutation-trans, length_permutation, sum_by-IsPermutation}
+pub use Rattle.std.proofs.lemmas.List.Sorted.{IsPermutation-trans, length_permutation, sum_by-IsPermutation, IsPermutation-push_more}
 pub use Rattle.std.proofs.lemmas.List.Sums.{sum_by-append, sum_by-cons}
-pub use Rattle.std.proofs.lemmas.Option.{slice_get_past}
+pub use Rattle.std.proofs.lemmas.Map.Keys.{IsDistinct-IsPermutation, IsDistinct-cons, apart_from_distinct}
+pub use Rattle.std.proofs.lemmas.Option.{slice_get_past, get_or_from_slice_get, slice_get_within}
 pub use Rattle.std.proofs.lemmas.Result.{IfOk-weaker}
 pub use Rattle.std.specs.Bool.{MatchBool}
 pub use Rattle.std.specs.Cmp.Lexicographic.{bytes_decides}
 pub use Rattle.std.specs.Global.{Vec}
-pub use Rattle.std.specs.List.{list_any, remove, sum_by}
+pub use Rattle.std.specs.List.{list_any, remove, sum_by, AllByRecursion, IsDistinct}
 pub use Rattle.std.specs.Option.{option_to_list}
 pub use Rattle.std.specs.Ordering.{is_lt}
 pub use Rattle.std.specs.Str.{bytes_eq}

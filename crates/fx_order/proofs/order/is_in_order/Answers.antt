@@ -1,6 +1,5 @@
 use Rattle.fx_order.proofs.Words.{◌≡◌, inl, inr, ℕ, ◌+◌, ◌-◌, ◌<◌, false, List, length, sym, ap, ◌∙◌, arith, slice_index_or, is_lt, cases_lt}
-use Rattle.fx_order.proofs.Words.{mark_cmp, Closed, ghosts}
-use Rattle.std.proofs.lemmas.List.{get_or_default}
+use Rattle.fx_order.proofs.Words.{get_or_default, mark_cmp, Closed, ghosts}
 use Rattle.fx_base.proofs.Marks.{same_cmp}
 use Rattle.fx_order.proofs.order.is_in_order.Goals as goal
 
