@@ -1,7 +1,6 @@
 -- Lists by their elements.
 use Rattle.fx_search.proofs.Words.{length-map, get_or-map, ◌∙◌, drop-cons, ◌≡◌, ℕ, suc, ◌<◌, drop, get_or, sym, List, ◌∷◌, length, ap, All, subst}
-use Rattle.fx_search.proofs.Words.{arith, map}
-use Rattle.std.specs.Prelude.{Any}
+use Rattle.fx_search.proofs.Words.{Any, arith, map}
 
 -- the element at a place of a mapped list, and those behind it
 pub mapped_at : {X Y : Type 0} (f : X → Y) (xs : List X) (i : ℕ) (x : X) → i < length xs → x ≡ get_or xs i x

@@ -1,11 +1,10 @@
 -- A list of states that leaves none of their steps out, and has no end, shows that no order leads to one.
+use Rattle.fx_search.specs.Machine.{HasNoEnd, IsExplored, LeadsInside}
 use Rattle.fx_search.proofs.Words.{◌≡◌, ◌≢◌, inl, inr, ℕ, zero, suc, ◌+◌, Bool, true, false, List, [], ◌∷◌, length, Option, Some, None, refl, sym, ap}
-use Rattle.fx_search.proofs.Words.{subst, ◌∙◌, arith, Contains, All, slice_index, slice_set, if◌then◌else◌, get_or-set_other, All-contains, All-map}
-use Rattle.fx_search.proofs.Words.{slice_get, option_and_then, by_equality, Cell, Claim, At, Empty, File, Packing, Strand, Standing, Vec}
-use Rattle.fx_search.proofs.Words.{all_unpacked, allows, cells_after, next, made, claim_at, Ends, is_test, unpacked, IsEnd, get_or-map, length-map}
-use Rattle.fx_search.specs.Machine.{HasNoEnd, IsExplored, IsLookedThrough, LeadsInside}
-use Rattle.std.proofs.lemmas.List.{set_comm}
-use Rattle.std.proofs.lemmas.Option.{get_or_from_slice_get, same_Some, slice_get_within}
+use Rattle.fx_search.proofs.Words.{IsLookedThrough, set_comm, get_or_from_slice_get, same_Some, slice_get_within, subst, ◌∙◌, arith, Contains, All}
+use Rattle.fx_search.proofs.Words.{slice_index, slice_set, if◌then◌else◌, get_or-set_other, All-contains, All-map, slice_get, option_and_then}
+use Rattle.fx_search.proofs.Words.{by_equality, Cell, Claim, At, Empty, File, Packing, Strand, Standing, Vec, all_unpacked, allows, cells_after, next}
+use Rattle.fx_search.proofs.Words.{made, claim_at, Ends, is_test, unpacked, IsEnd, get_or-map, length-map}
 
 -- an answer of two steps has one of the first, to which the second was applied
 pub both_steps : {A B : Type 0} (f : A → Option B) (o : Option A) (y : B) → option_and_then f o ≡ Some y → (x : A) × (o ≡ Some x) × (f x ≡ Some y)

@@ -1,22 +1,18 @@
 -- From a state where the files of a slot don't come out even, no end is reached.
-use Rattle.fx_search.proofs.Words.{◌≡◌, ◌⊎◌, inl, inr, ℕ, zero, suc, ◌+◌, ◌≤◌, ◌==◌, ◌&&◌, ◌||◌, not, Bool, true, false, List, [], ◌∷◌, refl, sym, ap}
-use Rattle.fx_search.proofs.Words.{◌∙◌, arith, cond, drop, length, length-set, slice_get, slice_index, slice_set, Option, Some, None, is_some, eq-eqb}
-use Rattle.fx_search.proofs.Words.{if◌then◌else◌, list_all, by_equality, Standing, allows, cell_at, cells_after, claim_at, IsEnd, is_staying}
-use Rattle.fx_search.proofs.Words.{may_leave, may_stay, suits, with_cell, has_slot, Cell, Claim, At, Full, Same, Empty, File, Resident, Wants}
-use Rattle.fx_search.proofs.Words.{Something, Strand, next, Leaves, drop-cons, ⊎_elim, ◌≢◌, cases_lt}
-use Rattle.std.specs.List.{count_by}
-use Rattle.std.proofs.lemmas.List.Sums.{sum_by-cons}
 use Rattle.fx_search.specs.Machine.{HasNoEnd}
-use Rattle.fx_search.specs.Counted.{IsUneven, LastStays, TooFewLeave, TwoStay, changes, is_change, is_something, leaving, staying, to_come}
+use Rattle.fx_search.proofs.Words.{◌≡◌, ◌⊎◌, inl, inr, ℕ, zero, suc, ◌+◌, ◌≤◌, ◌==◌, ◌&&◌, ◌||◌, not, Bool, true, false, List, [], ◌∷◌, refl, sym, ap}
+use Rattle.fx_search.proofs.Words.{count_by, IsUneven, LastStays, TooFewLeave, TwoStay, changes, is_change, is_something, leaving, staying, to_come}
+use Rattle.fx_search.proofs.Words.{ne_eqb, and_parts, not-true, drop_all, get_or_from_slice_get, slice_get_within, ◌∙◌, arith, cond, drop, length}
+use Rattle.fx_search.proofs.Words.{length-set, slice_get, slice_index, slice_set, Option, Some, None, is_some, eq-eqb, if◌then◌else◌, list_all}
+use Rattle.fx_search.proofs.Words.{by_equality, Standing, allows, cell_at, cells_after, claim_at, IsEnd, is_staying, may_leave, may_stay, suits}
+use Rattle.fx_search.proofs.Words.{with_cell, has_slot, Cell, Claim, At, Full, Same, Empty, File, Resident, Wants, Something, Strand, next, Leaves}
+use Rattle.fx_search.proofs.Words.{drop-cons, ⊎_elim, ◌≢◌, cases_lt}
+use Rattle.std.proofs.lemmas.List.Sums.{sum_by-cons}
 use Rattle.fx_search.specs.declared.counted.Change.{Change}
 use Rattle.fx_search.specs.declared.counted.Change.TheVariants.{Takes, Empties, Leaving, Staying}
 use Rattle.fx_search.proofs.Hopeless.{written}
 use Rattle.fx_search.proofs.SlotsKept.{slots_after}
 use Rattle.fx_search.proofs.Reaching.{after, none_ends}
-use Rattle.std.proofs.Common.{ne_eqb}
-use Rattle.std.proofs.lemmas.Bool.{and_parts, not-true}
-use Rattle.std.proofs.lemmas.List.{drop_all}
-use Rattle.std.proofs.lemmas.Option.{get_or_from_slice_get, slice_get_within}
 use Rattle.std.proofs.Math.Bool.{and-false, and-true}
 
 -- what was written to a slot is there

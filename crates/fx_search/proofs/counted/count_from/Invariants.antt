@@ -1,6 +1,4 @@
-use Rattle.fx_search.proofs.Words.{◌≡◌, ◌+◌, ◌≤◌, drop}
-use Rattle.std.specs.List.{count_by}
-use Rattle.fx_search.specs.Counted.{changes}
+use Rattle.fx_search.proofs.Words.{◌≡◌, ◌+◌, ◌≤◌, drop, count_by, changes}
 use Rattle.fx_search.proofs.counted.count_from.Given as goal
 
 -- those so far, and those that are left, are all of them

@@ -1,5 +1,4 @@
-use Rattle.fx_search.proofs.Words.{◌≡◌, ◌+◌, drop}
-use Rattle.fx_search.specs.Counted.{to_come}
+use Rattle.fx_search.proofs.Words.{◌≡◌, ◌+◌, drop, to_come}
 use Rattle.fx_search.proofs.counted.to_come.Given as goal
 
 -- those so far, and those of the chains that are left, are all of them
