@@ -18,8 +18,7 @@ once_behind (x ∷ xs) ys once = once_behind xs ys once.0
 
 pub once_between : (xs ys : List (ℕ × Closed)) (s o : ℕ) (f g : Closed) → PlacesOnce (xs ++ ys) → Has xs s f → Has ys o g → f.mark ≢ g.mark
 once_between [] ys s o f g once first later same = absurd first
-once_between (x ∷ xs) ys s o f g once (inl here) later same =
-    once.1 o g (has_right xs ys o g later) ((λ i. (here i).1.mark) ∙ same)
+once_between (x ∷ xs) ys s o f g once (inl here) later same = once.1 o g (has_right xs ys o g later) ((λ i. (here i).1.mark) ∙ same)
 once_between (x ∷ xs) ys s o f g once (inr first) later same = once_between xs ys s o f g once.0 first later same
 
 slot_of : {slot s : ℕ} {file f : Closed} → Has ((slot, file) ∷ []) s f → s ≡ slot

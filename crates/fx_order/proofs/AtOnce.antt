@@ -81,8 +81,7 @@ module _ (st : State) (number : ℕ) (settled : IsSettled st) where
 
   looked_up : {slot : ℕ} {found : Option Closed} (x : Option File) → slot < st.size → x ≡ st.at slot → identity_of x ≡ found
       → Done st number (Looks slot found)
-  looked_up {slot} None lt is same =
-      at_once (Look slot None) None (None, same, refl) (lt, is) refl refl refl (λ n _. refl) (λ _. tt) refl refl
+  looked_up {slot} None lt is same = at_once (Look slot None) None (None, same, refl) (lt, is) refl refl refl (λ n _. refl) (λ _. tt) refl refl
   looked_up {slot} (Some f) lt is same =
       let k = f.number in
       let none = settled.unheld f.number in

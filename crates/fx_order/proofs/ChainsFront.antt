@@ -43,13 +43,11 @@ module _ (catalogue : List FileEntry) (size submission chain : ℕ) (run : List 
 -- the completions of a chain's members, and those behind them
 pub own_completed : (members : List Request) (completions own : List Completion) → own ≡ take (length members) completions
     → all_completed own ≡ take (length (all_asked members)) (all_completed completions)
-own_completed members completions own front =
-    rw (front, length-map members asked_of) (sym (take-map completed_of (length members) completions))
+own_completed members completions own front = rw (front, length-map members asked_of) (sym (take-map completed_of (length members) completions))
 
 pub others_completed : (members : List Request) (completions others : List Completion) → others ≡ drop (length members) completions
     → all_completed others ≡ drop (length (all_asked members)) (all_completed completions)
-others_completed members completions others back =
-    rw (back, length-map members asked_of) (sym (drop-map completed_of (length members) completions))
+others_completed members completions others back = rw (back, length-map members asked_of) (sym (drop-map completed_of (length members) completions))
 
 -- the chains of a submission by their members
 pub first_run : (asked : List Asked) (chains : List Chain) (d : Chain) (members : List Request) → 1 ≤ length chains

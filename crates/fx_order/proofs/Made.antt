@@ -12,8 +12,7 @@ use Rattle.fx_order.proofs.Ordered.{IsWithin}
 -- the actions are those of the accesses, one after another
 abbrev pub AllDo : List Access → List Action → Type 0
 AllDo [] actions = actions ≡ []
-AllDo (access ∷ accesses) actions =
-    (own : List Action) × (others : List Action) × (actions ≡ own ▷▷ others) × Does access own × AllDo accesses others
+AllDo (access ∷ accesses) actions = (own : List Action) × (others : List Action) × (actions ≡ own ▷▷ others) × Does access own × AllDo accesses others
 
 -- how many files the accesses install
 abbrev pub installs_in : List Access → ℕ

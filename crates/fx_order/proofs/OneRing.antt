@@ -50,8 +50,7 @@ module _ (old : RingState) (requests : List Asked) (report : Reported) (is : IsR
 
     -- a file that the order leaves isn't closed
     left_stays : (s : ℕ) (f : Closed) → (table_after (table_of old) (accesses_of order)).at s ≡ Some f → Contains report.closes.files f → ⊥
-    left_stays s f at closed =
-        removed_is_gone (table_of old) (accesses_of order) f apart o.permitted (closed_is_removed f closed) s f at refl
+    left_stays s f at closed = removed_is_gone (table_of old) (accesses_of order) f apart o.permitted (closed_is_removed f closed) s f at refl
 
   -- what one order leaves, another one leaves
   module _ (catalogue : IsCatalogue old.catalogue) (one other : List ChainAccess) (o : IsOrderOf one old requests report)

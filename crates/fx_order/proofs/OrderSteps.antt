@@ -35,5 +35,4 @@ permitted_at start (x ∷ order) (suc i) d within all = permitted_at (table_with
 
 pub permitted_here : (order : List ChainAccess) {i : ℕ} (d : ChainAccess) → i < length order → (start at : Table)
     → at ≡ table_after start (accesses_of (take i order)) → PermitsAll start (accesses_of order) → Permits at (slice_index_or order i d).access
-permitted_here order {i} d within start at is all =
-    rw is (permitted_at start order i d within all)
+permitted_here order {i} d within start at is all = rw is (permitted_at start order i d within all)

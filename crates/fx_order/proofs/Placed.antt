@@ -80,8 +80,7 @@ kept t slot removed new s f found was =
     (λ same. inr (found ∙ (ap t.at (sym same) ∙ was))) (λ _. inl was)
 
 -- what an access finds at a slot is there afterwards, or was removed by it
-step_kept : (t : Table) (x : Access) {s : ℕ} {f : Closed} → Permits t x → t.at s ≡ Some f
-    → ((table_with t x).at s ≡ Some f) ⊎ (removed_by x ≡ Some f)
+step_kept : (t : Table) (x : Access) {s : ℕ} {f : Closed} → Permits t x → t.at s ≡ Some f → ((table_with t x).at s ≡ Some f) ⊎ (removed_by x ≡ Some f)
 step_kept t (Puts slot file removed) {s} {f} may was = kept t slot removed (Some file) s f may.1 was
 step_kept t (Clears slot removed) {s} {f} may was = kept t slot removed None s f may.1 was
 step_kept t (Takes slot removed) {s} {f} may was = kept t slot removed None s f may.1 was

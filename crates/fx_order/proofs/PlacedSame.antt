@@ -37,8 +37,7 @@ module _ (size : ℕ) (place : Place) (one other : List Access) (c : Completed) 
   refused x y = ap placed (x.0 ∙ sym y.0)
 
   opens : (entry : ℕ) (target : Target) → IsOpenDone size place entry target one c → IsOpenDone size place entry target other c → PlaceSame one other
-  opens entry (Slot slot) =
-      both_ways (size == 0) refused (both_ways (nat_le size slot) refused (λ x y. ap placed x.1.0 ∙ sym (ap placed y.1.0)))
+  opens entry (Slot slot) = both_ways (size == 0) refused (both_ways (nat_le size slot) refused (λ x y. ap placed x.1.0 ∙ sym (ap placed y.1.0)))
   opens entry Any = both_ways (size == 0) refused (λ x y. elim x [
     | inl p ↦ elim y [
       | inl q ↦

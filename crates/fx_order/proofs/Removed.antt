@@ -104,12 +104,9 @@ not_waiting st {slot} {f} lt is few =
 accounts_after : (st : State) (a : Action) {removed : List Closed} (closed : List Closed) → Allows st a → ((n : ℕ) → tally n st ≤ 1)
     → Accounts st.removed removed closed → Accounts (after st a).removed (removed ++ removed_in (accesses_by a)) (closed ++ closed_by a)
 accounts_after st (Look slot None) {removed} closed may few so_far = kept removed closed so_far
-accounts_after st (Put slot f (Some g)) {removed} closed may few so_far =
-    leaves removed closed g (not_waiting st may.0 may.2 (few g.number)) so_far
-accounts_after st (Clear slot (Some g)) {removed} closed may few so_far =
-    leaves removed closed g (not_waiting st may.0 may.1 (few g.number)) so_far
-accounts_after st (Take slot (Some g)) {removed} closed may few so_far =
-    leaves removed closed g (not_waiting st may.0 may.1 (few g.number)) so_far
+accounts_after st (Put slot f (Some g)) {removed} closed may few so_far = leaves removed closed g (not_waiting st may.0 may.2 (few g.number)) so_far
+accounts_after st (Clear slot (Some g)) {removed} closed may few so_far = leaves removed closed g (not_waiting st may.0 may.1 (few g.number)) so_far
+accounts_after st (Take slot (Some g)) {removed} closed may few so_far = leaves removed closed g (not_waiting st may.0 may.1 (few g.number)) so_far
 accounts_after st (Close f) {removed} closed may few so_far = closed_one removed closed f may.0 so_far
 accounts_after st a {removed} closed may few so_far = kept removed closed so_far
 
@@ -120,8 +117,7 @@ removed_in-append (x ∷ xs) ys = ap (λ (l : List Closed). option_to_list (remo
 
 accounts_along : {start : State} (h : List Event) → IsStart start → AllowsAll start (map action_of h)
     → Accounts (state_after start (map action_of h)).removed (removed_in (accesses_in (map action_of h))) (closes_in (map action_of h))
-accounts_along [] begins may =
-    record { waiting = []; found = begins.settled.closed; apart = tt; same_files = IsPermutation-refl [] }
+accounts_along [] begins may = record { waiting = []; found = begins.settled.closed; apart = tt; same_files = IsPermutation-refl [] }
 accounts_along {start} (e ∷ h) begins may =
     let st : State = state_after start (map action_of h) in
     let few : (n : ℕ) → tally n st ≤ 1 = λ n. let once = tally_start start n begins in let all = tally_all start h n once may.0 in omega arith in

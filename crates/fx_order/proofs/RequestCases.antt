@@ -19,8 +19,7 @@ module _ (size : ℕ) (place : Place) (P : List Access → Completed → Type 0)
 
   pub allocates : (entry : ℕ) → ((slot : ℕ) → P (Allocates slot (installed place 0 entry) ∷ []) (completed place (pos slot) []))
       → P (FindsFull ∷ []) (refusal place ENFILE) → IsOpenDone size place entry Any own c → P own c
-  allocates entry free full =
-      either_way (size == 0) (λ _. none ENFILE) (λ _ x. elim x [ inl y ↦ same _ _ (free y.0) y.1 | inr y ↦ same _ _ full y ])
+  allocates entry free full = either_way (size == 0) (λ _. none ENFILE) (λ _ x. elim x [ inl y ↦ same _ _ (free y.0) y.1 | inr y ↦ same _ _ full y ])
 
   pub reads : (catalogue : List FileEntry) (slot off len : ℕ) → P (Looks slot None ∷ []) (refusal place EBADF)
       → ((file : Closed) → P (Looks slot (Some file) ∷ []) (gives catalogue place file off len))

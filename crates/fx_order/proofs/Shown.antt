@@ -29,8 +29,7 @@ shows_ring ring none =
 -- no table has a file past its slots, and no accesses bring one there
 
 pub none_past_table : (c : RingContents) → NonePast (ring_of c).size (ring_of c).at
-none_past_table c slot past =
-    ap (λ (number : Option ℕ). identity_of (file_at c.table.nodes number)) (get_or-eq_default c.table.slots None past)
+none_past_table c slot past = ap (λ (number : Option ℕ). identity_of (file_at c.table.nodes number)) (get_or-eq_default c.table.slots None past)
 
 none_past_change : {size slot : ℕ} {at : ℕ → Option Closed} (x : Option Closed) → slot < size → NonePast size at
     → NonePast size (changed_at at slot x)
