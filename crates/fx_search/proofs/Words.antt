@@ -6,7 +6,6 @@ pub use Rattle.fx_search.specs.Counted.{IsUneven, LastStays, TooFewLeave, TwoSta
 pub use Rattle.fx_search.specs.Dead.{IsHopeless, NoneHelps, no_help}
 pub use Rattle.fx_search.specs.Machine.{Ends, HasNoEnd, IsEnd, IsLookedThrough, Standing, StepLeadsInside, allows, cell_at, cell_with, cells_after}
 pub use Rattle.fx_search.specs.Machine.{claim_at, is_staying, is_taken, is_test, made, may_find, may_leave, may_stay, next, suits, view, with_cell}
-pub use Rattle.fx_search.specs.Machine.{IsExplored}
 pub use Rattle.fx_search.specs.Packed.{all_unpacked, file_at, numbered_cells, unpacked}
 pub use Rattle.fx_search.specs.Starts.{starting}
 pub use Rattle.fx_search.specs.declared.cell.Cell.{Cell}
