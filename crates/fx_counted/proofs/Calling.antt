@@ -1,10 +1,9 @@
 -- What a call of a table needs for its steps.
-use Rattle.fx_counted.proofs.Words.{◌≡◌, ℕ, ◌*◌, true, ◌<◌, ◌≤◌, inl, inr, sym, ap, ◌∙◌, subst, arith, range_of, full_word_of, InRange, HasNode, ◌+◌}
-use Rattle.fx_counted.proofs.Words.{⊎_elim, chain_numbers, slot_of, slot_place, node_place, home_place, opening_of, slots_of, IsNumber}
-use Rattle.fx_counted.proofs.Words.{opening_of_table, Start, CountedTable, size_of, ◌-◌, ne_eqb, Option, Some, None, dite, ℕ_discrete, number_of}
-use Rattle.fx_counted.proofs.Words.{File, name_in, node_in, Names, named, named_suc, Bool, [], none, ◌▷◌, Closed, Adds, no_use, retiring}
-use Rattle.fx_counted.proofs.Words.{IsPassOfTable, Goes, Stepped, Removes, begun, Outside, Change, Sat, Seat, View, Agrees, Action, CountedPass}
-use Rattle.fx_counted.proofs.Words.{view_of, pass_of, Between, IsIdle, step, Allows}
+use Rattle.fx_counted.proofs.Words.{◌≡◌, ℕ, ◌*◌, true, ◌<◌, ◌≤◌, inl, inr, sym, ap, ◌∙◌, arith, range_of, full_word_of, InRange, HasNode, ◌+◌, ⊎_elim}
+use Rattle.fx_counted.proofs.Words.{chain_numbers, slot_of, slot_place, node_place, opening_of, IsNumber, opening_of_table, Start, CountedTable}
+use Rattle.fx_counted.proofs.Words.{size_of, ◌-◌, ne_eqb, Option, Some, None, dite, ℕ_discrete, number_of, File, name_in, node_in, Names, named}
+use Rattle.fx_counted.proofs.Words.{named_suc, Bool, [], none, ◌▷◌, Closed, Adds, no_use, retiring, IsPassOfTable, Goes, Stepped, Removes, begun}
+use Rattle.fx_counted.proofs.Words.{Outside, Change, Sat, Seat, View, Agrees, Action, CountedPass, view_of, pass_of, Between, IsIdle, step, Allows}
 use Rattle.fx_counted.proofs.Places.{few_numbers, inside, apart}
 use Rattle.fx_counted.proofs.Going.{adds_so, goes_around, its_doing}
 use Rattle.fx_counted.proofs.SlotLaws.{IsRemoval, removes_keep}
@@ -12,11 +11,7 @@ use Rattle.fx_counted.proofs.ControlSteps.{may_change}
 
 -- the word of a slot is one of the table
 pub slot_inside : (t : CountedTable) {slot i : ℕ} → slot < size_of (opening_of_table t) → i ≡ slot_place slot → i < t.table.shared.table_id.words
-slot_inside t {slot} l is =
-    let size = t.same_size in
-    let near = (inside t.size (t.numbers * t.chains) t.few_slots).slot slot (omega arith) in
-    let words = t.words in
-    omega arith
+slot_inside t {slot} l is = omega (arith, (inside t.size (t.numbers * t.chains) t.few_slots).slot slot (omega (arith, t.same_size)), t.words)
 
 -- how many numbers the chains have together
 pub its_numbers : (t : CountedTable) → t.numbers * t.chains ≡ chain_numbers t.table.shared.key
@@ -24,7 +19,7 @@ its_numbers t = λ i. t.key.2 i * t.key.0 i
 
 -- the number of a slot or of a chain of the table
 pub its_number : (t : CountedTable) (n : ℕ) → IsNumber t.table.shared.key n → HasNode t.size (t.numbers * t.chains) n
-its_number t n has = subst (λ (z : ℕ × ℕ). HasNode z.0 z.1 n) (λ i. (sym t.same_size i, sym (its_numbers t) i)) has
+its_number t n has = rw (t.same_size, its_numbers t) has
 
 pub has_node : (t : CountedTable) {n : ℕ} → IsNumber t.table.shared.key n → HasNode t.size 65472 n
 has_node t {n} has = let few = few_numbers t.bounds.3 t.bounds.0 in ⊎_elim (λ (l : n < t.size). inl l)
@@ -32,17 +27,7 @@ has_node t {n} has = let few = few_numbers t.bounds.3 t.bounds.0 in ⊎_elim (λ
 
 -- its word is one of the table
 pub node_inside : (t : CountedTable) {n i : ℕ} → IsNumber t.table.shared.key n → i ≡ node_place t.size n → i < t.table.shared.table_id.words
-node_inside t {n} has is =
-    let near = (inside t.size (t.numbers * t.chains) t.few_slots).node n (its_number t n has) in
-    let words = t.words in
-    omega arith
-
--- where it lies, as the laws of steps say it
-pub node_is_at : (t : CountedTable) (n : ℕ) {i : ℕ} → i ≡ node_place t.size n → i ≡ node_place (slots_of t.table.shared.key) n
-node_is_at t n is = is ∙ ap (λ (z : ℕ). node_place z n) t.same_size
-
-pub home_is_at : (t : CountedTable) (n : ℕ) {i : ℕ} → i ≡ home_place t.size n → i ≡ home_place (slots_of t.table.shared.key) n
-home_is_at t n is = is ∙ ap (λ (z : ℕ). home_place z n) t.same_size
+node_inside t {n} has is = omega (arith, (inside t.size (t.numbers * t.chains) t.few_slots).node n (its_number t n has), t.words)
 
 -- the slot whose word lies there
 pub slot_at : (t : CountedTable) {slot i : ℕ} → i ≡ slot_place slot → slot_of i ≡ slot
@@ -50,9 +35,8 @@ slot_at t {slot} is = ap slot_of is ∙ (apart t.size (t.numbers * t.chains) t.f
 
 -- a slot of the range is one of the table
 pub in_size : (t : CountedTable) (slot : ℕ) → InRange t.table.shared.key slot true → slot < size_of (opening_of_table t)
-in_size t slot r = let few = t.range_inside in let size = t.same_size in
-    let start = ap (λ (z : ℕ × ℕ). z.0) t.same_range in let len = ap (λ (z : ℕ × ℕ). z.1) t.same_range in
-    let below = r.1 in omega arith
+in_size t slot r =
+    omega (arith, t.range_inside, t.same_size, ap (λ (z : ℕ × ℕ). z.0) t.same_range, ap (λ (z : ℕ × ℕ). z.1) t.same_range, r.1)
 
 -- the word that says that the range is full
 pub full_of : (t : CountedTable) {k : Start} → k ≡ t.table.shared.key → full_word_of t.range_len ≡ full_word_of (range_of (opening_of k)).1

@@ -131,8 +131,7 @@ module _ (turn : Turn) where
 
   -- fewer than 16 are in a change beside this pass
   pub few_others : sum_by changes_of st.views + 1 ≤ 16 + in_change v.change
-  few_others = let a = total_gap st.views id here (few_changes v.start st r) in let b = r.whole in
-      let c = r.shape.passes in let d = ap (length {A = Log}) one in omega arith
+  few_others = omega (arith, total_gap st.views id here (few_changes v.start st r), r.whole, r.shape.passes, ap (length {A = Log}) one)
 
   wide : control_place < length st.words
   wide = let a = r.shape.words in let b = (near turn).control in omega arith

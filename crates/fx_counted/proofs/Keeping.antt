@@ -148,13 +148,12 @@ module _ (turn : Turn) where
           ∙ r.passes p;
       whole = let t = sum_set lengths st.views id v (now v y d c) here in let e = ap (length {A = Log}) one in let a = r.whole in omega arith;
       authors = λ p none. let t = r.passes p in let u = sum_at (logs_of p) st.views id v here in
+          let its_one : x.number ≡ p → logs_of p v ≡ 1 =
+          λ same. of_one (λ z. one_if (eqb z.number p)) one ∙ rw (eq-eqb x.number p same) refl in
           s.grows.parts p (λ same. let a = its_one same in omega arith) ∙ r.authors p none;
       control = s.control;
       draws = s.draws;
     }
-      where
-        its_one : {p : ℕ} → x.number ≡ p → logs_of p v ≡ 1
-        its_one {p} same = of_one (λ z. one_if (eqb z.number p)) one ∙ rw (eq-eqb x.number p same) refl
 
   -- what the step tells
   pub tells : (carried homes : List (ℕ × Option Closed)) (h' : List Event) (left looks_left : ℕ) (d : Work)

@@ -210,8 +210,7 @@ module _ (turn : Turn) (f : File) (works : turn.v.work ≡ Between (Holding f)) 
   old = state_after_all v.start r.history
 
   held_now : 0 < old.holds f.number
-  held_now = let a = r.holds f.number in let b = sum_at (held_of f.number) st.views id v here in
-      let c = ap (holding f.number) works ∙ holding_it f refl in omega arith
+  held_now = omega (arith, r.holds f.number, sum_at (held_of f.number) st.views id v here, ap (holding f.number) works ∙ holding_it f refl)
 
   abbrev h₁ : List Event
   h₁ = event_of (shown x v.work) (Release f) ∷ r.history

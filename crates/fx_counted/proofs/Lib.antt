@@ -1,10 +1,8 @@
 pub mod Words
 pub mod Places
-mod PlacesByHand
 pub mod Histories
 pub mod Frames
 pub mod Keeping
-pub mod Unchanged
 pub mod NodeSteps
 pub mod Steps
 pub mod Births
@@ -20,10 +18,8 @@ pub mod WordBounds
 pub mod Openings
 pub mod Going
 pub mod Calling
-pub mod Shells
 pub mod Starting
 pub mod Searching
 pub mod Ending
 pub mod Gathered
 pub mod HomeComing
-pub mod Finishing

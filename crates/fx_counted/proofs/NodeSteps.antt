@@ -7,9 +7,8 @@ use Rattle.fx_counted.proofs.Words.{held_of, Phase, spare, owner, file_in, Log, 
 use Rattle.fx_counted.proofs.Words.{ℕ_discrete, SlotAgrees, ControlCounts, DrawsCount, control_place, draw_place, slot_place, unborn, Change}
 use Rattle.fx_counted.proofs.Places.{inside, apart}
 use Rattle.fx_counted.proofs.Histories.{Grows, IsHistory, each_changed}
-use Rattle.fx_counted.proofs.Frames.{busy, owner_stays}
+use Rattle.fx_counted.proofs.Frames.{busy, owner_stays, slot_same, node_same, control_same, draws_same, SameFile}
 use Rattle.fx_counted.proofs.Keeping.{Turn, Homes, word_at, logged, step_kept, log_now, went, NodeIn, now}
-use Rattle.fx_counted.proofs.Unchanged.{slot_same, node_same, control_same, draws_same, SameFile}
 
 -- what a step on the number q tells of the histories
 pub record OneNumber (v : View) (q : ℕ) (h h' : List Event) : Type 0 where

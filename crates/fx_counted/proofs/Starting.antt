@@ -11,7 +11,7 @@ use Rattle.std.proofs.lemmas.List.FromFn.{get_or-map-range_with_len}
 use Rattle.fx_table.proofs.Preparing.{prepared_again}
 use Rattle.fx_counted.proofs.Places.{high_node, low_home, high_home}
 use Rattle.fx_counted.proofs.Frames.{read_at}
-use Rattle.fx_counted.proofs.Shells.{none_outside}
+use Rattle.fx_counted.proofs.HomeComing.{none_outside}
 
 -- the words of the slots below this one are written so
 pub record AreWordsSoFar (st : State) (numbers done : ℕ) (words : List ℕ) : Type 0 where
@@ -30,13 +30,14 @@ as_many (Some f) slot = refl
 -- the files of the first slots, and the full ones of these slots
 pub all_counted : (st : State) (n : ℕ) → length (files_in_order st.at n) ≡ full_in (first_at st) 0 n
 all_counted st zero = refl
-all_counted st (suc n) =
-    let both = length-append (files_in_order st.at n) (identities_of (st.at n)) in
-    let rest = all_counted st n in
-    let here : 0 + n ≡ n = omega arith in
-    let there = ap (λ (slot : ℕ). if_full (first_at st slot)) here in
-    let numbered = as_many (st.at n) n in
-    omega (arith, both, rest, there, numbered)
+all_counted st (suc n) = let here : 0 + n ≡ n = omega arith in
+    omega (
+      arith,
+      length-append (files_in_order st.at n) (identities_of (st.at n)),
+      all_counted st n,
+      as_many (st.at n) n,
+      ap (λ (slot : ℕ). if_full (first_at st slot)) here,
+    )
 
 -- a preparation keeps the files
 pub prepared_or_not : {E : Type 0} (old new : Contents) (numbers : ℕ) (r : Result (Unit {0}) E)
@@ -66,11 +67,10 @@ pub files_taken : {st same : State} {before homes : List (Option Closed)} → Ha
 files_taken {same} {homes} files none with_files =
     let are : homes ≡ slots_in_order same.at same.size =
     with_files ∙ ap (λ (xs : List (Option Closed)). xs ++ slots_in_order same.at same.size) none in
-    let size = files.size in
     let count = ap length are ∙ (length_in_order same.at same.size ∙ files.size) in
     record {
       files = λ slot l. ap (λ (xs : List (Option Closed)). get_elem? xs slot) are
-          ∙ (in_order same.at same.size slot (omega (arith, l, size)) ∙ ap some (files.files slot));
+          ∙ (in_order same.at same.size slot (omega (arith, l, files.size)) ∙ ap some (files.files slot));
       others = λ place g l. absurd (omega (arith, g, l, count));
     }
 
@@ -123,9 +123,6 @@ given_back {c} {homes} {back} empty first b = record {
 -- the other places are empty
 pub others_empty : (c : Contents) {numbers : ℕ} {left : State} {homes : List (Option Closed)} → IsShellOf (state_of c) left
     → AreFirstHomes (state_of c) numbers homes → {place : ℕ} → left.size ≤ place → file_in_place homes place ≡ None
-others_empty c {numbers} {homes} empty first {place} g =
-    let size = empty.size in
-    let count = first.count in
-    dite (dec_le (place + 1) (homes_for (state_of c).size numbers))
-    (λ l. read_at homes place None (first.others place (omega (arith, g, size)) (omega (arith, l))))
-    (λ past. get_or-eq_default homes None (omega (arith, past, count)))
+others_empty c {numbers} {homes} empty first {place} g = dite (dec_le (place + 1) (homes_for (state_of c).size numbers))
+    (λ l. read_at homes place None (first.others place (omega (arith, g, empty.size)) (omega (arith, l))))
+    (λ past. get_or-eq_default homes None (omega (arith, past, first.count)))

@@ -6,4 +6,4 @@ pub use Rattle.fx_counted.proofs.Keeping.{Turn, turn_of, word_at, its_log, its_w
 pub use Rattle.fx_counted.proofs.Keeping.{Made, Homes, NodeIn, in_phase, seat_in, tells, tells_one}
 pub use Rattle.fx_counted.proofs.NodeSteps.{one_same, near, far, MayTurn, OneNumber, NodeStep, node_agrees}
 pub use Rattle.fx_counted.proofs.NodeSteps.{words_now, slots_now, node_now, control_now, draws_now}
-pub use Rattle.fx_counted.proofs.Unchanged.{slot_same, draws_same, control_same, node_same, SameFile}
+pub use Rattle.fx_counted.proofs.Frames.{slot_same, draws_same, control_same, node_same, SameFile}

@@ -1,4 +1,4 @@
-use Rattle.fx_counted.proofs.Words.{ap, arith, length, length-append, ◌∷◌, [], Option, None, Closed, state_of}
+use Rattle.fx_counted.proofs.Words.{ap, arith, length, length-append, ◌∷◌, [], Option, None, Closed}
 use Rattle.fx_counted.proofs.Starting.{all_taken, files_taken, none_behind}
 use Rattle.fx_counted.proofs.open.first_homes.Goals as goal
 
@@ -11,7 +11,6 @@ loop-init c = record {
 
 pub loop-preserved : goal.loop-preserved
 loop-preserved c =
-    let st = state_of c.args.plain.now in
     let i = c.loop.invariant in
     let e = c.push_reserved.ensures in
     record {
@@ -23,5 +22,4 @@ loop-preserved c =
 
 pub returns-clause-shell : goal.returns-clause-shell
 returns-clause-shell c =
-    let same = c.in-Ok.ensures.same in
-    all_taken same.files same.settled c.take_files.ensures.empty
+    all_taken c.in-Ok.ensures.same.files c.in-Ok.ensures.same.settled c.take_files.ensures.empty

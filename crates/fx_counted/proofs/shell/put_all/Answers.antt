@@ -1,6 +1,6 @@
 use Rattle.fx_counted.proofs.Words.{◌≡◌, ◌<◌, ◌+◌, ℕ, length, List, [], ◌∷◌, ◌++◌, refl, sym, ap, ◌∙◌, arith, length-append, Option, None, Closed}
 use Rattle.fx_counted.proofs.Words.{state_of, file_in_place, get_or_append_left, get_or_push}
-use Rattle.fx_counted.proofs.Shells.{file_put, last_back}
+use Rattle.fx_counted.proofs.HomeComing.{file_put, last_back}
 use Rattle.fx_counted.proofs.shell.put_all.Goals as goal
 
 -- what was in the last place

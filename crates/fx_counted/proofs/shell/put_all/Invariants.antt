@@ -1,5 +1,5 @@
 use Rattle.fx_counted.proofs.Words.{◌≡◌, ◌<◌, ℕ, length, state_of, IsPrepared, file_in_place}
-use Rattle.fx_counted.proofs.Shells.{IsPartlyBack}
+use Rattle.fx_counted.proofs.HomeComing.{IsPartlyBack}
 use Rattle.fx_counted.proofs.shell.put_all.Given as goal
 
 -- the files of the last places are back

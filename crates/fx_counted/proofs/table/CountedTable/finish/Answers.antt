@@ -1,9 +1,8 @@
 use Rattle.fx_counted.proofs.Words.{◌≡◌, ℕ, List, sym, ap, ◌∙◌, arith, Option, Some, None, some, some-injective, get_elem?, slots_items, Closed}
 use Rattle.fx_counted.proofs.Words.{state_of, node_in, slot_place}
-use Rattle.fx_counted.proofs.Finishing.{home_at_end, known_at_end, leaves_at_end, some_back, none_back, none_named, place_emptied, none_emptied}
+use Rattle.fx_counted.proofs.HomeComing.{home_at_end, known_at_end, leaves_at_end, some_back, none_back, none_named, place_emptied, none_emptied}
+use Rattle.fx_counted.proofs.HomeComing.{number_at, emptied, all_gone, all_back, file_put}
 use Rattle.fx_counted.proofs.Frames.{read_at}
-use Rattle.fx_counted.proofs.HomeComing.{number_at, emptied, all_gone}
-use Rattle.fx_counted.proofs.Shells.{all_back, file_put}
 use Rattle.fx_counted.proofs.table.CountedTable.finish.Goals.{in-Some+in-Some-take_home, in-Some+in_default-take_home, in_default}
 use Rattle.fx_counted.proofs.table.CountedTable.finish.Goals as goal
 

@@ -1,7 +1,6 @@
 use Rattle.fx_counted.proofs.Words.{◌≡◌, ◌<◌, ℕ, false, get_or, slots_items, slots_len, IsFull, state_of, IsPrepared, slots_filled}
 use Rattle.std.specs.Mem.Slots.Ownership.{Filled}
-use Rattle.fx_counted.proofs.HomeComing.{file_at, emptied}
-use Rattle.fx_counted.proofs.Shells.{IsPartlyBack}
+use Rattle.fx_counted.proofs.HomeComing.{file_at, emptied, IsPartlyBack}
 use Rattle.fx_counted.proofs.table.CountedTable.finish.Given as goal
 
 -- the files of the slots so far are back, and their places are empty

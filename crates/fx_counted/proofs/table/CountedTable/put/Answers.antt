@@ -1,6 +1,7 @@
 use Rattle.fx_counted.proofs.Words.{◌≡◌, ℕ, [], ◌∷◌, ap, ◌∙◌, subst, arith, Some, ◌▷◌, numbered, Put, takes_in, slot_word_of, Adds, one_number}
-use Rattle.fx_counted.proofs.Words.{place_of, pass_of, view_of, opening_of_table, retiring, Bool, true, false, sym, File, List, Log, None, Option}
-use Rattle.fx_counted.proofs.Words.{Retired, first_log, is_idle, option_map, refl, rest, is_some, retired_of, Between}
+use Rattle.fx_counted.proofs.Words.{place_of, pass_of, view_of, opening_of_table, retiring, Bool, sym, File, List, Log, None, Option, Retired}
+use Rattle.fx_counted.proofs.Words.{first_log, is_idle, option_map, refl, rest, is_some, retired_of, Between}
+use Rattle.std.proofs.lemmas.Bool.{not-false, not-true}
 use Rattle.std.specs.Prelude.{not}
 use Rattle.fx_counted.proofs.Calling.{slot_inside, slot_at}
 use Rattle.fx_counted.proofs.Going.{its_pass, adds_so, goes_one, goes_then, goes_around, still_pass}
@@ -29,10 +30,8 @@ swap-found-requires c =
 -- a pass is idle that found none
 idle_if_none : (found : Option File) (takes : ℕ) {removed : Option Retired} (b : Bool) → is_some removed ≡ not b
     → removed ≡ option_map (λ f. retired_of f takes) found → b ≡ is_idle (Between (retiring found takes))
-idle_if_none None takes true told is = refl
-idle_if_none None takes false told is = let bad : true ≡ false = sym told ∙ ap is_some is in absurd (cc bad)
-idle_if_none (Some f) takes false told is = refl
-idle_if_none (Some f) takes true told is = let bad : false ≡ true = sym told ∙ ap is_some is in absurd (cc bad)
+idle_if_none None takes b told is = not-false b (sym told ∙ ap is_some is)
+idle_if_none (Some f) takes b told is = not-true b (sym told ∙ ap is_some is)
 
 pub returns : goal.returns
 returns c =

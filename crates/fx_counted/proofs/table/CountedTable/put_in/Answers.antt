@@ -1,6 +1,6 @@
 use Rattle.fx_counted.proofs.Words.{ap, ◌∙◌, word_of}
 use Rattle.fx_counted.proofs.Births.{births_keep}
-use Rattle.fx_counted.proofs.Calling.{node_inside, node_is_at}
+use Rattle.fx_counted.proofs.Calling.{node_inside}
 use Rattle.fx_counted.proofs.table.CountedTable.put_in.Goals as goal
 
 pub store-requires : goal.store-requires
@@ -8,5 +8,5 @@ store-requires c = let t = c.args.self.now in let may = c.requires.next in let p
   c.requires.table,
   node_inside t may.known place,
   births_keep _ _ _ _ c.args.seat.now.me _ may.pass may.idle may.some_left
-      (node_is_at t c.args.number place ∙ ap (word_of t.table.shared.key) may.next),
+      ((rw t.same_size at place) ∙ ap (word_of t.table.shared.key) may.next),
 )

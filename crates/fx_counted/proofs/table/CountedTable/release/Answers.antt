@@ -1,6 +1,6 @@
 use Rattle.fx_counted.proofs.Words.{ap, ◌∙◌, arith, subst, node_place, IsInside}
 use Rattle.fx_table.specs.declared.values.Hold.{Hold}
-use Rattle.fx_counted.proofs.Calling.{node_inside, node_is_at}
+use Rattle.fx_counted.proofs.Calling.{node_inside}
 use Rattle.fx_counted.proofs.Going.{its_pass, its_doing, adds_so, out_place, out_and_home}
 use Rattle.fx_counted.proofs.LettingGo.{releases_keep}
 use Rattle.fx_counted.proofs.table.CountedTable.release.Goals as goal
@@ -14,7 +14,7 @@ fetch_sub-found-requires c =
     let is = c.node_place-place.ensures ∙ ap (λ (h : Hold). node_place t.size h.node) value in (
       fits.table,
       node_inside t (subst (IsInside t.table.shared.key) work fits.seated.inside) is,
-      releases_keep _ _ _ _ f c.args.pass.now.seat.me _ (its_pass fits) work (node_is_at t f.number is),
+      releases_keep _ _ _ _ f c.args.pass.now.seat.me _ (its_pass fits) work (rw t.same_size at is),
     )
 
 pub returns-clause-released : goal.returns-clause-released

@@ -1,6 +1,6 @@
 use Rattle.fx_counted.proofs.Words.{ℕ, ◌<◌, ◌≡◌, [], refl, sym, ap, ◌∙◌, arith, subst, Some, ◌▷◌, Close, File, no_use, Retired, retire_amount_of}
 use Rattle.fx_counted.proofs.Words.{Goes, node_place, HasPlace, pass_of, state_after_all, IsInside, TakesOut, Change, Start, Idle, Retiring, Between}
-use Rattle.fx_counted.proofs.Calling.{node_inside, node_is_at}
+use Rattle.fx_counted.proofs.Calling.{node_inside}
 use Rattle.fx_counted.proofs.Going.{its_pass, its_doing, adds_so, still_pass, let_go, out_place, out_and_home}
 use Rattle.fx_counted.proofs.LettingGo.{retires_keep}
 use Rattle.fx_counted.proofs.table.CountedTable.retire.Goals.{After-fetch_sub-found}
@@ -15,7 +15,7 @@ fetch_sub-found-requires c =
     let is = c.node_place-place.ensures ∙ ap (λ (r : Retired). node_place t.size r.node) value in (
       fits.table,
       node_inside t (subst (IsInside t.table.shared.key) work fits.seated.inside) is,
-      retires_keep _ _ _ _ _ takes f c.args.pass.now.seat.me _ (its_pass fits) work (node_is_at t f.number is)
+      retires_keep _ _ _ _ _ takes f c.args.pass.now.seat.me _ (its_pass fits) work (rw t.same_size at is)
           (c.retire_amount-amount.ensures ∙ ap (λ (r : Retired). retire_amount_of r.takes) value),
     )
 
