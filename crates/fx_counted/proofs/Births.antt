@@ -39,12 +39,6 @@ module _ (turn : Turn) where
   unheld q empty j u f there holds same = let e = subst (WorkAgrees v.start r.phase j) holds (r.each_view j u there).work in
       let z : None ≡ Some f.identity = sym empty ∙ (ap (λ (m : ℕ). file_in (r.phase m)) (sym same) ∙ e.1) in cc z
 
-  -- a number that is left to the pass is one of the table
-  pub spare_inside : {n : ℕ} → next_in v.start x ≤ n → n < end_in v.start x → IsNumber v.start n
-  spare_inside low high = let o = its_log turn in let a = o.left_inside in let b = o.few_left in
-      let within : v.start.numbers * chain_in x ≤ chain_numbers v.start = mul-le-mul_left v.start.numbers o.chain in
-      inr (omega arith, omega (arith, high, within))
-
   -- a step on the place of a number without a file, of which nothing is told
   home_step : {q : ℕ} (its : IsNumber v.start q) {ph ph' : Phase} (word' : ℕ) (lies : maybe.Option (Option Closed)) (d : Work)
       → r.phase q ≡ ph → file_in ph ≡ None → MayTurn turn q ph' → ((n : ℕ) → n ≢ q → busy v.work ≢ n + 1)
@@ -81,8 +75,11 @@ module _ (turn : Turn) where
     end_is : b < end_in v.start x
     end_is = let o = its_log turn in let a = o.left_inside in omega arith
 
+    -- a number that is left to the pass is one of the table
     its_b : IsNumber v.start b
-    its_b = spare_inside (omega arith) end_is
+    its_b = let o = its_log turn in
+        let within : v.start.numbers * chain_in x ≤ chain_numbers v.start = mul-le-mul_left v.start.numbers o.chain in
+        inr (omega (arith, o.left_inside, o.few_left), omega (arith, end_is, within))
 
     is_spare : r.phase b ≡ spare x.number
     is_spare = let o = its_log turn in let p = ap placing idle in o.spares b (omega arith) end_is

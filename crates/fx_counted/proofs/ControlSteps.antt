@@ -1,13 +1,13 @@
 -- Steps that change no slot and no number keep the rule: begin, end, answer and load.
-use Rattle.fx_counted.proofs.Words.{◌≡◌, ℕ, List, set, length, sym, refl, ap, ◌∙◌, arith, held_by, State, Event, range_of, PlacesNext, Agrees}
-use Rattle.fx_counted.proofs.Words.{ControlCounts, looks, all_looks, word_of, control_place, draw_place, slot_place, opening_of, IsNumber}
-use Rattle.fx_counted.proofs.Words.{state_after_all, next_in, Change, Log, Start, View, Work, Placing, sum_by, ◌≢◌, zero, suc, ◌+◌, ◌-◌, ◌/◌, ◌%◌}
-use Rattle.fx_counted.proofs.Words.{◌^◌, ◌<◌, ◌≤◌, [], ◌∷◌, subst, get_or-set_other, get_or-set_same, Option, IsSome, dite, some, none}
-use Rattle.fx_counted.proofs.Words.{some-injective, some-ne-none, ℕ_discrete, get_elem?, keeps, step, sum_by-cons, Closed, File, Full, no_use}
-use Rattle.fx_counted.proofs.Words.{event_of, sum_set, sum_at, sum_le_at, one_change, full_word_of, WorkAgrees, lengths, in_change, added, removed_by}
-use Rattle.fx_counted.proofs.Words.{changes_of, added_of, removed_of, full_in, shown, IsInside, Stepped, GoesOn, Answers, Outside, Same, Idle, Phase}
-use Rattle.fx_counted.proofs.Words.{Shared, BeginsKeep, EndsKeep, AnswersKeep, Between, length-set, Bool, true, false, inl, inr, end_amount_of}
-use Rattle.fx_counted.proofs.Words.{InRange, HasToTell, HasPass, MayChange, Sat, More, Less, ℤ, begun, difference, Allows}
+use Rattle.fx_counted.proofs.Words.{◌≡◌, ℕ, List, set, length, sym, refl, ap, ◌∙◌, arith, held_by, State, Event, range_of, Agrees, ControlCounts}
+use Rattle.fx_counted.proofs.Words.{looks, all_looks, word_of, control_place, draw_place, slot_place, opening_of, IsNumber, state_after_all, Change}
+use Rattle.fx_counted.proofs.Words.{Log, Start, View, Work, sum_by, ◌≢◌, zero, suc, ◌+◌, ◌-◌, ◌/◌, ◌%◌, ◌^◌, ◌<◌, ◌≤◌, [], ◌∷◌, subst}
+use Rattle.fx_counted.proofs.Words.{get_or-set_other, get_or-set_same, Option, IsSome, dite, some, none, some-injective, some-ne-none, ℕ_discrete}
+use Rattle.fx_counted.proofs.Words.{get_elem?, keeps, step, sum_by-cons, Closed, File, Full, no_use, event_of, sum_set, sum_at, sum_le_at, one_change}
+use Rattle.fx_counted.proofs.Words.{full_word_of, WorkAgrees, lengths, in_change, added, removed_by, changes_of, added_of, removed_of, full_in, shown}
+use Rattle.fx_counted.proofs.Words.{IsInside, Stepped, GoesOn, Answers, Outside, Same, Idle, Phase, Shared, BeginsKeep, EndsKeep, AnswersKeep}
+use Rattle.fx_counted.proofs.Words.{Between, length-set, Bool, true, false, inl, inr, end_amount_of, InRange, HasToTell, HasPass, MayChange, Sat}
+use Rattle.fx_counted.proofs.Words.{More, Less, ℤ, begun, difference, Allows}
 use Rattle.fx_counted.proofs.Steps.{stays_same, owner_same, Grows, grows_none, IsHistory, Turn, word_at, now, logged, its_log, its_work, step_kept}
 use Rattle.fx_counted.proofs.Steps.{log_now, slot_same, draws_same, grows_one, legal_more, held_mine, same_shape, turn_of, by_turn, went, tells_none}
 use Rattle.fx_counted.proofs.Steps.{tells_one, near, far}
@@ -15,10 +15,6 @@ use Rattle.fx_counted.proofs.FullSlots.{full_few, full_all}
 use Rattle.fx_counted.proofs.LettingGo.{sub_wraps}
 
 -- A step that changes no slot and no number, and leaves the pass at its work.
-places_same : (k : Start) (x y : Log) (d : Work) → next_in k y ≡ next_in k x → y.numbers_left ≡ x.numbers_left → PlacesNext k x d → PlacesNext k y d
-places_same k x y (Placing n) next left o = (o.0 ∙ sym next, let a = o.1 in omega arith)
-places_same k x y _ next left o = tt
-
 module _ (turn : Turn) (h' : List Event) where
   open turn use {st, v, r, id, x, here, one}
 
@@ -62,7 +58,7 @@ module _ (turn : Turn) (h' : List Event) where
         no_other = λ n absent. ap (λ (z : State). z.removed n) p.quiet.state ∙ r.no_other n absent;
         stays = stays_same id x.number r.phase;
         keeps = λ j u f other there holds. refl;
-        log = log_now turn (omega arith) (p.quiet.held ∙ o.held) (places_same v.start x y v.work refl refl o.next) o.spares;
+        log = log_now turn (omega arith) (p.quiet.held ∙ o.held) o.next o.spares;
         work = its_work turn;
         holds = λ n. let e = ap (λ (z : State). z.holds n) p.quiet.state in omega arith;
         look_ups = let a = p.quiet.all in omega arith;

@@ -82,23 +82,17 @@ module _ (id : TableId) (k : Start) where
     drawn_by : (c : ℕ) → sum_by (λ p. times c (log_of p).drawn) ps ≡ once r.draws.given c
     drawn_by c = sym (sum_of_all (λ x. times c x.drawn)) ∙ drawn r seat at all_logs c
 
-    author : {e : Event} → Contains r.history e → (p : CountedPass) × Contains ps p × (e.pass ≡ (log_of p).number)
-    author {e} h =
-        let known : once k.passes e.pass ≢ 0 = λ none.
-        contains_none e (subst (λ (l : List Event). Contains l e) (r.authors e.pass none) (in_part e.pass r.history e h refl)) in
-        let a = sum_of_all (λ x. one_if (eqb x.number e.pass)) in
-        let b = sum_here r seat at all_logs (λ x. one_if (eqb x.number e.pass)) in
-        let c = r.passes e.pass in
-        let p = found_by (λ (q : CountedPass). (log_of q).number) e.pass ps (omega (arith, known)) in
-        (p.0, p.1, sym p.2)
-
     pub whole : 0 < k.passes → IsWhole (opening_of k) r.history (map view_of ps)
     whole some_passes = record {
       legal = r.legal;
       settled = settled_end r all_idle;
       seen = λ w h. let p = contains_map view_of ps w h in rw p.2 (known p.0 p.1).seen;
       own = λ w h. let p = contains_map view_of ps w h in rw p.2 (known p.0 p.1).own;
-      authors = λ e h. let p = author h in (view_of p.0, contains_mapped view_of ps p.0 p.1, p.2);
+      authors = λ e h. let known : once k.passes e.pass ≢ 0 =
+          λ none. contains_none e (subst (λ (l : List Event). Contains l e) (r.authors e.pass none) (in_part e.pass r.history e h refl)) in
+          let a = sum_of_all (λ x. one_if (eqb x.number e.pass)) in let b = sum_here r seat at all_logs (λ x. one_if (eqb x.number e.pass)) in
+          let c = r.passes e.pass in let p = found_by (λ (q : CountedPass). (log_of q).number) e.pass ps (omega (arith, known)) in
+          (view_of p.0, contains_mapped view_of ps p.0 p.1, sym p.2);
       chains_inside = λ w h c d. let p = contains_map view_of ps w h in
           let a = sum_of (λ (q : CountedPass). times c (log_of q).drawn) ps p.0 p.1 in
           let b = some_times c (log_of p.0).drawn (subst (λ (z : PassView). Contains z.drawn c) p.2 d) in

@@ -9,9 +9,6 @@ use Rattle.fx_counted.proofs.Steps.{busy, stays_same, owner_stays, IsHistory, gr
 use Rattle.fx_counted.proofs.Steps.{Turn, turn_of, word_at, now, logged, its_log, tells, by_turn, Made, log_now, far, node_same, control_same, NodeIn}
 use Rattle.fx_counted.proofs.Steps.{in_phase, seat_in, slots_now, node_now, control_now, draws_now, words_now}
 
-pub add_one : {n : ℕ} → takes_in n + 1 < 4294967296 → n < 18446744073709551616 → (n + 1) % 2 ^ 64 ≡ n + 1
-add_one low fits = omega arith
-
 module _ (turn : Turn) (idle : turn.v.work ≡ Between Idle) (some_left : 0 < turn.x.looks_left) (s : ℕ) (inside : s < slots_of turn.v.start)
     (fits : word_at turn.st.words (slot_place s) < 18446744073709551616) where
   open turn use {st, v, r, id, x, here, one}
@@ -32,7 +29,7 @@ module _ (turn : Turn) (idle : turn.v.work ≡ Between Idle) (some_left : 0 < tu
   room = let a = so.takes in let b = r.look_ups in let c = r.shape.passes in omega arith
 
   word_is : word' ≡ found + 1
-  word_is = add_one room fits
+  word_is = omega (arith, room, fits)
 
   names_now : (file : Option File) → Names found file → Names word' file
   names_now None o = ap name_in word_is ∙ (name_more found room ∙ o)

@@ -53,7 +53,7 @@ length_in_order : (at : ℕ → Option File) (n : ℕ) → length (slots_in_orde
 length_in_order at = length-map-range_with_len (λ slot. identity_of (at slot)) 0
 
 in_order : (at : ℕ → Option File) (n slot : ℕ) → slot < n → get_elem? (slots_in_order at n) slot ≡ some (identity_of (at slot))
-in_order at n slot l = at_index (slots_in_order at n) slot (identity_of (at slot)) (let a = length_in_order at n in omega arith)
+in_order at n slot l = at_index (slots_in_order at n) slot (identity_of (at slot)) (omega (arith, length_in_order at n))
     (sym (get_or-map-range_with_len (λ s. identity_of (at s)) 0 n slot slot (identity_of (at slot)) l (omega arith)))
 
 -- behind the slots' places the others are empty
