@@ -1,5 +1,6 @@
 -- Of some files whose marks tell them apart there is one list in order of mark.
-use Rattle.std.proofs.Common.{◌≡◌, ℕ, suc, ◌+◌, ◌<◌, ◌≤◌, Bool, true, false, if◌then◌else◌, List, [], ◌∷◌, length, All, refl, sym, ap, ◌∙◌, arith, slice_index_or, Some}
+use Rattle.std.proofs.Common.{◌≡◌, ℕ, suc, ◌+◌, ◌<◌, ◌≤◌, Bool, true, false, if◌then◌else◌, List, [], ◌∷◌, length, All, refl, sym, ap, ◌∙◌, arith}
+use Rattle.std.proofs.Common.{slice_index_or, Some}
 use Rattle.std.specs.Cmp.{IsStrictWeakOrder}
 use Rattle.std.specs.Cmp.Lexicographic.{bytes_decides, nat_list_cmp_total, pointwise, slice_cmp, texts_po}
 use Rattle.std.specs.List.{sum_by}
@@ -23,17 +24,11 @@ abbrev pub numbers : Mark → List ℕ
 numbers (Registered k i) = 0 ∷ k ∷ i ∷ []
 numbers (Submitted s c m e) = 1 ∷ s ∷ c ∷ m ∷ e ∷ []
 
-abbrev number_at : List ℕ → ℕ → ℕ
-number_at l k = slice_index_or l k 0
-
 same_mark : (a b : Mark) → numbers a ≡ numbers b → a ≡ b
-same_mark (Registered k i) (Registered l j) same =
-    λ t. Registered (ap (λ (n : List ℕ). number_at n 1) same t) (ap (λ (n : List ℕ). number_at n 2) same t)
-same_mark (Registered k i) (Submitted s c m e) same = let e : ◌≡◌ {A = ℕ} 0 1 = ap (λ (n : List ℕ). number_at n 0) same in absurd (omega arith)
-same_mark (Submitted s c m e) (Registered k i) same = let e : ◌≡◌ {A = ℕ} 1 0 = ap (λ (n : List ℕ). number_at n 0) same in absurd (omega arith)
-same_mark (Submitted s c m e) (Submitted t d n f) same =
-    λ i. Submitted (ap (λ (l : List ℕ). number_at l 1) same i) (ap (λ (l : List ℕ). number_at l 2) same i)
-    (ap (λ (l : List ℕ). number_at l 3) same i) (ap (λ (l : List ℕ). number_at l 4) same i)
+same_mark (Registered k i) (Registered l j) same = let e : 0 ∷ k ∷ i ∷ [] ≡ 0 ∷ l ∷ j ∷ [] = same in cc
+same_mark (Registered k i) (Submitted s c m e) same = let no : 0 ∷ k ∷ i ∷ [] ≡ 1 ∷ s ∷ c ∷ m ∷ e ∷ [] = same in cc
+same_mark (Submitted s c m e) (Registered k i) same = let no : 1 ∷ s ∷ c ∷ m ∷ e ∷ [] ≡ 0 ∷ k ∷ i ∷ [] = same in cc
+same_mark (Submitted s c m e) (Submitted t d n f) same = let is : 1 ∷ s ∷ c ∷ m ∷ e ∷ [] ≡ 1 ∷ t ∷ d ∷ n ∷ f ∷ [] = same in cc
 
 abbrev pub below : List ℕ → List ℕ → Bool
 below k l = is_lt (slice_cmp nat_cmp k l)
@@ -70,8 +65,7 @@ equal_numbers k l is = (bytes_decides k l).0 ((texts_po.matches_eq k l).1 (ap So
 pub neither_below : (x y : Closed) → is_below x y ≡ false → is_below y x ≡ false → x.mark ≡ y.mark
 neither_below x y one other =
     let k = numbers x.mark in
-    let l = numbers y.mark in
-    same_mark x.mark y.mark (equal_numbers k l (level _ _ (nat_list_cmp_total.antisymm k l) one other))
+    let l = numbers y.mark in same_mark x.mark y.mark (equal_numbers k l (level _ _ (nat_list_cmp_total.antisymm k l) one other))
 
 -- none of them is below the first
 abbrev pub AreNotBelow : Closed → List Closed → Type 0
@@ -101,11 +95,6 @@ hits k x = if pointwise nat_eq (numbers x.mark) k then 1 else 0
 hits_itself : (x : Closed) → hits (numbers x.mark) x ≡ 1
 hits_itself x = ap (λ (b : Bool). if b then 1 else 0) ((bytes_decides (numbers x.mark) (numbers x.mark)).1 refl)
 
-hit_below : (b : Bool) (k : List ℕ) (x y : Closed) → pointwise nat_eq (numbers x.mark) k ≡ b → is_below x y ≡ false
-    → 1 ≤ (if b then 1 else 0) → below k (numbers y.mark) ≡ false
-hit_below true k x y is rises some = ap (λ (l : List ℕ). below l (numbers y.mark)) (sym ((bytes_decides (numbers x.mark) k).0 is)) ∙ rises
-hit_below false k x y is rises some = absurd (omega arith)
-
 -- a mark that one of them has isn't below that in front of them
 found_above : (k : List ℕ) (y : Closed) (zs : List Closed) → AreNotBelow y zs → 1 ≤ sum_by (hits k) zs → below k (numbers y.mark) ≡ false
 found_above k y [] rises some = absurd (omega arith)
@@ -116,38 +105,28 @@ found_above k y (z ∷ zs) rises some =
   where
     by_test : (b : Bool) (k : List ℕ) (y z : Closed) (more : ℕ) → pointwise nat_eq (numbers z.mark) k ≡ b → is_below z y ≡ false
         → 1 ≤ (if b then 1 else 0) + more → (1 ≤ more → below k (numbers y.mark) ≡ false) → below k (numbers y.mark) ≡ false
-    by_test true k y z more is rises some rest = hit_below true k z y is rises (omega arith)
+    by_test true k y z more is rises some rest = ap (λ (l : List ℕ). below l (numbers y.mark)) (sym ((bytes_decides (numbers z.mark) k).0 is)) ∙ rises
     by_test false k y z more is rises some rest = rest (omega arith)
+
+no_test : (b : Bool) → (b ≡ true → b ≡ false) → b ≡ false
+no_test true is = is refl
+no_test false is = refl
 
 module _ (P : Closed → Type 0) (one : (x y : Closed) → P x → P y → x.mark ≡ y.mark → x ≡ y) where
   first_too : (x : Closed) (xs : List Closed) → AreNotBelow x xs → AreNotBelow x (x ∷ xs)
-  first_too x xs rises = All-cons (λ (y : Closed). is_below y x ≡ false) x xs not_itself rises
-    where
-      not_itself : is_below x x ≡ false
-      not_itself = by (is_below x x) refl
-        where
-          by : (b : Bool) → is_below x x ≡ b → is_below x x ≡ false
-          by true is = is_order.one_way x x is
-          by false is = is
+  first_too x xs rises = All-cons (λ (y : Closed). is_below y x ≡ false) x xs (no_test (is_below x x) (is_order.one_way x x)) rises
 
   pub one_list : (xs ys : List Closed) → All P xs → All P ys → Rises xs → Rises ys
       → ((f : Closed → ℕ) → sum_by f ys ≡ sum_by f xs) → xs ≡ ys
   one_list [] [] all too up rise sums = refl
   one_list [] (y ∷ ys) all too up rise sums =
-      let count : Closed → ℕ = λ _. 1 in
-      let same = sums count in let parts = sum_by-cons count y ys in absurd (omega arith)
+      let same = sums (λ _. 1) in let parts = sum_by-cons (λ (z : Closed). 1) y ys in absurd (omega arith)
   one_list (x ∷ xs) [] all too up rise sums =
-      let count : Closed → ℕ = λ _. 1 in
-      let same = sums count in let parts = sum_by-cons count x xs in absurd (omega arith)
+      let same = sums (λ _. 1) in let parts = sum_by-cons (λ (z : Closed). 1) x xs in absurd (omega arith)
   one_list (x ∷ xs) (y ∷ ys) all too up rise sums =
-      let f = hits (numbers x.mark) in
-      let g = hits (numbers y.mark) in
-      let x_itself = hits_itself x in
-      let y_itself = hits_itself y in
-      let f_parts = sum_by-cons f x xs in
-      let g_parts = sum_by-cons g y ys in
-      let f_same = sums f in
-      let g_same = sums g in
+      let f = hits (numbers x.mark) in let g = hits (numbers y.mark) in let x_itself = hits_itself x in
+      let y_itself = hits_itself y in let f_parts = sum_by-cons f x xs in let g_parts = sum_by-cons g y ys in
+      let f_same = sums f in let g_same = sums g in
       let y_not_above : is_below x y ≡ false = found_above (numbers x.mark) y (y ∷ ys) (first_too y ys rise.0) (omega arith) in
       let x_not_above : is_below y x ≡ false = found_above (numbers y.mark) x (x ∷ xs) (first_too x xs up.0) (omega arith) in
       let same : x ≡ y = one x y (All-head P x xs all) (All-head P y ys too) (neither_below x y y_not_above x_not_above) in

@@ -28,10 +28,8 @@ one_listed (Some file) = omega arith
 few_in_order : (at : ℕ → Option Closed) (n : ℕ) → length (files_in_order at n) ≤ n
 few_in_order at zero = omega arith
 few_in_order at (suc n) =
-    let both = length-append (files_in_order at n) (option_to_list (at n)) in
-    let one = one_listed (at n) in
-    let rest = few_in_order at n in
-    omega arith
+    let both = length-append (files_in_order at n) (option_to_list (at n)) in let one = one_listed (at n) in
+    let rest = few_in_order at n in omega arith
 
 pub all_of_ring : (catalogue : List FileEntry) (ring : RingSlots) (files : List Closed)
     → files ≡ files_in_order (table_of_slots ring.slots).at (length ring.slots.at.items) → IsRing (ring_with_slots catalogue ring) → AreOf catalogue files
@@ -41,8 +39,7 @@ pub few_of_ring : (ring : RingSlots) (files : List Closed)
     → files ≡ files_in_order (table_of_slots ring.slots).at (length ring.slots.at.items) → length ring.slots.at.items ≤ MOST_SLOTS → length files < 2 ^ 32
 few_of_ring ring files is few =
     let same = ap length is in
-    let most = few_in_order (table_of_slots ring.slots).at (length ring.slots.at.items) in
-    omega arith
+    let most = few_in_order (table_of_slots ring.slots).at (length ring.slots.at.items) in omega arith
 
 pub all_of_list : (catalogue : List FileEntry) (ring : RingSlots) (off : ℕ) (list : List ℤ) (files : List Closed)
     → files ≡ removed_from (table_of_slots ring.slots).at off list → IsRing (ring_with_slots catalogue ring) → AreOf catalogue files
@@ -54,8 +51,7 @@ pub few_of_list : (ring : RingSlots) (off : ℕ) (list : List ℤ) (files : List
     → length ring.slots.at.items ≤ MOST_SLOTS → length files < 2 ^ 32
 few_of_list ring off list files is inside few =
     let same = ap length is in
-    let most = few_removed (table_of_slots ring.slots).at off list in
-    omega arith
+    let most = few_removed (table_of_slots ring.slots).at off list in omega arith
 
 pub all_closed : (catalogue : List FileEntry) (files : List Closed) (closes : CloseListView) → AreOf catalogue files → HasClosed files closes
     → AreOf catalogue closes.files

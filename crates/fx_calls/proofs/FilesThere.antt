@@ -35,8 +35,7 @@ all_removed at slot (number ∷ list) =
 pub one_at : (ring : RingState) → IsRing ring → (x y : Closed) → IsAtOne ring.at x → IsAtOne ring.at y → x.mark ≡ y.mark → x ≡ y
 one_at ring is x y here there marks =
     let slots : here.0 ≡ there.0 = is.distinct here.0 there.0 x y here.1 there.1 marks in
-    let same : Some x ≡ Some y = sym here.1 ∙ ap ring.at slots ∙ there.1 in
-    cc
+    let same : Some x ≡ Some y = sym here.1 ∙ ap ring.at slots ∙ there.1 in cc
 
 -- what is printed of them is one text
 pub closes_printed : (before ring : RingState) (files theirs : List Closed) (closes : CloseListView) (line printed : List ℕ) → IsRing before

@@ -1,6 +1,6 @@
 -- A list that is applied to slots, one number further.
-use Rattle.std.proofs.Common.{◌≡◌, ℕ, zero, suc, ◌+◌, ◌<◌, ℤ, pos, negsuc, List, ◌++◌, ◌^◌, length, sym, ap, subst, ◌∙◌, if◌then◌else◌}
-use Rattle.std.proofs.Common.{Option, Some, slice_index_or, drop, append_assoc}
+use Rattle.std.proofs.Common.{◌≡◌, ℕ, zero, suc, ◌+◌, ◌<◌, ℤ, pos, negsuc, List, ◌++◌, ◌^◌, length, sym, ap, subst, ◌∙◌, if◌then◌else◌, Option, Some}
+use Rattle.std.proofs.Common.{slice_index_or, drop, append_assoc}
 use Rattle.fx_base.specs.declared.mark.Mark.TheVariants.{Registered}
 use Rattle.fx_base.specs.declared.open_file.Closed.{Closed}
 use Rattle.fx_calls.specs.InRange.{AreInRange, IsInRange}

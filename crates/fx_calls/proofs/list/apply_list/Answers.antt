@@ -1,4 +1,5 @@
-use Rattle.std.proofs.Common.{◌≡◌, ◌+◌, ℕ, ℤ, List, [], ◌∷◌, ◌++◌, pos, to_z, of_z, w32, slice_index_or, drop, ap, subst, sym, ◌∙◌, rules, arith, length, append-nil}
+use Rattle.std.proofs.Common.{◌≡◌, ◌+◌, ℕ, ℤ, List, [], ◌∷◌, ◌++◌, pos, to_z, of_z, w32, slice_index_or, drop, ap, subst, sym, ◌∙◌, rules, arith}
+use Rattle.std.proofs.Common.{length, append-nil}
 use Rattle.std.proofs.Math.Seq.{drop-length}
 use Rattle.fx_ring.proofs.ListSteps.{files_upto, upto_none, upto_all}
 use Rattle.std.specs.Global.{Vec}
@@ -27,13 +28,10 @@ loop-i-init c =
 
 pub loop-i-preserved : goal.loop-i-preserved
 loop-i-preserved c =
-    let number = slice_index_or c.args.list.now c.loop-i.i (pos 0) in
-    let z = to_z w32 (of_z w32 number) in
+    let number = slice_index_or c.args.list.now c.loop-i.i (pos 0) in let z = to_z w32 (of_z w32 number) in
     let read : to_z w32 (of_z w32 number) ≡ number = search rules in
-    let tags = tags_for c.args.list.now c.args.tags in
-    let first = table_of_slots c.args.slots.now in
-    let cur = table_of_slots c.loop-i.slots in
-    let new = table_of_slots c.apply_number.new.slots in
+    let tags = tags_for c.args.list.now c.args.tags in let first = table_of_slots c.args.slots.now in
+    let cur = table_of_slots c.loop-i.slots in let new = table_of_slots c.apply_number.new.slots in
     let after : new ≡ with_file cur (c.args.off + c.loop-i.i) (file_after (Registered c.args.k c.loop-i.i) c.tag_at.result z (cur.at (c.args.off + c.loop-i.i))) =
     c.apply_number.ensures.table in
     let gone = more_removed c.args.k c.args.off c.loop-i.i c.args.list.now tags z first cur new c.loop-i-test.true read c.loop-i.invariant.table in
@@ -58,11 +56,9 @@ loop-i-preserved c =
 
 pub returns : goal.returns
 returns c =
-    let past = c.loop-i-test.false in
-    let below = c.loop-i.auto.i-end in
+    let past = c.loop-i-test.false in let below = c.loop-i.auto.i-end in
     let all : c.loop-i.i ≡ length c.args.list.now = omega arith in
-    let first = table_of_slots c.args.slots.now in
-    let tags = tags_for c.args.list.now c.args.tags in
+    let first = table_of_slots c.args.slots.now in let tags = tags_for c.args.list.now c.args.tags in
     record {
       table = c.loop-i.invariant.table ∙ ap (λ (i : ℕ). record first { at = files_upto c.args.k first.at c.args.off c.args.list.now tags i }) all
           ∙ ap (λ (a : ℕ → _). record first { at = a }) (upto_all c.args.k first.at c.args.off c.args.list.now tags);
