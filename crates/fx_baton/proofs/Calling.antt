@@ -1,11 +1,11 @@
 -- What a pass needs for each call of the table that it has, and what it has to show behind it.
-use Rattle.fx_baton.proofs.Words.{◌≡◌, ℕ, ◌+◌, ◌*◌, ◌<◌, ◌≤◌, Bool, true, false, [], ◌∷◌, map, sym, refl, ap, ◌∙◌, subst, arith, Option}
-use Rattle.fx_baton.proofs.Words.{Some, None, option_map, is_some, not, TableId, rest, Closed, State, Steps, changed_at, Contents, IsTable}
-use Rattle.fx_baton.proofs.Words.{state_of, leaving, Leads, action_of, close_of, ◌▷◌, ◌▷▷◌, numbered, identity_of, closed_by_release}
-use Rattle.fx_baton.proofs.Words.{closed_by_retirement, EndsHold, LetsLeave, File, Look, Release, Put, Clear, Take, Allocate, Full}
-use Rattle.fx_baton.proofs.Words.{Close, pass_of_number, number_behind, Opening, size_of, PassView, hold_of, next_of, Doing, Idle, Holding, Retiring}
-use Rattle.fx_baton.proofs.Words.{Log, View, Start, Call, BatonPass, opening_of, begin_of, IsTurn, view_of, is_idle, HasTable, UsesNext}
-use Rattle.fx_baton.proofs.Words.{HasCalled, HasGivenBack, first_own, IsHoldOf, IsRetiredOf, next_is_its_own}
+use Rattle.fx_baton.proofs.Words.{◌≡◌, ℕ, ◌+◌, ◌*◌, ◌<◌, ◌≤◌, Bool, true, false, [], ◌∷◌, map, sym, refl, ap, ◌∙◌, subst, arith, Option, Some, None}
+use Rattle.fx_baton.proofs.Words.{option_map, is_some, not, TableId, rest, Closed, State, Steps, changed_at, Contents, IsTable, state_of, leaving}
+use Rattle.fx_baton.proofs.Words.{Leads, action_of, close_of, ◌▷◌, ◌▷▷◌, numbered, identity_of, closed_by_release, closed_by_retirement, EndsHold}
+use Rattle.fx_baton.proofs.Words.{LetsLeave, File, Look, Release, Put, Clear, Take, Allocate, Full, Close, pass_of_number, number_behind, Opening}
+use Rattle.fx_baton.proofs.Words.{size_of, PassView, hold_of, next_of, Doing, Idle, Holding, Retiring, Log, View, Start, Call, BatonPass, opening_of}
+use Rattle.fx_baton.proofs.Words.{begin_of, IsTurn, view_of, is_idle, HasTable, UsesNext, HasCalled, HasGivenBack, first_own, IsHoldOf, IsRetiredOf}
+use Rattle.fx_baton.proofs.Words.{next_is_its_own}
 use Rattle.fx_table.specs.Calls.{retiring, Adds, no_use, one_number, new_file, ReleasesFile, RetiresFile, one_look, HasRetired, Released}
 use Rattle.fx_baton.specs.Turns.{holds_now, actions_of, doing_of, events_of, use_of, table_of_slots}
 use Rattle.atomic_table.specs.Lent.{seat_with}
@@ -101,11 +101,8 @@ module _ {id : TableId} {k : Start} {u : PassView} {c : Contents} {p : BatonPass
 
     behind_own : number_behind log.own ≤ number
     behind_own =
-        let own = ap first_own h.seated.one in
-        let l = h.seated.turns.unused in
-        let e = ap number_behind own in
-        let n = number_is in
-        omega arith
+        let own = ap first_own h.seated.one in let l = h.seated.turns.unused in let e = ap number_behind own in
+        let n = number_is in omega arith
 
     owned : pass_of_number view.start.passes number ≡ log.number
     owned = ap (λ (z : Start). pass_of_number z.passes number) same_start ∙ its_own.0
@@ -116,8 +113,7 @@ module _ {id : TableId} {k : Start} {u : PassView} {c : Contents} {p : BatonPass
     pub number_fresh : (state_of c).fresh number ≡ true
     number_fresh =
         let chains = ap (λ (z : Start). z.chains) same_start in
-        let most = its_own.2 in
-        h.knows.fresh number its_own.1 behind_own (omega arith) owned
+        let most = its_own.2 in h.knows.fresh number its_own.1 behind_own (omega arith) owned
 
   -- a turn, by the pass's number
   called : {d : Contents} {call : Call} {flag : Bool} → IsTable d
@@ -277,7 +273,6 @@ module _ {id : TableId} {k : Start} {u : PassView} {c : Contents} {p : BatonPass
             → Adds o u (close_of out) Idle no_use (view_of q) → RetiresFile o u gone (identity_of out) (view_of q)
         by_out None e l a =
             let held = is_held c p.chain h.knows gone removed.1 removes_here e in
-            let same = ap (λ (s : State). s.holds gone.number) (gives.end ∙ l.1) in
-            (omega arith, a)
+            let same = ap (λ (s : State). s.holds gone.number) (gives.end ∙ l.1) in (omega arith, a)
         by_out (Some g) e l a = let same = sym (file_retired c p.chain h.knows gone removed.1 removes_here e) in
             (ap (λ (z : File). z.identity) same, subst (λ (z : File). Adds o u ([] ▷ Close z) Idle no_use (view_of q)) same a)

@@ -1,11 +1,11 @@
 -- What each call of the plain table is as a turn.
 use Rattle.fx_baton.proofs.Words.{◌≡◌, ◌≢◌, ℕ, ◌+◌, ◌-◌, ◌<◌, ◌≤◌, Bool, true, false, cond, List, [], ◌∷◌, map, sym, refl, ap, ◌∙◌, subst, arith, eqb}
-use Rattle.fx_baton.proofs.Words.{◌⊎◌, inl, inr, ⊎_elim, dite, ℕ_discrete, Option, Some, None, not, ◌&&◌, if◌then◌else◌, State, Steps}
-use Rattle.fx_baton.proofs.Words.{changed_at, with_removed, Contents, state_of, leaving, Leads, IsLegal, ReleasesItsOwn, held_by, close_of, ◌▷◌, ◌▷▷◌}
+use Rattle.fx_baton.proofs.Words.{◌⊎◌, inl, inr, ⊎_elim, dite, ℕ_discrete, Option, Some, None, not, ◌&&◌, if◌then◌else◌, State, Steps, changed_at}
+use Rattle.fx_baton.proofs.Words.{with_removed, Contents, state_of, leaving, Leads, IsLegal, ReleasesItsOwn, held_by, close_of, ◌▷◌, ◌▷▷◌}
 use Rattle.fx_baton.proofs.Words.{closed_by_release, closed_by_retirement, File, Event, Look, Release, Full, Close, pass_of_number, number_behind}
 use Rattle.fx_baton.proofs.Words.{HasFile, Idle, Holding, Retiring, legal_then, held_mine, one_author, Log, View, begin_of, file_held, file_in_hand}
-use Rattle.fx_baton.proofs.Words.{holds_by, removals_by, leaving_count, Knows, IsTurn, held_after, Doing, more_leaving, bit_here}
-use Rattle.fx_baton.proofs.Words.{one_more_at, one_less_at}
+use Rattle.fx_baton.proofs.Words.{holds_by, removals_by, leaving_count, Knows, IsTurn, held_after, Doing, more_leaving, bit_here, one_more_at}
+use Rattle.fx_baton.proofs.Words.{one_less_at}
 use Rattle.fx_plain.specs.declared.event.Action.{Action}
 use Rattle.fx_table.specs.Calls.{retiring}
 use Rattle.fx_baton.specs.Turns.{by, holds_now}

@@ -1,7 +1,6 @@
 -- How often a pass stands among the logs of views, and what a pass's doing counts for.
-use Rattle.fx_baton.proofs.Words.{◌≡◌, ℕ, ◌+◌, ◌≤◌, Bool, true, false, cond, List, map, ap, arith, eqb, ◌⊎◌, Some, Contains, File}
-use Rattle.fx_baton.proofs.Words.{Event, Doing, bit_here, one_if, sum_map, sum_of, Log, logs_of, file_in_hand, holds_by}
-use Rattle.fx_baton.proofs.Words.{removals_by, log_behind, changed_at}
+use Rattle.fx_baton.proofs.Words.{◌≡◌, ℕ, ◌+◌, ◌≤◌, Bool, true, false, cond, List, map, ap, arith, eqb, ◌⊎◌, Some, Contains, File, Event, Doing}
+use Rattle.fx_baton.proofs.Words.{bit_here, one_if, sum_map, sum_of, Log, logs_of, file_in_hand, holds_by, removals_by, log_behind, changed_at}
 
 -- a flag that is set at a number, or taken back
 pub flag_set : (f : ℕ → Bool) {g : ℕ → Bool} {q : ℕ} (n : ℕ) → g ≡ changed_at f q true → f q ≡ false

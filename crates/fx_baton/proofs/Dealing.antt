@@ -1,8 +1,7 @@
 -- The passes that are dealt out.
-use Rattle.fx_baton.proofs.Words.{◌≡◌, ℕ, ◌+◌, ◌≤◌, List, [], ◌∷◌, sym, refl, ◌∙◌, ap, subst, rules, TableId, Seat, Contents, PassView}
-use Rattle.fx_baton.proofs.Words.{IsFront, new_pass, HasDrawnInTurn, Idle, Log, View, Start, BatonPass, Seated, opening_of, new_log}
-use Rattle.fx_baton.proofs.Words.{view_without_first, view_of_first, chains_of_pass, first_front, first_own, view_of, is_idle, IsPassOf, dealt}
-use Rattle.fx_baton.proofs.Words.{IsNewPass}
+use Rattle.fx_baton.proofs.Words.{◌≡◌, ℕ, ◌+◌, ◌≤◌, List, [], ◌∷◌, sym, refl, ◌∙◌, ap, subst, rules, TableId, Seat, Contents, PassView, IsFront}
+use Rattle.fx_baton.proofs.Words.{new_pass, HasDrawnInTurn, Idle, Log, View, Start, BatonPass, Seated, opening_of, new_log, view_without_first}
+use Rattle.fx_baton.proofs.Words.{view_of_first, chains_of_pass, first_front, first_own, view_of, is_idle, IsPassOf, dealt, IsNewPass}
 use Rattle.std.proofs.Common.{take, drop}
 use Rattle.fx_table.proofs.Dealing.{first_left, last_left}
 

@@ -1,8 +1,8 @@
 -- The rule holds when a table is opened.
 use Rattle.fx_baton.proofs.Words.{◌≡◌, ℕ, zero, suc, ◌<◌, ◌≤◌, Bool, true, false, cond, List, [], ◌∷◌, sym, refl, ap, ◌∙◌, subst, arith, inl, inr}
-use Rattle.fx_baton.proofs.Words.{some, some-injective, some-ne-none, get_elem?, Some, None, State, Contents, state_of, IsTable}
-use Rattle.fx_baton.proofs.Words.{is_leaving, node_at, removed_at, Node, numbers_for, contains_none, Idle, Log, View, Start, IsKept, IsLog, IsView}
-use Rattle.fx_baton.proofs.Words.{leaving_count, begin_of, first_view, new_log, contains_map}
+use Rattle.fx_baton.proofs.Words.{some, some-injective, some-ne-none, get_elem?, Some, None, State, Contents, state_of, IsTable, is_leaving, node_at}
+use Rattle.fx_baton.proofs.Words.{removed_at, Node, numbers_for, contains_none, Idle, Log, View, Start, IsKept, IsLog, IsView, leaving_count}
+use Rattle.fx_baton.proofs.Words.{begin_of, first_view, new_log, contains_map}
 use Rattle.fx_plain.specs.declared.node.Node.TheVariants.{Leaving}
 use Rattle.atomic_table.specs.Table.{opening as table_opening}
 use Rattle.std.specs.List.{range_with_len}

@@ -112,15 +112,10 @@ module _ {id : TableId} {k : Start} {call : Call} {idle : Bool} {p : BatonPass} 
 
   turns_now : HasDrawnInTurn (opening_of k) p.count (view_of (gave seated))
   turns_now =
-      let s = t.has.seated.turns in
-      let used = t.numbers in
-      let few = s.few_left in
-      let left : ℕ = p.numbers_left - (use_of call).numbers in
-      let few_left : left ≤ 64 = omega arith in
-      let inside = s.left_inside in
-      let left_inside : left ≤ 64 * p.chain = omega arith in
-      let own = ap (λ (l : List Log). number_behind (first_own l)) t.has.seated.one in
-      let next = s.unused in
+      let s = t.has.seated.turns in let used = t.numbers in let few = s.few_left in
+      let left : ℕ = p.numbers_left - (use_of call).numbers in let few_left : left ≤ 64 = omega arith in
+      let inside = s.left_inside in let left_inside : left ≤ 64 * p.chain = omega arith in
+      let own = ap (λ (l : List Log). number_behind (first_own l)) t.has.seated.one in let next = s.unused in
       let unused = next_behind t.taken (view_of p) left p.seat.me.0.doing call before.own (omega arith) inside (omega arith) t.uses in
       assumption (few_left, left_inside, unused, s)
 
@@ -159,8 +154,7 @@ module _ {id : TableId} {k : Start} {call : Call} {idle : Bool} {p : BatonPass} 
   adds_so : (u : PassView) (c d : Contents) → HasTable id k u c d p
       → Adds (opening_of k) u (actions_of c p.seat.me.0.doing call) (doing_of c call) (use_of call) (view_of (gave seated))
   adds_so u c d h =
-      let loans : Some t.taken ≡ Some c = sym t.has.loan ∙ h.loan in
-      let same : t.taken ≡ c = cc loans in
+      let loans : Some t.taken ≡ Some c = sym t.has.loan ∙ h.loan in let same : t.taken ≡ c = cc loans in
       let saw = subst (λ (z : PassView × Contents). Adds (opening_of k) z.0 (actions_of z.1 p.seat.me.0.doing call) (doing_of z.1 call) (use_of call)
       (view_of (gave seated))) (λ i. (h.more.same i, same i)) adds_here in
       let seen = seen_further u.front (view_of p).front (view_of (gave seated)).front h.more.seen adds_here.seen in

@@ -1,7 +1,7 @@
 -- A table of one pass, which does nothing, tells its history without being closed.
-use Rattle.fx_baton.proofs.Words.{◌≡◌, ℕ, [], ◌∷◌, ◌++◌, sym, refl, ap, ◌∙◌, subst, arith, some, get_elem?, Contains, step, keeps, Allows}
-use Rattle.fx_baton.proofs.Words.{BatonPass, contains_head, contains_only, IsPassOf, IsKept, Seated, Shared, Start, TableId, Idle, opening_of}
-use Rattle.fx_baton.proofs.Words.{view_of, file_held}
+use Rattle.fx_baton.proofs.Words.{◌≡◌, ℕ, [], ◌∷◌, ◌++◌, sym, refl, ap, ◌∙◌, subst, arith, some, get_elem?, Contains, step, keeps, Allows, BatonPass}
+use Rattle.fx_baton.proofs.Words.{contains_head, contains_only, IsPassOf, IsKept, Seated, Shared, Start, TableId, Idle, opening_of, view_of}
+use Rattle.fx_baton.proofs.Words.{file_held}
 use Rattle.std.proofs.lemmas.List.{append-nil}
 use Rattle.fx_table.specs.Settling.{IsSettledSoFar}
 use Rattle.fx_table.proofs.Settling.{settles as settles_whole}

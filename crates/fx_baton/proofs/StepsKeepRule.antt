@@ -17,12 +17,10 @@ module _ (k : Start) (s : Shared) (r : IsKept k s) (id : ℕ) (v : View) (at : g
   -- another seat has no pass with the number of one of this seat
   apart : (i : ℕ) (u : View) → i ≢ id → get_elem? s.views i ≡ some u → (x y : Log) → Contains v.logs x → Contains u.logs y → y.number ≢ x.number
   apart i u n e x y hx hy same =
-      let a = some_log v.logs hx refl in
-      let b = some_log u.logs hy same in
+      let a = some_log v.logs hx refl in let b = some_log u.logs hy same in
       let t = sum_two (λ (z : View). logs_of x.number z.logs) s.views id i v u (λ j. n (sym j)) at e in
       let o = r.numbers x.number in
-      let l = once_is k.passes x.number in
-      absurd (omega arith)
+      let l = once_is k.passes x.number in absurd (omega arith)
 
   -- What the step has to show: the seat's new view, what the new events are, that files with which others have to do
   -- stay, and that the others' numbers stay fresh
@@ -77,8 +75,7 @@ module _ (k : Start) (s : Shared) (r : IsKept k s) (id : ℕ) (v : View) (at : g
         let a = some_log v.logs t.log_in refl in
         let b = sum_at (λ (z : View). logs_of t.log.number z.logs) s.views id v at in
         let o = r.numbers t.log.number in
-        let n = once_is k.passes t.log.number in
-        (omega arith, omega arith)
+        let n = once_is k.passes t.log.number in (omega arith, omega arith)
 
     pub keeps_rule : IsKept k next
     keeps_rule = record {

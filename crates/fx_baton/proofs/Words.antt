@@ -42,8 +42,8 @@ pub use Rattle.fx_table.specs.Turns.{HasDrawnInTurn}
 pub use Rattle.fx_table.specs.declared.values.Doing.{Doing}
 pub use Rattle.fx_table.specs.declared.values.Doing.TheVariants.{Holding, Idle, Retiring}
 pub use Rattle.std.proofs.Common.{All, Bool, List, [], ap, arith, cond, eq-eqb, eqb, false, get_or, inl, inr, is_none, length, length-append, map}
-pub use Rattle.std.proofs.Common.{refl, reverse, rules, set, subst, suc, sym, true, vec_capacity, zero, ℕ, ⊎_elim, ◌*◌, ◌++◌, ◌+◌, ◌-◌, ◌<◌, ◌^◌, ◌∙◌, ◌∷◌}
-pub use Rattle.std.proofs.Common.{◌≡◌, ◌≢◌, ◌≤◌, ◌⊎◌}
+pub use Rattle.std.proofs.Common.{refl, reverse, rules, set, subst, suc, sym, true, vec_capacity, zero, ℕ, ⊎_elim, ◌*◌, ◌++◌, ◌+◌, ◌-◌, ◌<◌, ◌^◌, ◌∙◌}
+pub use Rattle.std.proofs.Common.{◌∷◌, ◌≡◌, ◌≢◌, ◌≤◌, ◌⊎◌}
 pub use Rattle.std.proofs.lemmas.List.Elements.{Contains-append_cases}
 pub use Rattle.std.proofs.lemmas.List.Sums.{sum_by-append}
 pub use Rattle.std.specs.Prelude.{Contains, IfSome, None, Option, Some, count_by, if◌then◌else◌, is_some, nat_lt, not, option_map, sum_by, ◌&&◌, ◌==◌}

@@ -10,8 +10,7 @@ look-found-requires-clause-slot g c = slot_inside c.borrow.ensures c.slot_mut-pl
 
 pub give_back-requires : goal.give_back-requires
 give_back-requires g c =
-    let l = c.look-found.ensures in
-    let some_left = c.if-pass-eq0.false in
+    let l = c.look-found.ensures in let some_left = c.if-pass-eq0.false in
     look_called c.borrow.ensures c.slot_mut-plain.ensures.value c.requires.idle (omega arith) l.step l.leaving l.answer c.is_none.ensures l.sound
 
 pub returns-in-None-clause-looked : goal.returns-in-None-clause-looked

@@ -6,8 +6,7 @@ use Rattle.fx_baton.proofs.SeatsKeepRule.{may_split}
 
 pub split_seat-one-requires : goal.split_seat-one-requires
 split_seat-one-requires c =
-    let counts = c.args.self.now.counts in
-    let i = c.loop-number.invariant in
+    let counts = c.args.self.now.counts in let i = c.loop-number.invariant in
     let seat = c.loop-number.seat in (
       i.table,
       omega arith,
@@ -17,13 +16,9 @@ split_seat-one-requires c =
 
 pub loop-number-preserved : goal.loop-number-preserved
 loop-number-preserved c =
-    let s = c.split_seat-one.ensures in
-    let i = c.loop-number.invariant in
-    let t = c.args.self.now.table.shared in
-    let all = c.args.self.now.key.1 in
-    let p = c.loop-number.number in
-    let test = c.loop-number-test.true in
-    let high : p ≤ t.key.passes = omega (arith, all, test) in
+    let s = c.split_seat-one.ensures in let i = c.loop-number.invariant in
+    let t = c.args.self.now.table.shared in let all = c.args.self.now.key.1 in let p = c.loop-number.number in
+    let test = c.loop-number-test.true in let high : p ≤ t.key.passes = omega (arith, all, test) in
     let me = s.4 ∙ ap (λ (m : Seated). (view_of_first m.0, [])) i.me in
     let new = is_new_pass t.table_id t.key p _ i.before.low high all _ _ c.new.ensures (s.3 ∙ i.table) me in
     record {
@@ -35,11 +30,8 @@ loop-number-preserved c =
 
 pub returns : goal.returns
 returns c =
-    let i = c.loop-number.invariant in
-    let t = c.args.self.now.table.shared in
-    let all = c.args.self.now.key.1 in
-    let p = c.loop-number.number in
-    let most = i.before.high in
+    let i = c.loop-number.invariant in let t = c.args.self.now.table.shared in
+    let all = c.args.self.now.key.1 in let p = c.loop-number.number in let most = i.before.high in
     let last : p ≡ c.args.self.now.passes = omega (arith, c.loop-number-test.false, most) in
     let me = i.me ∙ ap (λ (v : View). (v, [])) (last_is_dealt (last ∙ all)) in
     let high : p ≤ t.key.passes = omega (arith, last, all) in

@@ -5,9 +5,7 @@ use Rattle.fx_baton.proofs.SeatsKeepRule.{may_join}
 
 pub join_seat-requires : goal.join_seat-requires
 join_seat-requires c =
-    let counts = c.args.self.now.counts in
-    let i = c.loop-pass.invariant in
-    let t = c.args.self.now in
+    let counts = c.args.self.now.counts in let i = c.loop-pass.invariant in let t = c.args.self.now in
     let p = subst (IsIdleSeatOf t) (sym c.seat_of-other.ensures) (last_of (λ (z : BatonPass). IsIdleSeatOf t z.seat) _ _ _ c.in-Some.ensures.items i.passes) in
     let seat = c.loop-pass.seat in
     let other = c.seat_of-other.result in (

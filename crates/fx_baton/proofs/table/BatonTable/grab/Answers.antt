@@ -4,9 +4,7 @@ use Rattle.fx_baton.proofs.table.BatonTable.grab.Goals as goal
 
 pub compare_exchange-requires : goal.compare_exchange-requires
 compare_exchange-requires g c =
-    let counts = c.args.self.now.counts in
-    let i = c.loop.invariant in
-    let f = c.requires.free in
+    let counts = c.args.self.now.counts in let i = c.loop.invariant in let f = c.requires.free in
     let o = c.requires.one in (
       i.table ∙ c.requires.fits,
       omega arith,

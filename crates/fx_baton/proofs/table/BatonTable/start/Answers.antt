@@ -5,8 +5,7 @@ use Rattle.fx_table.proofs.Preparing.{prepared_again}
 
 pub new-requires : goal.new-requires
 new-requires c =
-    let is : c.of.result.value ≡ c.args.plain = c.of.ensures in
-    let prepared = c.in-Ok-prepare.ensures in
+    let is : c.of.result.value ≡ c.args.plain = c.of.ensures in let prepared = c.in-Ok-prepare.ensures in
     opens record { plain = c.of.result; chains = c.args.chains; passes = c.args.passes } c.prepare.new.self
     (prepared.ok ∙ (ap (opening (state_of c.args.plain)) c.numbers_for.ensures
     ∙ ap (λ (z : Contents). opening (state_of z) (numbers_for c.args.chains)) (sym is)))
