@@ -34,9 +34,7 @@ abbrev pub below : List ℕ → List ℕ → Bool
 below k l = is_lt (slice_cmp nat_cmp k l)
 
 then_equal : (o : Ordering) → ordering_then o Equal ≡ o
-then_equal Less = refl
-then_equal Equal = refl
-then_equal Greater = refl
+then_equal o = grind arith
 
 pub same_cmp : (a b : Mark) → slice_cmp nat_cmp (numbers a) (numbers b) ≡ mark_cmp a b
 same_cmp (Registered k i) (Registered l j) = ap (ordering_then (nat_cmp k l)) (then_equal (nat_cmp i j))
@@ -53,11 +51,7 @@ is_order = ranks_by nat_list_cmp_total (λ (file : Closed). numbers file.mark)
 
 -- two lists of numbers of which neither is below the other are one
 level : (o p : Ordering) → o ≡ ordering_reverse p → is_lt o ≡ false → is_lt p ≡ false → o ≡ Equal
-level Less p turned one other = absurd (true≢false one)
-level Equal p turned one other = refl
-level Greater Less turned one other = absurd (true≢false other)
-level Greater Equal turned one other = turned
-level Greater Greater turned one other = absurd (true≢false (sym (ap is_lt turned)))
+level o p turned one other = grind arith
 
 equal_numbers : (k l : List ℕ) → slice_cmp nat_cmp k l ≡ Equal → k ≡ l
 equal_numbers k l is = (bytes_decides k l).0 ((texts_po.matches_eq k l).1 (ap Some is))

@@ -22,8 +22,7 @@ abbrev pub AreOf : List FileEntry → List Closed → Type 0
 AreOf catalogue files = All (λ file. file.entry < length catalogue) files
 
 one_listed : (x : Option Closed) → length (option_to_list x) ≤ 1
-one_listed None = omega arith
-one_listed (Some file) = omega arith
+one_listed x = grind arith
 
 few_in_order : (at : ℕ → Option Closed) (n : ℕ) → length (files_in_order at n) ≤ n
 few_in_order at zero = omega arith

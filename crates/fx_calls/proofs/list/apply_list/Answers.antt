@@ -1,5 +1,6 @@
 use Rattle.std.proofs.Common.{◌≡◌, ◌+◌, ℕ, ℤ, List, [], ◌∷◌, ◌++◌, pos, to_z, of_z, w32, slice_index_or, drop, ap, subst, sym, ◌∙◌, rules, arith}
 use Rattle.std.proofs.Common.{length, append-nil}
+use Rattle.std.proofs.Math.Nat.{add-zero}
 use Rattle.std.proofs.Math.Seq.{drop-length}
 use Rattle.fx_ring.proofs.ListSteps.{files_upto, upto_none, upto_all}
 use Rattle.std.specs.Global.{Vec}
@@ -21,9 +22,7 @@ loop-i-init c =
     record {
       table = ap (λ (a : ℕ → _). record first { at = a }) (sym (upto_none c.args.k first.at c.args.off c.args.list.now (tags_for c.args.list.now c.args.tags)));
       in_range = λ fits. fits;
-      removed = let e : c.args.off + 0 ≡ c.args.off = omega arith in
-          ap (λ (l : List Closed). l ++ removed_from first.at (c.args.off + 0) c.args.list.now) c.new-removed.ensures.items
-          ∙ ap (λ (n : ℕ). removed_from first.at n c.args.list.now) e;
+      removed = rw (c.new-removed.ensures.items, add-zero);
     }
 
 pub loop-i-preserved : goal.loop-i-preserved
@@ -38,8 +37,7 @@ loop-i-preserved c =
     let rest = removed_from first.at (c.args.off + (c.loop-i.i + 1)) (drop (c.loop-i.i + 1) c.args.list.now) in
     record {
       table = one_more c.args.k c.args.off c.loop-i.i c.args.list.now tags z first cur new c.loop-i-test.true read c.loop-i.invariant.table
-          (after ∙ ap (λ (tag : ℕ). with_file cur (c.args.off + c.loop-i.i)
-          (file_after (Registered c.args.k c.loop-i.i) tag z (cur.at (c.args.off + c.loop-i.i)))) (c.tag_at.ensures c.args.list.now));
+          (rw (c.tag_at.ensures c.args.list.now) at after);
       in_range = λ fits. subst (λ (t : Table). AreInRange t.at) (sym after)
           (in_range_after cur (c.args.off + c.loop-i.i) c.args.k c.loop-i.i c.tag_at.result z (c.loop-i.invariant.in_range fits) (omega arith) (omega arith)
           (omega arith));
@@ -60,10 +58,7 @@ returns c =
     let all : c.loop-i.i ≡ length c.args.list.now = omega arith in
     let first = table_of_slots c.args.slots.now in let tags = tags_for c.args.list.now c.args.tags in
     record {
-      table = c.loop-i.invariant.table ∙ ap (λ (i : ℕ). record first { at = files_upto c.args.k first.at c.args.off c.args.list.now tags i }) all
-          ∙ ap (λ (a : ℕ → _). record first { at = a }) (upto_all c.args.k first.at c.args.off c.args.list.now tags);
+      table = rw (all, upto_all c.args.k first.at c.args.off c.args.list.now tags) at c.loop-i.invariant.table;
       in_range = c.loop-i.invariant.in_range;
-      removed = sym (append-nil c.loop-i.removed.items)
-          ∙ ap (λ (l : List ℤ). c.loop-i.removed.items ++ removed_from first.at (c.args.off + c.loop-i.i) l)
-          (sym (ap (λ (i : ℕ). drop i c.args.list.now) all ∙ drop-length c.args.list.now)) ∙ c.loop-i.invariant.removed;
+      removed = rw (all, drop-length c.args.list.now, append-nil) at c.loop-i.invariant.removed;
     }
