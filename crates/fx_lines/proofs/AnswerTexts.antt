@@ -1,24 +1,20 @@
 -- The answers of completions, as they are printed: a result, and perhaps the bytes of a read.
 use Rattle.fx_lines.proofs.Words.{◌≡◌, ℕ, ◌<◌, List, [], ◌∷◌, ◌++◌, length, refl, sym, ap, ◌∙◌, inl, inr, arith, None, ℤ, signed_decimal, append-nil}
 use Rattle.fx_lines.proofs.Words.{IsBytes, encode_lower, IsCutPart, answer_text, cut_text, IsResultInRange, is_without, IsPrintedFrom, Reads}
-use Rattle.std.specs.Prelude.{◌⊎◌}
+use Rattle.std.specs.Prelude.{◌⊎◌, Option, Some, option_map}
 use Rattle.fx_lines.proofs.Cuts.{cut_has}
-use Rattle.fx_lines.proofs.Hexes.{some_got}
+use Rattle.fx_lines.proofs.Hexes.{AreGiven, some_got}
 use Rattle.fx_lines.proofs.Readings.{parts_are}
 use Rattle.fx_lines.proofs.Results.{result_without}
 
 abbrev pub FitsAnswer : ℤ × List ℕ → Type 0
 FitsAnswer found = IsResultInRange found.0 × IsBytes found.1
 
-abbrev pub AreGiven : List ℕ → Type 0
-AreGiven got = (0 < length got) × IsBytes got
-
 -- an answer is its result alone, or has a space in it
 pub alone_or_cut : (got : List ℕ) (res : ℤ) {text : List ℕ} → text ≡ answer_text (res, got)
     → ((got ≡ []) × (text ≡ signed_decimal res)) ⊎ ((0 < length got) × (text ≡ cut_text 32 (signed_decimal res, encode_lower got)))
 alone_or_cut [] res same = inl (refl, same ∙ append-nil (signed_decimal res))
-alone_or_cut (b ∷ got) res same =
-    let some : 0 < length (b ∷ got) = omega arith in
+alone_or_cut (b ∷ got) res same = let some : 0 < length (b ∷ got) = omega arith in
     inr (some, same ∙ ap (λ (t : List ℕ). signed_decimal res ++ t) (some_got (b ∷ got) some))
 
 -- the result alone
@@ -30,21 +26,17 @@ alone_only {text} whole other fits same =
       | inr both ↦ absurd (whole (signed_decimal other.0, encode_lower other.1) (result_without 32 other.0 refl refl fits.0) both.1)
     ]
 
-pub none_alone : {text : List ℕ} → Reads (cut_text 32) (IsCutPart 32) text None → Reads signed_decimal IsResultInRange text None
-    → Reads answer_text FitsAnswer text None
-none_alone {text} whole none other fits same = none other.0 fits.0 (alone_only whole other fits same).1
-
 no_bytes : IsBytes []
 no_bytes i = omega arith
 
-pub one_alone : {text : List ℕ} {res : ℤ} → Reads (cut_text 32) (IsCutPart 32) text None
-    → IsPrintedFrom signed_decimal IsResultInRange text res → IsPrintedFrom answer_text FitsAnswer text (res, [])
-one_alone {text} {res} whole is = record {
+pub alone_reads : {text : List ℕ} → Reads (cut_text 32) (IsCutPart 32) text None → (r : Option ℤ) → Reads signed_decimal IsResultInRange text r
+    → Reads answer_text FitsAnswer text (option_map (λ res. (res, [])) r)
+alone_reads whole None none = λ other fits same. none other.0 fits.0 (alone_only whole other fits same).1
+alone_reads whole (Some res) is = record {
   fits_value = (is.fits_value, no_bytes);
   printed = is.printed ∙ sym (append-nil (signed_decimal res));
   only = λ other fits same.
-      let alone = alone_only whole other fits same in
-      λ i. (is.only other.0 fits.0 alone.1 i, alone.0 i);
+      let alone = alone_only whole other fits same in λ i. (is.only other.0 fits.0 alone.1 i, alone.0 i);
 }
 
 -- no result has a space
@@ -70,8 +62,7 @@ none_word {text} {word} {hex} cuts none other fits same = none other.0 fits.0 (b
 pub none_bytes : {text word hex : List ℕ} → IsPrintedFrom (cut_text 32) (IsCutPart 32) text (word, hex)
     → Reads encode_lower AreGiven hex None → Reads answer_text FitsAnswer text None
 none_bytes {text} {word} {hex} cuts none other fits same =
-    let parts = both_only cuts other fits same in
-    none other.1 (parts.0, fits.1) parts.2
+    let parts = both_only cuts other fits same in none other.1 (parts.0, fits.1) parts.2
 
 pub one_both : {text word hex : List ℕ} {res : ℤ} {got : List ℕ} → IsPrintedFrom (cut_text 32) (IsCutPart 32) text (word, hex)
     → IsPrintedFrom signed_decimal IsResultInRange word res → IsPrintedFrom encode_lower AreGiven hex got
@@ -81,6 +72,5 @@ one_both {text} {word} {hex} {res} {got} cuts first last = record {
   printed = cuts.printed ∙ ap (λ (t : List ℕ). t ++ 32 ∷ hex) first.printed
       ∙ ap (λ (t : List ℕ). signed_decimal res ++ t) (ap (λ (t : List ℕ). 32 ∷ t) last.printed ∙ sym (some_got got last.fits_value.0));
   only = λ other fits same.
-      let parts = both_only cuts other fits same in
-      λ i. (first.only other.0 fits.0 parts.1 i, last.only other.1 (parts.0, fits.1) parts.2 i);
+      let parts = both_only cuts other fits same in λ i. (first.only other.0 fits.0 parts.1 i, last.only other.1 (parts.0, fits.1) parts.2 i);
 }

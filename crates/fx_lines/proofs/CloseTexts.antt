@@ -21,8 +21,7 @@ one_close {text} {word} {name} {mark} cuts is = record {
   fits_value = is.fits_value;
   printed = cuts.printed ∙ ap (λ (t : List ℕ). t ++ 32 ∷ name) is.printed;
   only = λ other fits same.
-      let parts = parts_of_close cuts other fits same in
-      λ i. record { mark = is.only other.mark fits parts.0 i; name = sym parts.1 i };
+      let parts = parts_of_close cuts other fits same in λ i. record { mark = is.only other.mark fits parts.0 i; name = sym parts.1 i };
 }
 
 -- a closed file is one line

@@ -23,8 +23,7 @@ pub one_completion : {line word answer : List ℕ} {place : Place} {res : ℤ} {
     → IsPrintedFrom completion_text IsCompletionInRange line (record { place = place; res = res; got = got })
 one_completion {line} {word} {answer} {place} {res} {got} cuts first last = record {
   fits_value = record { place = first.fits_value; res = last.fits_value.0; got = last.fits_value.1 };
-  printed = cuts.printed ∙ ap (λ (t : List ℕ). t ++ 32 ∷ answer) first.printed
-      ∙ ap (λ (t : List ℕ). place_text place ++ 32 ∷ t) last.printed;
+  printed = cuts.printed ∙ ap (λ (t : List ℕ). t ++ 32 ∷ answer) first.printed ∙ ap (λ (t : List ℕ). place_text place ++ 32 ∷ t) last.printed;
   only = λ other fits same.
       let parts = parts_of_completion cuts fits same in
       let told = last.only (other.res, other.got) (fits.res, fits.got) parts.1 in

@@ -31,11 +31,9 @@ cut_once at [] after [] behind own other same = (refl, cc)
 cut_once at [] after (x ∷ front) behind own other same = let here : at ≡ x = cc in absurd (not_self at x here (and_parts _ _ other).0)
 cut_once at (x ∷ before) after [] behind own other same = let here : at ≡ x = cc in absurd (not_self at x here (and_parts _ _ own).0)
 cut_once at (x ∷ before) after (y ∷ front) behind own other same =
-    let first : x ≡ y = cc in
-    let others : before ++ at ∷ after ≡ front ++ at ∷ behind = cc in
+    let first : x ≡ y = cc in let others : before ++ at ∷ after ≡ front ++ at ∷ behind = cc in
     let more = cut_once at before after front behind (and_parts _ _ own).1 (and_parts _ _ other).1 others in
-    let same_front : before ≡ front = more.0 in
-    (cc, more.1)
+    let same_front : before ≡ front = more.0 in (cc, more.1)
 
 -- where a text is cut
 pub cut_here : (at : ℕ) (text : List ℕ) (i : ℕ) → i < length text → get_or text i 0 ≡ at → is_without at (take i text) ≡ true

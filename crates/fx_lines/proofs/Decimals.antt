@@ -43,13 +43,11 @@ decimal_is {n} small =
 word_is : {word : List ℕ} → is_decimal word ≡ true → digits_value 10 word < 2 ^ 64 → decimal (digits_value 10 word) ≡ word
 word_is {word} is small =
     let digits = (and_parts (list_all is_digit word) _ is).0 in
-    let shape = to_shape (and_parts (list_all is_digit word) _ is).1 in
-    decimal-digits_value own word digits shape.0 shape.1 small
+    let shape = to_shape (and_parts (list_all is_digit word) _ is).1 in decimal-digits_value own word digits shape.0 shape.1 small
 
-by_test : (largest : ℕ) {bound : ℕ} (word : List ℕ) → largest + 1 ≡ bound → bound ≤ 2 ^ 64
-    → (test : Bool) → is_decimal word && nat_le (digits_value 10 word) largest ≡ test
-    → Reads decimal (λ n. n < bound) word (if test then Some (digits_value 10 word) else None)
-by_test largest word next small true is =
+by_test : (largest : ℕ) (word : List ℕ) → largest < 2 ^ 64 → (test : Bool) → is_decimal word && nat_le (digits_value 10 word) largest ≡ test
+    → Reads decimal (λ n. n < largest + 1) word (if test then Some (digits_value 10 word) else None)
+by_test largest word small true is =
     let decimal_word = (and_parts (is_decimal word) (nat_le (digits_value 10 word) largest) is).0 in
     let below : digits_value 10 word ≤ largest = leb-true _ _ (and_parts (is_decimal word) _ is).1 in
     record {
@@ -57,17 +55,15 @@ by_test largest word next small true is =
       printed = sym (word_is decimal_word (omega arith));
       only = λ other inside same. sym (digits_value-decimal own other (omega arith)) ∙ ap (digits_value 10) (sym same);
     }
-by_test largest word next small false is = λ other inside same.
+by_test largest word small false is = λ other inside same.
     let value : digits_value 10 word ≡ other = ap (digits_value 10) same ∙ digits_value-decimal own other (omega arith) in
     let decimal_word : is_decimal word ≡ true = ap is_decimal same ∙ decimal_is (omega arith) in
     let below : nat_le (digits_value 10 word) largest ≡ true = le-leb _ _ (omega arith) in
-    let passes = and_from (is_decimal word) (nat_le (digits_value 10 word) largest) decimal_word below in
-    true≢false (sym passes ∙ is)
+    let passes = and_from (is_decimal word) (nat_le (digits_value 10 word) largest) decimal_word below in true≢false (sym passes ∙ is)
 
 -- the number that a word writes is the one that it is the text of
-pub number_reads : (largest : ℕ) {bound : ℕ} (word : List ℕ) → largest + 1 ≡ bound → bound ≤ 2 ^ 64
-    → Reads decimal (λ n. n < bound) word (number_up_to largest word)
-number_reads largest {bound} word next small = by_test largest word next small _ refl
+pub number_reads : (largest : ℕ) (word : List ℕ) → largest < 2 ^ 64 → Reads decimal (λ n. n < largest + 1) word (number_up_to largest word)
+number_reads largest word small = by_test largest word small _ refl
 
 differs : (d at : ℕ) → is_digit d ≡ true → is_digit at ≡ false → not (d == at) ≡ true
 differs d at is none = grind (arith, nat_tests)

@@ -6,10 +6,8 @@ use Rattle.std.specs.Fmt.{digit_glyph, digits, digits_onto}
 -- a text with another first byte
 pub by_first : {b : ℕ} (rest : List ℕ) → (b == 99) ≡ false → (b == 116) ≡ false → HasNoCloses (b ∷ rest)
 by_first {b} rest no_c no_t = record {
-  no_closed = λ starts. let first : b ≡ 99 = ap (λ (t : List ℕ). get_or t 0 0) starts in
-      true≢false (sym (ap (λ n. n == 99) first) ∙ no_c);
-  no_tag = λ starts. let first : b ≡ 116 = ap (λ (t : List ℕ). get_or t 0 0) starts in
-      true≢false (sym (ap (λ n. n == 116) first) ∙ no_t);
+  no_closed = λ starts. let first : b ≡ 99 = ap (λ (t : List ℕ). get_or t 0 0) starts in true≢false (sym (ap (λ n. n == 99) first) ∙ no_c);
+  no_tag = λ starts. let first : b ≡ 116 = ap (λ (t : List ℕ). get_or t 0 0) starts in true≢false (sym (ap (λ n. n == 116) first) ∙ no_t);
 }
 
 pub by_teardown : (rest : List ℕ) → HasNoCloses (codes "teardown\n" ++ rest)

@@ -8,17 +8,18 @@ use Rattle.hex.specs.Hex.{decode_of, encode_with, lower_digits}
 use Rattle.hex.specs.declared.error.FromHexError.{FromHexError}
 use Rattle.hex.proofs.HexLemmas.{decode_of-encode_lower, decode_of-ok, length-encode_with}
 
+-- the bytes of a read that got some
+abbrev pub AreGiven : List ℕ → Type 0
+AreGiven got = (0 < length got) × IsBytes got
+
 -- no bytes are printed as an empty word
-pub none_empty : {word : List ℕ} → length word ≡ 0 → Reads encode_lower (λ got. (0 < length got) × IsBytes got) word None
+pub none_empty : {word : List ℕ} → length word ≡ 0 → Reads encode_lower AreGiven word None
 none_empty empty other fits same =
-    let long = length-encode_with lower_digits other in
-    let some : 0 < length other = fits.0 in
-    let equal = ap length same in
-    absurd (omega arith)
+    let long = length-encode_with lower_digits other in let some : 0 < length other = fits.0 in
+    let equal = ap length same in absurd (omega arith)
 
 -- a word that doesn't decode is that of no bytes
-pub none_other : {word : List ℕ} {e : FromHexError} → decode_of word ≡ Err e
-    → Reads encode_lower (λ got. (0 < length got) × IsBytes got) word None
+pub none_other : {word : List ℕ} {e : FromHexError} → decode_of word ≡ Err e → Reads encode_lower AreGiven word None
 none_other fails other fits same = let good = decode_of-encode_lower other fits.1 in cc (ap decode_of same)
 
 same_bytes : {word bytes other : List ℕ} → decode_of word ≡ Ok bytes → IsBytes other → word ≡ encode_lower other → other ≡ bytes
@@ -26,7 +27,7 @@ same_bytes {other} decodes fits same = let good = decode_of-encode_lower other f
 
 -- a word that its bytes are printed as
 pub printed_again : {word bytes : List ℕ} → decode_of word ≡ Ok bytes → (length word ≡ 0 → ⊥) → word ≡ encode_lower bytes
-    → IsPrintedFrom encode_lower (λ got. (0 < length got) × IsBytes got) word bytes
+    → IsPrintedFrom encode_lower AreGiven word bytes
 printed_again {word} {bytes} decodes some same =
     let (even, digits, long, fits) = decode_of-ok word bytes decodes in
     record {
@@ -37,7 +38,7 @@ printed_again {word} {bytes} decodes some same =
 
 -- a word that its bytes aren't printed as
 pub printed_otherwise : {word bytes : List ℕ} → decode_of word ≡ Ok bytes → (word ≡ encode_lower bytes → ⊥)
-    → Reads encode_lower (λ got. (0 < length got) × IsBytes got) word None
+    → Reads encode_lower AreGiven word None
 printed_otherwise {word} {bytes} decodes differs other fits same = differs (same ∙ ap encode_lower (same_bytes decodes fits.1 same))
 
 -- an element of a list, or 0

@@ -37,8 +37,7 @@ module _ {A : Type 0} {print : A → List ℕ} {fits : A → Type 0} {may : List
       → ((y : A) (more : List ℕ) → fits y → rest ≡ print y ++ more → (y ≡ x) × (more ≡ next))
       → HasFirst print fits may text (items ++ x ∷ []) next
   one_more {x} {next} fits_x is goes_on only_x = record {
-    printed = before.printed ∙ ap (λ (t : List ℕ). flat_map print items ++ t) is
-        ∙ sym (append_assoc (flat_map print items) (print x) next)
+    printed = before.printed ∙ ap (λ (t : List ℕ). flat_map print items ++ t) is ∙ sym (append_assoc (flat_map print items) (print x) next)
         ∙ ap (λ (t : List ℕ). t ++ next) (flat_map_more print [] items x);
     fit = All-push fits items x before.fit fits_x;
     only = λ others behind fit ends same.
@@ -62,8 +61,7 @@ module _ {A : Type 0} {print : A → List ℕ} {fits : A → Type 0} {may : List
     printed = before.printed;
     only = λ other fit same.
         let known = before.only other.0 other.1 fit.0 fit.1 same in
-        let both = by_later other fit.1 known.0 known.1 known.3 in
-        λ i. (both.0 i, both.1 i);
+        let both = by_later other fit.1 known.0 known.1 known.3 in λ i. (both.0 i, both.1 i);
   }
     where
       by_later : (other : List A × List ℕ) → may other.0 other.1 → (later : List A) → other.0 ≡ items ++ later
@@ -105,8 +103,7 @@ module _ {A : Type 0} {print body : A → List ℕ} {fits : A → Type 0} {word 
 
 -- a text that begins with a word, and what stands behind no more lines of that word
 pub goes_on : (word : List ℕ) {rest : List ℕ} (tail : List ℕ) → rest ≡ word ++ tail → (behind : List ℕ) → ¬ (StartsWith behind word) → rest ≡ behind → ⊥
-goes_on word tail begins behind over same =
-    over (ap (take (length word)) (sym same ∙ begins) ∙ take_at word tail (length word) refl)
+goes_on word tail begins behind over same = over (ap (take (length word)) (sym same ∙ begins) ∙ take_at word tail (length word) refl)
 
 -- a text that doesn't begin with a word
 pub not_begun : {word rest : List ℕ} → ((other : List ℕ) → Unit {0} → rest ≡ word ++ other → ⊥) → ¬ (StartsWith rest word)

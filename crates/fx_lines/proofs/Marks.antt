@@ -120,8 +120,7 @@ one_registered : {word rest : List ℕ} {x : ℕ × ℕ} → word ≡ 114 ∷ []
     → (other : Mark) → IsMarkInRange other → word ≡ mark_text other → other ≡ Registered x.0 x.1
 one_registered {rest} begins is (Registered l j) fits same =
     let both : 114 ∷ rest ≡ 114 ∷ number_text (l, decimal j) = sym begins ∙ same in
-    let told = is.only (l, j) fits cc in
-    λ i. Registered (told i).0 (told i).1
+    let told = is.only (l, j) fits cc in λ i. Registered (told i).0 (told i).1
 one_registered begins is (Submitted s c m e) fits same = absurd (not_submitted c m e fits.0.submission begins same)
 
 pub registered_reads : {word rest : List ℕ} → word ≡ 114 ∷ [] ++ rest → (r : Option (ℕ × ℕ)) → Reads (number_and decimal) (AreBoth is_small) rest r

@@ -38,11 +38,9 @@ some_completion : (catalogue : List FileEntry) (size submission chain : ℕ) (ru
 some_completion catalogue size submission chain [] history some are empty = refl
 some_completion catalogue size submission chain ([] ∷ runs) history some are empty =
     let none : List Asked = [] in
-    let long : 0 < length none = All-head (λ run. 0 < length run) none runs some in
-    absurd (omega arith)
+    let long : 0 < length none = All-head (λ run. 0 < length run) none runs some in absurd (omega arith)
 some_completion catalogue size submission chain ((request ∷ run) ∷ runs) history some (own, others, whole, explained, more) empty =
-    let (events, rest, c, cs, split, is, answers, goes) = explained in
-    cc (is, whole, empty)
+    let (events, rest, c, cs, split, is, answers, goes) = explained in cc (is, whole, empty)
 
 -- no events of no chains
 no_events : (history : List Event) → ((e : Event) → Contains history e → (1 ≤ e.chain) × (e.chain ≤ 0)) → history ≡ []
@@ -71,8 +69,7 @@ report_begins catalogue [] {others} none behind =
 report_begins catalogue (c ∷ cs) {files} {others} none behind =
     let place : List ℕ = codes "." ++ (decimal c.place.chain ++ (codes "." ++ decimal c.place.member)) in
     let tail : List ℕ = codes " " ++ (signed_decimal c.res ++ (got_text c.got ++ codes "\n")) in
-    let (d, more, is, digit) = begins_with_digit c.place.submission in
-    let letters = no_letter d digit in
+    let (d, more, is, digit) = begins_with_digit c.place.submission in let letters = no_letter d digit in
     let P : List ℕ → Type 0 = λ t. HasNoCloses (((((t ++ place) ++ tail) ++ completion_lines cs) ++ closes_text catalogue files) ++ others) in
     subst P (sym is) (by_first (((((more ++ place) ++ tail) ++ completion_lines cs) ++ closes_text catalogue files) ++ others) letters.0 letters.1)
 

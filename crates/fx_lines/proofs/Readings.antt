@@ -2,14 +2,6 @@
 use Rattle.fx_lines.proofs.Words.{◌≡◌, ℕ, ◌<◌, ◌^◌, true, List, Option, Some, None, option_map, sym, ap, ◌∙◌, subst, IsCutPart, cut_text, number_text}
 use Rattle.fx_lines.proofs.Words.{is_without, IsPrintedFrom, Reads}
 
-pub at_some : {A : Type 0} {print : A → List ℕ} {fits : A → Type 0} {text : List ℕ} {r : Option A} {x : A} → r ≡ Some x
-    → Reads print fits text r → IsPrintedFrom print fits text x
-at_some {print} {fits} {text} is reads = subst (Reads print fits text) is reads
-
-pub at_none : {A : Type 0} (print : A → List ℕ) (fits : A → Type 0) {text : List ℕ} {r : Option A} → r ≡ None
-    → Reads print fits text r → Reads print fits text None
-at_none print fits {text} is reads = subst (Reads print fits text) is reads
-
 pub from_none : {A : Type 0} {print : A → List ℕ} {fits : A → Type 0} {text : List ℕ} {r : Option A} → r ≡ None
     → Reads print fits text None → Reads print fits text r
 from_none {print} {fits} {text} is reads = subst (Reads print fits text) (sym is) reads
@@ -33,13 +25,11 @@ no_number print fits none other fit same = none (other.0, print other.1) fit.0 s
 pub number_then : {B : Type 0} (print : B → List ℕ) (fits : B → Type 0) {word rest : List ℕ} {n : ℕ}
     → IsPrintedFrom number_text (λ front. front.0 < 2 ^ 32) word (n, rest) → (r : Option B) → Reads print fits rest r
     → Reads (number_and print) (AreBoth fits) word (option_map (λ b. (n, b)) r)
-number_then print fits is None none = λ other fit same.
-    none other.1 fit.1 (sym (ap (λ p. p.1) (is.only (other.0, print other.1) fit.0 same)))
+number_then print fits is None none = λ other fit same. none other.1 fit.1 (sym (ap (λ p. p.1) (is.only (other.0, print other.1) fit.0 same)))
 number_then print fits {n} is (Some b) behind = record {
   fits_value = (is.fits_value, behind.fits_value);
   printed = is.printed ∙ ap (λ (t : List ℕ). number_text (n, t)) behind.printed;
   only = λ other fit same.
       let told = is.only (other.0, print other.1) fit.0 same in
-      let rest = behind.only other.1 fit.1 (sym (ap (λ p. p.1) told)) in
-      λ i. ((told i).0, rest i);
+      let rest = behind.only other.1 fit.1 (sym (ap (λ p. p.1) told)) in λ i. ((told i).0, rest i);
 }

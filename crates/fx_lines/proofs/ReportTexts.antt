@@ -2,7 +2,7 @@
 use Rattle.fx_lines.proofs.Words.{◌≡◌, ℕ, ◌<◌, ◌^◌, true, false, List, [], ◌∷◌, ◌++◌, length, get_or, take, refl, sym, ap, ◌∙◌, Option, Some, None}
 use Rattle.fx_lines.proofs.Words.{◌==◌, true≢false, codes, option_map, Bor, StartsWith, flat_map, append_assoc, take_at, Completed, AreAll, AreSoMany}
 use Rattle.fx_lines.proofs.Words.{IsFront, lines_before, HasNoCloses, IsCloseInRange, IsCompletionInRange, NamedClose, line_of_tag, named_line}
-use Rattle.fx_lines.proofs.Words.{IsPrintedFrom, Reads, completion_line, completion_lines, FileEntry, Closed, Reported}
+use Rattle.fx_lines.proofs.Words.{Reads, completion_line, completion_lines, FileEntry, Closed, Reported}
 use Rattle.std.specs.Prelude.{is_some}
 use Rattle.fx_lines.specs.Lines.{IsReportBefore, Lines, ReadsReport, lines_of, lines_text}
 use Rattle.fx_lines.proofs.LinesInTurn.{not_begun}
@@ -34,34 +34,32 @@ regroup front = simp append_assoc
 no_closed_behind : (tags : List ℕ) {rest : List ℕ} → HasNoCloses rest → ¬ (StartsWith (flat_map line_of_tag tags ++ rest) (codes "closed "))
 no_closed_behind [] none = none.no_closed
 no_closed_behind (tag ∷ tags) none = λ starts.
-    let first : 116 ≡ 99 = ap (λ (t : List ℕ). get_or t 0 0) starts in
-    true≢false (ap (λ n. n == 116) first)
+    let first : 116 ≡ 99 = ap (λ (t : List ℕ). get_or t 0 0) starts in true≢false (ap (λ n. n == 116) first)
 
-abbrev pub FirstPart : ℕ → List ℕ → List Completed × List ℕ → Type 0
-FirstPart count text front = IsPrintedFrom (lines_before completion_line) (IsFront IsCompletionInRange (AreSoMany count)) text front
+abbrev pub FirstPart : ℕ → List ℕ → Option (List Completed × List ℕ) → Type 0
+FirstPart count = Reads (lines_before completion_line) (IsFront IsCompletionInRange (AreSoMany count))
 
-abbrev pub SecondPart : List ℕ → List NamedClose × List ℕ → Type 0
-SecondPart text front = IsPrintedFrom (lines_before named_line) (IsFront IsCloseInRange (AreAll (codes "closed "))) text front
+abbrev pub SecondPart : List ℕ → Option (List NamedClose × List ℕ) → Type 0
+SecondPart = Reads (lines_before named_line) (IsFront IsCloseInRange (AreAll (codes "closed ")))
 
-abbrev pub ThirdPart : List ℕ → List ℕ × List ℕ → Type 0
-ThirdPart text front = IsPrintedFrom (lines_before line_of_tag) (IsFront (λ tag. tag < 2 ^ 64) (AreAll (codes "tag "))) text front
+abbrev pub ThirdPart : List ℕ → Option (List ℕ × List ℕ) → Type 0
+ThirdPart = Reads (lines_before line_of_tag) (IsFront (λ tag. tag < 2 ^ 64) (AreAll (codes "tag ")))
 
-pub no_first : {count : ℕ} {text : List ℕ}
-    → Reads (lines_before completion_line) (IsFront IsCompletionInRange (AreSoMany count)) text None → ReadsReport count text None
+pub no_first : {count : ℕ} {text : List ℕ} → FirstPart count text None → ReadsReport count text None
 no_first none other fits same = none (other.0.completions, behind_completions other) (fits.in_range.completions, fits.each) (same ∙ regroup other)
 
-module _ {count : ℕ} {text : List ℕ} {cs : List Completed} {rest : List ℕ} (is : FirstPart count text (cs, rest)) where
+module _ {count : ℕ} {text : List ℕ} {cs : List Completed} {rest : List ℕ} (is : FirstPart count text (Some (cs, rest))) where
   first_of_report : (other : Lines × List ℕ) → IsReportBefore count other → text ≡ lines_text other.0 ++ other.1
       → (other.0.completions ≡ cs) × (rest ≡ behind_completions other)
   first_of_report other fits same =
       let told = is.only (other.0.completions, behind_completions other) (fits.in_range.completions, fits.each) (same ∙ regroup other) in
       (ap (λ p. p.0) told, sym (ap (λ p. p.1) told))
 
-  pub no_second : Reads (lines_before named_line) (IsFront IsCloseInRange (AreAll (codes "closed "))) rest None → ReadsReport count text None
+  pub no_second : SecondPart rest None → ReadsReport count text None
   no_second none other fits same =
       none (other.0.closed, behind_closed other) (fits.in_range.closed, no_closed_behind other.0.tags fits.behind) (first_of_report other fits same).1
 
-  module _ {closed : List NamedClose} {left : List ℕ} (next : SecondPart rest (closed, left)) where
+  module _ {closed : List NamedClose} {left : List ℕ} (next : SecondPart rest (Some (closed, left))) where
     second_of_report : (other : Lines × List ℕ) → IsReportBefore count other → text ≡ lines_text other.0 ++ other.1
         → (other.0.closed ≡ closed) × (left ≡ behind_closed other)
     second_of_report other fits same =
@@ -69,11 +67,10 @@ module _ {count : ℕ} {text : List ℕ} {cs : List Completed} {rest : List ℕ}
         (first_of_report other fits same).1 in
         (ap (λ p. p.0) told, sym (ap (λ p. p.1) told))
 
-    pub no_third : Reads (lines_before line_of_tag) (IsFront (λ tag. tag < 2 ^ 64) (AreAll (codes "tag "))) left None → ReadsReport count text None
-    no_third none other fits same =
-        none (other.0.tags, other.1) (fits.in_range.tags, fits.behind.no_tag) (second_of_report other fits same).1
+    pub no_third : ThirdPart left None → ReadsReport count text None
+    no_third none other fits same = none (other.0.tags, other.1) (fits.in_range.tags, fits.behind.no_tag) (second_of_report other fits same).1
 
-    module _ {tags last : List ℕ} (third : ThirdPart left (tags, last)) where
+    module _ {tags last : List ℕ} (third : ThirdPart left (Some (tags, last))) where
       third_of_report : (other : Lines × List ℕ) → IsReportBefore count other → text ≡ lines_text other.0 ++ other.1
           → (other.0.tags ≡ tags) × (other.1 ≡ last)
       third_of_report other fits same =
@@ -95,8 +92,7 @@ module _ {count : ℕ} {text : List ℕ} {cs : List Completed} {rest : List ℕ}
             (next.printed ∙ ap (λ (t : List ℕ). flat_map named_line closed ++ t) third.printed)
             ∙ sym (regroup (record { completions = cs; closed = closed; tags = tags }, last));
         only = λ other fits same.
-            let three = third_of_report other fits same in
-            let first = (first_of_report other fits same).0 in
+            let three = third_of_report other fits same in let first = (first_of_report other fits same).0 in
             let second = (second_of_report other fits same).0 in
             λ i. (record { completions = first i; closed = second i; tags = three.0 i }, three.1 i);
       }

@@ -31,15 +31,13 @@ negative_only : {word digits : List ℕ} {n : ℕ} → word ≡ 45 ∷ [] ++ dig
 negative_only {word} {digits} begins is (pos m) fits same = absurd (no_sign_first fits begins same)
 negative_only {word} {digits} {n} begins is (negsuc m) fits same =
     let more : suc m ≡ n = is.only (suc m) (omega arith) (digits_of m begins same) in
-    let less : m ≡ n - 1 = omega arith in
-    ap negsuc less
+    let less : m ≡ n - 1 = omega arith in ap negsuc less
 
 -- a word with a sign writes a number below zero
 pub negative : {word digits : List ℕ} {n : ℕ} → word ≡ 45 ∷ [] ++ digits → 0 < n → IsPrintedFrom decimal (λ n. n < 2147483649) digits n
     → IsPrintedFrom signed_decimal IsResultInRange word (negsuc (n - 1))
 negative {word} {digits} {n} begins some is =
-    let small : n < 2147483649 = is.fits_value in
-    let whole : suc (n - 1) ≡ n = omega arith in
+    let small : n < 2147483649 = is.fits_value in let whole : suc (n - 1) ≡ n = omega arith in
     record {
       fits_value = omega arith;
       printed = begins ∙ ap (λ (t : List ℕ). 45 ∷ t) (is.printed ∙ ap decimal (sym whole));
@@ -55,12 +53,10 @@ pub no_zero : {word digits : List ℕ} {n : ℕ} → word ≡ 45 ∷ [] ++ digit
     → Reads signed_decimal IsResultInRange word None
 no_zero {word} {digits} begins zero_is is (pos m) fits same = no_sign_first fits begins same
 no_zero {word} {digits} {n} begins zero_is is (negsuc m) fits same =
-    let more : suc m ≡ n = is.only (suc m) (omega arith) (digits_of m begins same) in
-    absurd (omega arith)
+    let more : suc m ≡ n = is.only (suc m) (omega arith) (digits_of m begins same) in absurd (omega arith)
 
 -- a result has no byte but digits and its sign
-pub result_without : (at : ℕ) (res : ℤ) → is_digit at ≡ false → (45 == at) ≡ false → IsResultInRange res
-    → is_without at (signed_decimal res) ≡ true
+pub result_without : (at : ℕ) (res : ℤ) → is_digit at ≡ false → (45 == at) ≡ false → IsResultInRange res → is_without at (signed_decimal res) ≡ true
 result_without at (pos n) none other fits = decimal_without at n none (omega arith)
 result_without at (negsuc n) none other fits =
     and_from (not (45 == at)) (is_without at (decimal (suc n))) (ap not other) (decimal_without at (suc n) none (omega arith))

@@ -8,8 +8,7 @@ returns-in_default c = λ other fits same.
     c.in_default.ensures (mark_text other.mark, other.name) (mark_without 32 other.mark refl refl refl fits) same
 
 pub returns-in_default-mark_of : goal.returns-in_default-mark_of
-returns-in_default-mark_of c = λ other fits same.
-    c.in_default-mark_of.ensures other.mark fits (parts_of_close c.in-Some.ensures other fits same).0
+returns-in_default-mark_of c = λ other fits same. c.in_default-mark_of.ensures other.mark fits (parts_of_close c.in-Some.ensures other fits same).0
 
 pub returns : goal.returns
 returns c =

@@ -1,14 +1,14 @@
-use Rattle.fx_lines.proofs.Words.{rules, w32, FitsSigned, to_z-of_z}
-use Rattle.fx_lines.proofs.AnswerTexts.{none_alone, none_bytes, none_word, one_alone, one_both}
+use Rattle.fx_lines.proofs.Words.{None, Some, rules, w32, FitsSigned, to_z-of_z}
+use Rattle.fx_lines.proofs.AnswerTexts.{alone_reads, none_bytes, none_word, one_both}
 use Rattle.fx_lines.proofs.completion.answer_of.Goals as goal
 
 pub returns-in_default-res_of : goal.returns-in_default-res_of
-returns-in_default-res_of c = none_alone c.in_default.ensures c.in_default-res_of.ensures
+returns-in_default-res_of c = alone_reads c.in_default.ensures None c.in_default-res_of.ensures
 
 pub returns-in_default : goal.returns-in_default
 returns-in_default c =
     let fits : FitsSigned w32 c.in-Some-res_of.res = search rules in
-    rw (to_z-of_z w32 c.in-Some-res_of.res fits, c.new.ensures.items) (one_alone c.in_default.ensures c.in-Some-res_of.ensures)
+    rw (to_z-of_z w32 c.in-Some-res_of.res fits, c.new.ensures.items) (alone_reads c.in_default.ensures (Some _) c.in-Some-res_of.ensures)
 
 pub returns-in_default-res_of-2 : goal.returns-in_default-res_of-2
 returns-in_default-res_of-2 c = none_word c.in-Some.ensures c.in_default-res_of-2.ensures

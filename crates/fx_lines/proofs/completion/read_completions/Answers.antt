@@ -43,5 +43,4 @@ returns c =
     let all : length (all_completed c.loop.completions.items) ≡ c.args.count = omega arith in
     ends_here c.loop.invariant.first all
     (λ y later behind ends same.
-    let long = length-append (all_completed c.loop.completions.items) (y ∷ later) in
-    omega arith)
+    let long = length-append (all_completed c.loop.completions.items) (y ∷ later) in omega arith)

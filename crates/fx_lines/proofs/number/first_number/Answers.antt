@@ -13,8 +13,7 @@ returns-in_err-number c = from_none (search rules) (λ other fits same. c.in_err
 
 pub returns : goal.returns
 returns c =
-    let digits = c.in_ok-digits.ensures in
-    let number = c.in_ok-number.ensures in
+    let digits = c.in_ok-digits.ensures in let number = c.in_ok-number.ensures in
     record {
       fits_value = number.fits_value;
       printed = digits.printed ∙ ap (λ (t : List ℕ). t ++ 46 ∷ c.in_ok-digits.rest.now) number.printed;
