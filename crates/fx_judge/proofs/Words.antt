@@ -42,12 +42,12 @@ pub use Rattle.fx_order.proofs.Histories.{each_order_is_a_history}
 pub use Rattle.fx_order.proofs.OneRing.{no_file_that_stays_is_closed}
 pub use Rattle.fx_order.proofs.Shown.{NonePast, ring_with_files, shows_ring, none_past}
 pub use Rattle.fx_order.specs.Access.{Permits, PermitsAll, Table, accesses_of, accesses_of_chain, removed_by, removed_in, table_after, table_with}
+pub use Rattle.fx_order.specs.declared.access.Access.TheVariants.{Allocates, FindsFull, Looks, Puts, Takes}
 pub use Rattle.fx_order.specs.Order.{IsOneOrder, table_of}
 pub use Rattle.fx_order.specs.Requests.{AreChainsDone, AreEntriesDone, IsChainDone, IsCloseDone, IsEntryDone, IsOpenDone, IsReadDone, IsRequestDone}
 pub use Rattle.fx_order.specs.Requests.{gives}
 pub use Rattle.fx_order.specs.Slots.{ring_with_slots, table_of_slots}
 pub use Rattle.fx_order.specs.declared.access.Access.{Access}
-pub use Rattle.fx_order.specs.declared.access.Access.TheVariants.{Allocates, FindsFull, Looks, Puts, Takes}
 pub use Rattle.fx_order.specs.declared.access.ChainAccess.{ChainAccess}
 pub use Rattle.fx_plain.proofs.Cells.{by_equality, unchanged, each_set, read_default}
 pub use Rattle.fx_plain.specs.Step.{changed_at}
@@ -61,7 +61,7 @@ pub use Rattle.std.proofs.Common.{All, Bool, Contains, Err, IsSome, List, None, 
 pub use Rattle.std.proofs.Common.{eq-eqb, false, filter, get_or, if◌then◌else◌, inl, inr, int_le, int_lt, is_some, length, map, nat_abs, negsuc, not}
 pub use Rattle.std.proofs.Common.{of_z, pos, refl, rules, slice_get, slice_index, slice_index_or, slice_set, subst, suc, sym, take, to_z, true, w32}
 pub use Rattle.std.proofs.Common.{zero, ℕ, ℤ, ◌++◌, ◌+◌, ◌<◌, ◌==◌, ◌||◌, ◌∙◌, ◌∷◌, ◌≡◌, ◌≢◌, ◌≤◌, ◌⊎◌, add_assoc, add-zero, add-one, ne_eqb}
-pub use Rattle.std.proofs.Common.{true≢false, length-drop, ⊎_elim}
+pub use Rattle.std.proofs.Common.{true≢false, length-drop, ⊎_elim, MatchBool, option_to_list}
 pub use Rattle.std.proofs.lemmas.Bool.{le-leb, le-ltb, lt-leb, lt-ltb, and_from, cases_Bool}
 pub use Rattle.std.proofs.lemmas.Int.{to_z-of_z}
 pub use Rattle.std.proofs.lemmas.List.{append-nil, get_or_default, length-map, length-set, drop_more, drop_all, length_push, nil_from_length}
@@ -70,10 +70,8 @@ pub use Rattle.std.proofs.lemmas.List.Elements.{All-contains, All-head, All-map,
 pub use Rattle.std.proofs.lemmas.List.Elements.{All-more}
 pub use Rattle.std.proofs.lemmas.List.Sorted.{IsPermutation-sym, Contains-permutation}
 pub use Rattle.std.proofs.lemmas.Option.{slice_get_read, slice_get_within, same_Some, slice_get_cases, slice_get_past, none-some}
-pub use Rattle.std.specs.Bool.{MatchBool}
 pub use Rattle.std.specs.Global.{Vec}
 pub use Rattle.std.specs.List.{AllByRecursion, AllZip, list_any}
-pub use Rattle.std.specs.Option.{option_to_list}
 pub use Rattle.std.proofs.lemmas.Result.{IfOk-weaker}
 pub use Rattle.fx_search.proofs.Lists.{mapped_at, no_any}
 pub use Rattle.fx_order.proofs.ChainsFront.{own_completed, others_completed}
