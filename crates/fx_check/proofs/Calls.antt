@@ -34,8 +34,7 @@ module _ (catalogue : List FileEntry) (old : RingSlots) (command : Instruction) 
         goes catalogue old new command text line (record {
           may = λ ring next printed same leads so.
               (call_at none ring next printed same).1 (inl (leads ∙ left, subst (λ (l : List ℕ). Tells before call l) (sym so) tells));
-          only = λ next others g. ⊎_elim
-              (λ a. (a.0 ∙ sym left, one_line before command g.line line is_ring a.1 tells))
+          only = λ next others g. ⊎_elim (λ a. (a.0 ∙ sym left, one_line before command g.line line is_ring a.1 tells))
               (λ r. absurd (not_refused before call.word call.res call.closed line (drop count text) others few tells
               (whole text line count begins ∙ g.split ∙ ap (λ (l : List ℕ). l ++ others) r.1))) ((call_at none g.ring next g.line g.same).0 g.prints);
         }) (Here count) begins

@@ -43,13 +43,14 @@ given {catalogue} entry off len are = of (slice_get catalogue entry) refl
     of (Some file) is =
         let small : length file.bytes ≤ LONGEST_ENTRY = all_got (λ (f : FileEntry). length f.bytes ≤ LONGEST_ENTRY) catalogue entry are.catalogue.small is in
         let bytes : IsBytes file.bytes = all_got (λ (f : FileEntry). IsBytes f.bytes) catalogue entry are.bytes is in
-        let first = length-take len (drop off file.bytes) in
-        let rest = length-drop off file.bytes in
-        record { small = omega arith; bytes = taken_bytes len (drop off file.bytes) (left_bytes off file.bytes bytes) }
+        record {
+          small = omega (arith, length-take len (drop off file.bytes), length-drop off file.bytes);
+          bytes = taken_bytes len (drop off file.bytes) (left_bytes off file.bytes bytes);
+        }
 
-error_in_range : (errno : Errno) {place : Place} → IsPlaceInRange place → IsCompletionInRange (refusal place errno)
-error_in_range ENOENT {place} is = record { place = is; res = omega arith; got = no_bytes }
-error_in_range _ {place} is = record { place = is; res = omega arith; got = no_bytes }
+error : {place : Place} → IsPlaceInRange place → (errno : Errno) → IsCompletionInRange (refusal place errno)
+error {place} is ENOENT = record { place = is; res = omega arith; got = no_bytes }
+error {place} is _ = record { place = is; res = omega arith; got = no_bytes }
 
 number_in_range : {n : ℕ} {place : Place} → IsPlaceInRange place → n < 2 ^ 31 → IsCompletionInRange (completed place (pos n) [])
 number_in_range {place} is few = record { place = is; res = few; got = no_bytes }
@@ -59,32 +60,25 @@ module _ (catalogue : List FileEntry) (are : AreFiles catalogue) (size : ℕ) (s
   AreInside accesses = AllByRecursion (IsPossible size range) accesses
 
   module _ (place : Place) (is : IsPlaceInRange place) where
-    abbrev InRange : List Access → Completed → Type 0
-    InRange accesses c = IsCompletionInRange c
-
-    error : (errno : Errno) → IsCompletionInRange (refusal place errno)
-    error errno = error_in_range errno is
-
     open_so : (entry : ℕ) (target : Target) (accesses : List Access) {c : Completed} → AreInside accesses
         → IsOpenDone size place entry target accesses c → IsCompletionInRange c
     open_so entry (Slot slot) accesses {c} inside done =
-        puts size place InRange error accesses c entry slot (λ _. number_in_range is (omega arith)) done
+        puts size place (λ _. IsCompletionInRange) (error is) accesses c entry slot (λ _. number_in_range is (omega arith)) done
     open_so entry Any accesses {c} inside done =
-        allocates size place (λ own d. AreInside own → IsCompletionInRange d) (λ errno _. error errno) accesses c entry
-        (λ slot within. let low = within.0.0 in number_in_range is (omega arith)) (λ _. error ENFILE) done inside
+        allocates size place (λ own d. AreInside own → IsCompletionInRange d) (λ errno _. error is errno) accesses c entry
+        (λ slot within. let low = within.0.0 in number_in_range is (omega arith)) (λ _. error is ENFILE) done inside
 
     request_so : (operation : Operation) (accesses : List Access) {c : Completed} → AreInside accesses
         → IsRequestDone catalogue size place operation accesses c → IsCompletionInRange c
     request_so (Opens name target) accesses {c} inside =
-        either_way (has_name name catalogue) (λ _ x. open_so x.0 target accesses inside x.2)
-        (λ _ x. rw x.1 (error ENOENT))
+        either_way (has_name name catalogue) (λ _ x. open_so x.0 target accesses inside x.2) (λ _ x. rw x.1 (error is ENOENT))
     request_so (Reads slot off len) accesses {c} inside =
-        reads size place InRange error accesses c catalogue slot off len (error EBADF) (λ file.
+        reads size place (λ _. IsCompletionInRange) (error is) accesses c catalogue slot off len (error is EBADF) (λ file.
         let g = given file.entry off len are in record { place = is; res = g.small; got = g.bytes })
     request_so (Closes slot) accesses {c} inside =
-        closes size place InRange error accesses c slot (error EBADF) (λ _. number_in_range is (omega arith))
+        closes size place (λ _. IsCompletionInRange) (error is) accesses c slot (error is EBADF) (λ _. number_in_range is (omega arith))
     request_so (Updates off list) accesses {c} inside =
-        updates size place InRange error accesses c (length catalogue) off list (λ fine _ _.
+        updates size place (λ _. IsCompletionInRange) (error is) accesses c (length catalogue) off list (λ fine _ _.
         let within : off + length list ≤ size = ltb-false size (off + length list) (or_parts (length list == 0) _ fine).1 in
         number_in_range is (omega arith))
 
@@ -95,7 +89,7 @@ module _ (catalogue : List FileEntry) (are : AreFiles catalogue) (size : ℕ) (s
       → All IsCompletionInRange (canceled place requests)
   canceled_so place [] is few = All-nil IsCompletionInRange
   canceled_so place (r ∷ rs) is few =
-      All-cons IsCompletionInRange (refusal place ECANCELED) (canceled (next_member place) rs) (error_in_range ECANCELED is)
+      All-cons IsCompletionInRange (refusal place ECANCELED) (canceled (next_member place) rs) (error is ECANCELED)
       (canceled_so (next_member place) rs (moved (length rs) is few) (omega arith))
 
   chain_so : (place : Place) (requests : List Asked) (accesses : List Access) (cs : List Completed) → IsPlaceInRange place
@@ -106,8 +100,7 @@ module _ (catalogue : List FileEntry) (are : AreFiles catalogue) (size : ℕ) (s
       let (front, behind) = both_parts (IsPossible size range) x.0 x.1 (rw x.4 at inside) in
       let next : IsPlaceInRange (next_member place) = moved (length rs) is few in
       rw x.5 (All-cons IsCompletionInRange x.2 x.3 (request_so place is r.operation x.0 front x.6)
-      (either_way {R = All IsCompletionInRange x.3} (severs r x.2)
-      (λ _ y. rw y.1 (canceled_so (next_member place) rs next (omega arith)))
+      (either_way {R = All IsCompletionInRange x.3} (severs r x.2) (λ _ y. rw y.1 (canceled_so (next_member place) rs next (omega arith)))
       (λ _ y. chain_so (next_member place) rs x.1 x.3 next (omega arith) behind y) x.7))
 
   -- the completions of an order

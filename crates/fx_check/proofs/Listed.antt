@@ -68,7 +68,8 @@ entries_of_chain place n (entry ∷ list) =
 
 own_of_chain : (place : Place) (operation : Operation) (own : List Access) → AreOfChain place.chain (own_places place operation own)
 own_of_chain place (Updates off list) own =
-    cond_both (length own == 0) [] (entry_places place 0 list) (AreOfChain place.chain) (λ _. none_of_chain place.chain) (λ _. entries_of_chain place 0 list)
+    cond_both (length own == 0) [] (entry_places place 0 list) (AreOfChain place.chain)
+    (λ _. none_of_chain place.chain) (λ _. entries_of_chain place 0 list)
 own_of_chain place _ own = All-replicate (λ (p : AccessPlace). p.chain ≡ place.chain) (length own) (place_at place None) refl
 
 -- as many places as accesses, and all of the chain

@@ -60,8 +60,8 @@ module _ (catalogue : List FileEntry) (size submission : ℕ) (order : List Chai
       (own : List (Vec AccessPlace)) × (new ≡ old ++ own) × AreListsOf catalogue size submission chain runs order own cs
 
   -- the list of the first chain, whose completions stand in front, and then those of the others
-  pub lists_put : (chain : ℕ) {run : List Asked} {runs all : List (List Asked)} (cs : List Completed) {own others : List Completed} (old : List (Vec AccessPlace))
-      {mid new : List (Vec AccessPlace)} {blank : List AccessPlace} (places : Vec AccessPlace) → all ≡ run ∷ runs → own ≡ take (length run) cs
+  pub lists_put : (chain : ℕ) {run : List Asked} {runs all : List (List Asked)} (cs : List Completed) {own others : List Completed}
+      (old : List (Vec AccessPlace)) {mid new : List (Vec AccessPlace)} {blank : List AccessPlace} (places : Vec AccessPlace) → all ≡ run ∷ runs → own ≡ take (length run) cs
       → others ≡ drop (length run) cs → blank ≡ [] → mid ≡ old ++ places ∷ []
       → ((accesses : List Access) → IsChainDone catalogue size (first_member submission chain) run accesses own
       → IsPut catalogue size (first_member submission chain) run accesses own blank places.items)

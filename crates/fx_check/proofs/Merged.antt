@@ -63,8 +63,7 @@ is_next {lists} {order} {i} e {next} {n} {list} inside chains each size counts r
 module _ {lists : List (Vec AccessPlace)} {order : List ChainAccess} {i : ℕ} {x : ChainAccess} {next : List ℕ} {n : ℕ} {list : Vec AccessPlace}
     (r : IsNext lists order i x next n list) where
   count_more : {chain : ℕ} → x.chain ≡ chain → count_of chain (take (i + 1) order) ≡ count_of chain (take i order) + 1
-  count_more {chain} same =
-      rw (r.taken, one_more (λ (y : ChainAccess). y.chain) chain (take i order) x same) (simp (map_push, length_push))
+  count_more {chain} same = rw (r.taken, one_more (λ (y : ChainAccess). y.chain) chain (take i order) x same) (simp (map_push, length_push))
 
   count_still : {chain : ℕ} → x.chain ≢ chain → count_of chain (take (i + 1) order) ≡ count_of chain (take i order)
   count_still {chain} other = rw (r.taken, none_more (λ (y : ChainAccess). y.chain) chain (take i order) x other)

@@ -46,5 +46,4 @@ module _ (catalogue : List FileEntry) (old new : RingSlots) (command : Instructi
             let is = one.only after others g in
             (is.0, rest_behind found (g.split ∙ ap (λ (l : List ℕ). l ++ others) is.1))),
       )
-  goes (Apart wanted) found = λ next others g.
-      found others (g.split ∙ ap (λ (l : List ℕ). l ++ others) (one.only next others g).1)
+  goes (Apart wanted) found = λ next others g. found others (g.split ∙ ap (λ (l : List ℕ). l ++ others) (one.only next others g).1)

@@ -69,103 +69,100 @@ all_printed : (ring : RingContents) (commands : List Instruction) (text : List �
 all_printed ring [] text orders by = by.0
 all_printed ring (command ∷ commands) text orders by = (by.0, by.1, by.2, by.5, by.7, all_printed by.0 commands by.2 by.4 by.9)
 
-module _ (script : Meaning) (text : List ℕ) where
+pub at_start : (script : Meaning) (text : List ℕ) → GoesWith script text 0 0 [] (new_ring script.catalogue)
+at_start script text = record { along = λ aim more can. rw zero-add at can; back = λ aim commands others later may. may }
+
+whole : (script : Meaning) (text : List ℕ) (n : ℕ) → length script.commands ≤ n → IsText script text
+    → CanPrint Whole (new_ring script.catalogue) (take n script.commands) text
+whole script text n all (ring, starts, prints) = record { ring = ring; same = starts; prints = rw (take_all n script.commands all) prints }
+
+module _ {script : Meaning} {text : List ℕ} {done at : ℕ} {orders : List Order} {now : RingState} (so_far : GoesWith script text done at orders now) where
   abbrev first : RingState
   first = new_ring script.catalogue
 
-  pub at_start : GoesWith script text 0 0 [] first
-  at_start = record {
-    along = λ aim more can. rw zero-add at can;
-    back = λ aim commands others later may. may;
+  behind : (aim : Aim) → CanPrint aim first (take done script.commands) text → CanPrint aim now [] (drop at text)
+  behind aim can = so_far.along aim 0 (rw add-zero can)
+
+  printed : (aim : Aim) (commands : List Instruction) (others all : List ℕ) → take done script.commands ≡ commands → take at text ++ others ≡ all
+      → MayPrintTo aim now [] others [] → MayPrintTo aim first commands all orders
+  printed aim commands others all same is may =
+      rw (append-nil (take done script.commands), same, is, append-nil orders) at (so_far.back aim [] others [] may)
+
+  broken : (ring : RingSlots) (fault : Fault) → done ≤ length script.commands → at ≤ length text → (IsText script text → ⊥) → (done < length script.commands → (left : List ℕ)
+      → CanPrint (Leaves left) first (take (done + 1) script.commands) text → ⊥)
+      → IsBroken script text (record { commands = done; at = at; ring = ring; fault = fault })
+  broken ring fault counted inside none next = record {
+    none = none;
+    counted = counted;
+    inside = inside;
+    front = printed (Leaves []) (take done script.commands) [] (take at text) refl (append-nil (take at text)) (λ ring same. refl);
+    place = λ ring left starts prints. (behind (Leaves left) (record { ring = ring; same = starts; prints = prints })).prints.1;
+    next = λ more ring left starts prints. next more left (record { ring = ring; same = starts; prints = prints });
   }
 
-  whole : (n : ℕ) → length script.commands ≤ n → IsText script text → CanPrint Whole first (take n script.commands) text
-  whole n all (ring, starts, prints) = record { ring = ring; same = starts; prints = rw (take_all n script.commands all) prints }
+  module _ (all : done ≡ length script.commands) where
+    past : length script.commands ≤ done
+    past = omega arith
 
-  module _ (done at : ℕ) (orders : List Order) (now : RingState) (so_far : GoesWith script text done at orders now) where
-    behind : (aim : Aim) → CanPrint aim first (take done script.commands) text → CanPrint aim now [] (drop at text)
-    behind aim can = so_far.along aim 0 (rw add-zero can)
-
-    printed : (aim : Aim) (commands : List Instruction) (others all : List ℕ) → take done script.commands ≡ commands → take at text ++ others ≡ all
-        → MayPrintTo aim now [] others [] → MayPrintTo aim first commands all orders
-    printed aim commands others all same is may =
-        rw (append-nil (take done script.commands), same, is, append-nil orders) at (so_far.back aim [] others [] may)
-
-    broken : (ring : RingSlots) (fault : Fault) → done ≤ length script.commands → at ≤ length text → (IsText script text → ⊥) → (done < length script.commands → (left : List ℕ)
-        → CanPrint (Leaves left) first (take (done + 1) script.commands) text → ⊥)
+    pub not_ended : (ring : RingSlots) (fault : Fault) → at ≤ length text → (PrintsEnd now (drop at text) → ⊥)
         → IsBroken script text (record { commands = done; at = at; ring = ring; fault = fault })
-    broken ring fault counted inside none next = record {
-      none = none;
-      counted = counted;
-      inside = inside;
-      front = printed (Leaves []) (take done script.commands) [] (take at text) refl (append-nil (take at text)) (λ ring same. refl);
-      place = λ ring left starts prints. (behind (Leaves left) (record { ring = ring; same = starts; prints = prints })).prints.1;
-      next = λ more ring left starts prints. next more left (record { ring = ring; same = starts; prints = prints });
+    not_ended ring fault inside never = broken ring fault (omega arith) inside
+        (λ is. let can = behind Whole (whole script text done past is) in never (subst (λ (r : RingState). PrintsEnd r (drop at text)) can.same can.prints))
+        (λ more left can. absurd (omega arith))
+
+    pub ended : PrintsEnd now (drop at text) → IsText script text × IsTextBy script text orders
+    ended end =
+        let may : MayPrintAllBy first script.commands text orders =
+        printed Whole script.commands (drop at text) text (take_all done script.commands past) (take-append-drop at text)
+        (λ ring same. (subst (λ (r : RingState). PrintsEnd r (drop at text)) (sym same) end, refl)) in
+        let shows = shows_ring first (λ slot none. refl) in
+        let by = may (ring_with_files first) shows in (
+          (ring_with_files first, shows, all_printed (ring_with_files first) script.commands text orders by),
+          (ring_with_files first, shows, by),
+        )
+
+  module _ {command : Instruction} (is : drop done script.commands ≡ command ∷ drop (done + 1) script.commands) where
+    played : (aim : Aim) (more : ℕ) → CanPrint aim first (take (done + suc more) script.commands) text
+        → (next : RingContents) × (others : List ℕ) × GoesOn now command (drop at text) next others
+        × PrintsTo aim next (take more (drop (done + 1) script.commands)) others
+    played aim more can =
+        let here = so_far.along aim (suc more) can in
+        let later = take more (drop (done + 1) script.commands) in
+        let (next, line, others, prints, split, rest) = parts aim here.ring command later (rw is at here.prints) in (
+          next,
+          others,
+          record {
+            ring = here.ring;
+            line = line;
+            same = here.same;
+            prints = prints;
+            split = split;
+            behind = no_closes aim next later rest;
+          },
+          rest,
+        )
+
+    pub stops : (ring : RingSlots) (fault : Fault) → at ≤ length text → LeadsNowhere now command (drop at text)
+        → IsBroken script text (record { commands = done; at = at; ring = ring; fault = fault })
+    stops ring fault inside nowhere =
+        let none : (aim : Aim) (more : ℕ) → CanPrint aim first (take (done + suc more) script.commands) text → ⊥ =
+        λ aim more can. let p = played aim more can in nowhere p.0 p.1 p.2 in
+        let size = length-drop done script.commands in
+        let some = ap (λ (l : List Instruction). length l) is in
+        broken ring fault (omega arith) inside (λ is. none Whole (length script.commands) (whole script text (done + suc (length script.commands)) (omega arith) is))
+        (λ more left. none (Leaves left) 0)
+
+    pub goes_on : (count : ℕ) (own : Option Order) {grown : List Order} {new : RingState} → MayPrintBy now command new (take count (drop at text)) own
+        → LeadsTo now command (drop at text) count new → grown ≡ orders ++ option_to_list own → GoesWith script text (done + 1) (at + count) grown new
+    goes_on count own {grown} {new} may leads grows = record {
+      along = λ aim more can.
+          let e : (done + 1) + more ≡ done + suc more = omega arith in
+          let (next, others, goes, rest) = played aim more (rw e at can) in
+          let there = leads next others goes in
+          record { ring = next; same = there.0; prints = rw (there.1, drop-drop) at rest };
+      back = λ aim commands others later rest.
+          let line = take count (drop at text) in
+          rw (grows, take-add at count text, take-add done 1 script.commands, is)
+          (simp append_assoc (so_far.back aim (command ∷ commands) (line ++ others) (option_to_list own ++ later)
+          (one_before aim command commands line others own later may rest)));
     }
-
-    module _ (all : done ≡ length script.commands) where
-      past : length script.commands ≤ done
-      past = omega arith
-
-      pub not_ended : (ring : RingSlots) (fault : Fault) → at ≤ length text → (PrintsEnd now (drop at text) → ⊥)
-          → IsBroken script text (record { commands = done; at = at; ring = ring; fault = fault })
-      not_ended ring fault inside never = broken ring fault (omega arith) inside
-          (λ is. let can = behind Whole (whole done past is) in never (subst (λ (r : RingState). PrintsEnd r (drop at text)) can.same can.prints))
-          (λ more left can. absurd (omega arith))
-
-      pub ended : PrintsEnd now (drop at text) → IsText script text × IsTextBy script text orders
-      ended end =
-          let may : MayPrintAllBy first script.commands text orders =
-          printed Whole script.commands (drop at text) text (take_all done script.commands past) (take-append-drop at text)
-          (λ ring same. (subst (λ (r : RingState). PrintsEnd r (drop at text)) (sym same) end, refl)) in
-          let shows = shows_ring first (λ slot none. refl) in
-          let by = may (ring_with_files first) shows in (
-            (ring_with_files first, shows, all_printed (ring_with_files first) script.commands text orders by),
-            (ring_with_files first, shows, by),
-          )
-
-    module _ (command : Instruction) (is : drop done script.commands ≡ command ∷ drop (done + 1) script.commands) where
-      played : (aim : Aim) (more : ℕ) → CanPrint aim first (take (done + suc more) script.commands) text
-          → (next : RingContents) × (others : List ℕ) × GoesOn now command (drop at text) next others
-          × PrintsTo aim next (take more (drop (done + 1) script.commands)) others
-      played aim more can =
-          let here = so_far.along aim (suc more) can in
-          let later = take more (drop (done + 1) script.commands) in
-          let (next, line, others, prints, split, rest) = parts aim here.ring command later
-          (rw is at here.prints) in (
-            next,
-            others,
-            record {
-              ring = here.ring;
-              line = line;
-              same = here.same;
-              prints = prints;
-              split = split;
-              behind = no_closes aim next later rest;
-            },
-            rest,
-          )
-
-      pub stops : (ring : RingSlots) (fault : Fault) → at ≤ length text → LeadsNowhere now command (drop at text)
-          → IsBroken script text (record { commands = done; at = at; ring = ring; fault = fault })
-      stops ring fault inside nowhere =
-          let none : (aim : Aim) (more : ℕ) → CanPrint aim first (take (done + suc more) script.commands) text → ⊥ =
-          λ aim more can. let p = played aim more can in nowhere p.0 p.1 p.2 in
-          let size = length-drop done script.commands in
-          let some = ap (λ (l : List Instruction). length l) is in
-          broken ring fault (omega arith) inside (λ is. none Whole (length script.commands) (whole (done + suc (length script.commands)) (omega arith) is))
-          (λ more left. none (Leaves left) 0)
-
-      pub goes_on : (count : ℕ) (own : Option Order) {grown : List Order} {new : RingState} → MayPrintBy now command new (take count (drop at text)) own
-          → LeadsTo now command (drop at text) count new → grown ≡ orders ++ option_to_list own → GoesWith script text (done + 1) (at + count) grown new
-      goes_on count own {grown} {new} may leads grows = record {
-        along = λ aim more can.
-            let e : (done + 1) + more ≡ done + suc more = omega arith in
-            let (next, others, goes, rest) = played aim more (rw e at can) in
-            let there = leads next others goes in
-            record { ring = next; same = there.0; prints = rw (there.1, drop-drop) at rest };
-        back = λ aim commands others later rest.
-            let line = take count (drop at text) in
-            rw (grows, take-add at count text, take-add done 1 script.commands, is) (simp append_assoc (so_far.back aim (command ∷ commands) (line ++ others)
-            (option_to_list own ++ later) (one_before aim command commands line others own later may rest)));
-      }

@@ -2,9 +2,9 @@
 use Rattle.fx_check.proofs.Words.{◌≡◌, ℕ, ◌+◌, ◌<◌, ◌≤◌, List, length, map, filter, not, ◌==◌, take, sym, ap, subst, ◌∙◌, arith, Some, None, refl}
 use Rattle.fx_check.proofs.Words.{lt-leb, FileEntry, tags_of, tag_completion, all_completed, fault_of, Asked, runs_of, IsOneOrder, ChainAccess}
 use Rattle.fx_check.proofs.Words.{MOST_SLOTS, RingState, IsRing, ring_of, Reported, MOST_SUBMISSIONS, SubmitsAll, report_text, Closed, TagCompletion}
-use Rattle.fx_check.proofs.Words.{close_of, lines_in, ReportLines, Lines, lines_of, lines_text, named_closes, CameBy, told_report, RingSlots, Told}
-use Rattle.fx_check.proofs.Words.{IsKept, BeginsWith, MayPrintBy, ArePlaces, AreChainsDone, Order, ring_with_slots, printed_lines, IsOrderOf}
-use Rattle.fx_check.proofs.Words.{ring_left}
+use Rattle.fx_check.proofs.Words.{close_of, lines_in, ReportLines, lines_of, lines_text, named_closes, CameBy, told_report, RingSlots, Told, IsKept}
+use Rattle.fx_check.proofs.Words.{BeginsWith, MayPrintBy, ArePlaces, AreChainsDone, Order, ring_with_slots, printed_lines, IsOrderOf, ring_left}
+use Rattle.fx_check.proofs.Words.{HasLines}
 use Rattle.fx_table.specs.declared.limits.TheConstants.{MAX_CHAINS}
 use Rattle.fx_order.proofs.Histories.{each_order_is_a_history}
 use Rattle.std.proofs.lemmas.Simd.{map-map}
@@ -34,48 +34,51 @@ tags_again {others} same =
     ∙ sym (map-map (λ (completion : TagCompletion). completion.user_data) (λ (file : Closed). tag_completion file.tag)
     (filter (λ (file : Closed). not (file.tag == 0)) others))
 
-module _ (catalogue : List FileEntry) (old new : RingSlots) (asked : List Asked) (told : Told) where
-  abbrev pub before : RingState
+-- an accepted submission that is counted, at a ring that is kept
+pub record IsCounted (catalogue : List FileEntry) (old : RingSlots) (asked : List Asked) : Type 0 where
+  pub kept : IsKept catalogue old
+  pub accepted : fault_of asked ≡ None
+  pub few : old.submissions < MOST_SUBMISSIONS
+  pub short : length (runs_of asked) ≤ MAX_CHAINS
+
+module _ {catalogue : List FileEntry} {old : RingSlots} {asked : List Asked} (s : IsCounted catalogue old asked) (new : RingSlots) (told : Told) where
+  abbrev before : RingState
   before = ring_with_slots catalogue old
 
-  abbrev pub after : RingState
+  abbrev after : RingState
   after = ring_with_slots catalogue new
 
-  abbrev pub IsOrdered : Type 0
-  IsOrdered = (room : ℕ) → IsOneOrder before asked (told_report before told room) after
+  abbrev Came : List ChainAccess → Type 0
+  Came accesses = CameBy before asked told accesses after
 
   -- an order of the submission, at the ring behind it
-  pub ordered_is : {accesses : List ChainAccess} → CameBy before asked told accesses after → IsOrderOf accesses before asked (told_report before told 0)
+  pub ordered_is : {accesses : List ChainAccess} → Came accesses → IsOrderOf accesses before asked (told_report before told 0)
   ordered_is came = rw (came 0).1 at (came 0).0.is
 
-  pub ordered_done : {accesses : List ChainAccess} → CameBy before asked told accesses after
-      → AreChainsDone catalogue (length new.slots.at.items) new.submissions 1 (runs_of asked) accesses (all_completed told.completions.items)
+  abbrev AreDone : List ChainAccess → Type 0
+  AreDone accesses = AreChainsDone catalogue (length new.slots.at.items) new.submissions 1 (runs_of asked) accesses (all_completed told.completions.items)
+
+  pub ordered_done : {accesses : List ChainAccess} → Came accesses → AreDone accesses
   ordered_done {accesses} came =
       let one = (came 0).0 in
       rw (ap (λ (r : RingState). r.size) one.after, ap (λ (r : RingState). r.submissions) one.after) (ordered_is came).done
 
-  abbrev pub PlacesAt : ℕ → ℕ → Order → Type 0
+  abbrev PlacesAt : ℕ → ℕ → Order → Type 0
   PlacesAt size submission order =
       ArePlaces catalogue size submission (runs_of asked) (all_completed told.completions.items) order.accesses.items order.places.items
 
-  pub accepted_goes : {lines : Lines} {text : List ℕ} {count : ℕ} {order : Order} → IsKept catalogue old → fault_of asked ≡ None
-      → old.submissions < MOST_SUBMISSIONS → CameBy before asked told order.accesses.items after → order.submission ≡ new.submissions
-      → PlacesAt (length new.slots.at.items) new.submissions order
-      → ((number room : ℕ) → lines_of catalogue (record {
-        submission = number;
-        completions = all_completed told.completions.items;
-        closes = record { files = told.closes.items; room = room };
-      }) ≡ lines)
-      → BeginsWith text count (lines_text lines)
+  pub accepted_goes : (order : Order) (lines : ReportLines) {text : List ℕ} {count : ℕ} → Came order.accesses.items → order.submission ≡ new.submissions
+      → (AreDone order.accesses.items → PlacesAt (length new.slots.at.items) new.submissions order) → HasLines catalogue lines told
+      → BeginsWith text count (lines_text (lines_in lines))
       → (count ≤ length text) × MayPrintBy before (SubmitsAll asked) after (take count text) (Some order)
-  accepted_goes {text} {count} {order} kept accepted few came numbered listed has begins = (
+  accepted_goes order lines {text} {count} came numbered listed has begins = (
     begins.inside,
     λ ring same.
         let report : Reported = told_report before told 0 in
         let printed : take count text ≡ report_text ring.catalogue report =
         begins.is_line ∙ ap lines_text (sym (has (old.submissions + 1) 0)) ∙ sym (printed_lines catalogue report)
         ∙ ap (λ (r : RingState). report_text r.catalogue report) (sym same) in
-        let small : (ring_of ring).size ≤ MOST_SLOTS = subst (λ (r : RingState). r.size ≤ MOST_SLOTS) (sym same) kept.few_slots in
+        let small : (ring_of ring).size ≤ MOST_SLOTS = subst (λ (r : RingState). r.size ≤ MOST_SLOTS) (sym same) s.kept.few_slots in
         let accesses : List ChainAccess = order.accesses.items in
         let first : IsOneOrder before asked report after = (came 0).0 in
         let is : IsOrderOf accesses before asked report = ordered_is came in
@@ -83,11 +86,11 @@ module _ (catalogue : List FileEntry) (old new : RingSlots) (asked : List Asked)
         let led : after ≡ ring_left accesses before = first.after ∙ ap (λ (l : List ChainAccess). ring_left l before) (came 0).1 in
         let counted : new.submissions ≡ old.submissions + 1 = ap (λ (r : RingState). r.submissions) first.after in
         let one : IsOneOrder (ring_of ring) asked report after = subst (λ (r : RingState). IsOneOrder r asked report after) (sym same) first in
-        let history = each_order_is_a_history ring asked report after small accepted one in
+        let history = each_order_is_a_history ring asked report after small s.accepted one in
         let next = history.0 in (
           next,
           history.1,
-          (submitted asked accepted (lt-leb MOST_SUBMISSIONS old.submissions few) ring next (take count text) same).1 (report, history.2, printed),
+          (submitted asked s.accepted (lt-leb MOST_SUBMISSIONS old.submissions s.few) ring next (take count text) same).1 (report, history.2, printed),
           (
             asked,
             refl,
@@ -99,33 +102,25 @@ module _ (catalogue : List FileEntry) (old new : RingSlots) (asked : List Asked)
               left = history.1 ∙ led ∙ ap (ring_left accesses) (sym same);
               submission = numbered ∙ counted;
               places = subst (λ (r : RingState). ArePlaces r.catalogue r.size report.submission (runs_of asked) report.completions accesses order.places.items)
-                  (sym same) (subst (λ (z : ℕ × ℕ). PlacesAt z.0 z.1 order) (λ t. (size t, counted t)) listed);
+                  (sym same) (subst (λ (z : ℕ × ℕ). PlacesAt z.0 z.1 order) (λ t. (size t, counted t)) (listed (ordered_done came)));
             },
           ),
         ),
   )
 
-  pub same_slots : IsOrdered → IsKept catalogue old → length new.slots.at.items ≤ MOST_SLOTS
-  same_slots ordered kept =
-      let one = ordered 0 in
-      let e : length new.slots.at.items ≡ length old.slots.at.items = ap (λ (r : RingState). r.size) one.after in
-      let few = kept.few_slots in
-      omega arith
+  pub same_slots : {accesses : List ChainAccess} → Came accesses → length new.slots.at.items ≤ MOST_SLOTS
+  same_slots came = rw (ap (λ (r : RingState). r.size) (came 0).0.after) s.kept.few_slots
 
-  pub accepted_keeps : IsOrdered → IsKept catalogue old → old.submissions < MOST_SUBMISSIONS → fault_of asked ≡ None → length (runs_of asked) ≤ MAX_CHAINS
-      → IsRing after → IsKept catalogue new
-  accepted_keeps ordered kept few accepted short is =
-      let one : IsOneOrder (ring_with_slots catalogue old) asked (told_report (ring_with_slots catalogue old) told 0) (ring_with_slots catalogue new) =
-      ordered 0 in
+  pub accepted_keeps : {accesses : List ChainAccess} → Came accesses → IsRing after → IsKept catalogue new
+  accepted_keeps came is =
+      let one = (came 0).0 in
       let counted : new.submissions ≡ old.submissions + 1 = ap (λ (r : RingState). r.submissions) one.after in
-      let same : new.registrations ≡ old.registrations = ap (λ (r : RingState). r.registrations) one.after in
-      let most = kept.few_registrations in
+      let few = s.few in
       record {
-        few_slots = same_slots ordered kept;
+        few_slots = same_slots came;
         few_submissions = omega arith;
-        few_registrations = omega arith;
+        few_registrations = rw (ap (λ (r : RingState). r.registrations) one.after) s.kept.few_registrations;
         is_ring = is;
-        files = kept.files;
-        in_range = left_in_range catalogue old asked (told_report before told 0) after kept.is_ring accepted one
-            short few kept.in_range;
+        files = s.kept.files;
+        in_range = left_in_range catalogue old asked (told_report before told 0) after s.kept.is_ring s.accepted one s.short s.few s.kept.in_range;
       }

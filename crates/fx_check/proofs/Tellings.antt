@@ -1,9 +1,11 @@
 -- What lines tell is one list of files, or none.
 use Rattle.fx_check.proofs.Words.{◌≡◌, false, ⊎_elim, ℕ, zero, suc, ◌+◌, ◌<◌, ◌≤◌, List, [], ◌∷◌, length, map, drop, refl, sym, ap, ◌∙◌, arith, Some}
 use Rattle.fx_check.proofs.Words.{slice_index_or, length-map, slice_get-get_or, is_lt, FileEntry, name_at, Mark, Closed, all_completed, completed_of}
-use Rattle.fx_check.proofs.Words.{all_asked, asked_of, Completion, Request, Slots, close_of, named_close, named_closes, ClosedLine, AreApart}
-use Rattle.fx_check.proofs.Words.{Installed, IsAtSlot, MayClose, OneInstalled, name_of, drop_all, get_or-map, get_or_default, HasDistinctMarks}
-use Rattle.fx_check.proofs.Words.{from_here}
+use Rattle.fx_check.proofs.Words.{all_asked, asked_of, Slots, close_of, named_close, named_closes, ClosedLine, AreApart, Installed, IsAtSlot}
+use Rattle.fx_check.proofs.Words.{MayClose, OneInstalled, name_of, drop_all, get_or-map, get_or_default, HasDistinctMarks}
+use Rattle.fx_chain.specs.declared.completion.Completion.{Completion}
+use Rattle.fx_chain.specs.declared.request.Request.{Request}
+use Rattle.fx_calls.proofs.FromHere.{from_here}
 use Rattle.fx_base.proofs.Marks.{same_cmp as derived_cmp}
 use Rattle.fx_base.specs.CloseList.{IsInOrderOfMark}
 use Rattle.fx_base.specs.contracts.mark.MarkOrd.TheImpl.{ghosts}
@@ -26,8 +28,7 @@ module _ (catalogue : List FileEntry) (slots : Slots) (apart : AreApart catalogu
   -- where a file at a slot has the mark, it is that one
   pub same_file : {other : Closed} → other.mark ≡ mark → IsAtSlot slots other → other ≡ file
   same_file {other} is there = ⊎_elim (λ here. apart.marks other file there here (is ∙ sym marks))
-      (λ new. absurd (new.1 there.0 other there.1 (is ∙ sym marks)))
-      may.from
+      (λ new. absurd (new.1 there.0 other there.1 (is ∙ sym marks))) may.from
 
 -- the line of one of several files
 pub close_at : (catalogue : List FileEntry) (files : List Closed) (lines : List ClosedLine) {i : ℕ} {line : ClosedLine} (d : Closed)

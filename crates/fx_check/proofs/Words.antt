@@ -20,9 +20,7 @@ pub use Rattle.fx_chain.specs.Faults.{fault_of}
 pub use Rattle.fx_chain.specs.Operation.{Asked, Closes, Opens, Operation, Reads, Updates, all_asked, asked_of}
 pub use Rattle.fx_chain.specs.Runs.{runs_of}
 pub use Rattle.fx_chain.specs.declared.chain.Chain.{Chain}
-pub use Rattle.fx_chain.specs.declared.completion.Completion.{Completion}
 pub use Rattle.fx_chain.specs.declared.completion.Place.{Place}
-pub use Rattle.fx_chain.specs.declared.request.Request.{Request}
 pub use Rattle.fx_chain.specs.declared.request.Target.{Target}
 pub use Rattle.fx_chain.specs.declared.request.Target.TheVariants.{Any, Slot}
 pub use Rattle.fx_check.specs.Kept.{IsKept, IsOfScript}
@@ -52,11 +50,11 @@ pub use Rattle.fx_order.proofs.ChainFront.{length-done, both_parts}
 pub use Rattle.fx_order.proofs.Placed.{Has, placed, close_none, has_either, placed-append, read_none, left_from, removes_contained}
 pub use Rattle.fx_order.proofs.RequestCases.{allocates, puts, updates}
 pub use Rattle.fx_order.specs.Access.{Table, accesses_of, accesses_of_chain, removed_in}
+pub use Rattle.fx_order.specs.declared.access.Access.TheVariants.{Allocates, Puts, Looks}
 pub use Rattle.fx_order.specs.Order.{IsOneOrder, table_of, IsOrderOf, ring_left}
 pub use Rattle.fx_order.specs.Requests.{AreChainsDone, IsChainDone, IsOpenDone, IsRequestDone, IsUpdateDone, IsEntryDone, AreEntriesDone}
 pub use Rattle.fx_order.specs.Slots.{ring_with_slots, table_of_slots}
 pub use Rattle.fx_order.specs.declared.access.Access.{Access}
-pub use Rattle.fx_order.specs.declared.access.Access.TheVariants.{Allocates, Puts, Looks}
 pub use Rattle.fx_order.specs.declared.access.ChainAccess.{ChainAccess}
 pub use Rattle.fx_order.specs.declared.listed_order.AccessPlace.{AccessPlace}
 pub use Rattle.fx_order.specs.declared.listed_order.Order.{Order}
@@ -66,7 +64,7 @@ pub use Rattle.fx_plain.proofs.Cells.{by_equality, each_set}
 pub use Rattle.fx_plain.specs.declared.table.TheConstants.{MOST_SLOTS}
 pub use Rattle.fx_print.specs.Text.{closes_text, name_of, result_line, refused_line, too_many_line, teardown_text}
 pub use Rattle.fx_ring.specs.Registration.{files_after, registered, registered_sparse, removed_from, updated, range_refusal}
-pub use Rattle.fx_ring.specs.Ring.{HasClosed, IsRing, RingContents, RingState, files_of, new_ring, ring_of, HasCounted}
+pub use Rattle.fx_ring.specs.Ring.{IsRing, RingContents, RingState, files_of, new_ring, ring_of, HasCounted}
 pub use Rattle.fx_ring.specs.Submission.{Reported}
 pub use Rattle.fx_ring.specs.Tags.{tags_for}
 pub use Rattle.fx_ring.specs.declared.ring.TheConstants.{MOST_SUBMISSIONS, MOST_REGISTRATIONS}
@@ -78,26 +76,21 @@ pub use Rattle.std.proofs.Common.{arith, codes, drop, false, filter, if◌then�
 pub use Rattle.std.proofs.Common.{negsuc, not, of_z, option_map, pos, refl, replicate, rules, slice_get, slice_index_or, slice_set, string_bytes}
 pub use Rattle.std.proofs.Common.{subst, suc, sym, take, to_z, true, zero, ℕ, ℤ, ⊎_elim, ◌++◌, ◌+◌, ◌-◌, ◌<◌, ◌==◌, ◌^◌, ◌↔◌, ◌∙◌, ◌∷◌, ◌≡◌, ◌≢◌, ◌≤◌}
 pub use Rattle.std.proofs.Common.{IfNone, ◌⊎◌, IsTrue, unwrap_or, w32, w64, get_or, add-zero, zero-add, add-one, add_comm, eq-eqb, ne_eqb, Global}
-pub use Rattle.std.proofs.Common.{String}
+pub use Rattle.std.proofs.Common.{String, MatchBool, flat_map, option_to_list, MatchOption, is_lt}
 pub use Rattle.std.proofs.Math.Seq.{drop-append_seam, take-append_seam, take-length, take-add}
 pub use Rattle.std.proofs.lemmas.Bool.{lt-leb, cases_lt, ltb-false, or_parts, le-leb, true≢false, cases_Bool, cond_both}
 pub use Rattle.std.proofs.lemmas.Bool.Decides.{Decides-eqb}
-pub use Rattle.std.proofs.lemmas.List.{length-map, length-take-le, map-append, take-append-drop, take_all, take_more, get_or-drop, get_or-take}
-pub use Rattle.std.proofs.lemmas.List.{get_or_past, length-take, length-replicate, get_or_read_under, length_push, map_push, drop-drop, drop_all}
-pub use Rattle.std.proofs.lemmas.List.{get_or-map, get_or_default, length-set, take_rest}
+pub use Rattle.std.proofs.lemmas.List.{length-map, length-take-le, take-append-drop, take_all, take_more, get_or-drop, get_or-take, get_or_past}
+pub use Rattle.std.proofs.lemmas.List.{length-take, length-replicate, get_or_read_under, length_push, map_push, drop-drop, drop_all, get_or-map}
+pub use Rattle.std.proofs.lemmas.List.{get_or_default, length-set, take_rest}
 pub use Rattle.std.proofs.lemmas.List.Elements.{All-append, All-cons, All-get_or, All-head, All-map, All-nil, All-tail, All-replicate, filter-append}
 pub use Rattle.std.proofs.lemmas.List.Elements.{All-weaker, All-filter}
 pub use Rattle.std.proofs.lemmas.Option.{get_or_from_slice_get, slice_get-get_or, slice_get_within, same_Some, slice_get_read}
 pub use Rattle.std.proofs.lemmas.Result.{IfOk-weaker, on_ok_weaker}
-pub use Rattle.std.specs.Bool.{MatchBool}
 pub use Rattle.std.specs.Global.{Vec}
-pub use Rattle.std.specs.List.{flat_map}
-pub use Rattle.std.specs.Option.{option_to_list, MatchOption}
-pub use Rattle.std.specs.Ordering.{is_lt}
 pub use Rattle.fx_order.proofs.ChainsFront.{parts_of, first_run, others_completed, own_completed, few_completions}
 pub use Rattle.fx_order.proofs.OneRing.{each_report_leads_to_one_ring, each_closed_file_is_known, in_limits}
 pub use Rattle.fx_calls.proofs.FilesThere.{one_at, end_printed}
-pub use Rattle.fx_calls.proofs.FromHere.{from_here}
 pub use Rattle.std.proofs.lemmas.Slice.Eq.{starts_is, slice_eq-Decides}
 pub use Rattle.fx_order.proofs.FirstAndRest.{first_is, all_of_rest}
 pub use Rattle.fx_ring.proofs.Origins.{registered_rings, updated_rings}

@@ -1,5 +1,5 @@
 use Rattle.fx_check.proofs.Words.{◌≡◌, ◌+◌, ◌∷◌, List, length, length-drop, drop, sym, ap, append-nil, ◌++◌, ◌∙◌, arith, option_to_list, length-map}
-use Rattle.fx_check.proofs.Words.{RingState, Instruction, instruction_of, ring_with_slots, take_rest}
+use Rattle.fx_check.proofs.Words.{Instruction, instruction_of, ring_with_slots, take_rest}
 use Rattle.fx_check.specs.Answer.{IsAnswer}
 use Rattle.fx_check.specs.declared.answer.Answer.{Answer}
 use Rattle.fx_check.proofs.Plays.{GoesWith, at_start, ended, goes_on, next_instruction, not_ended, stops}
@@ -40,27 +40,21 @@ loop-done-preserved c =
           let before = c.loop-done.invariant.inside in
           let size = length-drop c.loop-done.at c.args.text.now in omega arith;
       kept = c.in_ok-count.ensures.kept;
-      so_far = goes_on c.args.script.now c.args.text.now c.loop-done.done c.loop-done.at orders
-          (ring_with_slots c.catalogue-catalogue.result.now c.loop-done.ring) c.loop-done.invariant.so_far (instruction_of c.index-commands-done.result) (next a)
-          c.in-Printed.count c.in-Printed.order answer.1 answer.2 grown;
+      so_far = goes_on c.loop-done.invariant.so_far (next a) c.in-Printed.count c.in-Printed.order answer.1 answer.2 grown;
     }
 
 pub returns-in-Broken : goal.returns-in-Broken
 returns-in-Broken c =
     let a = (goal.at.returns-in-Broken c).In_ok-count in
-    stops c.args.script.now c.args.text.now c.loop-done.done c.loop-done.at c.loop-done.orders.items
-    (ring_with_slots c.catalogue-catalogue.result.now c.loop-done.ring) c.loop-done.invariant.so_far (instruction_of c.index-commands-done.result) (next a)
-    _ c.in-Broken.fault c.loop-done.invariant.inside (answered a c.in-Broken.is)
+    stops c.loop-done.invariant.so_far (next a) _ c.in-Broken.fault c.loop-done.invariant.inside (answered a c.in-Broken.is)
 
 -- all commands were
 module _ (c : In_ok-play_end) where
-  abbrev now : RingState
-  now = ring_with_slots c.catalogue-catalogue.result.now c.loop-done.ring
-
   as_many : length c.commands-commands.result.now ≡ length c.args.script.now.commands
   as_many = sym (length-map c.commands-commands.result.now instruction_of) ∙ ap (λ (cs : List Instruction). length cs) c.commands-commands.ensures
 
-  all_done : GoesWith c.args.script.now c.args.text.now (length c.commands-commands.result.now) c.loop-done.at c.loop-done.orders.items now
+  all_done : GoesWith c.args.script.now c.args.text.now (length c.commands-commands.result.now) c.loop-done.at c.loop-done.orders.items
+      (ring_with_slots c.catalogue-catalogue.result.now c.loop-done.ring)
   all_done =
       let past = c.loop-done-test.false in
       let below = c.loop-done.auto.done-end in
@@ -71,12 +65,10 @@ pub returns-in-Some-2 : goal.returns-in-Some-2
 returns-in-Some-2 c =
     let e = (goal.at.returns-in-Some-2 c).In_ok-play_end in
     let never = rw c.in-Some-2.is at c.in_ok-play_end.ensures.only in
-    not_ended c.args.script.now c.args.text.now (length c.commands-commands.result.now) c.loop-done.at c.loop-done.orders.items (now e) (all_done e) (as_many e)
-    _ _ c.loop-done.invariant.inside (λ end. never (rw (take_rest c.args.text.now c.loop-done.at) end))
+    not_ended (all_done e) (as_many e) _ _ c.loop-done.invariant.inside (λ end. never (rw (take_rest c.args.text.now c.loop-done.at) end))
 
 pub returns-in-None : goal.returns-in-None
 returns-in-None c =
     let e = (goal.at.returns-in-None c).In_ok-play_end in
     let end = rw c.in-None.is at c.in_ok-play_end.ensures.end in
-    ended c.args.script.now c.args.text.now (length c.commands-commands.result.now) c.loop-done.at c.loop-done.orders.items (now e) (all_done e) (as_many e)
-    (rw (take_rest c.args.text.now c.loop-done.at) at end)
+    ended (all_done e) (as_many e) (rw (take_rest c.args.text.now c.loop-done.at) at end)

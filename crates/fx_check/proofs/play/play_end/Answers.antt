@@ -2,13 +2,12 @@ use Rattle.fx_check.proofs.Words.{◌≡◌, ◌∙◌, sym, Decides-eqb, all_cl
 use Rattle.fx_check.proofs.Words.{end_printed, slice_eq-Decides}
 use Rattle.fx_check.proofs.play.play_end.Goals as goal
 
-pub close_in_order-requires-clause-entries : goal.close_in_order-requires-clause-entries
-close_in_order-requires-clause-entries c =
-    all_of_ring c.args.catalogue.now c.args.ring.now c.deref.result.now (c.deref.ensures.value ∙ c.in_ok-files.ensures) c.requires.is_ring
-
-pub close_in_order-requires-clause-few : goal.close_in_order-requires-clause-few
-close_in_order-requires-clause-few c =
-    few_of_ring c.args.ring.now c.deref.result.now (c.deref.ensures.value ∙ c.in_ok-files.ensures) c.requires.few_slots
+pub close_in_order-requires : goal.close_in_order-requires
+close_in_order-requires c =
+    let files = c.deref.ensures.value ∙ c.in_ok-files.ensures in record {
+      entries = all_of_ring c.args.catalogue.now c.args.ring.now c.deref.result.now files c.requires.is_ring;
+      few = few_of_ring c.args.ring.now c.deref.result.now files c.requires.few_slots;
+    }
 
 pub teardown_text-requires : goal.teardown_text-requires
 teardown_text-requires c =

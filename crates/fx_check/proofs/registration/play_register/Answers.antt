@@ -31,10 +31,8 @@ returns-in_ok-_none-in-Here-clause-step c =
 pub returns-in_ok-_none-in-Here-clause-kept : goal.returns-in_ok-_none-in-Here-clause-kept
 returns-in_ok-_none-in-Here-clause-kept c =
     counted_keeps c.args.catalogue.now c.args.ring.now c.apply_list.new.slots (now (goal.at.returns-in_ok-_none-in-Here-clause-kept c).In_ok-_none-in-Here)
-    c.in_default.ensures.few
-    (registered_rings (ring_with_slots c.args.catalogue.now c.args.ring.now) c.args.given.now.list.now
-    (tags_for c.args.given.now.list.now c.args.given.now.tags) c.in_default.ensures.good)
-    c.in_default.ensures.counted
+    c.in_default.ensures.few (registered_rings (ring_with_slots c.args.catalogue.now c.args.ring.now) c.args.given.now.list.now
+    (tags_for c.args.given.now.list.now c.args.given.now.tags) c.in_default.ensures.good) c.in_default.ensures.counted
     (c.in_ok-_none-in-Here.ensures.in_range (none_in_range (table_of_slots c.in_ok-slots-in-Here.slots).at
     (ap (λ (t : Table). t.at) c.in_ok-slots-in-Here.ensures))) c.requires
 

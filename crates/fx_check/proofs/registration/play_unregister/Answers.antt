@@ -1,17 +1,16 @@
-use Rattle.fx_check.proofs.Words.{◌∙◌, ◌++◌, List, ℕ, ap, arith, codes, pos, refl, string_bytes, subst, sym, Closed, Unregisters, Slots, HasClosed}
-use Rattle.fx_check.proofs.Words.{files_of, PrintsClosed, all_closed, all_of_ring, few_of_ring, ring_with_slots, closes_text, result_line}
+use Rattle.fx_check.proofs.Words.{◌∙◌, ◌++◌, List, ℕ, ap, arith, codes, pos, refl, string_bytes, sym, Unregisters, Slots, files_of, PrintsClosed}
+use Rattle.fx_check.proofs.Words.{all_closed, all_of_ring, few_of_ring, ring_with_slots, closes_text, result_line}
 use Rattle.fx_check.proofs.Calls.{accepted, no_memory, refused}
 use Rattle.fx_check.proofs.Registrations.{emptied, none_left, with_slots}
 use Rattle.fx_check.proofs.registration.play_unregister.Goals.{After-meet-met}
 use Rattle.fx_check.proofs.registration.play_unregister.Goals as goal
 
-pub close_in_order-requires-clause-entries : goal.close_in_order-requires-clause-entries
-close_in_order-requires-clause-entries c =
-    all_of_ring c.args.catalogue.now c.args.ring.now c.deref.result.now (c.deref.ensures.value ∙ c.in_ok-files.ensures) c.requires.is_ring
-
-pub close_in_order-requires-clause-few : goal.close_in_order-requires-clause-few
-close_in_order-requires-clause-few c =
-    few_of_ring c.args.ring.now c.deref.result.now (c.deref.ensures.value ∙ c.in_ok-files.ensures) c.requires.few_slots
+pub close_in_order-requires : goal.close_in_order-requires
+close_in_order-requires c =
+    let files = c.deref.ensures.value ∙ c.in_ok-files.ensures in record {
+      entries = all_of_ring c.args.catalogue.now c.args.ring.now c.deref.result.now files c.requires.is_ring;
+      few = few_of_ring c.args.ring.now c.deref.result.now files c.requires.few_slots;
+    }
 
 pub with_closes-requires : goal.with_closes-requires
 with_closes-requires c =
@@ -23,7 +22,7 @@ told : (c : After-meet-met) → PrintsClosed (ring_with_slots c.args.catalogue.n
     (result_line (codes "unregister") (pos 0)) (string_bytes c.in_ok-whole.whole)
 told c = (
   c.in_ok-closes.closes,
-  subst (λ (l : List Closed). HasClosed l c.in_ok-closes.closes) (c.deref.ensures.value ∙ c.in_ok-files.ensures) c.in_ok-closes.ensures,
+  rw (c.deref.ensures.value, c.in_ok-files.ensures) at c.in_ok-closes.ensures,
   c.in_ok-whole.ensures ∙ ap (λ (l : List ℕ). l ++ closes_text c.args.catalogue.now c.in_ok-closes.closes.files) (c.as_str.ensures.value ∙ c.in_ok-line.ensures),
 )
 

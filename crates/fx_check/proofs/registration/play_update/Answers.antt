@@ -1,7 +1,7 @@
-use Rattle.fx_check.proofs.Words.{◌≡◌, ◌+◌, ◌<◌, ◌^◌, ◌∙◌, ◌++◌, List, ℕ, ap, arith, codes, length, of_z, option_map, pos, rules, string_bytes, subst}
-use Rattle.fx_check.proofs.Words.{sym, to_z, MOST_ENTRIES, Closed, Instruction, UpdatesRing, Table, ring_with_slots, table_of_slots, files_after}
-use Rattle.fx_check.proofs.Words.{removed_from, updated, HasClosed, tags_for, PrintsClosed, all_closed, AreInRange, closes_text, result_line, w64}
-use Rattle.fx_check.proofs.Words.{updated_rings, AreOf, all_of_list, few_of_list, good_larger}
+use Rattle.fx_check.proofs.Words.{◌≡◌, ◌+◌, ◌<◌, ◌^◌, ◌∙◌, ◌++◌, List, ℕ, ap, arith, codes, length, of_z, option_map, pos, rules, string_bytes, sym}
+use Rattle.fx_check.proofs.Words.{to_z, MOST_ENTRIES, Instruction, UpdatesRing, Table, ring_with_slots, table_of_slots, files_after, removed_from}
+use Rattle.fx_check.proofs.Words.{updated, tags_for, PrintsClosed, all_closed, closes_text, result_line, w64, updated_rings, AreOf, all_of_list}
+use Rattle.fx_check.proofs.Words.{few_of_list, good_larger, AreInRange, subst}
 use Rattle.fx_check.proofs.Calls.{accepted, no_memory, refused}
 use Rattle.fx_check.proofs.Registrations.{copied, counted_keeps, counted_with, updated_now}
 use Rattle.fx_check.proofs.registration.play_update.Goals.{After-deref-2, After-meet-met}
@@ -30,13 +30,12 @@ module _ (c : After-deref-2) where
         at = files_after (c.args.ring.now.registrations + 1) t.at c.args.off c.args.given.now.list.now (tags_for c.args.given.now.list.now c.args.given.now.tags);
       }) same)
 
-pub close_in_order-requires-clause-entries : goal.close_in_order-requires-clause-entries
-close_in_order-requires-clause-entries c = entries (goal.at.close_in_order-requires-clause-entries c).After-deref-2
-
-pub close_in_order-requires-clause-few : goal.close_in_order-requires-clause-few
-close_in_order-requires-clause-few c =
-    few_of_list c.args.ring.now c.args.off c.args.given.now.list.now c.deref-2.result.now
-    (removed (goal.at.close_in_order-requires-clause-few c).After-deref-2) c.in_default.ensures.inside c.requires.few_slots
+pub close_in_order-requires : goal.close_in_order-requires
+close_in_order-requires c =
+    let d = (goal.at.close_in_order-requires c).After-deref-2 in record {
+      entries = entries d;
+      few = few_of_list c.args.ring.now c.args.off c.args.given.now.list.now c.deref-2.result.now (removed d) c.in_default.ensures.inside c.requires.few_slots;
+    }
 
 pub with_closes-requires : goal.with_closes-requires
 with_closes-requires c =
@@ -53,13 +52,13 @@ module _ (c : After-meet-met) where
   told all =
       let counted : to_z w64 (of_z w64 c.from.result) ≡ pos (length c.args.given.now.list.now) = search rules in (
         c.in_ok-closes.closes,
-        subst (λ (l : List Closed). HasClosed l c.in_ok-closes.closes) all c.in_ok-closes.ensures,
+        rw all at c.in_ok-closes.ensures,
         c.in_ok-whole.ensures ∙ ap (λ (l : List ℕ). l ++ closes_text c.args.catalogue.now c.in_ok-closes.closes.files) (c.as_str.ensures.value
             ∙ c.in_ok-line.ensures ∙ ap (result_line (codes "regupdate")) counted),
       )
 
   few : length c.args.given.now.list.now < 2 ^ 31
-  few = let inside = c.in_default.ensures.inside in let slots = c.requires.few_slots in omega arith
+  few = omega (arith, c.in_default.ensures.inside, c.requires.few_slots)
 
 pub returns-in-Some-clause-step : goal.returns-in-Some-clause-step
 returns-in-Some-clause-step c =
@@ -74,16 +73,14 @@ returns-in-Here-clause-step c =
     let m = (goal.at.returns-in-Here-clause-step c).After-meet-met in
     accepted c.args.catalogue.now c.args.ring.now (command m) c.args.text.now tt c.requires.is_ring (sym c.in_default.ensures.value) (few m)
     (string_bytes c.in_ok-whole.whole) (told m (removed d)) c.meet-met.result c.meet-met.ensures
-    (counted_with c.args.ring.now c.apply_list.new.slots) c.in-Here.count
-    (now d) c.in-Here.is
+    (counted_with c.args.ring.now c.apply_list.new.slots) c.in-Here.count (now d) c.in-Here.is
 
 pub returns-in-Here-clause-kept : goal.returns-in-Here-clause-kept
 returns-in-Here-clause-kept c =
     let d = (goal.at.returns-in-Here-clause-kept c).After-deref-2 in
     counted_keeps c.args.catalogue.now c.args.ring.now c.apply_list.new.slots (now d) c.requires.few_slots
     (updated_rings (ring_with_slots c.args.catalogue.now c.args.ring.now) c.args.off c.args.given.now.list.now
-    (tags_for c.args.given.now.list.now c.args.given.now.tags) c.requires.is_ring c.in_default.ensures.good)
-    c.in_default.ensures.counted
+    (tags_for c.args.given.now.list.now c.args.given.now.tags) c.requires.is_ring c.in_default.ensures.good) c.in_default.ensures.counted
     (c.in_ok-files.ensures.in_range (subst (λ (t : Table). AreInRange t.at) (sym (same d)) c.requires.in_range)) c.requires
 
 pub returns-in-Apart-clause-step : goal.returns-in-Apart-clause-step

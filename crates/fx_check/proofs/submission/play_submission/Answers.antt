@@ -7,8 +7,7 @@ returns-in-Err-clause-answer c =
     c.of.ensures c.args.catalogue.now c.args.ring.now c.args.ring.now (SubmitsAll (all_asked c.args.requests.now)) c.args.text.now
     (refused c.args.catalogue.now c.args.ring.now c.args.text.now c.meet.result (all_asked c.args.requests.now) c.in-Err.fault
     (fault_told (fault_of (all_asked c.args.requests.now)) (length (runs_of (all_asked c.args.requests.now))) refl
-    c.in-Err.ensures.fault c.in-Err.ensures.chains)
-    (rw c.in_ok-refused_line.ensures at c.meet.ensures)) refl
+    c.in-Err.ensures.fault c.in-Err.ensures.chains) (rw c.in_ok-refused_line.ensures at c.meet.ensures)) refl
 
 pub returns-then-ring-ge-MOST_SUBMISSIONS-clause-answer : goal.returns-then-ring-ge-MOST_SUBMISSIONS-clause-answer
 returns-then-ring-ge-MOST_SUBMISSIONS-clause-answer c =
