@@ -21,7 +21,8 @@ none_told catalogue size range closes submission runs completions =
 -- one more chain, whose completions stand in front of those that are left
 module _ {catalogue : List FileEntry} {size : ℕ} {range : ℕ × ℕ} {closes : List Closed} {submission : ℕ} {runs : List (List Asked)}
     {completions : List Completed} {i : ℕ} {rest : List Completed} {claims : List (Vec Claim)}
-    (so : Sofar catalogue size range closes submission runs completions i rest claims) {run : List Asked} (next : drop i runs ≡ run ∷ drop (i + 1) runs) where
+    (so : Sofar catalogue size range closes submission runs completions i rest claims) {run : List Asked}
+    (next : drop i runs ≡ run ∷ drop (i + 1) runs) where
   from_here : {order : List ChainAccess} → AreDone catalogue size range submission runs completions order
       → AreChainsDone catalogue size submission (i + 1) (run ∷ drop (i + 1) runs) order rest
   from_here {order} done = rw next at (so.each order done).0

@@ -103,7 +103,8 @@ module _ (closes : List Closed) where
     pub cells_follow : (claim : Claim) → Fits closes claim a → All (IsCell (table_with table a) closes) (cells_after cells claim)
     cells_follow (At slot wants Same) fits =
         let same = at_after table a fits.0 may ∙ unchanged table.at slot (left_by a) (fits.2 ∙ found_at table a fits.0 may) in
-        All-weaker (IsCell table closes) (IsCell (table_with table a) closes) (λ cell now. moved table closes a cell cell.file now (rw same now.shows)) cells all
+        All-weaker (IsCell table closes) (IsCell (table_with table a) closes)
+        (λ cell now. moved table closes a cell cell.file now (rw same now.shows)) cells all
     cells_follow (At slot wants Empty) fits = all_kept None fits.0 (rw fits.2.1 tt)
     cells_follow (At slot wants (File resident)) fits = all_kept (Some resident) fits.0 (rw fits.2.1.1 fits.2.1.2)
     cells_follow Full fits = rw fits all

@@ -60,10 +60,11 @@ module _ (catalogue : List FileEntry) (size : ℕ) (range : ℕ × ℕ) where
     first_stops cut stop tells = tt
 
   -- the next member of the chain
-  module _ {closes : List Closed} (place : Place) (requests : List Request) (completions : List Completion) {i : ℕ} {request : Request} {c : Completion}
-      (low : i < length requests) (few : i < length completions) (is : request ≡ get_or requests i request) (are : c ≡ get_or completions i c)
-      (cut : Bool) where
-    pub next_told : (told : MemberClaims) → TellsMember catalogue size range closes (member_at place i) (asked_of request) (completed_of c) cut (Ok told)
+  module _ {closes : List Closed} (place : Place) (requests : List Request) (completions : List Completion) {i : ℕ} {request : Request}
+      {c : Completion} (low : i < length requests) (few : i < length completions) (is : request ≡ get_or requests i request)
+      (are : c ≡ get_or completions i c) (cut : Bool) where
+    pub next_told : (told : MemberClaims)
+        → TellsMember catalogue size range closes (member_at place i) (asked_of request) (completed_of c) cut (Ok told)
         → Front closes (AreLeft cut (member_at place i) (drop i (all_asked requests)) (drop i (all_completed completions))) told.claims.items
         (AreLeft told.cut (member_at place (i + 1)) (drop (i + 1) (all_asked requests)) (drop (i + 1) (all_completed completions)))
     next_told told tells =
@@ -72,7 +73,8 @@ module _ (catalogue : List FileEntry) (size : ℕ) (range : ℕ × ℕ) where
 
     pub one_stops : {Whole : List Access → Type 0} {claims : List Claim} (stop : Stop)
         → Front closes Whole claims (AreLeft cut (member_at place i) (drop i (all_asked requests)) (drop i (all_completed completions)))
-        → TellsMember catalogue size range closes (member_at place i) (asked_of request) (completed_of c) cut (Err stop) → Tells Whole closes (Err stop)
+        → TellsMember catalogue size range closes (member_at place i) (asked_of request) (completed_of c) cut (Err stop)
+        → Tells Whole closes (Err stop)
     one_stops (Refuted reason) told tells = λ accesses done.
         let p = told.each accesses done in
         first_stops closes (member_at place i) (asked_of request) _ (completed_of c) _ cut (Refuted reason) tells p.others

@@ -53,8 +53,8 @@ module _ (closes : List Closed) (strands : List Strand) (first : List Cell)
 
   -- an access of one of these slots is the next claim of its chain
   stepped : (table : Table) (at : Standing) (x : ChainAccess) (order : List ChainAccess) → has_slot first (touched x.access) ≡ true
-      → Permits table x.access → ((f : Closed) → removed_by x.access ≡ Some f → Contains closes f) → Left table at (x ∷ order) → (i : ℕ) (strand : Strand)
-      → slice_get strands i ≡ Some strand → strand.chain ≡ x.chain
+      → Permits table x.access → ((f : Closed) → removed_by x.access ≡ Some f → Contains closes f) → Left table at (x ∷ order)
+      → (i : ℕ) (strand : Strand) → slice_get strands i ≡ Some strand → strand.chain ≡ x.chain
       → (mid : Standing) × (next strands at i ≡ Some mid) × Left (table_with table x.access) mid order
   stepped table at x order inside may closed left i strand is own =
       let n = slice_index at.places i in
@@ -68,7 +68,8 @@ module _ (closes : List Closed) (strands : List Strand) (first : List Cell)
           fits = λ j. each_set (λ (k m : ℕ). (other : Strand) → slice_get strands k ≡ Some other
               → AllZip (Fits closes) (drop m other.claims.items) (seen first (accesses_of_chain other.chain order))) at.places i (n + 1) 0 within
               (λ other at_i. rw (sym (same_Some strand other (sym is ∙ at_i))) told.3) j
-              (λ apart other at_j. rw (not_own x order other.chain (λ same. apart (once j i other strand at_j is (same ∙ sym own)))) at (left.fits j other at_j));
+              (λ apart other at_j. rw (not_own x order other.chain (λ same. apart (once j i other strand at_j is (same ∙ sym own))))
+              at (left.fits j other at_j));
           each = λ y has. left.each y (contains_tail x order y has);
           long = length-set at.places i (n + 1) ∙ left.long;
           slots = λ o. rw (slots_after at.cells told.0 o) (left.slots o);

@@ -1,8 +1,13 @@
 -- Where there is no order of a table's accesses, what was told comes of none.
-use Rattle.fx_judge.proofs.Words.{◌≡◌, ℕ, ◌+◌, List, [], ◌∷◌, length, refl, ap, ◌∙◌, Vec, AllByRecursion, IsPermutation-sym, Contains-permutation}
-use Rattle.fx_judge.proofs.Words.{all_completed, Asked, runs_of, RingState, IsRing, Table, Permits, PermitsAll, table_with, removed_in, accesses_of}
-use Rattle.fx_judge.proofs.Words.{Access, Allocates, ChainAccess, IsOneOrder, table_of, AreDone, AreClaims, IsPossible, IsOutcome, IsToldOutcome}
-use Rattle.fx_judge.proofs.Words.{IsRefuted, told_report, Claim, Outcome, Told, no_file_that_stays_is_closed, same_size}
+use Rattle.fx_judge.proofs.Words.{◌≡◌, ℕ, ◌+◌, List, [], ◌∷◌, length, refl, ap, ◌∙◌, Vec, AllByRecursion, all_completed, Asked, RingState, IsRing}
+use Rattle.fx_judge.proofs.Words.{Table, Permits, PermitsAll, table_with, removed_in, accesses_of, Access, Allocates, ChainAccess, IsOneOrder}
+use Rattle.fx_judge.proofs.Words.{table_of, AreDone, AreClaims, IsPossible, IsOutcome, Claim, same_size}
+use Rattle.std.proofs.lemmas.List.Sorted.{IsPermutation-sym, Contains-permutation}
+use Rattle.fx_chain.specs.Runs.{runs_of}
+use Rattle.fx_judge.specs.Verdict.{IsToldOutcome, IsRefuted, told_report}
+use Rattle.fx_judge.specs.declared.part.Outcome.{Outcome}
+use Rattle.fx_judge.specs.declared.told.Told.{Told}
+use Rattle.fx_order.proofs.OneRing.{no_file_that_stays_is_closed}
 use Rattle.fx_judge.specs.declared.part.Outcome.TheVariants.{Refuted}
 use Rattle.fx_judge.proofs.CellSteps.{same_range}
 

@@ -1,9 +1,13 @@
 -- The claims of requests, case by case.
 use Rattle.fx_judge.proofs.Words.{◌≡◌, inl, inr, ℕ, ◌<◌, nat_abs, int_lt, Bool, true, false, ℤ, pos, negsuc, List, [], refl, sym, ap, ◌∙◌, arith}
-use Rattle.fx_judge.proofs.Words.{Some, None, slice_index_or, ne_eqb, lt-leb, has_name, FileEntry, name_at, EBADF, ENFILE, Closed, installed}
-use Rattle.fx_judge.proofs.Words.{Completed, completed, refusal, Place, Opens, Target, Slot, Any, IsOpenDone, IsReadDone, IsCloseDone, IsRequestDone}
-use Rattle.fx_judge.proofs.Words.{gives, Access, Looks, Puts, Takes, Allocates, FindsFull, IsResident, At, Full, Anything, Nothing, NothingToTake}
-use Rattle.fx_judge.proofs.Words.{Something, Bytes, Same, Empty, File, Resident, ENOMEM}
+use Rattle.fx_judge.proofs.Words.{Some, None, slice_index_or, ne_eqb, lt-leb, FileEntry, name_at, Closed, installed, Completed, completed, refusal}
+use Rattle.fx_judge.proofs.Words.{Place, Opens, Slot, Any, IsOpenDone, IsReadDone, IsCloseDone, IsRequestDone, gives, Access, Looks, Puts, Takes}
+use Rattle.fx_judge.proofs.Words.{Allocates, FindsFull, At, Full, Same, Empty, File, Resident}
+use Rattle.fx_base.specs.AddFault.{has_name}
+use Rattle.fx_base.specs.declared.errno.Errno.TheVariants.{EBADF, ENFILE, ENOMEM}
+use Rattle.fx_chain.specs.declared.request.Target.{Target}
+use Rattle.fx_search.specs.Residents.{IsResident}
+use Rattle.fx_search.specs.declared.claim.Wants.TheVariants.{Anything, Nothing, NothingToTake, Something, Bytes}
 use Rattle.fx_judge.proofs.Telling.{IsOne}
 
 same_res : {place other : Place} {x y : ℤ} {got found : List ℕ} {c : Completed} → c ≡ completed place x got → c ≡ completed other y found → x ≡ y

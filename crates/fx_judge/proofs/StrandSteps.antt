@@ -17,7 +17,8 @@ zip_kept closes cells (x ∷ claims) (a ∷ rest) all =
     rw (same_slot closes x a all.0) (both (keeps cells x) (zip_kept closes cells claims rest all.1))
   where
     both : (b : Bool) → AllZip (Fits closes) (filter (keeps cells) claims) (seen cells rest)
-        → AllZip (Fits closes) (cond b (x ∷ filter (keeps cells) claims) (filter (keeps cells) claims)) (cond b (a ∷ seen cells rest) (seen cells rest))
+        → AllZip (Fits closes) (cond b (x ∷ filter (keeps cells) claims) (filter (keeps cells) claims))
+        (cond b (a ∷ seen cells rest) (seen cells rest))
     both true more = (all.0, more)
     both false more = more
 zip_kept closes cells claims accesses all = absurd all

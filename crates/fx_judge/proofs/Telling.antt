@@ -12,7 +12,8 @@ tells_so P Q closes r so tells = tt
 abbrev pub IsOne : List Closed → Claim → List Access → Type 0
 IsOne closes claim own = (access : Access) × (own ≡ access ∷ []) × Fits closes claim access
 
-all_zip_append : {A B : Type 0} (R : A → B → Type 0) (xs ys : List A) (us vs : List B) → AllZip R xs us → AllZip R ys vs → AllZip R (xs ++ ys) (us ++ vs)
+all_zip_append : {A B : Type 0} (R : A → B → Type 0) (xs ys : List A) (us vs : List B) → AllZip R xs us → AllZip R ys vs
+    → AllZip R (xs ++ ys) (us ++ vs)
 all_zip_append R [] ys [] vs first second = second
 all_zip_append R (x ∷ xs) ys (u ∷ us) vs first second = (first.0, all_zip_append R xs ys us vs first.1 second)
 all_zip_append R xs ys us vs first second = absurd first

@@ -1,7 +1,5 @@
 -- The names that most proofs of this crate use.
-pub use Rattle.fx_base.specs.AddFault.{has_name}
 pub use Rattle.fx_base.specs.Catalogue.{FileEntry, name_at}
-pub use Rattle.fx_base.specs.declared.errno.Errno.TheVariants.{EBADF, ENFILE, ENOMEM}
 pub use Rattle.fx_base.specs.declared.open_file.Closed.{Closed}
 pub use Rattle.fx_chain.proofs.EntryKinds.{minus_one, unsigned}
 pub use Rattle.fx_chain.specs.Accepted.{IsAccepted, members_of}
@@ -9,12 +7,9 @@ pub use Rattle.fx_chain.specs.Answers.{installed}
 pub use Rattle.fx_chain.specs.Completed.{Completed, all_completed, completed, completed_of, next_member, refusal}
 pub use Rattle.fx_chain.specs.Explains.{canceled, first_member}
 pub use Rattle.fx_chain.specs.Operation.{Asked, Opens, all_asked, asked_of}
-pub use Rattle.fx_chain.specs.Runs.{runs_of}
-pub use Rattle.fx_chain.specs.declared.chain.Chain.{Chain}
 pub use Rattle.fx_chain.specs.declared.completion.Completion.{Completion}
 pub use Rattle.fx_chain.specs.declared.completion.Place.{Place}
 pub use Rattle.fx_chain.specs.declared.request.Request.{Request}
-pub use Rattle.fx_chain.specs.declared.request.Target.{Target}
 pub use Rattle.fx_chain.specs.declared.request.Target.TheVariants.{Any, Slot}
 pub use Rattle.fx_judge.specs.Chains.{AreDone, TellsChains, TellsMember}
 pub use Rattle.fx_judge.specs.Claims.{AreClaims, Fits, IsLeft, IsPossible, Possibly, Tells, Wanted, found_by, left_by, touched}
@@ -23,7 +18,6 @@ pub use Rattle.fx_search.specs.Machine.{may_leave, may_stay, next, suits}
 pub use Rattle.fx_judge.specs.Played.{HasNoOrder, IsCell, IsOutcome, ShowsFile}
 pub use Rattle.fx_search.specs.Starts.{starting}
 pub use Rattle.fx_judge.specs.Strands.{AreStrands, seen, strand_for}
-pub use Rattle.fx_judge.specs.Verdict.{IsRefuted, IsToldOutcome, told_report}
 pub use Rattle.fx_search.specs.declared.cell.Cell.{Cell}
 pub use Rattle.fx_judge.specs.declared.chain.MemberClaims.{MemberClaims}
 pub use Rattle.fx_search.specs.declared.claim.Claim.{Claim}
@@ -32,14 +26,10 @@ pub use Rattle.fx_search.specs.declared.claim.Leaves.{Leaves}
 pub use Rattle.fx_search.specs.declared.claim.Leaves.TheVariants.{Empty, File, Same}
 pub use Rattle.fx_search.specs.declared.claim.Resident.{Resident}
 pub use Rattle.fx_search.specs.declared.claim.Wants.{Wants}
-pub use Rattle.fx_search.specs.declared.claim.Wants.TheVariants.{Anything, Bytes, Nothing, NothingToTake, Something}
-pub use Rattle.fx_judge.specs.declared.part.Outcome.{Outcome}
 pub use Rattle.fx_judge.specs.declared.stop.Stop.{Stop}
 pub use Rattle.fx_judge.specs.declared.stop.Stop.TheVariants.{Refuted}
 pub use Rattle.fx_search.specs.declared.strand.Strand.{Strand}
-pub use Rattle.fx_judge.specs.declared.told.Told.{Told}
 pub use Rattle.fx_order.proofs.Histories.{each_order_is_a_history}
-pub use Rattle.fx_order.proofs.OneRing.{no_file_that_stays_is_closed}
 pub use Rattle.fx_order.proofs.Shown.{NonePast, ring_with_files, shows_ring, none_past}
 pub use Rattle.fx_order.specs.Access.{Permits, PermitsAll, Table, accesses_of, accesses_of_chain, removed_by, removed_in, table_after, table_with}
 pub use Rattle.fx_order.specs.declared.access.Access.TheVariants.{Allocates, FindsFull, Looks, Puts, Takes}
@@ -54,7 +44,6 @@ pub use Rattle.fx_plain.specs.Step.{changed_at}
 pub use Rattle.fx_ring.proofs.SubmittedRing.{submitted_rings}
 pub use Rattle.fx_ring.specs.Ring.{IsRing, RingState, ring_of}
 pub use Rattle.fx_ring.specs.Submission.{Reported}
-pub use Rattle.fx_search.specs.Residents.{IsResident}
 pub use Rattle.fx_search.specs.AtSlots.{has_slot, keeps, slot_of}
 pub use Rattle.fx_table.proofs.Members.{contains_head, contains_tail, contains_cases, contains_none}
 pub use Rattle.std.proofs.Common.{All, Bool, Contains, Err, IsSome, List, None, Ok, Option, Result, Some, [], ap, append_assoc, arith, cond, drop}
@@ -68,13 +57,11 @@ pub use Rattle.std.proofs.lemmas.List.{append-nil, get_or_default, length-map, l
 pub use Rattle.std.proofs.lemmas.List.{take_all}
 pub use Rattle.std.proofs.lemmas.List.Elements.{All-contains, All-head, All-map, All-tail, All-weaker, Contains-append_right, Contains-get_or}
 pub use Rattle.std.proofs.lemmas.List.Elements.{All-more}
-pub use Rattle.std.proofs.lemmas.List.Sorted.{IsPermutation-sym, Contains-permutation}
 pub use Rattle.std.proofs.lemmas.Option.{slice_get_read, slice_get_within, same_Some, slice_get_cases, slice_get_past, none-some}
 pub use Rattle.std.specs.Global.{Vec}
 pub use Rattle.std.specs.List.{AllByRecursion, AllZip, list_any}
 pub use Rattle.std.proofs.lemmas.Result.{IfOk-weaker}
 pub use Rattle.fx_search.proofs.Lists.{mapped_at, no_any}
-pub use Rattle.fx_order.proofs.ChainsFront.{own_completed, others_completed}
 pub use Rattle.fx_order.proofs.Placed.{same_size}
 pub use Rattle.std.proofs.lemmas.List.Sums.{list_all-from_AllPass}
 pub use Rattle.std.proofs.lemmas.Slice.Zip.{AllZip-long}

@@ -1,6 +1,7 @@
 use Rattle.fx_judge.proofs.Words.{◌≡◌, ◌+◌, ◌∙◌, ◌∷◌, ap, arith, drop, drop_all, eq-eqb, length, sym, true≢false, length-map, map, slice_index_or}
-use Rattle.fx_judge.proofs.Words.{get_or_default, Chain, members_of, completed_of, all_asked, asked_of, add-one, mapped_at, own_completed}
-use Rattle.fx_judge.proofs.Words.{others_completed}
+use Rattle.fx_judge.proofs.Words.{get_or_default, members_of, completed_of, all_asked, asked_of, add-one, mapped_at}
+use Rattle.fx_chain.specs.declared.chain.Chain.{Chain}
+use Rattle.fx_order.proofs.ChainsFront.{own_completed, others_completed}
 use Rattle.fx_judge.proofs.AllChains.{none_told, few_completions, chain_stops, chain_told}
 use Rattle.fx_judge.proofs.chain.claims_of_chains.Goals.{After-members-members}
 use Rattle.fx_judge.proofs.chain.claims_of_chains.Goals as goal
@@ -13,7 +14,8 @@ no_chain = record { first = 0; len = 0 }
 
 -- the chain that is next, and those behind it
 next : (c : After-members-members)
-    → drop c.loop-i.i (map (members_of (all_asked c.args.parts.now.requests.now)) c.args.parts.now.chains.now) ≡ all_asked c.members-members.result.now
+    → drop c.loop-i.i (map (members_of (all_asked c.args.parts.now.requests.now)) c.args.parts.now.chains.now)
+    ≡ all_asked c.members-members.result.now
     ∷ drop (c.loop-i.i + 1) (map (members_of (all_asked c.args.parts.now.requests.now)) c.args.parts.now.chains.now)
 next c =
     let chains = c.args.parts.now.chains.now in

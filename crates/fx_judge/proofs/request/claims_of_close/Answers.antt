@@ -4,7 +4,8 @@ use Rattle.fx_judge.proofs.Telling.{tells_so}
 use Rattle.fx_judge.proofs.request.claims_of_close.Goals as goal
 
 pub returns-then-setting-eq0 : goal.returns-then-setting-eq0
-returns-then-setting-eq0 c = tells_so _ _ _ _ (λ own done. rw (eq-eqb _ 0 c.if-setting-eq0.true) at done) (c.refused.ensures c.args.setting.now.closes.now)
+returns-then-setting-eq0 c =
+    tells_so _ _ _ _ (λ own done. rw (eq-eqb _ 0 c.if-setting-eq0.true) at done) (c.refused.ensures c.args.setting.now.closes.now)
 
 pub returns-then-slot-setting : goal.returns-then-slot-setting
 returns-then-slot-setting c =

@@ -11,11 +11,13 @@ pub loop-i-preserved : goal.loop-i-preserved
 loop-i-preserved c =
     let entry = slice_index_or c.args.list.now c.loop-i.i (pos 0) in
     let read : to_z w32 (of_z w32 entry) ≡ entry = search rules in
-    let grown : c.match-claim_of_entry.claims.items ≡ c.loop-i.claims.items ++ option_to_list c.claim_of_entry.result = elim c.match-claim_of_entry.branch [
+    let claims = c.loop-i.claims.items in
+    let grown : c.match-claim_of_entry.claims.items ≡ claims ++ option_to_list c.claim_of_entry.result = elim c.match-claim_of_entry.branch [
       | in-Some+in_ok-push w ↦ rw (w.claims-is, w.in-Some.is) w.in_ok-push.ensures.items
       | in_default w ↦ rw (w.claims-is, w.in_default.is, append-nil)
     ] in
-    rw grown (more_told c.loop-i.invariant (one_told c.args.place c.args.off c.args.list.now c.loop-i-test.true (pos 0) (rw read at c.claim_of_entry.ensures)))
+    rw grown (more_told c.loop-i.invariant (one_told c.args.place c.args.off c.args.list.now c.loop-i-test.true (pos 0)
+    (rw read at c.claim_of_entry.ensures)))
 
 pub returns : goal.returns
 returns c = all_told c.loop-i.invariant (λ others left. rw (drop_all c.loop-i.i c.args.list.now c.loop-i-test.false) at left)
