@@ -61,8 +61,8 @@ module _ (catalogue : List FileEntry) (size submission : ℕ) (order : List Chai
 
   -- the list of the first chain, whose completions stand in front, and then those of the others
   pub lists_put : (chain : ℕ) {run : List Asked} {runs all : List (List Asked)} (cs : List Completed) {own others : List Completed}
-      (old : List (Vec AccessPlace)) {mid new : List (Vec AccessPlace)} {blank : List AccessPlace} (places : Vec AccessPlace) → all ≡ run ∷ runs → own ≡ take (length run) cs
-      → others ≡ drop (length run) cs → blank ≡ [] → mid ≡ old ++ places ∷ []
+      (old : List (Vec AccessPlace)) {mid new : List (Vec AccessPlace)} {blank : List AccessPlace} (places : Vec AccessPlace) → all ≡ run ∷ runs
+      → own ≡ take (length run) cs → others ≡ drop (length run) cs → blank ≡ [] → mid ≡ old ++ places ∷ []
       → ((accesses : List Access) → IsChainDone catalogue size (first_member submission chain) run accesses own
       → IsPut catalogue size (first_member submission chain) run accesses own blank places.items)
       → (AreChainsDone catalogue size submission (chain + 1) runs order others → ArePut (chain + 1) runs others mid new)

@@ -6,10 +6,9 @@ use Rattle.fx_check.proofs.Words.{LeadsNowhere, LeadsTo, AreApart, HasLines, Tel
 use Rattle.fx_check.proofs.Words.{each_report_leads_to_one_ring, one_at, IsRefuted}
 use Rattle.fx_order.proofs.Ordered.{each_history_is_an_order}
 use Rattle.fx_lines.proofs.CompletionCounts.{each_request}
-use Rattle.fx_check.proofs.OrderFiles.{are_from, may_close_all}
+use Rattle.fx_check.proofs.OrderFiles.{IsCounted, are_from, may_close_all}
 use Rattle.fx_check.proofs.OneAnswer.{submitted}
 use Rattle.fx_check.proofs.OneText.{rest_behind}
-use Rattle.fx_check.proofs.Submissions.{IsCounted}
 use Rattle.fx_check.proofs.ReportInRange.{report_in_range}
 
 module _ {catalogue : List FileEntry} {old : RingSlots} {asked : List Asked} (s : IsCounted catalogue old asked) (text : List ℕ) where
@@ -36,7 +35,7 @@ module _ {catalogue : List FileEntry} {old : RingSlots} {asked : List Asked} (s 
             ∙ printed_lines catalogue report);
         fits = record {
           each = each_request g.ring asked report next history;
-          in_range = report_in_range catalogue old asked report (ring_of next) s.kept s.accepted s.short s.few order;
+          in_range = report_in_range s order;
           behind = g.behind;
         };
       }
@@ -54,9 +53,7 @@ module _ {catalogue : List FileEntry} {old : RingSlots} {asked : List Asked} (s 
     told_files : (next : RingContents) (others : List ℕ) (p : Played next others) (told : Result Told Fault)
         → (AreApart catalogue old.slots → TellsKnown catalogue old.slots asked lines told) → Tells told p.report.closes.files
     told_files next others p told tells = tells (record { names = s.kept.files.catalogue; marks = one_at before s.kept.is_ring }) p.report
-        (may_close_all catalogue old asked p.report (ring_of next) s.kept.is_ring s.accepted p.order)
-        (are_from catalogue old asked p.report (ring_of next) s.kept.is_ring s.accepted p.order)
-        (ap (λ (front : Lines × List ℕ). front.0) (same_front next others p))
+        (may_close_all s p.order) (are_from s p.order) (ap (λ (front : Lines × List ℕ). front.0) (same_front next others p))
 
     -- lines that tell nothing
     pub none_told : (fault : Fault) → (AreApart catalogue old.slots → TellsKnown catalogue old.slots asked lines (Err fault))
@@ -90,7 +87,7 @@ module _ {catalogue : List FileEntry} {old : RingSlots} {asked : List Asked} (s 
           → ((room : ℕ) → IsOneOrder before asked (told_report before told room) new) → LeadsTo before (SubmitsAll asked) text count new
       one_ordered {new} {count} begins ordered next others g =
           let p = played next others g in (
-            each_report_leads_to_one_ring before asked (told_report before told p.report.closes.room) (ring_of next) new s.kept.files.catalogue s.kept.is_ring
-                (told_order next others p) (ordered p.report.closes.room),
+            each_report_leads_to_one_ring before asked (told_report before told p.report.closes.room) (ring_of next) new
+                s.kept.files.catalogue s.kept.is_ring (told_order next others p) (ordered p.report.closes.room),
             ap (λ (front : Lines × List ℕ). front.1) (same_front next others p) ∙ rest_behind begins found.printed,
           )

@@ -76,7 +76,8 @@ whole : (script : Meaning) (text : List ℕ) (n : ℕ) → length script.command
     → CanPrint Whole (new_ring script.catalogue) (take n script.commands) text
 whole script text n all (ring, starts, prints) = record { ring = ring; same = starts; prints = rw (take_all n script.commands all) prints }
 
-module _ {script : Meaning} {text : List ℕ} {done at : ℕ} {orders : List Order} {now : RingState} (so_far : GoesWith script text done at orders now) where
+module _ {script : Meaning} {text : List ℕ} {done at : ℕ} {orders : List Order} {now : RingState}
+    (so_far : GoesWith script text done at orders now) where
   abbrev first : RingState
   first = new_ring script.catalogue
 
@@ -88,8 +89,8 @@ module _ {script : Meaning} {text : List ℕ} {done at : ℕ} {orders : List Ord
   printed aim commands others all same is may =
       rw (append-nil (take done script.commands), same, is, append-nil orders) at (so_far.back aim [] others [] may)
 
-  broken : (ring : RingSlots) (fault : Fault) → done ≤ length script.commands → at ≤ length text → (IsText script text → ⊥) → (done < length script.commands → (left : List ℕ)
-      → CanPrint (Leaves left) first (take (done + 1) script.commands) text → ⊥)
+  broken : (ring : RingSlots) (fault : Fault) → done ≤ length script.commands → at ≤ length text → (IsText script text → ⊥)
+      → (done < length script.commands → (left : List ℕ) → CanPrint (Leaves left) first (take (done + 1) script.commands) text → ⊥)
       → IsBroken script text (record { commands = done; at = at; ring = ring; fault = fault })
   broken ring fault counted inside none next = record {
     none = none;
@@ -107,7 +108,8 @@ module _ {script : Meaning} {text : List ℕ} {done at : ℕ} {orders : List Ord
     pub not_ended : (ring : RingSlots) (fault : Fault) → at ≤ length text → (PrintsEnd now (drop at text) → ⊥)
         → IsBroken script text (record { commands = done; at = at; ring = ring; fault = fault })
     not_ended ring fault inside never = broken ring fault (omega arith) inside
-        (λ is. let can = behind Whole (whole script text done past is) in never (subst (λ (r : RingState). PrintsEnd r (drop at text)) can.same can.prints))
+        (λ is. let can = behind Whole (whole script text done past is) in
+        never (subst (λ (r : RingState). PrintsEnd r (drop at text)) can.same can.prints))
         (λ more left can. absurd (omega arith))
 
     pub ended : PrintsEnd now (drop at text) → IsText script text × IsTextBy script text orders
@@ -149,7 +151,8 @@ module _ {script : Meaning} {text : List ℕ} {done at : ℕ} {orders : List Ord
         λ aim more can. let p = played aim more can in nowhere p.0 p.1 p.2 in
         let size = length-drop done script.commands in
         let some = ap (λ (l : List Instruction). length l) is in
-        broken ring fault (omega arith) inside (λ is. none Whole (length script.commands) (whole script text (done + suc (length script.commands)) (omega arith) is))
+        let all = length script.commands in
+        broken ring fault (omega arith) inside (λ is. none Whole all (whole script text (done + suc all) (omega arith) is))
         (λ more left. none (Leaves left) 0)
 
     pub goes_on : (count : ℕ) (own : Option Order) {grown : List Order} {new : RingState} → MayPrintBy now command new (take count (drop at text)) own

@@ -1,13 +1,13 @@
 -- The lines of an accepted submission's report have numbers that their types have, and names without a line end.
-use Rattle.fx_check.proofs.Words.{◌≡◌, ℕ, ◌<◌, ◌≤◌, ◌^◌, ◌==◌, not, List, [], filter, length, map, All, refl, sym, ap, subst, arith, slice_get-get_or}
-use Rattle.fx_check.proofs.Words.{slice_index_or, option_map, All-map, FileEntry, tag_completion, tags_of, Closed, TagCompletion, IsInRange}
-use Rattle.fx_check.proofs.Words.{IsAccepted, Asked, runs_of, each_all, RingState, Reported, accesses_of, IsOneOrder, table_of, AreFiles, lines_of}
-use Rattle.fx_check.proofs.Words.{named_close, RingSlots, IsKept, MayClose, ring_with_slots, name_of, IsTrue, unwrap_or, AreLinesInRange}
-use Rattle.fx_check.proofs.Words.{IsCloseInRange, is_without, All-filter}
+use Rattle.fx_check.proofs.Words.{◌≡◌, ℕ, ◌<◌, ◌^◌, ◌==◌, not, List, [], filter, length, map, All, refl, sym, ap, subst, arith, slice_get-get_or}
+use Rattle.fx_check.proofs.Words.{slice_index_or, option_map, All-map, FileEntry, tag_completion, tags_of, Closed, TagCompletion, IsInRange, Asked}
+use Rattle.fx_check.proofs.Words.{runs_of, each_all, RingState, Reported, accesses_of, IsOneOrder, table_of, AreFiles, lines_of, named_close}
+use Rattle.fx_check.proofs.Words.{RingSlots, MayClose, ring_with_slots, name_of, IsTrue, unwrap_or, AreLinesInRange, IsCloseInRange, is_without}
+use Rattle.fx_check.proofs.Words.{All-filter}
 use Rattle.fx_judge.proofs.Refuting.{possible_all}
 use Rattle.fx_lines.proofs.Names.{name_without_end}
 use Rattle.fx_check.proofs.InRange.{chains_so}
-use Rattle.fx_check.proofs.OrderFiles.{closed_in_range, may_close_all, short_runs}
+use Rattle.fx_check.proofs.OrderFiles.{IsCounted, closed_in_range, may_close_all, short_runs}
 
 abbrev no_entry : FileEntry
 no_entry = record { name = []; bytes = [] }
@@ -29,24 +29,23 @@ tags_fit files small =
     (All-map (λ (completion : TagCompletion). IsSmall completion.user_data) (λ (file : Closed). tag_completion file.tag)
     (filter (λ file. not (file.tag == 0)) files) (All-filter (λ (file : Closed). not (file.tag == 0)) (λ file. IsSmall file.tag) files small))
 
-module _ (catalogue : List FileEntry) (old : RingSlots) (asked : List Asked) (report : Reported) (left : RingState) (kept : IsKept catalogue old)
-    (accepted : IsAccepted asked) (few : length (runs_of asked) ≤ 1023) (early : old.submissions < 65535)
-    (one : IsOneOrder (ring_with_slots catalogue old) asked report left) where
+module _ {catalogue : List FileEntry} {old : RingSlots} {asked : List Asked} (s : IsCounted catalogue old asked) {report : Reported}
+    {left : RingState} (one : IsOneOrder (ring_with_slots catalogue old) asked report left) where
   ranges : All IsInRange report.closes.files
-  ranges = each_all IsInRange report.closes.files (closed_in_range catalogue old asked report left kept.is_ring accepted one few early kept.in_range)
+  ranges = each_all IsInRange report.closes.files (closed_in_range s one)
 
   inside : All (MayClose catalogue old.slots) report.closes.files
-  inside = (may_close_all catalogue old asked report left kept.is_ring accepted one).each
+  inside = (may_close_all s one).each
 
   pub report_in_range : AreLinesInRange (lines_of catalogue report)
   report_in_range =
       let numbered = one.is.submission in
-      let slots = kept.few_slots in
+      let slots = s.kept.few_slots in
       record {
-        completions = chains_so catalogue kept.files (length old.slots.at.items) (omega arith) old.slots.range 1 (runs_of asked) one.order report.completions
-            (omega arith) (omega arith) (short_runs asked accepted)
+        completions = chains_so catalogue s.kept.files (length old.slots.at.items) (omega arith) old.slots.range 1 (runs_of asked) one.order
+            report.completions (omega arith) (omega arith) (short_runs asked s.accepted)
             (possible_all (table_of (ring_with_slots catalogue old)) _ _ (accesses_of one.order) refl refl one.is.permitted) one.is.done;
         closed = All-map IsCloseInRange (named_close catalogue) report.closes.files
-            (λ k d low. record { mark = (ranges k d low).mark; name = name_fits kept.files (inside k d low).inside });
+            (λ k d low. record { mark = (ranges k d low).mark; name = name_fits s.kept.files (inside k d low).inside });
         tags = tags_fit report.closes.files (λ k d low. (ranges k d low).tag);
       }

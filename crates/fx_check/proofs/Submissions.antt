@@ -1,15 +1,13 @@
 -- An accepted submission whose lines a text goes on with.
-use Rattle.fx_check.proofs.Words.{◌≡◌, ℕ, ◌+◌, ◌<◌, ◌≤◌, List, length, map, filter, not, ◌==◌, take, sym, ap, subst, ◌∙◌, arith, Some, None, refl}
-use Rattle.fx_check.proofs.Words.{lt-leb, FileEntry, tags_of, tag_completion, all_completed, fault_of, Asked, runs_of, IsOneOrder, ChainAccess}
-use Rattle.fx_check.proofs.Words.{MOST_SLOTS, RingState, IsRing, ring_of, Reported, MOST_SUBMISSIONS, SubmitsAll, report_text, Closed, TagCompletion}
-use Rattle.fx_check.proofs.Words.{close_of, lines_in, ReportLines, lines_of, lines_text, named_closes, CameBy, told_report, RingSlots, Told, IsKept}
-use Rattle.fx_check.proofs.Words.{BeginsWith, MayPrintBy, ArePlaces, AreChainsDone, Order, ring_with_slots, printed_lines, IsOrderOf, ring_left}
-use Rattle.fx_check.proofs.Words.{HasLines}
-use Rattle.fx_table.specs.declared.limits.TheConstants.{MAX_CHAINS}
+use Rattle.fx_check.proofs.Words.{◌≡◌, ℕ, ◌+◌, ◌≤◌, List, length, map, filter, not, ◌==◌, take, sym, ap, subst, ◌∙◌, arith, Some, refl, lt-leb}
+use Rattle.fx_check.proofs.Words.{FileEntry, tags_of, tag_completion, all_completed, Asked, runs_of, IsOneOrder, ChainAccess, MOST_SLOTS, RingState}
+use Rattle.fx_check.proofs.Words.{IsRing, ring_of, Reported, MOST_SUBMISSIONS, SubmitsAll, report_text, Closed, TagCompletion, close_of, lines_in}
+use Rattle.fx_check.proofs.Words.{ReportLines, lines_of, lines_text, named_closes, CameBy, told_report, RingSlots, Told, IsKept, BeginsWith}
+use Rattle.fx_check.proofs.Words.{MayPrintBy, ArePlaces, AreChainsDone, Order, ring_with_slots, printed_lines, IsOrderOf, ring_left, HasLines}
 use Rattle.fx_order.proofs.Histories.{each_order_is_a_history}
 use Rattle.std.proofs.lemmas.Simd.{map-map}
 use Rattle.fx_check.proofs.OneAnswer.{submitted}
-use Rattle.fx_check.proofs.OrderFiles.{left_in_range}
+use Rattle.fx_check.proofs.OrderFiles.{IsCounted, left_in_range}
 
 -- the lines of what is told are those that were read
 pub told_lines : (catalogue : List FileEntry) (lines : ReportLines) (files : List Closed)
@@ -34,13 +32,6 @@ tags_again {others} same =
     ∙ sym (map-map (λ (completion : TagCompletion). completion.user_data) (λ (file : Closed). tag_completion file.tag)
     (filter (λ (file : Closed). not (file.tag == 0)) others))
 
--- an accepted submission that is counted, at a ring that is kept
-pub record IsCounted (catalogue : List FileEntry) (old : RingSlots) (asked : List Asked) : Type 0 where
-  pub kept : IsKept catalogue old
-  pub accepted : fault_of asked ≡ None
-  pub few : old.submissions < MOST_SUBMISSIONS
-  pub short : length (runs_of asked) ≤ MAX_CHAINS
-
 module _ {catalogue : List FileEntry} {old : RingSlots} {asked : List Asked} (s : IsCounted catalogue old asked) (new : RingSlots) (told : Told) where
   abbrev before : RingState
   before = ring_with_slots catalogue old
@@ -56,7 +47,8 @@ module _ {catalogue : List FileEntry} {old : RingSlots} {asked : List Asked} (s 
   ordered_is came = rw (came 0).1 at (came 0).0.is
 
   abbrev AreDone : List ChainAccess → Type 0
-  AreDone accesses = AreChainsDone catalogue (length new.slots.at.items) new.submissions 1 (runs_of asked) accesses (all_completed told.completions.items)
+  AreDone accesses =
+      AreChainsDone catalogue (length new.slots.at.items) new.submissions 1 (runs_of asked) accesses (all_completed told.completions.items)
 
   pub ordered_done : {accesses : List ChainAccess} → Came accesses → AreDone accesses
   ordered_done {accesses} came =
@@ -67,7 +59,8 @@ module _ {catalogue : List FileEntry} {old : RingSlots} {asked : List Asked} (s 
   PlacesAt size submission order =
       ArePlaces catalogue size submission (runs_of asked) (all_completed told.completions.items) order.accesses.items order.places.items
 
-  pub accepted_goes : (order : Order) (lines : ReportLines) {text : List ℕ} {count : ℕ} → Came order.accesses.items → order.submission ≡ new.submissions
+  pub accepted_goes : (order : Order) (lines : ReportLines) {text : List ℕ} {count : ℕ} → Came order.accesses.items
+      → order.submission ≡ new.submissions
       → (AreDone order.accesses.items → PlacesAt (length new.slots.at.items) new.submissions order) → HasLines catalogue lines told
       → BeginsWith text count (lines_text (lines_in lines))
       → (count ≤ length text) × MayPrintBy before (SubmitsAll asked) after (take count text) (Some order)
@@ -90,7 +83,8 @@ module _ {catalogue : List FileEntry} {old : RingSlots} {asked : List Asked} (s 
         let next = history.0 in (
           next,
           history.1,
-          (submitted asked s.accepted (lt-leb MOST_SUBMISSIONS old.submissions s.few) ring next (take count text) same).1 (report, history.2, printed),
+          (submitted asked s.accepted (lt-leb MOST_SUBMISSIONS old.submissions s.few) ring next (take count text) same).1
+              (report, history.2, printed),
           (
             asked,
             refl,
@@ -122,5 +116,5 @@ module _ {catalogue : List FileEntry} {old : RingSlots} {asked : List Asked} (s 
         few_registrations = rw (ap (λ (r : RingState). r.registrations) one.after) s.kept.few_registrations;
         is_ring = is;
         files = s.kept.files;
-        in_range = left_in_range catalogue old asked (told_report before told 0) after s.kept.is_ring s.accepted one s.short s.few s.kept.in_range;
+        in_range = left_in_range s one;
       }

@@ -42,7 +42,7 @@ pub use Rattle.fx_language.specs.Script.{AreFiles, Meaning}
 pub use Rattle.fx_lines.proofs.ReportTexts.{printed_lines}
 pub use Rattle.fx_lines.specs.ClosedView.{close_of}
 pub use Rattle.fx_lines.specs.Lines.{Lines, NamedClose, ReadsReport, lines_of, lines_text, named_close, named_closes, IsCompletionInRange}
-pub use Rattle.fx_lines.specs.Lines.{IsPlaceInRange, IsReportBefore, IsMarkInRange, HasNoCloses, AreLinesInRange, IsCloseInRange, is_without}
+pub use Rattle.fx_lines.specs.Lines.{IsPlaceInRange, IsReportBefore, HasNoCloses, AreLinesInRange, IsCloseInRange, is_without}
 pub use Rattle.fx_lines.specs.LinesView.{lines_in}
 pub use Rattle.fx_lines.specs.declared.close.ClosedLine.{ClosedLine}
 pub use Rattle.fx_lines.specs.declared.report.ReportLines.{ReportLines}

@@ -34,7 +34,8 @@ pub close_in_order-requires : goal.close_in_order-requires
 close_in_order-requires c =
     let d = (goal.at.close_in_order-requires c).After-deref-2 in record {
       entries = entries d;
-      few = few_of_list c.args.ring.now c.args.off c.args.given.now.list.now c.deref-2.result.now (removed d) c.in_default.ensures.inside c.requires.few_slots;
+      few = few_of_list c.args.ring.now c.args.off c.args.given.now.list.now c.deref-2.result.now (removed d)
+          c.in_default.ensures.inside c.requires.few_slots;
     }
 
 pub with_closes-requires : goal.with_closes-requires

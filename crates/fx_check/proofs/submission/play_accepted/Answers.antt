@@ -2,7 +2,8 @@ use Rattle.fx_check.proofs.Words.{◌-◌, Some, Ok, length, sym, length-map, al
 use Rattle.fx_check.proofs.Words.{AreApart, HasLines, TellsKnown, ring_with_slots}
 use Rattle.fx_check.proofs.OneText.{begins_with}
 use Rattle.fx_check.proofs.OnlyAccepted.{none_ordered, none_read, none_told, one_ordered}
-use Rattle.fx_check.proofs.Submissions.{IsCounted, accepted_goes, accepted_keeps, ordered_done, ordered_is, same_slots}
+use Rattle.fx_check.proofs.OrderFiles.{IsCounted}
+use Rattle.fx_check.proofs.Submissions.{accepted_goes, accepted_keeps, ordered_done, ordered_is, same_slots}
 use Rattle.fx_check.proofs.submission.play_accepted.Goals.{In_ok-front, In-Some, In-Ok, In-Legal}
 use Rattle.fx_check.proofs.submission.play_accepted.Goals as goal
 
