@@ -32,9 +32,7 @@ pub record Front (closes : List Closed) (Whole : List Access → Type 0) (claims
 
 module _ {closes : List Closed} {Whole Left : List Access → Type 0} where
   pub none_told : ((accesses : List Access) → Whole accesses → Left accesses) → Front closes Whole [] Left
-  none_told so = record {
-    each = λ accesses done. record { own = []; others = accesses; whole = refl; told = tt; left = so accesses done };
-  }
+  none_told so = record { each = λ accesses done. record { own = []; others = accesses; whole = refl; told = tt; left = so accesses done } }
 
   -- more claims, of accesses behind those
   pub more_told : {claims more : List Claim} {Next : List Access → Type 0} → Front closes Whole claims Left → Front closes Left more Next
