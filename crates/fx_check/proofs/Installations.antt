@@ -1,6 +1,6 @@
 -- What an order places, a request installed that completed so.
 use Rattle.fx_check.proofs.Words.{◌≡◌, inl, inr, ⊎_elim, ℕ, zero, suc, ◌+◌, ◌<◌, ◌≤◌, ℤ, pos, negsuc, List, [], ◌∷◌, ◌++◌, length, refl, sym, ap}
-use Rattle.fx_check.proofs.Words.{subst, ◌∙◌, arith, Some, slice_get, flat_map, has_name, FileEntry, Mark, Submitted, Closed, installed, Completed}
+use Rattle.fx_check.proofs.Words.{subst, arith, Some, slice_get, flat_map, has_name, FileEntry, Mark, Submitted, Closed, installed, Completed}
 use Rattle.fx_check.proofs.Words.{completed, next_member, first_member, severs, Asked, Operation, Opens, Reads, Closes, Updates, Place, Target, Slot}
 use Rattle.fx_check.proofs.Words.{Any, accesses_of_chain, Access, Allocates, ChainAccess, IsOpenDone, IsRequestDone, IsChainDone, AreChainsDone}
 use Rattle.fx_check.proofs.Words.{length-done, Has, placed, allocates, puts, updates, either_way, by_equality, Installed, OneInstalled, add-zero}
@@ -63,7 +63,7 @@ module _ (s : ℕ) (f : Closed) where
           at = suc l.at;
           file = l.file;
           number = l.number;
-          is_mark = l.is_mark ∙ ap (Submitted place.submission place.chain place.member) (let e : in_list + 1 + l.at ≡ in_list + suc l.at = omega arith in e);
+          is_mark = let e : in_list + suc l.at ≡ in_list + 1 + l.at = omega arith in rw e l.is_mark;
         })
         (has_either (placed x.0) (placed x.1) s f (rw (x.2, placed-append x.0 x.1) at has))
 

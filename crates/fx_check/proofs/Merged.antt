@@ -1,9 +1,9 @@
 -- Places, as an order has their accesses.
 use Rattle.fx_check.proofs.Words.{◌≡◌, ◌≢◌, ◌-◌, ℕ, Some, slice_get, slice_set, ◌+◌, ◌<◌, ◌≤◌, ◌==◌, List, [], ◌∷◌, ◌++◌, All, length, take, drop}
-use Rattle.fx_check.proofs.Words.{map, filter, refl, sym, ap, subst, ◌∙◌, arith, append-nil, length-append, slice_index_or, take-append-drop}
-use Rattle.fx_check.proofs.Words.{take_all, take_more, take-length, Vec, All-get_or, accesses_of_chain, ChainAccess, by_equality, IsListFor}
-use Rattle.fx_check.proofs.Words.{places_of_chain, AccessPlace, eq-eqb, ne_eqb, get_or_read_under, length_push, map_push, filter-append, each_set}
-use Rattle.fx_check.proofs.Words.{same_Some, slice_get_read}
+use Rattle.fx_check.proofs.Words.{map, filter, refl, sym, ap, ◌∙◌, arith, append-nil, length-append, slice_index_or, take-append-drop, take_all}
+use Rattle.fx_check.proofs.Words.{take_more, take-length, Vec, All-get_or, accesses_of_chain, ChainAccess, by_equality, IsListFor, places_of_chain}
+use Rattle.fx_check.proofs.Words.{AccessPlace, eq-eqb, ne_eqb, get_or_read_under, length_push, map_push, filter-append, each_set, same_Some}
+use Rattle.fx_check.proofs.Words.{slice_get_read}
 use Rattle.fx_order.proofs.Accesses.{accesses_of_chain-append}
 
 -- how many accesses a chain has in an order
@@ -43,9 +43,7 @@ pub is_next : {lists : List (Vec AccessPlace)} {order : List ChainAccess} {i : �
     → IsNext lists order i (slice_index_or order i e) next n list
 is_next {lists} {order} {i} e {next} {n} {list} inside chains each size counts read there =
     let x = slice_index_or order i e in
-    let here = All-get_or (λ (y : ChainAccess). (1 ≤ y.chain) × (y.chain ≤ length lists)) order i e inside chains in
-    let some = here.0 in
-    let most = here.1 in
+    let (some, most) = All-get_or (λ (y : ChainAccess). (1 ≤ y.chain) × (y.chain ≤ length lists)) order i e inside chains in
     let from_one : x.chain - 1 + 1 ≡ x.chain = omega arith in
     let low : x.chain - 1 < length lists = omega arith in
     let at = slice_get_read lists (length lists) (x.chain - 1) list refl low there in
@@ -54,10 +52,9 @@ is_next {lists} {order} {i} e {next} {n} {list} inside chains each size counts r
       one = some;
       low = omega arith;
       counts = counts;
-      count = get_or_read_under next (x.chain - 1) (length lists) n 0 read low (sym size) ∙ counts (x.chain - 1) low
-          ∙ ap (λ (chain : ℕ). count_of chain (take i order)) from_one;
+      count = get_or_read_under next (x.chain - 1) (length lists) n 0 read low (sym size) ∙ (rw from_one at (counts (x.chain - 1) low));
       there = at;
-      listed = subst (λ (chain : ℕ). IsListFor order chain list.items) from_one (each (x.chain - 1) list at);
+      listed = rw from_one at (each (x.chain - 1) list at);
     }
 
 module _ {lists : List (Vec AccessPlace)} {order : List ChainAccess} {i : ℕ} {x : ChainAccess} {next : List ℕ} {n : ℕ} {list : Vec AccessPlace}

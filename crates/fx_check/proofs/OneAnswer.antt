@@ -1,8 +1,8 @@
 -- The commands that find one answer, whatever memory there is: a range that is set or refused, and a submission that is refused.
-use Rattle.fx_check.proofs.Words.{◌≡◌, ◌↔◌, ◌≤◌, Bool, nat_le, List, ℕ, pos, codes, refl, sym, ap, subst, ◌∙◌, Option, Some, None, Result, Ok, Err}
-use Rattle.fx_check.proofs.Words.{IfSome, MatchBool, FileEntry, Errno, fault_of, Asked, RingContents, RingState, ring_of, MOST_SUBMISSIONS, Prints}
-use Rattle.fx_check.proofs.Words.{SetsRange, SubmitsAll, RingSlots, IsMet, IsStep, Met, ring_with_slots, result_line, IsRefused, IfNone, le-leb}
-use Rattle.fx_check.proofs.Words.{PrintsReport, refused_line, too_many_line, MatchOption, range_refusal}
+use Rattle.fx_check.proofs.Words.{◌≡◌, ◌↔◌, ◌≤◌, Bool, nat_le, List, ℕ, pos, codes, refl, ap, subst, ◌∙◌, Option, Some, None, Result, Ok, Err, IfSome}
+use Rattle.fx_check.proofs.Words.{MatchBool, FileEntry, Errno, fault_of, Asked, RingContents, RingState, ring_of, MOST_SUBMISSIONS, Prints, SetsRange}
+use Rattle.fx_check.proofs.Words.{SubmitsAll, RingSlots, IsMet, IsStep, Met, ring_with_slots, result_line, IsRefused, IfNone, le-leb, PrintsReport}
+use Rattle.fx_check.proofs.Words.{refused_line, too_many_line, MatchOption, range_refusal}
 use Rattle.fx_chain.specs.declared.fault.CutFault.{CutFault}
 use Rattle.fx_check.proofs.OneText.{exactly, goes}
 
@@ -59,5 +59,5 @@ module _ (catalogue : List FileEntry) (old : RingSlots) (text : List ℕ) (met :
 
 pub fault_told : (x : Option CutFault) {fault : CutFault} (n : ℕ) {told : Result ℕ CutFault} → told ≡ Err fault
     → IfSome x (λ other. told ≡ Err other) → IfNone x (told ≡ Ok n) → x ≡ Some fault
-fault_told None {fault} n is some none = let e : ◌≡◌ {A = Result ℕ CutFault} (Ok n) (Err fault) = sym none ∙ is in cc
-fault_told (Some other) {fault} n is some none = let e : ◌≡◌ {A = Result ℕ CutFault} (Err other) (Err fault) = sym some ∙ is in cc
+fault_told None {fault} n is some none = cc
+fault_told (Some other) {fault} n is some none = cc

@@ -33,11 +33,7 @@ module _ {catalogue : List FileEntry} {old : RingSlots} {asked : List Asked} (s 
         order = order;
         split = g.split ∙ ap (λ (l : List ℕ). l ++ others) (printed ∙ ap (λ (r : RingState). report_text r.catalogue report) g.same
             ∙ printed_lines catalogue report);
-        fits = record {
-          each = each_request g.ring asked report next history;
-          in_range = report_in_range s order;
-          behind = g.behind;
-        };
+        fits = record { each = each_request g.ring asked report next history; in_range = report_in_range s order; behind = g.behind };
       }
 
   -- a text of which no report is read

@@ -133,14 +133,7 @@ module _ {script : Meaning} {text : List ℕ} {done at : ℕ} {orders : List Ord
         let (next, line, others, prints, split, rest) = parts aim here.ring command later (rw is at here.prints) in (
           next,
           others,
-          record {
-            ring = here.ring;
-            line = line;
-            same = here.same;
-            prints = prints;
-            split = split;
-            behind = no_closes aim next later rest;
-          },
+          record { ring = here.ring; line = line; same = here.same; prints = prints; split = split; behind = no_closes aim next later rest },
           rest,
         )
 

@@ -31,14 +31,7 @@ module _ (catalogue : List FileEntry) (old : RingSlots) where
 
   -- the ring with another table, and so many registrations
   abbrev with_so : ℕ → Table → RingState
-  with_so k t = record {
-    catalogue = catalogue;
-    size = t.size;
-    range = t.range;
-    at = t.at;
-    submissions = old.submissions;
-    registrations = k;
-  }
+  with_so k t = record { catalogue = catalogue; size = t.size; range = t.range; at = t.at; submissions = old.submissions; registrations = k }
 
   -- a table of empty slots
   pub emptied : (slots : Slots) {n : ℕ} → table_of_slots slots ≡ empty_table n → ring_with_slots catalogue (with_slots old slots) ≡ registered_sparse state n

@@ -1,9 +1,9 @@
 -- An accepted submission whose lines a text goes on with.
 use Rattle.fx_check.proofs.Words.{◌≡◌, ℕ, ◌+◌, ◌≤◌, List, length, map, filter, not, ◌==◌, take, sym, ap, subst, ◌∙◌, arith, Some, refl, lt-leb}
-use Rattle.fx_check.proofs.Words.{FileEntry, tags_of, tag_completion, all_completed, Asked, runs_of, IsOneOrder, ChainAccess, MOST_SLOTS, RingState}
-use Rattle.fx_check.proofs.Words.{IsRing, ring_of, Reported, MOST_SUBMISSIONS, SubmitsAll, report_text, Closed, TagCompletion, close_of, lines_in}
-use Rattle.fx_check.proofs.Words.{ReportLines, lines_of, lines_text, named_closes, CameBy, told_report, RingSlots, Told, IsKept, BeginsWith}
-use Rattle.fx_check.proofs.Words.{MayPrintBy, ArePlaces, AreChainsDone, Order, ring_with_slots, printed_lines, IsOrderOf, ring_left, HasLines}
+use Rattle.fx_check.proofs.Words.{FileEntry, tags_of, all_completed, Asked, runs_of, IsOneOrder, ChainAccess, MOST_SLOTS, RingState, IsRing, ring_of}
+use Rattle.fx_check.proofs.Words.{Reported, MOST_SUBMISSIONS, SubmitsAll, report_text, Closed, close_of, lines_in, ReportLines, lines_of, lines_text}
+use Rattle.fx_check.proofs.Words.{named_closes, CameBy, told_report, RingSlots, Told, IsKept, BeginsWith, MayPrintBy, ArePlaces, AreChainsDone, Order}
+use Rattle.fx_check.proofs.Words.{ring_with_slots, printed_lines, IsOrderOf, ring_left, HasLines}
 use Rattle.fx_order.proofs.Histories.{each_order_is_a_history}
 use Rattle.std.proofs.lemmas.Simd.{map-map}
 use Rattle.fx_check.proofs.OneAnswer.{submitted}
@@ -19,18 +19,13 @@ pub told_lines : (catalogue : List FileEntry) (lines : ReportLines) (files : Lis
       closes = record { files = files; room = room };
     }) ≡ lines_in lines
 told_lines catalogue lines files closed tags number room =
-    let tagged : List Closed = filter (λ (file : Closed). not (file.tag == 0)) files in
-    let all : map (λ completion. completion.user_data) (tags_of files) ≡ lines.tags.items =
-    map-map (λ (completion : TagCompletion). completion.user_data) (λ (file : Closed). tag_completion file.tag) tagged ∙ tags in
+    let all : map (λ completion. completion.user_data) (tags_of files) ≡ lines.tags.items = rw map-map tags in
     λ i. record { completions = all_completed lines.completions.items; closed = closed i; tags = all i }
 
 -- the tags of files are those that are told of them
 pub tags_again : {files others : List Closed} → files ≡ others
     → map (λ file. file.tag) (filter (λ file. not (file.tag == 0)) files) ≡ map (λ completion. completion.user_data) (tags_of others)
-tags_again {others} same =
-    ap (λ (l : List Closed). map (λ file. file.tag) (filter (λ file. not (file.tag == 0)) l)) same
-    ∙ sym (map-map (λ (completion : TagCompletion). completion.user_data) (λ (file : Closed). tag_completion file.tag)
-    (filter (λ (file : Closed). not (file.tag == 0)) others))
+tags_again same = rw (same, map-map)
 
 module _ {catalogue : List FileEntry} {old : RingSlots} {asked : List Asked} (s : IsCounted catalogue old asked) (new : RingSlots) (told : Told) where
   abbrev before : RingState
