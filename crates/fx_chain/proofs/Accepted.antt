@@ -35,6 +35,7 @@ counts_more r counts none = record {
   is = counted_step r counts.is (sym (fault_behind-counted r counts.is) ∙ none);
 }
 
+-- where no request has a fault, those in front are counted, and those behind them have none
 counts_all : (front more behind : List Asked) → Counts front → first_fault front (more ++ behind) ≡ None
     → Counts (front ++ more) × (first_fault (front ++ more) behind ≡ None)
 counts_all front [] behind counts none = rw append-nil (counts, none)
@@ -45,6 +46,7 @@ counts_all front (x ∷ more) behind counts none =
 counts_of : (requests : List Asked) → IsAccepted requests → Counts requests
 counts_of requests accepted = (counts_all [] requests [] counts_none (rw append-nil accepted)).0
 
+-- each request is fine behind those in front of it
 -- each request is fine behind those in front of it
 pub passes_at : (front : List Asked) (r : Asked) (behind : List Asked) → IsAccepted (front ++ r ∷ behind) → Passes front r
 passes_at front r behind accepted =

@@ -15,6 +15,7 @@ members_of-run : {requests : List Asked} (before run later : List Asked) → req
 members_of-run before run later is =
     rw (is, drop_at before (run ++ later) (length before) refl, take_at run later (length run) refl)
 
+-- what a run keeps to that no limit refuses
 record Fits (run : List Asked) : Type 0 where
   pub members : length run ≤ MOST_MEMBERS
   pub installs : all_installs run ≤ CHAIN_NUMBERS
