@@ -2,9 +2,9 @@
 use Rattle.fx_ring.proofs.Words.{refl, installed_by, ◌≡◌, ◌≢◌, ℕ, zero, suc, ◌+◌, ◌<◌, ◌≤◌, ◌==◌, ◌||◌, nat_le, nat_lt, ℤ, pos, negsuc, false, List}
 use Rattle.fx_ring.proofs.Words.{[], ◌∷◌, length, sym, ap, subst, ◌∙◌, ⊎_elim, Option, Some, None, arith, list_any, leb-false, has_name, FileEntry}
 use Rattle.fx_ring.proofs.Words.{Errno, ENOENT, ENXIO, EBADF, ENOMEM, EINVAL, ENFILE, Mark, Submitted, Closed, ◌▷◌, File, Action, Look, Release, Put}
-use Rattle.fx_ring.proofs.Words.{Clear, Take, Allocate, Full, Answers, OpensAt, AppliesEntry, AppliesList, Refuses}
-use Rattle.fx_ring.proofs.Words.{installed, is_bad_entry, Completed, next_member, Explains, severs, Operation, Opens, Reads, Closes, Updates, Asked}
-use Rattle.fx_ring.proofs.Words.{Place, Target, Slot, Any, either_way, either_case, or_parts}
+use Rattle.fx_ring.proofs.Words.{Clear, Take, Allocate, Full, Answers, OpensAt, AppliesEntry, AppliesList, Refuses, installed, is_bad_entry}
+use Rattle.fx_ring.proofs.Words.{Completed, next_member, Explains, severs, Operation, Opens, Reads, Closes, Updates, Asked, Place, Target, Slot, Any}
+use Rattle.fx_ring.proofs.Words.{either_way, either_case, or_parts}
 use Rattle.fx_ring.proofs.NewMarks.{Puts, puts_then, puts_so, puts_none, puts_one, puts_may_close}
 use Rattle.fx_base.proofs.Entries.{entry_named}
 

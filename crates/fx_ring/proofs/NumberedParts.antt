@@ -1,9 +1,9 @@
 -- Lists with a part for each number from one on, and lists of which one element alone has a part.
-use Rattle.fx_ring.proofs.Words.{◌≡◌, ℕ, ◌+◌, ◌<◌, ◌≤◌, List, [], ◌∷◌, ◌++◌, flat_map, reverse, All, sum_by, refl, sym, ap, subst, ◌∙◌}
-use Rattle.fx_ring.proofs.Words.{arith, append-nil, ⊎_elim, reverse-append, flat_map-append, All-nil, All-append, IsPermutation-refl}
-use Rattle.fx_ring.proofs.Words.{IsPermutation-trans, IsPermutation-append_left, IsPermutation-append_comm, sum_by-cons, sum_of, Contains}
-use Rattle.fx_ring.proofs.Words.{range_with_len, length-range_with_len, get_or-range_with_len, IsPermutation, contains_none, contains_head}
-use Rattle.fx_ring.proofs.Words.{contains_tail, contains_cases}
+use Rattle.fx_ring.proofs.Words.{◌≡◌, ℕ, ◌+◌, ◌<◌, ◌≤◌, List, [], ◌∷◌, ◌++◌, flat_map, reverse, All, sum_by, refl, sym, ap, subst, ◌∙◌, arith}
+use Rattle.fx_ring.proofs.Words.{append-nil, ⊎_elim, reverse-append, flat_map-append, All-nil, All-append, IsPermutation-refl, IsPermutation-trans}
+use Rattle.fx_ring.proofs.Words.{IsPermutation-append_left, IsPermutation-append_comm, sum_by-cons, sum_of, Contains, range_with_len}
+use Rattle.fx_ring.proofs.Words.{length-range_with_len, get_or-range_with_len, IsPermutation, contains_none, contains_head, contains_tail}
+use Rattle.fx_ring.proofs.Words.{contains_cases}
 
 pub number_within : {first : ℕ} (n : ℕ) {k : ℕ} → Contains (range_with_len first n) k → (first ≤ k) × (k < first + n)
 number_within {first} n {k} (i, lt, is) =

@@ -1,7 +1,7 @@
 -- A list in strict order is the only one of its elements that is in order.
 use Rattle.fx_ring.proofs.Words.{◌≡◌, ℕ, suc, ◌<◌, ◌≤◌, cond, List, [], ◌∷◌, All, Contains, sum_by, IsPermutation, refl, sym, ap, subst, ◌==◌, arith}
-use Rattle.fx_ring.proofs.Words.{⊎_elim, slice_index_or, eq-eqb, ne_eqb, IsNonDecreasingBy, All-head, All-tail, All-contains, sum_by-cons}
-use Rattle.fx_ring.proofs.Words.{sum_of, Contains-permutation, IsPermutation-sym, sum_by-IsPermutation, contains_cases}
+use Rattle.fx_ring.proofs.Words.{⊎_elim, slice_index_or, eq-eqb, ne_eqb, IsNonDecreasingBy, All-head, All-tail, All-contains, sum_by-cons, sum_of}
+use Rattle.fx_ring.proofs.Words.{Contains-permutation, IsPermutation-sym, sum_by-IsPermutation, contains_cases}
 
 module _ {X : Type 0} (key : X → ℕ) where
   -- each element's key is below those behind it

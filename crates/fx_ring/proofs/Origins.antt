@@ -92,4 +92,5 @@ one_removed_by _ (Some f) = omega arith
 pub few_removed : (at : ℕ → Option Closed) (slot : ℕ) (list : List ℤ) → length (removed_from at slot list) ≤ length list
 few_removed at slot [] = omega arith
 few_removed at slot (z ∷ list) =
-    omega (arith, one_removed_by z (at slot), few_removed at (slot + 1) list, length-append (removed_by z (at slot)) (removed_from at (slot + 1) list))
+    let both = length-append (removed_by z (at slot)) (removed_from at (slot + 1) list) in
+    omega (arith, one_removed_by z (at slot), few_removed at (slot + 1) list, both)

@@ -1,9 +1,8 @@
 -- What a crew has come to, as its passes and outcomes say it once they lie in lists of their own.
-use Rattle.fx_ring.proofs.Words.{◌≡◌, ℕ, List, map, flat_map, reverse, length, All, true, sum_by, refl, sym, ap, ◌∙◌, arith}
-use Rattle.fx_ring.proofs.Words.{length-map, reverse-reverse, map-append, map-map, length-flat_map, All-map, All-weaker, IsShortRun, Closed}
-use Rattle.fx_ring.proofs.Words.{FileEntry, Contents, ClosesTable, Opening, size_of, PassView, new_passes, sum_reverse, all_completed, completed_of}
-use Rattle.fx_ring.proofs.Words.{members_of, all_asked, runs_of, Chain, Request, IsChain, Completion, state_of_worker, HasWorked, WorkerState}
-use Rattle.fx_ring.proofs.Words.{Outcome, Worker, flat_map-map}
+use Rattle.fx_ring.proofs.Words.{◌≡◌, ℕ, List, map, flat_map, reverse, length, All, true, sum_by, refl, sym, ap, ◌∙◌, arith, length-map}
+use Rattle.fx_ring.proofs.Words.{reverse-reverse, map-append, map-map, length-flat_map, All-map, All-weaker, IsShortRun, Closed, FileEntry, Contents}
+use Rattle.fx_ring.proofs.Words.{ClosesTable, Opening, size_of, PassView, new_passes, sum_reverse, all_completed, completed_of, members_of, all_asked}
+use Rattle.fx_ring.proofs.Words.{runs_of, Chain, Request, IsChain, Completion, state_of_worker, HasWorked, WorkerState, Outcome, Worker, flat_map-map}
 use Rattle.fx_ring.proofs.NumberedParts.{made_of_parts}
 use Rattle.fx_ring.proofs.NewCrew.{map_reversed, numbers_are}
 use Rattle.fx_ring.proofs.WorkersTogether.{HavePlayed, pass_of, number_of, completed_by, closed_by_worker}

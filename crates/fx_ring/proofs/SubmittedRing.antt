@@ -13,7 +13,8 @@ use Rattle.fx_ring.proofs.MarksApart.{IsApart, IsUnlike, apart_after}
 
 -- each chain's part of the history installs files of the catalogue with marks of its own, and no mark twice
 part_puts : (catalogue : List FileEntry) (size : ℕ) {submission : ℕ} (first : ℕ) (runs : List (List Asked)) (history : List Event)
-    (completions : List Completed) → ExplainsParts catalogue size submission first runs history completions → {chain : ℕ} → first ≤ chain → chain < first + length runs
+    (completions : List Completed) → ExplainsParts catalogue size submission first runs history completions
+    → {chain : ℕ} → first ≤ chain → chain < first + length runs
     → Puts (IsOfMembers (length catalogue) (first_member submission chain)) (part_actions chain history)
 part_puts catalogue size first [] history completions explained low high = absurd (omega arith)
 part_puts catalogue size {submission} first (run ∷ runs) history completions (own, others, parts, one, more) {chain} low high =

@@ -1,9 +1,9 @@
 -- What the workers of a submission did, taken together.
 use Rattle.fx_ring.proofs.Words.{◌≡◌, ℕ, ◌+◌, ◌-◌, ◌<◌, ◌≤◌, ◌==◌, true, List, [], map, flat_map, reverse, length, All, sum_by, count_by}
-use Rattle.fx_ring.proofs.Words.{slice_index_or, closed_by, filter, filter-append, refl, sym, ap, subst, ◌∙◌, arith, eqb, IsNonDecreasingBy, All-contains}
-use Rattle.fx_ring.proofs.Words.{IsPermutation-trans, length_permutation, FileEntry, IsInOrderOfMark, CloseListView, Closed, opening, Contents}
-use Rattle.fx_ring.proofs.Words.{state_of, IsLegal, action_of, part_of_chain, Event, ClosesTable, times_drawn, numbers_for, Opening, size_of}
-use Rattle.fx_ring.proofs.Words.{state_at, PassView, IsOfDrawnChains, some_times, part_of_drawn, sum_reverse, sum_map, Completed, Explains}
+use Rattle.fx_ring.proofs.Words.{slice_index_or, closed_by, filter, filter-append, refl, sym, ap, subst, ◌∙◌, arith, eqb, IsNonDecreasingBy}
+use Rattle.fx_ring.proofs.Words.{All-contains, IsPermutation-trans, length_permutation, FileEntry, IsInOrderOfMark, CloseListView, Closed, opening}
+use Rattle.fx_ring.proofs.Words.{Contents, state_of, IsLegal, action_of, part_of_chain, Event, ClosesTable, times_drawn, numbers_for, Opening}
+use Rattle.fx_ring.proofs.Words.{size_of, state_at, PassView, IsOfDrawnChains, some_times, part_of_drawn, sum_reverse, sum_map, Completed, Explains}
 use Rattle.fx_ring.proofs.Words.{first_member, Asked, runs_of, all_weights, ring_with, IsOneHistory, WorkerState, HasWorked, run_of_chain}
 use Rattle.fx_ring.proofs.Words.{completions_of_chain, Contains, IsPermutation, contains_map, contains_mapped, contains_reverse, contains_reversed}
 use Rattle.fx_ring.proofs.Words.{each_all, range_with_len, flat_map-map}

@@ -51,7 +51,8 @@ module _ (g : Over) (c : After-close-left g) where
       (g.T.FileTable.opening c.args.table) (states V ws) (map V c.scatter.new.passes.items) c.close-left.result
   played = crew_has_played V c.args.submission.now.requests.now c.args.chains.now c.args.passes.items c.gather.new.crew.items ws
       c.requires.members c.requires.within c.requires.chains c.requires.new c.gather.ensures.passes c.work_crew.ensures.numbers
-      c.scatter.ensures.passes (λ k d l. (c.work_crew.ensures.done k d l).between.worked) (λ k d l. (c.work_crew.ensures.done k d l).all_drawn) c.close-left.ensures
+      c.scatter.ensures.passes (λ k d l. (c.work_crew.ensures.done k d l).between.worked)
+      (λ k d l. (c.work_crew.ensures.done k d l).all_drawn) c.close-left.ensures
 
 pub joined-all-requires-clause-completions : goal.joined-all-requires-clause-completions
 joined-all-requires-clause-completions g c =
