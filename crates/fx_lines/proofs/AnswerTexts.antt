@@ -35,8 +35,7 @@ alone_reads whole None none = λ other fits same. none other.0 fits.0 (alone_onl
 alone_reads whole (Some res) is = record {
   fits_value = (is.fits_value, no_bytes);
   printed = is.printed ∙ sym (append-nil (signed_decimal res));
-  only = λ other fits same.
-      let alone = alone_only whole other fits same in λ i. (is.only other.0 fits.0 alone.1 i, alone.0 i);
+  only = λ other fits same. let alone = alone_only whole other fits same in λ i. (is.only other.0 fits.0 alone.1 i, alone.0 i);
 }
 
 -- no result has a space

@@ -24,8 +24,7 @@ pub one_completion : {line word answer : List ℕ} {place : Place} {res : ℤ} {
 one_completion {line} {word} {answer} {place} {res} {got} cuts first last = record {
   fits_value = record { place = first.fits_value; res = last.fits_value.0; got = last.fits_value.1 };
   printed = cuts.printed ∙ ap (λ (t : List ℕ). t ++ 32 ∷ answer) first.printed ∙ ap (λ (t : List ℕ). place_text place ++ 32 ∷ t) last.printed;
-  only = λ other fits same.
-      let parts = parts_of_completion cuts fits same in
+  only = λ other fits same. let parts = parts_of_completion cuts fits same in
       let told = last.only (other.res, other.got) (fits.res, fits.got) parts.1 in
       λ i. record { place = first.only other.place fits.place parts.0 i; res = (told i).0; got = (told i).1 };
 }

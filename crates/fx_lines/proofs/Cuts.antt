@@ -44,8 +44,7 @@ cut_here at text i inside here before =
     record {
       fits_value = before;
       printed = parts;
-      only = λ other fits same.
-          let both = cut_once at other.0 other.1 (take i text) (drop (i + 1) text) fits before (sym same ∙ parts) in
+      only = λ other fits same. let both = cut_once at other.0 other.1 (take i text) (drop (i + 1) text) fits before (sym same ∙ parts) in
           λ i. (both.0 i, both.1 i);
     }
 

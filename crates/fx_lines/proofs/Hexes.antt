@@ -1,7 +1,6 @@
 -- The bytes of a read, as they are printed.
-use Rattle.fx_lines.proofs.Words.{◌≡◌, ℕ, zero, suc, ◌/◌, ◌%◌, ◌<◌, ◌==◌, Bool, true, not, List, [], ◌∷◌, length, slice_index, refl, ap}
-use Rattle.fx_lines.proofs.Words.{◌∙◌, arith, None, and_from, and_parts, list_all, IsBytes, encode_lower, is_without}
-use Rattle.fx_lines.proofs.Words.{IsPrintedFrom, Reads, got_text}
+use Rattle.fx_lines.proofs.Words.{◌≡◌, ℕ, zero, suc, ◌/◌, ◌%◌, ◌<◌, ◌==◌, Bool, true, not, List, [], ◌∷◌, length, slice_index, refl, ap, ◌∙◌, arith}
+use Rattle.fx_lines.proofs.Words.{None, and_from, and_parts, list_all, IsBytes, encode_lower, is_without, IsPrintedFrom, Reads, got_text}
 use Rattle.std.proofs.Common.{Ok, Err}
 use Rattle.std.proofs.lemmas.Bool.{ne_eqb}
 use Rattle.hex.specs.Hex.{decode_of, encode_with, lower_digits}

@@ -59,8 +59,7 @@ module _ {A : Type 0} {print : A → List ℕ} {fits : A → Type 0} {may : List
   ends_here ends over = record {
     fits_value = (before.fit, ends);
     printed = before.printed;
-    only = λ other fit same.
-        let known = before.only other.0 other.1 fit.0 fit.1 same in
+    only = λ other fit same. let known = before.only other.0 other.1 fit.0 fit.1 same in
         let both = by_later other fit.1 known.0 known.1 known.3 in λ i. (both.0 i, both.1 i);
   }
     where
@@ -102,7 +101,8 @@ module _ {A : Type 0} {print body : A → List ℕ} {fits : A → Type 0} {word 
           (λ y more fit same. let parts = parts_of_line y more fit same in (is.only y (wider y fit) parts.0, parts.1))
 
 -- a text that begins with a word, and what stands behind no more lines of that word
-pub goes_on : (word : List ℕ) {rest : List ℕ} (tail : List ℕ) → rest ≡ word ++ tail → (behind : List ℕ) → ¬ (StartsWith behind word) → rest ≡ behind → ⊥
+pub goes_on : (word : List ℕ) {rest : List ℕ} (tail : List ℕ) → rest ≡ word ++ tail
+    → (behind : List ℕ) → ¬ (StartsWith behind word) → rest ≡ behind → ⊥
 goes_on word tail begins behind over same = over (ap (take (length word)) (sym same ∙ begins) ∙ take_at word tail (length word) refl)
 
 -- a text that doesn't begin with a word

@@ -20,8 +20,7 @@ place_reads word None none = λ other fits same. none (other.submission, (other.
 place_reads word (Some x) is = record {
   fits_value = let f = is.fits_value in record { submission = f.0; chain = f.1.0; member = f.1.1 };
   printed = is.printed;
-  only = λ other fits same.
-      let told = is.only (other.submission, (other.chain, other.member)) (fits.submission, (fits.chain, fits.member)) same in
+  only = λ other fits same. let told = is.only (other.submission, (other.chain, other.member)) (fits.submission, (fits.chain, fits.member)) same in
       λ i. record { submission = (told i).0; chain = (told i).1.0; member = (told i).1.1 };
 }
 

@@ -29,7 +29,6 @@ number_then print fits is None none = λ other fit same. none other.1 fit.1 (sym
 number_then print fits {n} is (Some b) behind = record {
   fits_value = (is.fits_value, behind.fits_value);
   printed = is.printed ∙ ap (λ (t : List ℕ). number_text (n, t)) behind.printed;
-  only = λ other fit same.
-      let told = is.only (other.0, print other.1) fit.0 same in
+  only = λ other fit same. let told = is.only (other.0, print other.1) fit.0 same in
       let rest = behind.only other.1 fit.1 (sym (ap (λ p. p.1) told)) in λ i. ((told i).0, rest i);
 }

@@ -1,8 +1,8 @@
 -- The lines of a report: those of its completions, then those of closed files, then those of tags.
 use Rattle.fx_lines.proofs.Words.{◌≡◌, ℕ, ◌<◌, ◌^◌, true, false, List, [], ◌∷◌, ◌++◌, length, get_or, take, refl, sym, ap, ◌∙◌, Option, Some, None}
 use Rattle.fx_lines.proofs.Words.{◌==◌, true≢false, codes, option_map, Bor, StartsWith, flat_map, append_assoc, take_at, Completed, AreAll, AreSoMany}
-use Rattle.fx_lines.proofs.Words.{IsFront, lines_before, HasNoCloses, IsCloseInRange, IsCompletionInRange, NamedClose, line_of_tag, named_line}
-use Rattle.fx_lines.proofs.Words.{Reads, completion_line, completion_lines, FileEntry, Closed, Reported}
+use Rattle.fx_lines.proofs.Words.{IsFront, lines_before, HasNoCloses, IsCloseInRange, IsCompletionInRange, NamedClose, line_of_tag, named_line, Reads}
+use Rattle.fx_lines.proofs.Words.{completion_line, completion_lines, FileEntry, Closed, Reported}
 use Rattle.std.specs.Prelude.{is_some}
 use Rattle.fx_lines.specs.Lines.{IsReportBefore, Lines, ReadsReport, lines_of, lines_text}
 use Rattle.fx_lines.proofs.LinesInTurn.{not_begun}
@@ -91,8 +91,7 @@ module _ {count : ℕ} {text : List ℕ} {cs : List Completed} {rest : List ℕ}
         printed = is.printed ∙ ap (λ (t : List ℕ). flat_map completion_line cs ++ t)
             (next.printed ∙ ap (λ (t : List ℕ). flat_map named_line closed ++ t) third.printed)
             ∙ sym (regroup (record { completions = cs; closed = closed; tags = tags }, last));
-        only = λ other fits same.
-            let three = third_of_report other fits same in let first = (first_of_report other fits same).0 in
+        only = λ other fits same. let three = third_of_report other fits same in let first = (first_of_report other fits same).0 in
             let second = (second_of_report other fits same).0 in
             λ i. (record { completions = first i; closed = second i; tags = three.0 i }, three.1 i);
       }

@@ -7,7 +7,8 @@ pub returns-in_err-submission : goal.returns-in_err-submission
 returns-in_err-submission c = from_none (search rules) (entry_reads _ None (no_number _ _ c.in_err-submission.ensures))
 
 pub returns-in_err-chain : goal.returns-in_err-chain
-returns-in_err-chain c = from_none (search rules) (entry_reads _ None (number_then _ _ c.in_ok-submission.ensures None (no_number _ _ c.in_err-chain.ensures)))
+returns-in_err-chain c =
+    from_none (search rules) (entry_reads _ None (number_then _ _ c.in_ok-submission.ensures None (no_number _ _ c.in_err-chain.ensures)))
 
 pub returns-in_err-member : goal.returns-in_err-member
 returns-in_err-member c =

@@ -7,7 +7,8 @@ pub returns-in_err-submission : goal.returns-in_err-submission
 returns-in_err-submission c = from_none (search rules) (place_reads _ None (no_number _ _ c.in_err-submission.ensures))
 
 pub returns-in_err-chain : goal.returns-in_err-chain
-returns-in_err-chain c = from_none (search rules) (place_reads _ None (number_then _ _ c.in_ok-submission.ensures None (no_number _ _ c.in_err-chain.ensures)))
+returns-in_err-chain c =
+    from_none (search rules) (place_reads _ None (number_then _ _ c.in_ok-submission.ensures None (no_number _ _ c.in_err-chain.ensures)))
 
 pub returns-in_err-number : goal.returns-in_err-number
 returns-in_err-number c =
@@ -16,4 +17,5 @@ returns-in_err-number c =
 
 pub returns : goal.returns
 returns c =
-    place_reads _ (Some _) (number_then _ _ c.in_ok-submission.ensures (Some _) (number_then _ _ c.in_ok-chain.ensures (Some _) c.in_ok-number.ensures))
+    place_reads _ (Some _) (number_then _ _ c.in_ok-submission.ensures (Some _)
+    (number_then _ _ c.in_ok-chain.ensures (Some _) c.in_ok-number.ensures))

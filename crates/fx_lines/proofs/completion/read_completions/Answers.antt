@@ -1,5 +1,6 @@
 use Rattle.fx_chain.specs.declared.completion.Completion.{Completion}
-use Rattle.fx_lines.proofs.Words.{◌≡◌, ℕ, List, AreSoMany, ◌<◌, ◌≤◌, [], ◌∷◌, length, refl, arith, length-append, map-append, all_completed, IsCompletionInRange}
+use Rattle.fx_lines.proofs.Words.{◌≡◌, ℕ, List, AreSoMany, ◌<◌, ◌≤◌, [], ◌∷◌, length, refl, arith, length-append, map-append, all_completed}
+use Rattle.fx_lines.proofs.Words.{IsCompletionInRange}
 use Rattle.std.proofs.lemmas.List.{length-map}
 use Rattle.fx_chain.specs.Completed.{completed_of}
 use Rattle.fx_lines.proofs.CompletionTexts.{completions_are_lines}
