@@ -7,8 +7,7 @@ use Rattle.std.specs.List.{sum_by}
 use Rattle.std.specs.Ordering.{is_lt, nat_cmp, ordering_reverse, ordering_then}
 use Rattle.std.specs.Prelude.{nat_eq}
 use Rattle.std.specs.declared.cmp.Ordering.{Ordering}
-use Rattle.std.specs.declared.cmp.Ordering.TheVariants.{Less, Equal, Greater}
-use Rattle.std.proofs.lemmas.Bool.{true≢false}
+use Rattle.std.specs.declared.cmp.Ordering.TheVariants.{Equal}
 use Rattle.std.proofs.lemmas.List.Elements.{All-cons, All-head, All-tail}
 use Rattle.std.proofs.lemmas.List.Sorted.{All-permutation, ranks_by, sorted_far, sum_by-IsPermutation}
 use Rattle.std.proofs.lemmas.List.Sums.{sum_by-cons}
@@ -110,8 +109,7 @@ module _ (P : Closed → Type 0) (one : (x y : Closed) → P x → P y → x.mar
   first_too : (x : Closed) (xs : List Closed) → AreNotBelow x xs → AreNotBelow x (x ∷ xs)
   first_too x xs rises = All-cons (λ (y : Closed). is_below y x ≡ false) x xs (no_test (is_below x x) (is_order.one_way x x)) rises
 
-  pub one_list : (xs ys : List Closed) → All P xs → All P ys → Rises xs → Rises ys
-      → ((f : Closed → ℕ) → sum_by f ys ≡ sum_by f xs) → xs ≡ ys
+  pub one_list : (xs ys : List Closed) → All P xs → All P ys → Rises xs → Rises ys → ((f : Closed → ℕ) → sum_by f ys ≡ sum_by f xs) → xs ≡ ys
   one_list [] [] all too up rise sums = refl
   one_list [] (y ∷ ys) all too up rise sums =
       let same = sums (λ _. 1) in let parts = sum_by-cons (λ (z : Closed). 1) y ys in absurd (omega arith)

@@ -1,6 +1,6 @@
 -- The files that are kept of a ring, and those that a list removes, are few and of the catalogue.
 use Rattle.std.proofs.Common.{◌≡◌, ℕ, zero, suc, ◌+◌, ◌<◌, ◌≤◌, ◌^◌, false, ℤ, pos, negsuc, List, [], ◌∷◌, length, All, refl, sym, ap, subst, arith}
-use Rattle.std.proofs.Common.{Option, Some, None, length-append}
+use Rattle.std.proofs.Common.{Option, length-append}
 use Rattle.std.specs.List.{list_any}
 use Rattle.std.specs.Option.{option_to_list}
 use Rattle.std.proofs.lemmas.Bool.{leb-false, lt-leb, or_from, or_parts}

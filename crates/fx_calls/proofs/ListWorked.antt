@@ -28,8 +28,7 @@ module _ (k off i : ℕ) (list : List ℤ) (tags : List ℕ) (z : ℤ) (first cu
     (is : z ≡ slice_index_or list i (pos 0)) (before : cur ≡ record first { at = files_upto k first.at off list tags i }) where
   pub one_more : new ≡ with_file cur (off + i) (file_after (Registered k i) (tag_at tags i) z (cur.at (off + i)))
       → new ≡ record first { at = files_upto k first.at off list tags (i + 1) }
-  one_more after = after
-      ∙ ap (λ (t : Table). with_file t (off + i) (file_after (Registered k i) (tag_at tags i) z (t.at (off + i)))) before
+  one_more after = after ∙ ap (λ (t : Table). with_file t (off + i) (file_after (Registered k i) (tag_at tags i) z (t.at (off + i)))) before
       ∙ ap (λ (x : Option Closed). with_file (record first { at = files_upto k first.at off list tags i }) (off + i)
       (file_after (Registered k i) (tag_at tags i) z x)) (upto_here k first.at off list tags i z inside is)
       ∙ ap (λ (a : ℕ → Option Closed). record first { at = a }) (sym (upto_next k first.at off list tags i z inside is))

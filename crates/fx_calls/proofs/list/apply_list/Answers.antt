@@ -1,8 +1,8 @@
-use Rattle.std.proofs.Common.{◌≡◌, ◌+◌, ℕ, ℤ, List, [], ◌∷◌, ◌++◌, pos, to_z, of_z, w32, slice_index_or, drop, ap, subst, sym, ◌∙◌, rules, arith}
+use Rattle.std.proofs.Common.{◌≡◌, ◌+◌, ℕ, List, [], ◌∷◌, ◌++◌, pos, to_z, of_z, w32, slice_index_or, drop, ap, subst, sym, ◌∙◌, rules, arith}
 use Rattle.std.proofs.Common.{length, append-nil}
 use Rattle.std.proofs.Math.Nat.{add-zero}
 use Rattle.std.proofs.Math.Seq.{drop-length}
-use Rattle.fx_ring.proofs.ListSteps.{files_upto, upto_none, upto_all}
+use Rattle.fx_ring.proofs.ListSteps.{upto_none, upto_all}
 use Rattle.std.specs.Global.{Vec}
 use Rattle.std.specs.Option.{option_to_list}
 use Rattle.fx_base.specs.declared.mark.Mark.TheVariants.{Registered}
