@@ -10,4 +10,5 @@ pub invariant_of-self : goal.invariant_of-self
 invariant_of-self c =
     let f : File = record { number = c.args.number; identity = record { mark = Registered 0 0; entry = 0; tag = 0 } } in
     let plain = c.args.self.now.plain in
-    record { few_holds = release_few f (closed_by_release plain c.args.number) (state_of plain) c.args.self.now.few_holds (c.release.ensures.steps f refl) }
+    let closed = closed_by_release plain c.args.number in
+    record { few_holds = release_few f closed (state_of plain) c.args.self.now.few_holds (c.release.ensures.steps f refl) }
