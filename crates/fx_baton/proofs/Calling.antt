@@ -155,7 +155,8 @@ module _ {id : TableId} {k : Start} {u : PassView} {c : Contents} {p : BatonPass
     put_called some {slot} {number} {file} {d} {found} {flag} next l says = called l.sound
         (slot_turn d p.chain h.knows is_idle_here (Put slot (numbered number file) ((state_of c).at slot)) slot (Some (numbered number file)) _ _
         l.step l.step.1 refl l.leaving tt (λ _. refl) (uses_own some number next))
-        (number_is some number next) (let e = same_numbers in omega arith) (omega arith) (idle_told (λ x. x.number) ((state_of c).at slot) says l.answer).1
+        (number_is some number next) (let e = same_numbers in omega arith) (omega arith)
+        (idle_told (λ x. x.number) ((state_of c).at slot) says l.answer).1
 
     pub allocate_called : (some : 0 < u.numbers_left) {slot number : ℕ} {file : Closed} {d : Contents} → number ≡ next_of u
         → Steps (state_of c) (Allocate slot (numbered number file)) (state_of d) → leaving d ≡ leaving c
@@ -216,7 +217,8 @@ module _ {id : TableId} {k : Start} {u : PassView} {c : Contents} {p : BatonPass
     release_called {d} {out} ends =
         let e = rw node_is at ends in
         called e.sound (subst (λ (z : Doing). IsTurn view log c d (events_of c log.number p.chain z ReleaseCall) Idle) (sym holds_here)
-        (letting_go_turn d p.chain h.knows f holds_here (closed_by_release c f.number) refl (e.steps f refl) e.leaving)) tt (omega arith) (omega arith) refl
+        (letting_go_turn d p.chain h.knows f holds_here (closed_by_release c f.number) refl (e.steps f refl) e.leaving))
+        tt (omega arith) (omega arith) refl
 
     -- what a release answers
     pub released_so : (d : Contents) {q : BatonPass} → HasGivenBack id k ReleaseCall (lent d) q → (result : Option Closed)

@@ -117,7 +117,11 @@ module _ {v : View} {x : Log} {c : Contents} (d : Contents) (chain : ℕ) (known
 
     -- a slot gets another file, or none, and what stood there is removed
     pub slot_turn : (a : Action) (slot : ℕ) (new found : Option File) (fresh : ℕ → Bool) → Steps (state_of c) a (state_of d)
-        → state_of d ≡ record (state_of c) { at = changed_at (state_of c).at slot new; fresh = fresh; removed = with_removed (state_of c).removed found }
+        → state_of d ≡ record (state_of c) {
+          at = changed_at (state_of c).at slot new;
+          fresh = fresh;
+          removed = with_removed (state_of c).removed found;
+        }
         → found ≡ (state_of c).at slot → leaving d ≡ more_leaving (leaving c) found → ReleasesItsOwn (held_by x.front x.number) a
         → ((h : Option File) → held_after h a ≡ h) → UsesOwn fresh (number_behind (x.own ▷▷ done (a ∷ [])))
         → IsTurn v x c d (done (a ∷ [])) (retiring found 0)
@@ -183,8 +187,8 @@ module _ {v : View} {x : Log} {c : Contents} (d : Contents) (chain : ℕ) (known
         → leaving d ≡ changed_at (leaving c) f.number false → IsTurn v x c d (done (close_of o)) Idle
     retire_turn None e l leaves = turn [] Idle _ l.1 (omega arith, λ n _. refl) (subst (IsLegal (begin_of v.start) x.front) (sym l.1) known.legal)
         same_holds (leaves_less leaves) (λ g i _. i) (held_so removes) (λ g e. absurd (none_file g e))
-    retire_turn (Some g) e l leaves = turn ([] ▷ Close g) Idle _ l.1 (omega arith, λ n _. refl) (legal_one (l.0.1, l.1) tt) same_holds (leaves_less leaves)
-        (files_but g l.1 l.0.1.1 (ap (λ (z : ℕ → Bool). z g.number) leaves
+    retire_turn (Some g) e l leaves = turn ([] ▷ Close g) Idle _ l.1 (omega arith, λ n _. refl) (legal_one (l.0.1, l.1) tt)
+        same_holds (leaves_less leaves) (files_but g l.1 l.0.1.1 (ap (λ (z : ℕ → Bool). z g.number) leaves
         ∙ changed_here (leaving c) f.number false g.number (ap (λ (z : File). z.number) (sym (file_retired e))))
         (λ h other i. not_closed (state_of c) g h other i))
         (held_mine x.number chain (Close g) x.front ∙ held_so removes) (λ h e. absurd (none_file h e))

@@ -136,7 +136,8 @@ module _ {id : TableId} {k : Start} {call : Call} {idle : Bool} {p : BatonPass} 
     };
   }
 
-  adds_here : Adds (opening_of k) (view_of p) (actions_of t.taken p.seat.me.0.doing call) (doing_of t.taken call) (use_of call) (view_of (gave seated))
+  adds_here : Adds (opening_of k) (view_of p) (actions_of t.taken p.seat.me.0.doing call) (doing_of t.taken call) (use_of call)
+      (view_of (gave seated))
   adds_here = record {
     seen = (es, ap (λ (h : List Event). es ++ h) (sym (ap first_front t.has.seated.one)));
     front = front_is;
