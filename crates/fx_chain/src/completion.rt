@@ -1,8 +1,9 @@
-ghost use Rattle.std.specs.Prelude.{◌≡◌, ◌<◌, ◌^◌, pos, []};
+ghost use Rattle.std.specs.Prelude.{◌≡◌, ◌<◌, ◌^◌, ◌↔◌, IfOk, IsTrue, pos, []};
 ghost use Rattle.fx_base.specs.declared.mark.Mark.TheVariants.{Submitted};
+ghost use Rattle.fx_chain.specs.Answers.{installed};
 ghost use Rattle.fx_chain.specs.Completed.{completed, completed_of, refusal};
 
-use fx_base::{Errno, Mark};
+use fx_base::{Closed, Errno, Mark, NoMemory};
 use std::alloc::Global;
 
 /// Where a request stands: its submission, its chain in the submission, and its place in the chain, each from 1
@@ -18,7 +19,7 @@ pub struct Place {
 }
 
 /// The answer to a request (io_uring_enter(2), "CQE").
-#[derive(Debug, Drop)]
+#[derive(Debug, PartialEq, Eq, Drop)]
 pub struct Completion {
     /// Whose answer it is.
     pub place: Place,
@@ -41,6 +42,18 @@ impl Place {
             entry: in_list,
         }
     }
+
+    /// The file of this catalogue entry that the request here installs: with the mark that [`Place::mark`] says, and without
+    /// a tag.
+    pub fn installed(self, in_list: u32, entry: u8) -> Closed
+        ensures { result ≡ installed self in_list entry }
+    {
+        Closed {
+            mark: self.mark(in_list),
+            entry,
+            tag: 0,
+        }
+    }
 }
 
 impl Completion {
@@ -56,8 +69,8 @@ impl Completion {
         }
     }
 
-    // The answer to a request that gives no bytes.
-    pub(crate) fn number(alloc: Global, place: Place, res: u32) -> Completion
+    /// The answer to a request that succeeds with this number, below 2^31, and gives no bytes (io_uring_enter(2), "CQE").
+    pub fn number(alloc: Global, place: Place, res: u32) -> Completion
         requires { res < 2 ^ 31 }
         ensures { completed_of result ≡ completed place (pos res) [] }
     {
@@ -66,5 +79,33 @@ impl Completion {
             res: res as i32,
             got: Vec::new(alloc),
         }
+    }
+
+    /// The same completion once more.
+    ///
+    /// # Errors
+    /// `NoMemory` where the memory of its bytes is refused.
+    pub fn copy(&self, alloc: Global) -> Result<Completion, NoMemory>
+        ensures { IfOk result (λ copy. completed_of copy ≡ completed_of self.now) }
+    {
+        Ok(Completion {
+            place: self.place,
+            res: self.res,
+            got: Vec::from_slice(alloc, &self.got)?,
+        })
+    }
+
+    /// Whether this is the answer of the request there, with this result and these bytes.
+    pub fn is_answer(&self, place: Place, res: i32, got: &[u8]) -> bool
+        ensures { IsTrue result ↔ (completed_of self.now ≡ completed place res got.now) }
+    {
+        self.place == place && self.res == res && self.got.as_slice() == got
+    }
+
+    /// Whether this is the answer of the request there where it fails so, as [`Completion::refusal`] makes it.
+    pub fn is_refusal(&self, place: Place, errno: Errno) -> bool
+        ensures { IsTrue result ↔ (completed_of self.now ≡ refusal place errno) }
+    {
+        self.is_answer(place, -errno.code(), &[])
     }
 }

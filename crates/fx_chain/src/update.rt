@@ -25,16 +25,12 @@ pub fn is_bad_entry(entries: u32, entry: i32) -> bool
     entry as u32 >= entries
 }
 
-// Whether a list has such an entry.
-fn has_bad_entry(entries: u32, list: &[i32]) -> bool
+/// Whether the list of an update has an entry that is below -2 or past a catalogue of so many entries (io_uring_register(2),
+/// "IORING_REGISTER_FILES_UPDATE").
+pub fn has_bad_entry(entries: u32, list: &[i32]) -> bool
     ensures { result ≡ list_any (is_bad_entry entries) list.now }
 {
-    for entry in list {
-        if is_bad_entry(entries, *entry) {
-            return true;
-        }
-    }
-    false
+    list.iter().any(|entry| is_bad_entry(entries, *entry))
 }
 
 // Applies one entry: -1 empties its slot, -2 leaves it, and every other one installs that catalogue entry.
