@@ -5,7 +5,7 @@ use Rattle.fx_order.proofs.Words.{removed_by, Access, removed_in, Bool, None, Op
 use Rattle.std.specs.List.{IsDistinct}
 use Rattle.fx_order.proofs.Placed.{Has, Removes, emptied, has_left, has_right, left_from, placed, placed_by, removed_from, removes_contained}
 use Rattle.fx_order.proofs.Placed.{step_from}
-use Rattle.fx_order.proofs.SameFiles.{decides_mark, same_mark}
+use Rattle.fx_order.proofs.EqualFiles.{mark_Decides, same_mark}
 
 -- no mark is placed twice
 abbrev pub PlacesOnce : List (ℕ × Closed) → Type 0
@@ -88,4 +88,4 @@ removes_once t (x ∷ xs) apart may = first (removed_by x) refl (removes_once (t
     first (Some f) now rest = IsDistinct-cons alike f (removed_in xs) (recursion_from_All (λ g. alike f g ≡ false) (removed_in xs) (λ k d lt.
         let g = slice_index_or (removed_in xs) k d in
         let w = removed_from (table_with t x) xs g may.1 (removes_contained xs g (Contains-get_or (removed_in xs) k d lt)) in
-        not-true _ ((Decides-not _ (decides_mark f.mark g.mark)).1 (gone t x xs apart f may.0 now w.slot g w.was)))) rest
+        not-true _ ((Decides-not _ (mark_Decides f.mark g.mark)).1 (gone t x xs apart f may.0 now w.slot g w.was)))) rest

@@ -11,6 +11,7 @@ pub mod Answered
 pub mod Shown
 pub mod Histories
 pub mod OrderSteps
+pub mod EqualFiles
 pub mod SameFiles
 pub mod ChainFront
 pub mod EntriesMade

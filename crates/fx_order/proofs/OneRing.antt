@@ -10,7 +10,7 @@ use Rattle.fx_order.proofs.Placed.{Has, Removes, contains_removed, left_from, le
 use Rattle.fx_order.proofs.PlacedNew.{AnyPlace, InLimits, IsOfMembers, OwnOf, ReachesAll, chain_places, has_in_chain, has_of_chain, order_places_once}
 use Rattle.fx_order.proofs.PlacedNew.{reaches_all_any, reaches_all_limits}
 use Rattle.fx_order.proofs.PlacedSame.{chains_same}
-use Rattle.fx_order.proofs.SameFiles.{decides_mark}
+use Rattle.fx_order.proofs.EqualFiles.{mark_Decides}
 
 module _ (old : RingState) (requests : List Asked) (report : Reported) (is : IsRing old) where
   abbrev chains : ℕ
@@ -98,7 +98,7 @@ places_apart files distinct i j one other at too same = elim (cases_lt i j) [
     never i j one other at too same less =
         let apart = apart_from_distinct alike files i j one distinct less (slice_get_within files j other too) in
         false≢true (sym apart ∙ ((λ k. alike (get_or_from_slice_get files i one one at k) (get_or_from_slice_get files j other one too k))
-        ∙ (decides_mark one.mark other.mark).1 same))
+        ∙ (mark_Decides one.mark other.mark).1 same))
 
 -- the members of an accepted submission are within their limits
 pub in_limits : (requests : List Asked) → IsAccepted requests → All (ReachesAll InLimits 1) (runs_of requests)
@@ -136,7 +136,7 @@ each_closed_file_is_known old requests report left is accepted o =
           let w = removed_from (table_of old) xs file o.is.permitted (closed_is_removed old requests report is o.order o.is file closed) in
           ⊎_elim (λ was. inl (w.slot, w.inside, was)) (λ has. inr (of_next old report is o.is accepted w.slot has)) w.was;
       distinct = places_apart report.closes.files (IsDistinct-IsPermutation alike
-          (λ x y. same_from_decides _ _ (decides_mark x.mark y.mark) (Decides-like _ (λ e. sym e) (λ e. sym e) (decides_mark y.mark x.mark)))
+          (λ x y. same_from_decides _ _ (mark_Decides x.mark y.mark) (Decides-like _ (λ e. sym e) (λ e. sym e) (mark_Decides y.mark x.mark)))
           (removed_in xs) report.closes.files o.is.closed.same_files
           (removes_once (table_of old) xs (apart old requests report is o.order o.is) o.is.permitted));
     }

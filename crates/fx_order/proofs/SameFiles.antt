@@ -4,36 +4,7 @@ use Rattle.fx_order.proofs.Words.{not-true, Decides-not, nil_from_length, ◌↔
 use Rattle.fx_order.proofs.Words.{IsPermutation, sum_by, remove, false≢true, Decides-eqb, Decides-and, Decides-like, append-nil, length-append}
 use Rattle.fx_order.proofs.Words.{take_all, take_more, split_at, sum_by-IsPermutation, length_permutation, IsPermutation-more, sum_by-append}
 use Rattle.fx_order.proofs.Words.{sum_by-cons, Mark, Registered, Submitted, Closed}
-
-abbrev pub same_mark : Mark → Mark → Bool
-same_mark (Registered k i) (Registered l j) = (k == l) && (i == j)
-same_mark (Registered k i) (Submitted s c m e) = false
-same_mark (Submitted s c m e) (Registered k i) = false
-same_mark (Submitted s c m e) (Submitted t d n f) = (s == t) && ((c == d) && ((m == n) && (e == f)))
-
-pub decides_mark : (a b : Mark) → Decides (same_mark a b) (a ≡ b)
-decides_mark (Registered k i) (Registered l j) =
-    Decides-like ((k == l) && (i == j)) (λ p n. Registered (p.0 n) (p.1 n)) (λ e. (cc, cc))
-    (Decides-and (k == l) (i == j) (Decides-eqb k l) (Decides-eqb i j))
-decides_mark (Registered k i) (Submitted s c m e) = (λ is. absurd (false≢true is), λ is. absurd (cc))
-decides_mark (Submitted s c m e) (Registered k i) = (λ is. absurd (false≢true is), λ is. absurd (cc))
-decides_mark (Submitted s c m e) (Submitted t d n f) =
-    Decides-like ((s == t) && ((c == d) && ((m == n) && (e == f))))
-    (λ p x. Submitted (p.0 x) (p.1.0 x) (p.1.1.0 x) (p.1.1.1 x)) (λ is. (cc, (cc, (cc, cc))))
-    (Decides-and (s == t) ((c == d) && ((m == n) && (e == f))) (Decides-eqb s t)
-    (Decides-and (c == d) ((m == n) && (e == f)) (Decides-eqb c d)
-    (Decides-and (m == n) (e == f) (Decides-eqb m n) (Decides-eqb e f))))
-
-abbrev same_file : Closed → Closed → Bool
-same_file a b = same_mark a.mark b.mark && ((a.entry == b.entry) && (a.tag == b.tag))
-
-decides_file : (a b : Closed) → Decides (same_file a b) (a ≡ b)
-decides_file a b =
-    Decides-like (same_mark a.mark b.mark && ((a.entry == b.entry) && (a.tag == b.tag)))
-    (λ p n. record { mark = p.0 n; entry = p.1.0 n; tag = p.1.1 n })
-    (λ e. (ap (λ (f : Closed). f.mark) e, (ap (λ (f : Closed). f.entry) e, ap (λ (f : Closed). f.tag) e)))
-    (Decides-and (same_mark a.mark b.mark) ((a.entry == b.entry) && (a.tag == b.tag)) (decides_mark a.mark b.mark)
-    (Decides-and (a.entry == b.entry) (a.tag == b.tag) (Decides-eqb a.entry b.entry) (Decides-eqb a.tag b.tag)))
+use Rattle.fx_order.proofs.EqualFiles.{file_Decides, same_file}
 
 -- how often a file stands in a list
 abbrev one_if_same : Closed → Closed → ℕ
@@ -44,7 +15,7 @@ times-none : {file : Closed} (files : List Closed) → ((i : ℕ) (d : Closed) �
 times-none [] none = refl
 times-none {file} (x ∷ files) none =
     let head : one_if_same file x ≡ 0 =
-    ap (λ (b : Bool). cond b 1 0) (not-true _ ((Decides-not _ (decides_file file x)).1 (λ is. none 0 x (omega arith) (sym is)))) in
+    ap (λ (b : Bool). cond b 1 0) (not-true _ ((Decides-not _ (file_Decides file x)).1 (λ is. none 0 x (omega arith) (sym is)))) in
     let rest = times-none files (λ i d lt. none (suc i) d (omega arith)) in
     sum_by-cons (one_if_same file) x files ∙ omega arith
 
@@ -52,7 +23,7 @@ times-none {file} (x ∷ files) none =
 is_left : {files : List Closed} (done rest left : List Closed) {file : Closed} → IsPermutation files (done ++ left)
     → IsPermutation files (done ++ file ∷ rest) → ((i : ℕ) (d : Closed) → i < length left → slice_index_or left i d ≢ file) → ⊥
 is_left {files} done rest left {file} one other none =
-    let here : one_if_same file file ≡ 1 = ap (λ (b : Bool). cond b 1 0) ((decides_file file file).1 refl) in
+    let here : one_if_same file file ≡ 1 = ap (λ (b : Bool). cond b 1 0) ((file_Decides file file).1 refl) in
     let first = sum_by-IsPermutation (one_if_same file) files (done ++ left) one in
     let second = sum_by-IsPermutation (one_if_same file) files (done ++ file ∷ rest) other in
     let parts = sum_by-append (one_if_same file) done left in

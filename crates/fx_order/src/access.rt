@@ -1,3 +1,6 @@
+ghost use Rattle.std.specs.Prelude.{◌≡◌};
+ghost use Rattle.fx_order.specs.Access.{removed_by};
+
 use fx_base::Closed;
 
 /// What a request does to a table, where its requests are done one at a time. A request that comes to the table does so
@@ -17,6 +20,20 @@ pub enum Access {
     Allocates(u32, Closed),
     /// An open finds no free slot in the allocation range.
     FindsFull,
+}
+
+impl Access {
+    /// The file that the access takes from its slot, or `None` where it takes none.
+    pub fn removed(&self) -> Option<Closed>
+        ensures { result ≡ removed_by self.now }
+    {
+        match self {
+            Access::Puts(_, _, removed) => *removed,
+            Access::Clears(_, removed) => *removed,
+            Access::Takes(_, removed) => *removed,
+            _ => None,
+        }
+    }
 }
 
 /// An access, and the chain whose request makes it.

@@ -7,7 +7,7 @@ ghost use Rattle.fx_order.specs.Access.{Puts};
 ghost use Rattle.fx_order.specs.Requests.{IsRefused};
 
 use crate::access::Access;
-use fx_base::{Closed, Errno};
+use fx_base::Errno;
 use fx_chain::{Completion, Place};
 
 /// What a request is told to have done: the accesses that it made, and its completion.
@@ -18,20 +18,13 @@ pub(crate) struct Answer<'a> {
     pub(crate) c: &'a Completion,
 }
 
-/// Whether a completion says this.
-pub(crate) fn is_answer(c: &Completion, place: Place, res: i32, got: &[u8]) -> bool
-    ensures { IsTrue result ↔ (completed_of c.now ≡ completed place res got.now) }
-{
-    c.place == place && c.res == res && c.got.as_slice() == got
-}
-
 impl Answer<'_> {
     /// Whether the completion says this.
     pub(crate) fn says(&self, res: i32, got: &[u8]) -> bool
         ensures { IsTrue result
             ↔ (completed_of self.now.c.now ≡ completed self.now.place res got.now) }
     {
-        is_answer(self.c, self.place, res, got)
+        self.c.is_answer(self.place, res, got)
     }
 
     /// Whether the request made no access and failed.
@@ -39,18 +32,7 @@ impl Answer<'_> {
         ensures { IsTrue result
             ↔ IsRefused self.now.place errno self.now.own.now (completed_of self.now.c.now) }
     {
-        self.own.is_empty() && self.says(-errno.code(), &[])
-    }
-}
-
-/// What a file is that a request installs: that of an update's place in its list, or of an open, whose place is 0.
-pub(crate) fn installed(place: Place, in_list: u32, entry: u8) -> Closed
-    ensures { result ≡ installed place in_list entry }
-{
-    Closed {
-        mark: place.mark(in_list),
-        entry,
-        tag: 0,
+        self.own.is_empty() && self.c.is_refusal(self.place, errno)
     }
 }
 
@@ -60,7 +42,7 @@ pub(crate) fn puts(place: Place, in_list: u32, slot: u32, entry: u8, access: &Ac
         × (access.now ≡ Puts slot (installed place in_list entry) removed)) }
 {
     match access {
-        Access::Puts(at, file, _) => { *at == slot && *file == installed(place, in_list, entry) }
+        Access::Puts(at, file, _) => { *at == slot && *file == place.installed(in_list, entry) }
         _ => false,
     }
 }

@@ -8,7 +8,7 @@ ghost use Rattle.fx_order.specs.declared.access.Access.{Access as Made};
 ghost use Rattle.fx_order.specs.Requests.{IsChainDone, IsRequestDone};
 
 use crate::access::Access;
-use crate::answer::{Answer, is_answer};
+use crate::answer::Answer;
 use crate::request::is_request_done;
 use crate::setting::Setting;
 use fx_base::{Errno, NoMemory};
@@ -63,7 +63,7 @@ fn are_canceled(place: Place, requests: &[Request], completions: &[Completion]) 
         member: place.member + 1,
         ..place
     };
-    is_answer(c, place, -Errno::ECANCELED.code(), &[]) && are_canceled(next, requests, completions)
+    c.is_refusal(place, Errno::ECANCELED) && are_canceled(next, requests, completions)
 }
 
 /// Whether the members of a chain from this place on made these accesses, one after another, and answered so, at a table

@@ -10,7 +10,7 @@ ghost use Rattle.fx_order.specs.Access.{Puts, Allocates};
 ghost use Rattle.fx_order.specs.Requests.{IsOpenDone, IsRequestDone};
 
 use crate::access::Access;
-use crate::answer::{Answer, installed, puts};
+use crate::answer::{Answer, puts};
 use crate::setting::Setting;
 use fx_base::{Catalogue, Errno};
 use fx_chain::Target;
@@ -85,7 +85,7 @@ fn is_open_any_done(size: u32, entry: u8, answer: &Answer<'_>) -> bool
     }
     match answer.own {
         [Access::Allocates(slot, file)] => {
-            *file == installed(answer.place, 0, entry)
+            *file == answer.place.installed(0, entry)
                 && i64::from(answer.c.res) == i64::from(*slot)
                 && answer.says(answer.c.res, &[])
         }

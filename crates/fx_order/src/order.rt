@@ -2,7 +2,7 @@
 ghost use Rattle.std.specs.Prelude.{◌≡◌, ℕ, ◌<◌, ◌↔◌, ◌≢◌, IfNone, IfOk, IfSome, IsTrue, IsPermutation, length, slice_index_or};
 ghost use Rattle.fx_base.specs.CloseList.{IsInOrderOfMark};
 ghost use Rattle.fx_base.specs.declared.open_file.Closed.{Closed as File};
-ghost use Rattle.fx_order.specs.Access.{PermitsAll, table_after, accesses_of, accesses_of_chain, removed_by, removed_in};
+ghost use Rattle.fx_order.specs.Access.{PermitsAll, table_after, accesses_of, accesses_of_chain, removed_in};
 ghost use Rattle.fx_order.specs.Slots.{table_of_slots};
 
 use crate::access::{Access, ChainAccess};
@@ -44,25 +44,13 @@ pub(crate) fn accesses_of_chain(
     Ok(accesses)
 }
 
-// The file that an access takes from its slot, if there is one.
-fn removed_by(access: &Access) -> Option<Closed>
-    ensures { result ≡ removed_by access.now }
-{
-    match access {
-        Access::Puts(_, _, removed) => *removed,
-        Access::Clears(_, removed) => *removed,
-        Access::Takes(_, removed) => *removed,
-        _ => None,
-    }
-}
-
 // The files that the accesses took from their slots, one after another.
 fn removed_in(alloc: Global, order: &[ChainAccess]) -> Result<Vec<Closed>, NoMemory>
     ensures { IfOk result (λ files. files.items ≡ removed_in (accesses_of order.now)) }
 {
     let mut files = Vec::new(alloc);
     for x in order {
-        if let Some(file) = removed_by(&x.access) {
+        if let Some(file) = x.access.removed() {
             files.push(file)?;
         }
     }

@@ -4,7 +4,7 @@ ghost use Rattle.fx_chain.specs.Accepted.{IsAccepted};
 ghost use Rattle.fx_chain.specs.Operation.{all_asked};
 ghost use Rattle.fx_ring.specs.Submission.{reported};
 ghost use Rattle.fx_order.specs.Order.{IsOrderOf, ring_left};
-ghost use Rattle.fx_order.specs.Slots.{ring_of_slots, ring_with_slots, table_of_slots};
+ghost use Rattle.fx_order.specs.Slots.{ring_of_slots, ring_with_slots};
 ghost use Rattle.fx_order.specs.SubmissionReport.{report_of};
 
 use crate::access::ChainAccess;
@@ -29,17 +29,6 @@ fn are_within(order: &[ChainAccess], chains: usize) -> bool
         }
     }
     true
-}
-
-// A table of its own with the same files.
-fn copy_of(alloc: Global, slots: &Slots) -> Result<Slots, NoMemory>
-    ensures { IfOk result (λ copy. table_of_slots copy ≡ table_of_slots slots.now) }
-{
-    let at = Vec::from_slice(alloc, &slots.at)?;
-    Ok(Slots {
-        range: slots.range,
-        at,
-    })
 }
 
 /// The slots that an order of a submission's requests leaves, which are done one at a time at a table with these files, if
@@ -84,7 +73,7 @@ pub fn slots_left(
     if !are_closed(alloc, order, submitted.closes)? {
         return Ok(None);
     }
-    let mut left = copy_of(alloc, slots)?;
+    let mut left = slots.copy(alloc)?;
     if !make_all(&mut left, order) {
         return Ok(None);
     }

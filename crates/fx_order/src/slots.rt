@@ -1,10 +1,11 @@
 //! A table as an order of accesses sees it.
-ghost use Rattle.std.specs.Prelude.{◌≡◌, ℕ, ◌+◌, ◌<◌, ◌≤◌, ◌↔◌, IsTrue, IsSome, None, length, slice_index_or};
+ghost use Rattle.std.specs.Prelude.{◌≡◌, ℕ, ◌+◌, ◌<◌, ◌≤◌, ◌↔◌, IfOk, IsTrue, IsSome, None, length, slice_index_or};
 ghost use Rattle.fx_order.specs.Access.{Permits, table_with, with_file};
 ghost use Rattle.fx_order.specs.Slots.{IsFoundAt, table_of_slots};
 
 use crate::access::Access;
-use fx_base::Closed;
+use fx_base::{Closed, NoMemory};
+use std::alloc::Global;
 
 /// The files of a table by slot, and its allocation range.
 #[derive(Debug, Drop)]
@@ -40,6 +41,29 @@ fn is_full(at: &[Option<Closed>], range: (u32, u32)) -> bool
 }
 
 impl Slots {
+    /// A table of its own with the same files, in the same allocation range.
+    ///
+    /// # Errors
+    /// `NoMemory` where the memory of the list is refused.
+    pub fn copy(&self, alloc: Global) -> Result<Slots, NoMemory>
+        ensures { IfOk result (λ copy. table_of_slots copy ≡ table_of_slots self.now) }
+    {
+        let at = Vec::from_slice(alloc, &self.at)?;
+        Ok(Slots {
+            range: self.range,
+            at,
+        })
+    }
+
+    /// Whether both tables have the same files at the same slots, and the same allocation range.
+    pub fn is_same(&self, other: &Slots) -> bool
+        ensures same { IsTrue result → table_of_slots self.now ≡ table_of_slots other.now }
+        ensures all { self.now.range ≡ other.now.range → self.now.at.items ≡ other.now.at.items
+            → IsTrue result }
+    {
+        self.range == other.range && self.at == other.at
+    }
+
     /// Whether an access may be made here.
     pub fn permits(&self, access: &Access) -> bool
         ensures { IsTrue result ↔ Permits (table_of_slots self.now) access.now }

@@ -4,11 +4,10 @@ ghost use Rattle.fx_chain.specs.Completed.{completed_of};
 ghost use Rattle.fx_order.specs.Requests.{IsEntryDone, AreEntriesDone, IsUpdateDone};
 
 use crate::access::Access;
-use crate::answer::{Answer, installed};
+use crate::answer::Answer;
 use crate::setting::Setting;
 use fx_base::Errno;
-use fx_chain::Place;
-use fx_ring::has_bad_entry;
+use fx_chain::{Place, has_bad_entry};
 
 // Whether one entry, which isn't a skip, was done by this access.
 fn is_entry_done(place: Place, in_list: u32, slot: u32, entry: i32, access: &Access) -> bool
@@ -18,7 +17,7 @@ fn is_entry_done(place: Place, in_list: u32, slot: u32, entry: i32, access: &Acc
         Access::Puts(at, file, _) => {
             *at == slot
                 && i32::from(file.entry) == entry
-                && *file == installed(place, in_list, file.entry)
+                && *file == place.installed(in_list, file.entry)
         }
         Access::Clears(at, _) => entry == -1 && *at == slot,
         _ => false,
