@@ -9,16 +9,15 @@ ghost use Rattle.fx_order.specs.Slots.{table_of_slots};
 ghost use Rattle.fx_outcomes.specs.Choices.{HasEach, HasEachOpen, IsEntryChoice};
 ghost use Rattle.std.specs.Prelude.{◌+◌, ◌<◌, ◌≤◌, ◌^◌, false, int_le, length, negsuc};
 ghost use Rattle.std.specs.List.{list_any};
-ghost use Rattle.fx_chain.specs.Answers.{installed, is_bad_entry};
+ghost use Rattle.fx_chain.specs.Answers.{is_bad_entry};
 ghost use Rattle.fx_chain.specs.declared.request.Target.TheVariants.{Any, Slot};
 ghost use Rattle.std.specs.Prelude.{List};
 ghost use Rattle.fx_base.specs.Catalogue.{FileEntry, IsCatalogue};
 ghost use Rattle.std.specs.Prelude.{ℕ};
 
 use fx_base::{Catalogue, Closed, MOST_ENTRIES, NoMemory};
-use fx_chain::{Op, Place, Request, Target};
+use fx_chain::{Op, Place, Request, Target, has_bad_entry};
 use fx_order::{Access, Slots};
-use fx_ring::has_bad_entry;
 use std::alloc::Global;
 
 // What is at a slot.
@@ -68,17 +67,6 @@ fn close_choices(
     one(alloc, Access::Takes(slot, found_at(slots, slot)))
 }
 
-// What a file is that a request installs.
-fn installed(place: Place, in_list: u32, entry: u8) -> Closed
-    ensures { result ≡ installed place in_list entry }
-{
-    Closed {
-        mark: place.mark(in_list),
-        entry,
-        tag: 0,
-    }
-}
-
 // What an open at a slot may do next.
 fn open_at_choices(
     alloc: Global,
@@ -91,7 +79,7 @@ fn open_at_choices(
 {
     one(
         alloc,
-        Access::Puts(slot, installed(place, 0, entry), found_at(slots, slot)),
+        Access::Puts(slot, place.installed(0, entry), found_at(slots, slot)),
     )
 }
 
@@ -105,7 +93,7 @@ fn open_any_choices(
     requires { length slots.now.at.items < 2 ^ 32 }
     ensures { IfOk result (λ choices. HasEachOpen (table_of_slots slots.now) place entry Any choices.items) }
 {
-    let file = installed(place, 0, entry);
+    let file = place.installed(0, entry);
     let mut choices = one(alloc, Access::FindsFull)?;
     for slot in 0..slots.at.len() as u32 {
         choices.push(Access::Allocates(slot, file))?;
@@ -130,7 +118,7 @@ fn entry_access(slots: &Slots, place: Place, entries: u32, at: (u32, u32), entry
     let (in_list, slot) = at;
     let found = found_at(slots, slot);
     if entry >= 0 {
-        return Access::Puts(slot, installed(place, in_list, entry as u8), found);
+        return Access::Puts(slot, place.installed(in_list, entry as u8), found);
     }
     Access::Clears(slot, found)
 }

@@ -1,16 +1,15 @@
 //! What a request answers that finds memory, and how many accesses it makes.
-ghost use Rattle.std.specs.Prelude.{◌≡◌, ◌<◌, ◌^◌, ℕ, IfOk, Some, [], length, pos};
+ghost use Rattle.std.specs.Prelude.{◌≡◌, ◌<◌, ◌^◌, ℕ, IfOk, Some, length};
 ghost use Rattle.fx_base.specs.declared.open_file.Closed.{Closed as File};
 ghost use Rattle.fx_chain.specs.Accepted.{IsWithinLimits};
-ghost use Rattle.fx_chain.specs.Completed.{completed, completed_of};
+ghost use Rattle.fx_chain.specs.Completed.{completed_of};
 ghost use Rattle.fx_chain.specs.Operation.{asked_of, operation_of};
 ghost use Rattle.fx_order.specs.declared.access.Access.TheVariants.{Allocates};
 ghost use Rattle.fx_outcomes.specs.Answering.{answer_of, count_of, done_entries, open_answer, open_count, update_answer, update_count};
 
 use fx_base::{Catalogue, Errno, NoMemory};
-use fx_chain::{Completion, Op, Place, Request, Target};
+use fx_chain::{Completion, Op, Place, Request, Target, has_bad_entry};
 use fx_order::Access;
-use fx_ring::has_bad_entry;
 use std::alloc::Global;
 
 // How many entries of a list aren't skips.
@@ -83,18 +82,6 @@ pub fn count(catalogue: &Catalogue, size: u32, request: &Request) -> usize
     }
 }
 
-// The answer to a request that gives no bytes.
-fn number(alloc: Global, place: Place, res: u32) -> Completion
-    requires { res < 2 ^ 31 }
-    ensures { completed_of result ≡ completed place (pos res) [] }
-{
-    Completion {
-        place,
-        res: res as i32,
-        got: Vec::new(alloc),
-    }
-}
-
 // What an open answers.
 fn open_answer(
     alloc: Global,
@@ -114,14 +101,14 @@ fn open_answer(
             if size <= slot {
                 return Completion::refusal(alloc, place, Errno::EINVAL);
             }
-            number(alloc, place, 0)
+            Completion::number(alloc, place, 0)
         }
         Target::Any => {
             if size == 0 {
                 return Completion::refusal(alloc, place, Errno::ENFILE);
             }
             match last {
-                Some(Access::Allocates(slot, _)) => number(alloc, place, slot),
+                Some(Access::Allocates(slot, _)) => Completion::number(alloc, place, slot),
                 _ => Completion::refusal(alloc, place, Errno::ENFILE),
             }
         }
@@ -149,7 +136,7 @@ fn update_answer(
     if has_bad_entry(entries, list) {
         return Completion::refusal(alloc, place, Errno::EBADF);
     }
-    number(alloc, place, list.len() as u32)
+    Completion::number(alloc, place, list.len() as u32)
 }
 
 /// What a request answers that finds memory, by the last one of its accesses.
@@ -201,7 +188,7 @@ pub fn answer(
                 return Ok(Completion::refusal(alloc, place, Errno::EINVAL));
             }
             match last {
-                Some(Access::Takes(_, Some(_))) => Ok(number(alloc, place, 0)),
+                Some(Access::Takes(_, Some(_))) => Ok(Completion::number(alloc, place, 0)),
                 _ => Ok(Completion::refusal(alloc, place, Errno::EBADF)),
             }
         }
