@@ -7,7 +7,7 @@ ghost use Rattle.fx_order.specs.Requests.{IsChainDone};
 ghost use Rattle.fx_judge.specs.Claims.{Possibly, Tells};
 ghost use Rattle.fx_judge.specs.Chains.{TellsChains, TellsMember};
 
-use crate::request::{Setting, claims_of_request, is_failure};
+use crate::request::{Setting, claims_of_request};
 use crate::stop::Stop;
 use crate::verdict::Reason;
 use fx_base::Errno;
@@ -38,7 +38,7 @@ fn claims_of_member(
 {
     let (request, c) = member;
     if cut {
-        if !is_failure(c, place, Errno::ECANCELED) {
+        if !c.is_refusal(place, Errno::ECANCELED) {
             return Err(Stop::Refuted(Reason::Member(place)));
         }
         return Ok(MemberClaims {

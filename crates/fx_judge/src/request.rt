@@ -3,8 +3,7 @@ ghost use Rattle.std.specs.Prelude.{◌≡◌, ◌↔◌, ◌≤◌, ◌<◌, �
 ghost use Rattle.fx_base.specs.Catalogue.{name_at};
 ghost use Rattle.fx_base.specs.declared.open_file.Closed.{Closed as FileAt};
 ghost use Rattle.fx_chain.specs.Accepted.{IsWithinLimits};
-ghost use Rattle.fx_chain.specs.Answers.{installed};
-ghost use Rattle.fx_chain.specs.Completed.{completed, completed_of, refusal};
+ghost use Rattle.fx_chain.specs.Completed.{completed_of};
 ghost use Rattle.fx_chain.specs.Operation.{Opens, asked_of, operation_of};
 ghost use Rattle.fx_chain.specs.declared.request.Target.TheVariants.{Slot, Any};
 ghost use Rattle.fx_order.specs.Requests.{IsRefused, IsOpenDone, IsReadDone, IsCloseDone, IsRequestDone, gives};
@@ -31,31 +30,6 @@ pub(crate) struct Setting<'a> {
     pub closes: &'a [Closed],
 }
 
-/// Whether a completion says this.
-pub(crate) fn is_answer(c: &Completion, place: Place, res: i32, got: &[u8]) -> bool
-    ensures { IsTrue result ↔ (completed_of c.now ≡ completed place res got.now) }
-{
-    c.place == place && c.res == res && c.got.as_slice() == got
-}
-
-/// Whether a completion is this failure.
-pub(crate) fn is_failure(c: &Completion, place: Place, errno: Errno) -> bool
-    ensures { IsTrue result ↔ (completed_of c.now ≡ refusal place errno) }
-{
-    is_answer(c, place, -errno.code(), &[])
-}
-
-/// What a file is that a request installs: that of an update's place in its list, or of an open, whose place is 0.
-pub(crate) fn installed(place: Place, in_list: u32, entry: u8) -> Closed
-    ensures { result ≡ installed place in_list entry }
-{
-    Closed {
-        mark: place.mark(in_list),
-        entry,
-        tag: 0,
-    }
-}
-
 /// The claims of a request that didn't come to the table.
 pub(crate) fn refused(
     alloc: Global,
@@ -66,7 +40,7 @@ pub(crate) fn refused(
     ensures { (closes : List FileAt)
         → Tells (λ own. IsRefused place errno own (completed_of c.now)) closes result }
 {
-    if !is_failure(c, place, errno) {
+    if !c.is_refusal(place, errno) {
         return Err(Stop::Refuted(Reason::Member(place)));
     }
     Ok(Vec::new(alloc))
@@ -100,10 +74,10 @@ fn claims_of_open_at(
     if slot >= setting.size {
         return refused(alloc, place, Errno::EINVAL, c);
     }
-    if !is_answer(c, place, 0, &[]) {
+    if !c.is_answer(place, 0, &[]) {
         return Err(Stop::Refuted(Reason::Member(place)));
     }
-    let file = resident_for(setting.closes, installed(place, 0, entry));
+    let file = resident_for(setting.closes, place.installed(0, entry));
     one(alloc, Claim::At(slot, Wants::Anything, Leaves::File(file)))
 }
 
@@ -131,17 +105,17 @@ fn claims_of_open_any(
     if setting.size == 0 {
         return refused(alloc, place, Errno::ENFILE, c);
     }
-    if is_failure(c, place, Errno::ENFILE) {
+    if c.is_refusal(place, Errno::ENFILE) {
         return one(alloc, Claim::Full);
     }
-    if c.res < 0 || !is_answer(c, place, c.res, &[]) {
+    if c.res < 0 || !c.is_answer(place, c.res, &[]) {
         return Err(Stop::Refuted(Reason::Member(place)));
     }
     let slot = c.res as u32;
     if !is_in_range(setting, slot) {
         return Err(Stop::Refuted(Reason::Member(place)));
     }
-    let file = resident_for(setting.closes, installed(place, 0, entry));
+    let file = resident_for(setting.closes, place.installed(0, entry));
     one(alloc, Claim::At(slot, Wants::Nothing, Leaves::File(file)))
 }
 
@@ -165,7 +139,7 @@ fn fits_of(
         got.clear();
         got.reserve(len as usize)?;
         let res = catalogue.read_into(entry as u8, off, len, &mut got);
-        if !is_answer(c, place, res as i32, &got) {
+        if !c.is_answer(place, res as i32, &got) {
             fits[entry as usize] = false;
         }
     }
@@ -188,10 +162,10 @@ fn claims_of_read(
     if slot >= setting.size {
         return refused(alloc, place, Errno::EBADF, c);
     }
-    if len > 0 && is_failure(c, place, Errno::ENOMEM) {
+    if len > 0 && c.is_refusal(place, Errno::ENOMEM) {
         return Ok(Vec::new(alloc));
     }
-    if is_failure(c, place, Errno::EBADF) {
+    if c.is_refusal(place, Errno::EBADF) {
         return one(alloc, Claim::At(slot, Wants::Nothing, Leaves::Same));
     }
     if c.place != place || c.res < 0 {
@@ -218,10 +192,10 @@ fn claims_of_close(
     if slot >= setting.size {
         return refused(alloc, place, Errno::EINVAL, c);
     }
-    if is_failure(c, place, Errno::EBADF) {
+    if c.is_refusal(place, Errno::EBADF) {
         return one(alloc, Claim::At(slot, Wants::NothingToTake, Leaves::Same));
     }
-    if !is_answer(c, place, 0, &[]) {
+    if !c.is_answer(place, 0, &[]) {
         return Err(Stop::Refuted(Reason::Member(place)));
     }
     one(alloc, Claim::At(slot, Wants::Something, Leaves::Empty))

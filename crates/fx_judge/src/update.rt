@@ -8,12 +8,11 @@ ghost use Rattle.fx_order.specs.Requests.{AreEntriesDone, IsEntryDone, IsUpdateD
 ghost use Rattle.fx_order.specs.declared.access.Access.{Access as OneAccess};
 ghost use Rattle.fx_judge.specs.Claims.{Fits, Tells};
 
-use crate::request::{Setting, installed, is_answer, refused};
+use crate::request::{Setting, refused};
 use crate::stop::Stop;
 use crate::verdict::Reason;
 use fx_base::{Errno, MOST_ENTRIES};
-use fx_chain::{Completion, LONGEST_UPDATE, Place};
-use fx_ring::has_bad_entry;
+use fx_chain::{Completion, LONGEST_UPDATE, Place, has_bad_entry};
 use fx_search::{Claim, Leaves, Wants, resident_for};
 use std::alloc::Global;
 
@@ -26,7 +25,7 @@ fn claim_of_entry(setting: &Setting<'_>, place: Place, at: (u32, u32), entry: i3
 {
     let (in_list, slot) = at;
     if entry >= 0 {
-        let file = resident_for(setting.closes, installed(place, in_list, entry as u8));
+        let file = resident_for(setting.closes, place.installed(in_list, entry as u8));
         return Some(Claim::At(slot, Wants::Anything, Leaves::File(file)));
     }
     if entry > -2 {
@@ -80,7 +79,7 @@ pub(crate) fn claims_of_update(
     if has_bad_entry(entries, list) {
         return refused(alloc, place, Errno::EBADF, c);
     }
-    if !is_answer(c, place, list.len() as i32, &[]) {
+    if !c.is_answer(place, list.len() as i32, &[]) {
         return Err(Stop::Refuted(Reason::Member(place)));
     }
     claims_of_entries(alloc, setting, place, off, list)

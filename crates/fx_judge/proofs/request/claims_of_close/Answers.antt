@@ -12,9 +12,9 @@ returns-then-slot-setting c =
     tells_so _ _ _ _ (λ own done. rw (ne_eqb _ 0 c.if-setting-eq0.false, le-leb _ _ c.if-slot-setting.true) at done)
     (c.refused-then-slot-setting.ensures c.args.setting.now.closes.now)
 
-pub returns-then-is_failure : goal.returns-then-is_failure
-returns-then-is_failure c =
-    tells_so _ _ _ _ (λ own. close_missed _ _ c.args.setting.now.closes.now _ own c.if-setting-eq0.false c.if-slot-setting.false (c.if-is_failure.ensures.0 refl))
+pub returns-then-is_refusal : goal.returns-then-is_refusal
+returns-then-is_refusal c =
+    tells_so _ _ _ _ (λ own. close_missed _ _ c.args.setting.now.closes.now _ own c.if-setting-eq0.false c.if-slot-setting.false (c.if-is_refusal.ensures.0 refl))
     (c.one.ensures c.args.setting.now.closes.now)
 
 pub returns : goal.returns

@@ -7,9 +7,9 @@ pub returns-then-setting-eq0 : goal.returns-then-setting-eq0
 returns-then-setting-eq0 c =
     tells_so _ _ _ _ (λ own done. rw (eq-eqb _ 0 c.if-setting-eq0.true) at done.1) (c.refused.ensures c.args.setting.now.closes.now)
 
-pub returns-then-is_failure : goal.returns-then-is_failure
-returns-then-is_failure c =
-    tells_so _ _ _ _ (λ own done. any_full _ _ c.args.setting.now.closes.now _ own c.args.entry c.if-setting-eq0.false (c.if-is_failure.ensures.0 refl) done.1)
+pub returns-then-is_refusal : goal.returns-then-is_refusal
+returns-then-is_refusal c =
+    tells_so _ _ _ _ (λ own done. any_full _ _ c.args.setting.now.closes.now _ own c.args.entry c.if-setting-eq0.false (c.if-is_refusal.ensures.0 refl) done.1)
     (c.one.ensures c.args.setting.now.closes.now)
 
 pub returns : goal.returns
