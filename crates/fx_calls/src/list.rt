@@ -1,5 +1,5 @@
 //! Lists of numbers that change the slots of a model, one after another.
-ghost use Rattle.std.specs.Prelude.{◌≡◌, ℤ, ◌+◌, ◌^◌, ◌<◌, ◌≤◌, false, IfOk, OnOk, List, length, None};
+ghost use Rattle.std.specs.Prelude.{◌≡◌, ◌+◌, ◌^◌, ◌<◌, ◌≤◌, false, IfOk, OnOk, length, None};
 ghost use Rattle.std.specs.List.{list_any};
 ghost use Rattle.std.specs.Option.{option_to_list};
 ghost use Rattle.fx_base.specs.declared.catalogue.TheConstants.{MOST_ENTRIES};
@@ -12,6 +12,7 @@ ghost use Rattle.fx_order.specs.Slots.{table_of_slots};
 
 use fx_base::{Closed, Mark, NoMemory};
 use fx_order::Slots;
+use fx_ring::tag_at;
 use std::alloc::Global;
 
 /// So many empty slots, all of them in the allocation range.
@@ -27,17 +28,6 @@ pub fn empty_slots(alloc: Global, n: u32) -> Result<Slots, NoMemory>
         at.push(None)?;
     }
     Ok(Slots { range: (0, n), at })
-}
-
-// The tag of a place of a list, 0 where none are given.
-#[tactic(auto, using(fx_ring::proofs::NoTags::no_tag_at))]
-fn tag_at(tags: Option<&[u64]>, place: usize) -> u64
-    ensures { (list : List ℤ) → result ≡ tag_at (tags_for list tags.entry) place }
-{
-    let Some(tags) = tags else {
-        return 0;
-    };
-    tags.get(place).copied().unwrap_or(0)
 }
 
 // Applies one number: -1 empties the slot, -2 leaves it, and every other one opens that catalogue entry there. It gives

@@ -10,9 +10,10 @@ ghost use Rattle.fx_ring.specs.Tags.{tags_for};
 ghost use Rattle.fx_plain.specs.declared.table.TheConstants.{MOST_SLOTS};
 
 use fx_base::{Catalogue, Errno};
+use fx_chain::has_bad_entry;
 use fx_order::RingSlots;
 use fx_plain::MOST_SLOTS;
-use fx_ring::{MOST_REGISTRATIONS, are_bad_tags, has_bad_entry, has_bad_file};
+use fx_ring::{MOST_REGISTRATIONS, are_bad_tags, has_bad_file};
 
 /// Why a table of so many empty slots can't be registered, except when out of memory.
 pub fn sparse_refusal(catalogue: &Catalogue, ring: &RingSlots, n: u32) -> Option<Errno>

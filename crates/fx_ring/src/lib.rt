@@ -16,7 +16,7 @@ mod slots;
 mod submission;
 mod worker;
 
-pub use list::{are_bad_tags, has_bad_entry, has_bad_file};
+pub use list::{are_bad_tags, has_bad_file, tag_at};
 pub use open_ring::OpenRing;
 pub use report::{Report, SubmitFault};
 pub use ring::{MOST_REGISTRATIONS, MOST_SUBMISSIONS, Ring};

@@ -12,7 +12,6 @@ ghost use Rattle.fx_ring.specs.Slots.{AreFresh, SetsList, SetsNumber, files_at};
 
 use crate::slots::{clear_slot, fill_slot};
 use fx_base::{Catalogue, CloseList, MOST_ENTRIES, Mark};
-use fx_chain::is_bad_entry;
 use fx_plain::{MOST_SLOTS, PlainTable};
 
 // Whether a number is neither an empty slot nor an entry of the catalogue.
@@ -30,13 +29,6 @@ pub fn has_bad_file(entries: u32, list: &[i32]) -> bool
     ensures { result ≡ list_any (is_bad_file entries) list.now }
 {
     list.iter().any(|number| is_bad_file(entries, *number))
-}
-
-/// Whether a list has a number that is below -2 or past the catalogue.
-pub fn has_bad_entry(entries: u32, list: &[i32]) -> bool
-    ensures { result ≡ list_any (is_bad_entry entries) list.now }
-{
-    list.iter().any(|number| is_bad_entry(entries, *number))
 }
 
 // Whether a number below 0, which opens no file, has a tag.
@@ -67,9 +59,9 @@ pub fn are_bad_tags(list: &[i32], tags: Option<&[u64]>) -> bool
     list.len() != tags.len() || has_bad_tag(list, tags)
 }
 
-// The tag of a place of a list, 0 where none are given or there is no such place.
+/// The tag of a place of a list, from 0: 0 where none are given or there is no such place.
 #[tactic(auto, using(crate::proofs::NoTags::no_tag_at))]
-fn tag_at(tags: Option<&[u64]>, place: usize) -> u64
+pub fn tag_at(tags: Option<&[u64]>, place: usize) -> u64
     ensures { (list : List ℤ) → result ≡ tag_at (tags_for list tags.entry) place }
 {
     let Some(tags) = tags else {

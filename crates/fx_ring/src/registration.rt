@@ -9,9 +9,10 @@ ghost use Rattle.fx_ring.specs.Registration.{files_after, is_bad_file, range_ref
 ghost use Rattle.fx_ring.specs.Tags.{no_tags, tags_for};
 ghost use Rattle.fx_ring.specs.Slots.{files_at};
 
-use crate::list::{NumberList, apply_list, are_bad_tags, has_bad_entry, has_bad_file};
+use crate::list::{NumberList, apply_list, are_bad_tags, has_bad_file};
 use crate::ring::{MOST_REGISTRATIONS, Ring};
 use fx_base::{Catalogue, CloseList, Errno, MOST_ENTRIES, NoMemory};
+use fx_chain::has_bad_entry;
 use fx_plain::{MOST_SLOTS, PlainTable};
 use std::alloc::Global;
 use std::mem;
