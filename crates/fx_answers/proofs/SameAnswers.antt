@@ -1,22 +1,26 @@
 -- Lists that say the same, and a list of answers that one chain adds to.
-use Rattle.fx_order.proofs.Words.{◌≡◌, ℕ, ◌+◌, ◌-◌, ◌<◌, List, [], ◌∷◌, ◌++◌, length, map, take, drop, sym, ap, ◌∙◌, arith, slice_index_or, by_equality}
+use Rattle.fx_order.proofs.Words.{◌≡◌, ℕ, ◌+◌, ◌-◌, ◌<◌, List, [], ◌∷◌, ◌++◌, length, map, take, drop, refl, sym, ap, ◌∙◌, arith, slice_index_or, false≢true}
 use Rattle.fx_order.proofs.Words.{Vec, Completed, Completion, all_completed, completed_of, map-append, take_all}
 use Rattle.std.specs.Prelude.{slice_set}
+use Rattle.std.specs.Cmp.Lexicographic.{pointwise}
+use Rattle.fx_chain.specs.contracts.completion.CompletionPartialEq.TheImpl.{eq-value as eq_of_completion}
+use Rattle.std.proofs.Common.{Bool, true, rules, ◌&&◌}
+use Rattle.std.proofs.lemmas.Bool.{and_parts}
 use Rattle.std.proofs.lemmas.List.{get_or-map, length-drop, map-set, take-append-drop}
 use Rattle.fx_answers.specs.Tellings.{all_told, answers_of}
 
--- lists that say the same up to here do so up to the next place
-pub same_once_more : {X Y : Type 0} (f : X → Y) (xs ys : List X) (i : ℕ) → i < length xs → i < length ys
-    → ((k : ℕ) (d : Y) → k < i → slice_index_or (map f xs) k d ≡ slice_index_or (map f ys) k d)
-    → (x y : X) → x ≡ slice_index_or xs i x → y ≡ slice_index_or ys i y → f x ≡ f y
-    → (k : ℕ) (d : Y) → k < i + 1 → slice_index_or (map f xs) k d ≡ slice_index_or (map f ys) k d
-same_once_more {X} {Y} f xs ys i in_xs in_ys before x y is_x is_y same k d few =
-    by_equality k i (λ _. slice_index_or (map f xs) k d ≡ slice_index_or (map f ys) k d)
-    (λ here.
-    let at_x : slice_index_or (map f xs) i d ≡ f x = get_or-map f xs i x d in_xs ∙ ap f (sym is_x) in
-    let at_y : slice_index_or (map f ys) i d ≡ f y = get_or-map f ys i y d in_ys ∙ ap f (sym is_y) in
-    ap (λ (n : ℕ). slice_index_or (map f xs) n d) here ∙ (at_x ∙ (same ∙ (sym at_y ∙ ap (λ (n : ℕ). slice_index_or (map f ys) n d) (sym here)))))
-    (λ other. before k d (omega (arith, few, other)))
+-- lists of which `==` tells that they say the same
+pub same_each : {X Y : Type 0} (f : X → Y) {E : X → X → Bool} → ((x y : X) → E x y ≡ true → f x ≡ f y) → (xs ys : List X)
+    → pointwise E xs ys ≡ true → map f xs ≡ map f ys
+same_each f each [] [] is = refl
+same_each f each [] (y ∷ ys) is = absurd (false≢true is)
+same_each f each (x ∷ xs) [] is = absurd (false≢true is)
+same_each f {E} each (x ∷ xs) (y ∷ ys) is =
+    let both = and_parts (E x y) (pointwise E xs ys) is in
+    λ i. each x y both.0 i ∷ same_each f each xs ys both.1 i
+
+pub completion_same : (one other : Completion) → eq_of_completion.it one other ≡ true → completed_of one ≡ completed_of other
+completion_same one other is = search rules
 
 -- one chain answers more
 pub set_answers : (before all : List (Vec Completion)) {i : ℕ} {old : Vec Completion} (mine : Vec Completion) (own : List Completed) → answers_of all ≡ answers_of before

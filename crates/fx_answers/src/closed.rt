@@ -14,21 +14,16 @@ use crate::chain::{Progress, chain_accesses, settle};
 use crate::found::Found;
 use crate::outcome::Answer;
 use crate::parts::{are_parts, part_at, waits};
-use crate::state::{State, are_same, next_state};
+use crate::state::{State, next_state};
 use crate::submission::Submission;
-use crate::telling::{are_same as are_same_answers, is_same};
+use crate::telling::are_same as are_same_answers;
 use fx_base::NoMemory;
 use fx_chain::{Completion, Place};
 use fx_order::{Access, Slots};
 
 /// Whether a completion is among these.
 pub(crate) fn is_among(completions: &[Completion], c: &Completion) -> bool {
-    for other in completions {
-        if is_same(other, c) {
-            return true;
-        }
-    }
-    false
+    completions.contains(c)
 }
 
 // Whether a completion is one of these answers.
@@ -36,7 +31,7 @@ fn is_answered(answers: &[Answer], c: &Completion) -> bool
     ensures { IsTrue result → Contains (answered answers.now) (completed_of c.now) }
 {
     for answer in answers {
-        if is_same(&answer.completion, c) {
+        if answer.completion == *c {
             return true;
         }
     }
@@ -234,7 +229,7 @@ pub(crate) fn are_all_states(claimed: &Claimed<'_>, slots: &Slots) -> Result<boo
         return Ok(false);
     };
     if slots.at.len() != claimed.submission.setting.size as usize
-        || !are_same(&first.slots, slots)
+        || !first.slots.is_same(slots)
     {
         return Ok(false);
     }

@@ -14,7 +14,7 @@ use crate::explore::explore;
 use crate::found::{Found, Step};
 use crate::player::play_to;
 use crate::setting::Setting;
-use crate::state::{State, are_same};
+use crate::state::State;
 use crate::submission::Submission;
 use fx_base::{Catalogue, NoMemory};
 use fx_chain::{Request, cut};
@@ -105,7 +105,7 @@ fn is_listed(submission: &Submission<'_>, state: &State, ends: &[End], number: u
         return true;
     }
     match ends.get(number) {
-        Some(end) => are_same(&end.slots, &state.slots),
+        Some(end) => end.slots.is_same(&state.slots),
         None => false,
     }
 }

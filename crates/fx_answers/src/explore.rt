@@ -5,7 +5,7 @@ use crate::chain::{Progress, chain_accesses, settle};
 use crate::closed::is_among;
 use crate::found::{Found, Step, key_of};
 use crate::parts::{part_at, part_numbers, waits};
-use crate::state::{State, copy_of, next_state};
+use crate::state::{State, next_state};
 use crate::submission::Submission;
 use crate::telling::{Telling, push_copies};
 use fx_base::NoMemory;
@@ -35,7 +35,7 @@ pub(crate) fn start(
         }
     }
     Ok(State {
-        slots: copy_of(alloc, slots)?,
+        slots: slots.copy(alloc)?,
         chains,
         telling,
     })

@@ -17,7 +17,6 @@ use crate::found::{Found, Step};
 use crate::player::play_to;
 use crate::setting::Setting;
 use crate::submission::Submission;
-use crate::telling::copy_of;
 use fx_base::{Catalogue, NoMemory};
 use fx_chain::{Completion, Place, Request, cut};
 use fx_order::{ChainAccess, Slots};
@@ -68,7 +67,7 @@ fn answer_of(
     let Some(c) = answer_at(completions, place) else {
         return Ok(None);
     };
-    let copy = copy_of(alloc, c)?;
+    let copy = c.copy(alloc)?;
     Ok(Some(copy))
 }
 

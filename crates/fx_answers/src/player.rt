@@ -4,7 +4,6 @@ use crate::explore::{accesses_of, start};
 use crate::found::{Found, Step};
 use crate::state::{State, next_state};
 use crate::submission::Submission;
-use crate::telling::removed_by;
 use fx_base::{Closed, NoMemory};
 use fx_chain::Completion;
 use fx_order::{Access, ChainAccess, Slots};
@@ -63,7 +62,7 @@ impl Player {
         if let Some(own) = self.told.get_mut(chain) {
             own.append(&mut told)?;
         }
-        if let Some(file) = removed_by(&access) {
+        if let Some(file) = access.removed() {
             self.closes.push(file)?;
         }
         self.order.push(ChainAccess {

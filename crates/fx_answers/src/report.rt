@@ -17,9 +17,9 @@ use crate::explore::explore;
 use crate::found::{Found, Step};
 use crate::player::play_to;
 use crate::setting::Setting;
-use crate::state::{State, are_same};
+use crate::state::State;
 use crate::submission::Submission;
-use crate::telling::{are_same as are_same_answers, are_same_closes};
+use crate::telling::are_same as are_same_answers;
 use fx_base::{Catalogue, CloseList, Closed, NoMemory};
 use fx_chain::{Completion, Request, cut};
 use fx_order::{ChainAccess, Slots};
@@ -160,12 +160,12 @@ fn tells_of(submission: &Submission<'_>, state: &State, possible: &PossibleRepor
         return false;
     }
     if telling.answers.len() != submission.chains.len()
-        || !are_same(&possible.slots, &state.slots)
+        || !possible.slots.is_same(&state.slots)
     {
         return false;
     }
     are_told(&report.completions, &telling.answers)
-        && are_same_closes(report.closes.files(), &telling.removed)
+        && report.closes.files() == telling.removed.as_slice()
 }
 
 // Whether the report with this number tells of a state, if no chain has an access left there.

@@ -12,8 +12,8 @@ ghost use Rattle.fx_answers.specs.Views.{IsOverIn, IsStepTo, is_idle_at, not_beg
 
 use crate::chain::{Progress, left, step};
 use crate::submission::Submission;
-use crate::telling::{Telling, are_all_same, are_same_closes};
-use fx_base::{Closed, NoMemory};
+use crate::telling::{Telling, are_all_same};
+use fx_base::NoMemory;
 use fx_chain::{Completion, Op, Request};
 use fx_order::{Access, Slots};
 use std::alloc::Global;
@@ -27,57 +27,6 @@ pub struct State {
     pub chains: Vec<Progress>,
     /// What was told on the way, where the submission keeps it.
     pub telling: Telling,
-}
-
-// Whether both lists have the same files at the same slots.
-fn are_same_files(files: &[Option<Closed>], others: &[Option<Closed>]) -> bool
-    ensures { IsTrue result → files.now ≡ others.now }
-{
-    if files.len() != others.len() {
-        return false;
-    }
-    for i in 0..files.len() {
-        if files[i] != others[i] {
-            return false;
-        }
-    }
-    true
-}
-
-// Whether both lists have each chain equally far.
-fn are_same_chains(chains: &[Progress], others: &[Progress]) -> bool
-    ensures { IsTrue result → chains.now ≡ others.now }
-{
-    if chains.len() != others.len() {
-        return false;
-    }
-    for i in 0..chains.len() {
-        if chains[i] != others[i] {
-            return false;
-        }
-    }
-    true
-}
-
-/// Whether both tables have the same slots with the same files.
-pub(crate) fn are_same(one: &Slots, other: &Slots) -> bool
-    ensures { IsTrue result → table_of_slots one.now ≡ table_of_slots other.now }
-{
-    if one.range.0 != other.range.0 || one.range.1 != other.range.1 {
-        return false;
-    }
-    are_same_files(&one.at, &other.at)
-}
-
-/// A table of its own with the same files.
-pub(crate) fn copy_of(alloc: Global, slots: &Slots) -> Result<Slots, NoMemory>
-    ensures { IfOk result (λ copy. table_of_slots copy ≡ table_of_slots slots.now) }
-{
-    let at = Vec::from_slice(alloc, &slots.at)?;
-    Ok(Slots {
-        range: slots.range,
-        at,
-    })
 }
 
 // Whether each of these requests is a read.
@@ -103,11 +52,11 @@ impl State {
         ensures removed { IsTrue result
             → self.now.telling.removed.items ≡ other.now.telling.removed.items }
     {
-        if !are_same(&self.slots, &other.slots) || !are_same_chains(&self.chains, &other.chains) {
+        if !self.slots.is_same(&other.slots) || self.chains != other.chains {
             return false;
         }
         are_all_same(&self.telling.answers, &other.telling.answers)
-            && are_same_closes(&self.telling.removed, &other.telling.removed)
+            && self.telling.removed == other.telling.removed
     }
 
     /// How far a chain has come, by its number from 0.
@@ -156,7 +105,7 @@ fn slots_with(alloc: Global, slots: &Slots, access: &Access) -> Result<Slots, No
     ensures { IfOk result (λ after.
         table_of_slots after ≡ table_with (table_of_slots slots.now) access.now) }
 {
-    let mut after = copy_of(alloc, slots)?;
+    let mut after = slots.copy(alloc)?;
     after.make(access);
     Ok(after)
 }

@@ -1,7 +1,7 @@
 //! What was told on the way to a state of a submission.
 ghost use Rattle.std.specs.Prelude.{◌≡◌, ◌++◌, ◌<◌, IfOk, IsPermutation, IsTrue, length};
 ghost use Rattle.std.specs.Option.{option_to_list};
-ghost use Rattle.fx_chain.specs.Completed.{all_completed, completed_of};
+ghost use Rattle.fx_chain.specs.Completed.{all_completed};
 ghost use Rattle.fx_order.specs.Access.{removed_by};
 ghost use Rattle.fx_answers.specs.Tellings.{IsToldOn, answers_of};
 
@@ -19,67 +19,18 @@ pub struct Telling {
     pub removed: Vec<Closed>,
 }
 
-/// A completion once more.
-pub(crate) fn copy_of(alloc: Global, c: &Completion) -> Result<Completion, NoMemory>
-    ensures { IfOk result (λ copy. completed_of copy ≡ completed_of c.now) }
-{
-    Ok(Completion {
-        place: c.place,
-        res: c.res,
-        got: Vec::from_slice(alloc, &c.got)?,
-    })
-}
-
-/// Whether both completions say the same.
-pub(crate) fn is_same(one: &Completion, other: &Completion) -> bool
-    ensures { IsTrue result → completed_of one.now ≡ completed_of other.now }
-{
-    one.place == other.place && one.res == other.res && one.got.as_slice() == other.got.as_slice()
-}
-
 /// Whether both lists have the same completions, in the same order.
 pub(crate) fn are_same(some: &[Completion], others: &[Completion]) -> bool
     ensures { IsTrue result → all_completed some.now ≡ all_completed others.now }
 {
-    if some.len() != others.len() {
-        return false;
-    }
-    for i in 0..some.len() {
-        if !is_same(&some[i], &others[i]) {
-            return false;
-        }
-    }
-    true
+    some == others
 }
 
 /// Whether both lists have the same completions of each chain.
 pub(crate) fn are_all_same(some: &[Vec<Completion>], others: &[Vec<Completion>]) -> bool
     ensures { IsTrue result → answers_of some.now ≡ answers_of others.now }
 {
-    if some.len() != others.len() {
-        return false;
-    }
-    for i in 0..some.len() {
-        if !are_same(&some[i], &others[i]) {
-            return false;
-        }
-    }
-    true
-}
-
-/// Whether both lists have the same files, in the same order.
-pub(crate) fn are_same_closes(some: &[Closed], others: &[Closed]) -> bool
-    ensures { IsTrue result → some.now ≡ others.now }
-{
-    if some.len() != others.len() {
-        return false;
-    }
-    for i in 0..some.len() {
-        if some[i] != others[i] {
-            return false;
-        }
-    }
-    true
+    some == others
 }
 
 /// Adds the same completions at the end.
@@ -94,7 +45,7 @@ pub(crate) fn push_copies(
     let [c, more @ ..] = more else {
         return Ok(());
     };
-    all.push(copy_of(alloc, c)?)?;
+    all.push(c.copy(alloc)?)?;
     push_copies(alloc, all, more)
 }
 
@@ -116,18 +67,6 @@ fn push_lists(
     push_lists(alloc, all, more)
 }
 
-/// The file that an access takes from its slot.
-pub(crate) fn removed_by(access: &Access) -> Option<Closed>
-    ensures { result ≡ removed_by access.now }
-{
-    match access {
-        Access::Puts(_, _, removed) => *removed,
-        Access::Clears(_, removed) => *removed,
-        Access::Takes(_, removed) => *removed,
-        _ => None,
-    }
-}
-
 // The files that were taken behind an access, in order of mark.
 fn removed_after(
     alloc: Global,
@@ -138,7 +77,7 @@ fn removed_after(
         (removed.now ++ option_to_list (removed_by access.now)) after.items) }
 {
     let mut after = Vec::from_slice(alloc, removed)?;
-    if let Some(file) = removed_by(access) {
+    if let Some(file) = access.removed() {
         after.push(file)?;
     }
     after.sort_unstable_by_key(|file| file.mark);

@@ -10,5 +10,5 @@ returns c =
     IfOk-weaker c.are_states_explored.result _ _ (λ yes all it. all_by (as_many (all_asked sub.requests.now) sub.chains.now sub.runs)
     (subst (λ (l : List State). 0 < length l) c.deref.ensures.value c.in-Some.ensures.lookup.3.0)
     (subst (λ (l : List State). first ≡ slice_index_or l 0 first) c.deref.ensures.value c.in-Some.ensures.lookup.1)
-    (c.are_same.ensures c.if-not-are_same.false) size (c.has_removed_none.ensures c.if-not-has_removed_none.false) (c.are_parts.ensures c.if-not-are_parts.false) (c.in_ok-are_at_start.ensures c.if-not-branch.false) (all it))
+    (c.is_same.ensures.same c.if-not-is_same.false) size (c.has_removed_none.ensures c.if-not-has_removed_none.false) (c.are_parts.ensures c.if-not-are_parts.false) (c.in_ok-are_at_start.ensures c.if-not-branch.false) (all it))
     c.are_states_explored.ensures
