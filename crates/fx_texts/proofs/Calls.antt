@@ -1,23 +1,74 @@
--- The calls between submissions, and refused submissions: where memory is found they leave one ring, and print one line.
-use Rattle.fx_texts.proofs.Words.{◌≡◌, ℕ, suc, ◌+◌, ◌≤◌, Bool, true, false, nat_le, nat_lt, ◌==◌, List, [], ◌++◌, length, refl, sym, ◌<◌, ap, subst}
-use Rattle.fx_texts.proofs.Words.{◌∙◌, arith, inl, ⊎_elim, Option, Some, None, if◌then◌else◌, MatchBool, MatchOption, or_parts, FileEntry, Errno}
-use Rattle.fx_texts.proofs.Words.{ENOMEM, fault_of, Asked, CutFault, MOST_SLOTS, range_refusal, IsRing, RingContents, RingState, ring_of, Reported}
-use Rattle.fx_texts.proofs.Words.{MOST_SUBMISSIONS, Instruction, SetsRange, SubmitsAll, UpdatesRing, Answers, IsRefused, Prints, PrintsReport}
-use Rattle.fx_texts.proofs.Words.{call_of, ring_with_slots, refused_line, too_many_line, IsLineOf, Leads, MayLeadTo, Stage, after_call, count_after}
-use Rattle.fx_texts.proofs.Words.{count_behind, kept_text, unless_refused, FoundMemory, Contains, Grows, HasEachNext}
-use Rattle.std.proofs.Common.{◌↔◌, ℤ, pos, negsuc, ◌^◌}
+-- The calls between submissions, and refused submissions: why one is refused, and that where memory is found they leave one ring, and print
+-- one line.
+use Rattle.fx_texts.proofs.Words.{Errno, EAGAIN, EBADF, EBUSY, EINVAL, EMFILE, ENOMEM, ENXIO, call_of, is_bad_entry, fault_of, Asked, CutFault}
+use Rattle.fx_texts.proofs.Words.{Instruction, MakesSparse, RegistersList, SetsRange, SubmitsAll, Unregisters, UpdatesRing, MOST_SLOTS, refused_line}
+use Rattle.fx_texts.proofs.Words.{too_many_line, is_bad_file, range_refusal, IsRing, RingContents, RingState, ring_of, Reported, are_bad_tags}
+use Rattle.fx_texts.proofs.Words.{tags_given, MOST_REGISTRATIONS, MOST_SUBMISSIONS, Answers, IsRefused, Prints, PrintsReport, HasEachNext, IsLineOf}
+use Rattle.fx_texts.proofs.Words.{Leads, MayLeadTo, Stage, after_call, count_after, count_behind, kept_text, unless_refused, IsCall, FoundMemory}
+use Rattle.fx_texts.proofs.Words.{Bool, List, None, Option, Some, [], ap, arith, false, if◌then◌else◌, inl, length, nat_le, nat_lt, refl, sym, true}
+use Rattle.fx_texts.proofs.Words.{ℕ, ⊎_elim, ◌++◌, ◌+◌, ◌<◌, ◌==◌, ◌||◌, ◌∙◌, ◌∷◌, ◌≡◌, ◌≤◌, or_parts, MatchBool, list_any, MatchOption, Contains}
+use Rattle.std.proofs.Common.{◌↔◌, ◌^◌}
 use Rattle.std.proofs.lemmas.Bool.{ltb-false}
 use Rattle.fx_chain.proofs.Cases.{either_way}
 use Rattle.fx_chain.specs.Completed.{negated}
-use Rattle.fx_order.specs.declared.ring_slots.RingSlots.{RingSlots}
 use Rattle.fx_lines.specs.Lines.{IsResultInRange}
 use Rattle.fx_lines.proofs.ResultLines.{one_result}
 use Rattle.fx_calls.proofs.Calls.{Call, Tells, not_refused, one_line}
-use Rattle.fx_calls.proofs.Shown.{shown}
-use Rattle.fx_texts.specs.Rings.{AnswersFound, IsCall}
+use Rattle.fx_texts.specs.Rings.{AnswersFound}
 use Rattle.fx_texts.specs.Texts.{HasFound}
-use Rattle.fx_texts.proofs.Growth.{grows_by}
-use Rattle.fx_texts.proofs.Reasons.{none_holds, refusal_other}
+use Rattle.std.specs.List.{AllByRecursion}
+use Rattle.fx_chain.proofs.Counted.{passed}
+use Rattle.fx_texts.proofs.Growth.{stays}
+
+-- why a call is refused: the first that holds of its reasons, none of which is a want of memory
+
+abbrev pub reasons_of : RingState → Instruction → List (Bool × Errno)
+reasons_of ring (MakesSparse n) = (nat_lt 0 ring.size, EBUSY) ∷ (n == 0, EINVAL) ∷ (nat_lt MOST_SLOTS n, EMFILE) ∷ []
+reasons_of ring (RegistersList list tags) =
+    (nat_lt 0 ring.size, EBUSY) ∷ (length list == 0 || are_bad_tags list (tags_given list tags), EINVAL)
+    ∷ (nat_lt MOST_SLOTS (length list), EMFILE) ∷ (list_any (is_bad_file (length ring.catalogue)) list, EBADF)
+    ∷ (nat_le MOST_REGISTRATIONS ring.registrations, EAGAIN) ∷ []
+reasons_of ring Unregisters = (ring.size == 0, ENXIO) ∷ []
+reasons_of ring (SetsRange off len) = (nat_lt ring.size (off + len), EINVAL) ∷ []
+reasons_of ring (UpdatesRing off list tags) =
+    (ring.size == 0, ENXIO)
+    ∷ (length list == 0 || (nat_lt ring.size (off + length list) || are_bad_tags list (tags_given list tags)), EINVAL)
+    ∷ (list_any (is_bad_entry (length ring.catalogue)) list, EBADF) ∷ (nat_le MOST_REGISTRATIONS ring.registrations, EAGAIN) ∷ []
+reasons_of ring (SubmitsAll asked) = []
+
+abbrev first_of : List (Bool × Errno) → Option Errno
+first_of [] = None
+first_of (reason ∷ reasons) = if reason.0 then Some reason.1 else first_of reasons
+
+refusal_is : (ring : RingState) (command : Instruction) → (call_of ring command).refusal ≡ first_of (reasons_of ring command)
+refusal_is ring (SubmitsAll asked) = refl
+refusal_is ring _ = refl
+
+-- where it isn't refused, none holds
+all_fail : (reasons : List (Bool × Errno)) → first_of reasons ≡ None → AllByRecursion (λ (reason : Bool × Errno). reason.0 ≡ false) reasons
+all_fail [] is = tt
+all_fail (reason ∷ reasons) is = let (fails, rest) = passed reason.0 reason.1 (first_of reasons) is in (fails, all_fail reasons rest)
+
+pub none_holds : (ring : RingState) (command : Instruction) → (call_of ring command).refusal ≡ None
+    → AllByRecursion (λ (reason : Bool × Errno). reason.0 ≡ false) (reasons_of ring command)
+none_holds ring command none = all_fail (reasons_of ring command) (sym (refusal_is ring command) ∙ none)
+
+abbrev is_memory : Bool × Errno → Bool
+is_memory (holds, ENOMEM) = true
+is_memory (holds, _) = false
+
+first_other : (reasons : List (Bool × Errno)) → list_any is_memory reasons ≡ false → first_of reasons ≡ Some ENOMEM → ⊥
+first_other [] none is = cc
+first_other ((true, ENOMEM) ∷ reasons) none is = cc
+first_other ((true, _) ∷ reasons) none is = cc
+first_other ((false, errno) ∷ reasons) none is = first_other reasons (or_parts (is_memory (false, errno)) _ none).1 is
+
+none_memory : (ring : RingState) (command : Instruction) → list_any is_memory (reasons_of ring command) ≡ false
+none_memory ring (SubmitsAll asked) = refl
+none_memory ring _ = refl
+
+refusal_other : (ring : RingState) (command : Instruction) → (call_of ring command).refusal ≡ Some ENOMEM → ⊥
+refusal_other ring command is = first_other (reasons_of ring command) (none_memory ring command) (sym (refusal_is ring command) ∙ is)
 
 -- what a call leaves that found memory, and what it prints
 
@@ -33,8 +84,7 @@ both_parts (Some errno) old new call line = ((λ p. p), (λ p. p))
 both_parts None old new call line = ((λ p. p), (λ p. p))
 
 uncounted : (b : Bool) {count : ℕ} → (if b then count else count + 1) ≡ count → b ≡ true
-uncounted true is = refl
-uncounted false is = absurd (omega arith)
+uncounted b is = grind arith
 
 -- the same of a submission that isn't counted
 refused_parts : (x : Option CutFault) {count : ℕ} (same reports : Type 0) (line many : List ℕ) (text : CutFault → List ℕ)
@@ -42,9 +92,7 @@ refused_parts : (x : Option CutFault) {count : ℕ} (same reports : Type 0) (lin
     → MatchOption x (MatchBool (nat_le MOST_SUBMISSIONS count) (same × (line ≡ many)) reports) (λ fault. same × (line ≡ text fault))
     ↔ (same × MatchOption x (line ≡ many) (λ fault. line ≡ text fault))
 refused_parts (Some fault) same reports line many text is = ((λ p. p), (λ p. p))
-refused_parts None {count} same reports line many text is =
-    subst (λ (b : Bool). MatchBool b (same × (line ≡ many)) reports ↔ (same × (line ≡ many)))
-    (sym (uncounted (nat_le MOST_SUBMISSIONS count) is)) ((λ p. p), (λ p. p))
+refused_parts None {count} same reports line many text is = rw (uncounted (nat_le MOST_SUBMISSIONS count) is) ((λ p. p), (λ p. p))
 
 -- what a submission comes to: nothing changes and it isn't counted, or it has a report and is
 cases : {R : Type 0} (x : Option CutFault) {count : ℕ} {same reports : Type 0} (line many : List ℕ) (text : CutFault → List ℕ)
@@ -52,8 +100,7 @@ cases : {R : Type 0} (x : Option CutFault) {count : ℕ} {same reports : Type 0}
     → MatchOption x (MatchBool (nat_le MOST_SUBMISSIONS count) (same × (line ≡ many)) reports) (λ fault. same × (line ≡ text fault)) → R
 cases (Some fault) line many text stays goes = λ prints. stays prints.0 refl
 cases None {count} line many text stays goes =
-    either_way (nat_le MOST_SUBMISSIONS count) (λ full prints. stays prints.0 (ap (λ (b : Bool). if b then count else count + 1) full))
-    (λ room prints. goes prints (ap (λ (b : Bool). if b then count else count + 1) room))
+    either_way (nat_le MOST_SUBMISSIONS count) (λ full prints. stays prints.0 (rw full)) (λ room prints. goes prints (rw room))
 
 pub submission_cases : {R : Type 0} (old next : RingContents) (asked : List Asked) (line : List ℕ)
     → (ring_of next ≡ ring_of old → count_behind old.submissions (fault_of asked) ≡ old.submissions → R)
@@ -103,13 +150,9 @@ IsOther x = x ≡ Some ENOMEM → ⊥
 
 -- a line that isn't that of -12
 
-abbrev below_0 : ℤ → ℕ
-below_0 (pos n) = 0
-below_0 (negsuc n) = suc n
-
 other_result : (errno : Errno) → IsOther (Some errno) → IsResultInRange (negated errno) × (negated errno ≡ negated ENOMEM → ⊥)
 other_result ENOMEM other = absurd (other refl)
-other_result errno other = (omega arith, λ same. let e = ap below_0 same in absurd (omega (arith, e)))
+other_result errno other = (omega arith, λ same. cc)
 
 found_line : (ring : RingState) (call : Call) (x : Option Errno) {line : List ℕ} → IsOther x → (x ≡ None → call.res < 2 ^ 31)
     → AnswersFound x call.word (Tells ring call) line → HasFound call.word line
@@ -123,10 +166,9 @@ found_line ring call None {line} other few printed same =
 few_told : (ring : RingState) (command : Instruction) → ring.size ≤ MOST_SLOTS → (call_of ring command).refusal ≡ None
     → (call_of ring command).res < 2 ^ 31
 few_told ring (UpdatesRing off list tags) few none =
-    let (good, rest) = (none_holds ring (UpdatesRing off list tags) none).1 in
-    let within : off + length list ≤ ring.size =
-    ltb-false ring.size (off + length list) (or_parts (nat_lt ring.size (off + length list)) _ (or_parts (length list == 0) _ good).1).0 in
-    omega (arith, within, few)
+    let good = (none_holds ring (UpdatesRing off list tags) none).1.0 in
+    let within = ltb-false ring.size (off + length list) (or_parts _ _ (or_parts (length list == 0) _ good).1).0 in
+    omega arith
 few_told ring _ few none = omega arith
 
 -- what a call leaves and prints, it may leave and print, and find memory
@@ -155,46 +197,22 @@ call_leads old next command line few counts is printed =
       (refl, found_line (ring_of old) call call.refusal (refusal_other (ring_of old) command) (few_told (ring_of old) command few) printed),
     )
 
--- the same of a ring that is kept as slots and was copied, and is put behind others with what was printed
-module _ (keeps : Bool) (catalogue : List FileEntry) (old copy new : RingSlots) (command : Instruction) (before line text : List ℕ)
-    (call : IsCall old.submissions command) (copied : ring_with_slots catalogue copy ≡ ring_with_slots catalogue old)
-    (is : ring_with_slots catalogue new ≡ after_call (ring_with_slots catalogue copy) command)
-    (printed : IsLineOf (ring_with_slots catalogue copy) command line) (kept : text ≡ kept_text keeps (before ++ line)) (stages grown : List Stage) where
-  abbrev from : Stage
-  from = record { ring = ring_with_slots catalogue old; printed = before }
+-- the same of stages: it may lead there, and nowhere else
+module _ (keeps : Bool) (from new : Stage) (command : Instruction) (line : List ℕ) (call : IsCall from.ring.submissions command)
+    (left : new.ring ≡ after_call from.ring command) (told : IsLineOf from.ring command line)
+    (kept : new.printed ≡ kept_text keeps (from.printed ++ line)) where
+  pub call_may_lead : (next : RingContents) → ring_of next ≡ new.ring → from.ring.size ≤ MOST_SLOTS → MayLeadTo keeps from command new
+  call_may_lead next shows few = λ ring same. (
+    next,
+    line,
+    call_leads ring next command line (rw (sym same) at few) (rw (sym same) at call) (shows ∙ (rw (sym same) at left)) (rw (sym same) at told),
+    λ i. record { ring = shows i; printed = sym kept i },
+  )
 
-  abbrev behind : Stage
-  behind = record { ring = ring_with_slots catalogue new; printed = text }
-
-  left : ring_with_slots catalogue new ≡ after_call (ring_with_slots catalogue old) command
-  left = is ∙ ap (λ (r : RingState). after_call r command) copied
-
-  told : IsLineOf (ring_with_slots catalogue old) command line
-  told = subst (λ (r : RingState). IsLineOf r command line) copied printed
-
-  may_lead : length old.slots.at.items ≤ MOST_SLOTS → MayLeadTo keeps from command behind
-  may_lead few = λ ring same.
-      let (next, shows) = shown catalogue new in (
-        next,
-        line,
-        call_leads ring next command line (subst (λ (r : RingState). r.size ≤ MOST_SLOTS) (sym same) few)
-            (subst (λ (r : RingState). IsCall r.submissions command) (sym same) call)
-            (shows ∙ left ∙ sym (ap (λ (r : RingState). after_call r command) same))
-            (subst (λ (r : RingState). IsLineOf r command line) (sym same) told),
-        (λ i. record { ring = shows i; printed = sym kept i }),
-      )
-
-  pub call_grows : length old.slots.at.items ≤ MOST_SLOTS → Grows (λ s. s ≡ behind) stages grown → Grows (MayLeadTo keeps from command) stages grown
-  call_grows few = grows_by (λ (s : Stage). s ≡ behind) (MayLeadTo keeps from command)
-      (λ s same. subst (MayLeadTo keeps from command) (sym same) (may_lead few))
-
-  pub call_only : IsRing (ring_with_slots catalogue old) → Contains grown behind → HasEachNext keeps from command grown
-  call_only is_ring there ring next other same (own, prints, found) =
-      let parts = call_parts ring next command other own (subst (λ (r : RingState). IsCall r.submissions command) (sym same) call) prints found in
-      let after : ring_of next ≡ ring_with_slots catalogue new = parts.0 ∙ ap (λ (r : RingState). after_call r command) same ∙ sym left in
-      let lines : other ≡ line = one_line_of command is_ring (subst (λ (r : RingState). IsLineOf r command other) same parts.1) told in
-      let texts = kept ∙ ap (λ (l : List ℕ). kept_text keeps (before ++ l)) (sym lines) in
-      subst (λ (s : Stage). Contains grown s) (λ i. record { ring = sym after i; printed = texts i }) there
+  pub call_only : (grown : List Stage) → IsRing from.ring → Contains grown new → HasEachNext keeps from command grown
+  call_only grown is_ring there ring next other same (own, prints, found) =
+      let (after, says) = rw same at (call_parts ring next command other own (rw (sym same) at call) prints found) in
+      rw (after, sym left, one_line_of command is_ring says told, sym kept) there
 
 -- a call counts no submission
 pub call_uncounted : {count : ℕ} (command : Instruction) → IsCall count command → count_after count command ≡ count

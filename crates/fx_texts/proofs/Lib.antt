@@ -1,10 +1,7 @@
 pub mod Words
 pub mod Sorted
-pub mod Reasons
 pub mod Calls
-pub mod Counts
 pub mod Growth
-pub mod Inserted
 pub mod Submitted
 pub mod Plays
 pub mod Walks

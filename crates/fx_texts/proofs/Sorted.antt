@@ -1,12 +1,11 @@
 -- Each list of closed files has one in order of mark.
-use Rattle.std.proofs.Common.{◌≡◌, ℕ, zero, suc, ◌+◌, ◌<◌, Bool, true, false, if◌then◌else◌, List, [], ◌∷◌, length, refl, sym, ap, subst, ◌∙◌, arith, slice_index_or}
+use Rattle.fx_texts.proofs.Words.{Closed, List, [], arith, false, if◌then◌else◌, inl, inr, length, slice_index_or, suc, sym, true, zero, ℕ, ◌<◌, ◌∷◌}
+use Rattle.fx_texts.proofs.Words.{◌≡◌, add-one, cases_Bool, IsPermutation-refl}
 use Rattle.std.specs.List.Sorted.{IsPermutation}
-use Rattle.std.specs.Ordering.{is_lt}
 use Rattle.std.proofs.lemmas.List.Elements.{All-cons, All-nil, All-weaker}
-use Rattle.std.proofs.lemmas.List.Sorted.{All-permutation, IsPermutation-refl, IsPermutation-sym, IsPermutation-cons, IsPermutation-middle}
+use Rattle.std.proofs.lemmas.List.Sorted.{All-permutation, IsPermutation-sym, IsPermutation-cons, IsPermutation-middle}
 use Rattle.fx_order.proofs.Words.{IsPermutation-trans}
 use Rattle.fx_base.specs.CloseListView.{CloseListView}
-use Rattle.fx_base.specs.declared.open_file.Closed.{Closed}
 use Rattle.fx_ring.specs.Ring.{HasClosed}
 use Rattle.fx_calls.proofs.ClosesInOrder.{Rises, is_below, is_order, same_cmp}
 
@@ -15,34 +14,30 @@ abbrev put : Closed → List Closed → List Closed
 put x [] = x ∷ []
 put x (y ∷ ys) = if is_below y x then y ∷ put x ys else x ∷ y ∷ ys
 
-put_moved : (b : Bool) {x : Closed} (y : Closed) {ys : List Closed} → IsPermutation (x ∷ ys) (put x ys)
-    → IsPermutation (x ∷ y ∷ ys) (if b then y ∷ put x ys else x ∷ y ∷ ys)
-put_moved true {x} y {ys} rest =
-    IsPermutation-trans (x ∷ y ∷ ys) (y ∷ x ∷ ys) (y ∷ put x ys)
-    (IsPermutation-sym (y ∷ x ∷ ys) (x ∷ y ∷ ys) (IsPermutation-middle (y ∷ []) x ys))
-    (IsPermutation-cons y (x ∷ ys) (put x ys) rest)
-put_moved false {x} y {ys} rest = IsPermutation-refl (x ∷ y ∷ ys)
-
 put_permutes : (x : Closed) (ys : List Closed) → IsPermutation (x ∷ ys) (put x ys)
 put_permutes x [] = IsPermutation-refl (x ∷ [])
-put_permutes x (y ∷ ys) = put_moved (is_below y x) y (put_permutes x ys)
-
-put_either : (b : Bool) (x y : Closed) (ys : List Closed) → is_below y x ≡ b → Rises (y ∷ ys) → Rises (put x ys)
-    → Rises (if b then y ∷ put x ys else x ∷ y ∷ ys)
-put_either true x y ys is rises rest = (
-  All-permutation (λ (z : Closed). is_below z y ≡ false) (x ∷ ys) (put x ys) (put_permutes x ys)
-      (All-cons (λ (z : Closed). is_below z y ≡ false) x ys (is_order.one_way y x is) rises.0),
-  rest,
-)
-put_either false x y ys is rises rest = (
-  All-cons (λ (z : Closed). is_below z x ≡ false) y ys is
-      (All-weaker (λ (z : Closed). is_below z y ≡ false) (λ (z : Closed). is_below z x ≡ false) (λ z below. is_order.chain z y x below is) ys rises.0),
-  rises,
-)
+put_permutes x (y ∷ ys) = elim (is_below y x) as (λ b. IsPermutation (x ∷ y ∷ ys) (if b then y ∷ put x ys else x ∷ y ∷ ys)) [
+  | true ↦ IsPermutation-trans (x ∷ y ∷ ys) (y ∷ x ∷ ys) (y ∷ put x ys)
+      (IsPermutation-sym (y ∷ x ∷ ys) (x ∷ y ∷ ys) (IsPermutation-middle (y ∷ []) x ys))
+      (IsPermutation-cons y (x ∷ ys) (put x ys) (put_permutes x ys))
+  | false ↦ IsPermutation-refl (x ∷ y ∷ ys)
+]
 
 put_rises : (x : Closed) (ys : List Closed) → Rises ys → Rises (put x ys)
 put_rises x [] rises = (All-nil (λ (z : Closed). is_below z x ≡ false), tt)
-put_rises x (y ∷ ys) rises = put_either (is_below y x) x y ys refl rises (put_rises x ys rises.1)
+put_rises x (y ∷ ys) rises = elim (cases_Bool (is_below y x)) [
+  | inl is ↦ rw is (
+    All-permutation (λ (z : Closed). is_below z y ≡ false) (x ∷ ys) (put x ys) (put_permutes x ys)
+        (All-cons (λ (z : Closed). is_below z y ≡ false) x ys (is_order.one_way y x is) rises.0),
+    put_rises x ys rises.1,
+  )
+  | inr is ↦ rw is (
+    All-cons (λ (z : Closed). is_below z x ≡ false) y ys is
+        (All-weaker (λ (z : Closed). is_below z y ≡ false) (λ (z : Closed). is_below z x ≡ false)
+        (λ z below. is_order.chain z y x below is) ys rises.0),
+    rises,
+  )
+]
 
 -- the files in order of mark
 abbrev pub in_order : List Closed → List Closed
@@ -70,8 +65,6 @@ has_closed files = record {
   same_files = (sorted files).0;
   in_order = λ k d low high.
       let xs = in_order files in
-      let next : suc k ≡ k + 1 = omega arith in
-      sym (ap is_lt (same_cmp (slice_index_or xs (k + 1) d).mark (slice_index_or xs k d).mark))
-      ∙ subst (λ (n : ℕ). is_below (slice_index_or xs n d) (slice_index_or xs k d) ≡ false) next
+      rw (add-one, sym (same_cmp (slice_index_or xs (suc k) d).mark (slice_index_or xs k d).mark))
       (rises_at xs k d (sorted files).1 (omega (arith, high)));
 }

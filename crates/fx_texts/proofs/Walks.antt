@@ -1,119 +1,125 @@
--- Commands that lead on, one behind others.
-use Rattle.fx_texts.proofs.Words.{◌≡◌, ℕ, Bool, true, false, ◌+◌, ◌<◌, List, [], ◌∷◌, ◌++◌, length, take, drop, refl, sym, ap, subst, ◌∙◌}
-use Rattle.fx_texts.proofs.Words.{slice_index_or, Contains, append-nil, append_assoc, map-append, RingContents, RingState, ring_of}
-use Rattle.fx_texts.proofs.Words.{Instruction, instruction_of, instructions_of, Command, AreFrom, HasEachFrom, HasEachLast, Leads, LeadsAll}
-use Rattle.fx_texts.proofs.Words.{MayLeadAllTo, Stage, count_after, count_after_all, kept_text, stage}
-use Rattle.std.proofs.lemmas.List.{map_more, take-append-drop}
-use Rattle.fx_calls.proofs.FromHere.{from_here}
+-- Commands that lead on, one behind others, and how many submissions a ring has counted behind them.
+use Rattle.fx_texts.proofs.Words.{call_of, from_here, fault_of, Asked, Instruction, SetsRange, SubmitsAll, instruction_of, instructions_of, Command}
+use Rattle.fx_texts.proofs.Words.{RingContents, RingState, ring_of, Reported, MOST_SUBMISSIONS, Prints, AreFrom, HasEachFrom, HasEachLast, Leads}
+use Rattle.fx_texts.proofs.Words.{LeadsAll, MayLeadAllTo, Stage, after_call, count_after, count_after_all, count_behind, kept_text, stage}
+use Rattle.fx_texts.proofs.Words.{FoundMemory, Bool, List, None, Option, Some, [], ap, arith, drop, false, if◌then◌else◌, length, nat_le, refl}
+use Rattle.fx_texts.proofs.Words.{slice_index_or, sym, take, true, ℕ, ◌++◌, ◌+◌, ◌<◌, ◌∙◌, ◌∷◌, ◌≡◌, ◌≤◌, append-nil, append_assoc, map-append}
+use Rattle.fx_texts.proofs.Words.{map_more, Contains}
+use Rattle.fx_ring.specs.Submission.{IsOneHistory}
+use Rattle.std.proofs.lemmas.List.{take-append-drop}
+use Rattle.fx_texts.proofs.Calls.{call_leaves, submission_cases, unless_so}
 
-leads_behind : (ring mid last : RingContents) (front : List Instruction) (command : Instruction) (before line : List ℕ) → LeadsAll ring front mid before
-    → Leads mid command last line → LeadsAll ring (front ++ command ∷ []) last (before ++ line)
-leads_behind ring mid last [] command before line (here, none) leads = (
-  last,
-  line,
-  [],
-  subst (λ (r : RingContents). Leads r command last line) (sym here) leads,
-  ap (λ (b : List ℕ). b ++ line) none ∙ sym (append-nil line),
-  (refl, refl),
-)
-leads_behind ring mid last (first ∷ front) command before line (next, printed, others, one, split, rest) leads = (
-  next,
-  printed,
-  others ++ line,
-  one,
-  ap (λ (b : List ℕ). b ++ line) split ∙ append_assoc printed others line,
-  leads_behind next mid last front command others line rest leads,
-)
+-- how many submissions a ring has counted
 
--- rings before the last one of some commands
-record BeforeLast (ring last : RingContents) (front : List Instruction) (command : Instruction) (text : List ℕ) : Type 0 where
-  mid : RingContents
-  before : List ℕ
-  line : List ℕ
-  all : LeadsAll ring front mid before
-  one : Leads mid command last line
-  split : text ≡ before ++ line
+-- a history counts its submission
+pub history_counts : {old next : RingContents} {asked : List Asked} {report : Reported} → IsOneHistory old asked report next
+    → next.submissions ≡ old.submissions + 1
+history_counts history = ap (λ (r : RingState). r.submissions) history.after
 
-before_last : {ring last : RingContents} (front : List Instruction) {command : Instruction} {text : List ℕ}
-    → LeadsAll ring (front ++ command ∷ []) last text → BeforeLast ring last front command text
-before_last {ring} [] {command} (next, line, others, one, split, (here, none)) = record {
-  mid = ring;
-  before = [];
-  line = line;
-  all = (refl, refl);
-  one = subst (λ (r : RingContents). Leads ring command r line) here one;
-  split = split ∙ ap (λ (o : List ℕ). line ++ o) none ∙ append-nil line;
-}
-before_last {last} (first ∷ front) {command} (next, line, others, one, split, rest) =
-    let b = before_last front rest in
-    record {
-      mid = b.mid;
-      before = line ++ b.before;
-      line = b.line;
-      all = (next, line, b.before, one, refl, b.all);
-      one = b.one;
-      split = split ∙ ap (λ (o : List ℕ). line ++ o) b.split ∙ sym (append_assoc line b.before b.line);
-    }
+pub submission_counts : (old next : RingContents) (asked : List Asked) (line : List ℕ) → Prints old (SubmitsAll asked) next line
+    → next.submissions ≡ count_behind old.submissions (fault_of asked)
+submission_counts old next asked line =
+    submission_cases old next asked line (λ same is. ap (λ (r : RingState). r.submissions) same ∙ sym is) (λ p is. history_counts p.1 ∙ sym is)
+
+call_count : (ring : RingState) (command : Instruction) → (after_call ring command).submissions ≡ ring.submissions
+call_count ring (SubmitsAll asked) = refl
+call_count ring command =
+    let call = call_of ring command in unless_so (λ (r : RingState). r.submissions ≡ ring.submissions) call.refusal refl (λ _. refl)
+
+pub leads_counts : (old next : RingContents) (command : Instruction) (line : List ℕ) (own : Option Reported) → Prints old command next line
+    → FoundMemory old command next line own → next.submissions ≡ count_after old.submissions command
+leads_counts old next (SubmitsAll asked) line own prints found = submission_counts old next asked line prints
+leads_counts old next command line own prints found =
+    ap (λ (r : RingState). r.submissions) (call_leaves old next command line own tt prints found) ∙ call_count (ring_of old) command
+
+pub all_counts : (ring last : RingContents) (commands : List Instruction) (text : List ℕ) → LeadsAll ring commands last text
+    → last.submissions ≡ count_after_all ring.submissions commands
+all_counts ring last [] text leads = rw leads.0
+all_counts ring last (command ∷ commands) text (next, line, others, (own, prints, found), split, rest) =
+    rw (leads_counts ring next command line own prints found) at (all_counts next last commands others rest)
+
+-- counts only grow
+counted_bool : (b : Bool) (count : ℕ) → count ≤ (if b then count else count + 1)
+counted_bool b count = grind arith
+
+pub after_grows : (command : Instruction) (count : ℕ) → count ≤ count_after count command
+after_grows (SubmitsAll asked) count = elim (fault_of asked) as (λ x. count ≤ count_behind count x) [
+  | Some fault ↦ omega arith
+  | None ↦ counted_bool (nat_le MOST_SUBMISSIONS count) count
+]
+after_grows _ count = omega arith
+
+pub all_grows : (commands : List Instruction) (count : ℕ) → count ≤ count_after_all count commands
+all_grows [] count = omega arith
+all_grows (command ∷ commands) count =
+    let one = after_grows command count in let rest = all_grows commands (count_after count command) in omega arith
+
+-- the report of a command is that of the next submission
+pub own_number : (old next : RingContents) (command : Instruction) (line : List ℕ) (report : Reported)
+    → FoundMemory old command next line (Some report) → (report.submission ≡ old.submissions + 1) × (next.submissions ≡ old.submissions + 1)
+own_number old next (SubmitsAll asked) line report found = (found.may.history.submission, history_counts found.may.history)
+own_number old next (SetsRange off len) line report found = absurd (let e : Some report ≡ None = found in cc)
+own_number old next _ line report found = absurd (let e : Some report ≡ None = found.0 in cc)
+
+-- one more command behind others
+
+leads_behind : (ring mid last : RingContents) (front : List Instruction) (command : Instruction) (before line : List ℕ)
+    → LeadsAll ring front mid before → Leads mid command last line → LeadsAll ring (front ++ command ∷ []) last (before ++ line)
+leads_behind ring mid last [] command before line (here, none) leads = (last, line, [], rw here leads, rw (none, append-nil), (refl, refl))
+leads_behind ring mid last (first ∷ front) command before line (next, printed, others, one, split, rest) leads =
+    (next, printed, others ++ line, one, rw (split, append_assoc), leads_behind next mid last front command others line rest leads)
+
+-- the ring before the last of some commands, and what was printed there
+before_last : (ring last : RingContents) (front : List Instruction) (command : Instruction) (text : List ℕ)
+    → LeadsAll ring (front ++ command ∷ []) last text
+    → (mid : RingContents) × (before : List ℕ) × (line : List ℕ)
+    × LeadsAll ring front mid before × Leads mid command last line × (text ≡ before ++ line)
+before_last ring last [] command text (next, line, others, one, split, (here, none)) =
+    (ring, [], line, (refl, refl), rw here at one, rw (split, none, append-nil))
+before_last ring last (first ∷ front) command text (next, line, others, one, split, rest) =
+    let (mid, before, behind, all, last_one, is) =
+    before_last next last front command others rest in
+    (mid, line ++ before, behind, (next, line, before, one, refl, all), last_one, rw (split, append_assoc) (ap (λ (t : List ℕ). line ++ t) is))
 
 -- what is kept of a text and a line is what is kept of what was kept and the line
 kept_on : (keeps : Bool) (before line : List ℕ) → kept_text keeps (before ++ line) ≡ kept_text keeps (kept_text keeps before ++ line)
 kept_on true before line = refl
 kept_on false before line = refl
 
-stage_on : (keeps : Bool) (ring : RingContents) (before line : List ℕ) {printed : List ℕ} → kept_text keeps before ≡ printed
-    → stage keeps ring (before ++ line) ≡ stage keeps ring (printed ++ line)
-stage_on keeps ring before line {printed} is =
-    let texts = kept_on keeps before line ∙ ap (λ (p : List ℕ). kept_text keeps (p ++ line)) is in
-    λ i. record { ring = ring_of ring; printed = texts i }
-
--- one more command
-
 pub each_more : (keeps : Bool) {first : RingState} (front : List Instruction) (command : Instruction) (old new : List Stage)
     → ((s : Stage) → Contains old s → MayLeadAllTo keeps first front s) → AreFrom keeps old command new
     → {s : Stage} → Contains new s → MayLeadAllTo keeps first (front ++ command ∷ []) s
-each_more keeps front command old new each from {s} inside =
+each_more keeps front command old new each from {s} inside = λ ring same.
     let (o, there, leads) = from s inside in
-    λ ring same.
     let (mid, before, all, mid_is) = each o there ring same in
-    let (last, line, one, last_is) = leads mid (ap (λ (t : Stage). t.ring) mid_is) in (
-      last,
-      before ++ line,
-      leads_behind ring mid last front command before line all one,
-      stage_on keeps last before line (ap (λ (t : Stage). t.printed) mid_is) ∙ last_is,
-    )
+    let (last, line, one, last_is) = leads mid (ap (λ (t : Stage). t.ring) mid_is) in
+    let on = ap (λ (t : Stage). stage keeps last (t.printed ++ line)) mid_is ∙ last_is in
+    (last, before ++ line, leads_behind ring mid last front command before line all one, rw (kept_on keeps before line) on)
 
 pub all_more : (keeps : Bool) {first : RingState} (front : List Instruction) (command : Instruction) (old new : List Stage)
     → HasEachLast keeps first front old → HasEachFrom keeps old command new → HasEachLast keeps first (front ++ command ∷ []) new
 all_more keeps front command old new all next ring last text same leads =
-    let b = before_last front leads in
-    subst (λ (s : Stage). Contains new s) (sym (stage_on keeps last b.before b.line refl) ∙ ap (λ (t : List ℕ). stage keeps last t) (sym b.split))
-    (next (stage keeps b.mid b.before) (all ring b.mid b.before same b.all) b.mid last b.line refl b.one)
+    let (mid, before, line, leads_there, one, split) = before_last ring last front command text leads in
+    rw (split, kept_on keeps before line) (next (stage keeps mid before) (all ring mid before same leads_there) mid last line refl one)
 
-pub taken_one : (commands : List Command) {done : ℕ} {command : Command} → done < length commands
-    → command ≡ slice_index_or commands done command
-    → instructions_of (take (done + 1) commands) ≡ instructions_of (take done commands) ++ instruction_of command ∷ []
-taken_one commands {done} {command} inside is =
-    map_more instruction_of commands done command inside
-    ∙ ap (λ (c : Command). instructions_of (take done commands) ++ instruction_of c ∷ []) (sym is)
+-- a command among others: those before it with it, all by it, and the count behind it
+module _ (commands : List Command) {done : ℕ} {command : Command} (inside : done < length commands)
+    (is : command ≡ slice_index_or commands done command) where
+  pub taken_one : instructions_of (take (done + 1) commands) ≡ instructions_of (take done commands) ++ instruction_of command ∷ []
+  taken_one = map_more instruction_of commands done command inside
+      ∙ ap (λ (c : Command). instructions_of (take done commands) ++ instruction_of c ∷ []) (sym is)
 
--- the commands around one of them
-pub around : (commands : List Command) {done : ℕ} {command : Command} → done < length commands
-    → command ≡ slice_index_or commands done command
-    → instructions_of commands ≡ instructions_of (take done commands) ++ instruction_of command ∷ instructions_of (drop (done + 1) commands)
-around commands {done} {command} inside is =
-    ap (λ (cs : List Command). instructions_of cs) (sym (take-append-drop done commands)
-    ∙ ap (λ (cs : List Command). take done commands ++ cs) (from_here commands done command inside is))
-    ∙ map-append instruction_of (take done commands) (command ∷ drop (done + 1) commands)
+  pub around : instructions_of commands
+      ≡ instructions_of (take done commands) ++ instruction_of command ∷ instructions_of (drop (done + 1) commands)
+  around = ap (λ (cs : List Command). instructions_of cs) (sym (take-append-drop done commands)
+      ∙ ap (λ (cs : List Command). take done commands ++ cs) (from_here commands done command inside is))
+      ∙ map-append instruction_of (take done commands) (command ∷ drop (done + 1) commands)
 
-count_behind_all : (count : ℕ) (front : List Instruction) (command : Instruction)
-    → count_after_all count (front ++ command ∷ []) ≡ count_after (count_after_all count front) command
-count_behind_all count [] command = refl
-count_behind_all count (first ∷ front) command = count_behind_all (count_after count first) front command
-
-pub count_one : (commands : List Command) {done : ℕ} {command : Command} {count : ℕ} → done < length commands
-    → command ≡ slice_index_or commands done command → count ≡ count_after_all 0 (instructions_of (take done commands))
-    → count_after count (instruction_of command) ≡ count_after_all 0 (instructions_of (take (done + 1) commands))
-count_one commands {done} {command} inside is counts =
-    ap (λ (n : ℕ). count_after n (instruction_of command)) counts
-    ∙ sym (count_behind_all 0 (instructions_of (take done commands)) (instruction_of command))
-    ∙ ap (λ (l : List Instruction). count_after_all 0 l) (sym (taken_one commands inside is))
+  pub count_one : {count : ℕ} → count ≡ count_after_all 0 (instructions_of (take done commands))
+      → count_after count (instruction_of command) ≡ count_after_all 0 (instructions_of (take (done + 1) commands))
+  count_one counts = rw (counts, taken_one) (sym (count_behind_all 0 (instructions_of (take done commands)) (instruction_of command)))
+    where
+      count_behind_all : (count : ℕ) (front : List Instruction) (command : Instruction)
+          → count_after_all count (front ++ command ∷ []) ≡ count_after (count_after_all count front) command
+      count_behind_all count [] command = refl
+      count_behind_all count (first ∷ front) command = count_behind_all (count_after count first) front command

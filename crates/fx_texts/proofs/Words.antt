@@ -9,7 +9,9 @@ pub use Rattle.fx_base.specs.declared.errno.Errno.{Errno}
 pub use Rattle.fx_base.specs.declared.errno.Errno.TheVariants.{EAGAIN, EBADF, EBUSY, EINVAL, EMFILE, ENOMEM, ENXIO}
 pub use Rattle.fx_base.specs.declared.open_file.Closed.{Closed}
 pub use Rattle.fx_calls.proofs.Calls.{call_of}
-pub use Rattle.fx_calls.proofs.Entries.{all_closed, all_of_ring, few_of_ring}
+pub use Rattle.fx_calls.proofs.Entries.{AreOf, all_closed, all_of_ring, few_of_ring}
+pub use Rattle.fx_calls.proofs.FromHere.{from_here}
+pub use Rattle.fx_calls.proofs.Shown.{shown}
 pub use Rattle.fx_chain.specs.Answers.{is_bad_entry}
 pub use Rattle.fx_chain.specs.Completed.{Completed, completed_of}
 pub use Rattle.fx_chain.specs.Faults.{fault_of}
@@ -29,20 +31,21 @@ pub use Rattle.fx_ring.specs.Ring.{IsRing, RingContents, RingState, files_of, ne
 pub use Rattle.fx_ring.specs.Submission.{Reported, reported}
 pub use Rattle.fx_ring.specs.Tags.{are_bad_tags, tags_given}
 pub use Rattle.fx_ring.specs.declared.ring.TheConstants.{MOST_REGISTRATIONS, MOST_SUBMISSIONS}
-pub use Rattle.fx_script.specs.Play.{Answers, IsRefused, Prints, PrintsEnd, PrintsReport}
-pub use Rattle.fx_table.proofs.Members.{contains_map}
-pub use Rattle.fx_texts.specs.Rings.{AreFrom, EndsAs, Grows, HasEachFrom, HasEachLast, HasEachNext, HasEachSaid, HasEachSaidFrom, IsLineOf}
-pub use Rattle.fx_texts.specs.Rings.{IsTextAt, Leads, LeadsAll, MayEnd, MayLeadAllTo, MayLeadTo, MaySay, Stage, after_call, count_after}
-pub use Rattle.fx_texts.specs.Rings.{count_after_all, count_behind, kept_text, said_in, stage, stage_left, stage_of, stage_reported, stages_of}
-pub use Rattle.fx_texts.specs.Rings.{unless_refused}
+pub use Rattle.fx_script.specs.Play.{Answers, IsRefused, Prints, PrintsReport}
+pub use Rattle.fx_table.proofs.Members.{contains_map, contains_mapped, contains_none}
+pub use Rattle.fx_texts.specs.Rings.{AreFrom, EndsAs, Grows, HasEachFrom, HasEachLast, HasEachNext, HasEachSaidFrom, IsLineOf, IsTextAt, Leads}
+pub use Rattle.fx_texts.specs.Rings.{LeadsAll, MayEnd, MayLeadAllTo, MayLeadTo, MaySay, Stage, after_call, count_after, count_after_all, count_behind}
+pub use Rattle.fx_texts.specs.Rings.{kept_text, said_in, stage, stage_left, stage_of, stage_reported, stages_of, unless_refused, AreSaidFrom, IsCall}
+pub use Rattle.fx_texts.specs.Rings.{IsAskedIn}
 pub use Rattle.fx_texts.specs.Texts.{FoundMemory, IsReportFound, IsTextFound, MayAnswerIn, PrintsAllFound}
 pub use Rattle.fx_texts.specs.declared.reached.Reached.{Reached}
 pub use Rattle.fx_texts.specs.declared.saying.Said.{Said}
 pub use Rattle.std.proofs.Common.{Bool, List, None, Option, Some, [], ap, arith, drop, false, if◌then◌else◌, inl, inr, length, map, nat_le, nat_lt}
 pub use Rattle.std.proofs.Common.{refl, slice_get, slice_index_or, string_bytes, subst, suc, sym, take, true, zero, ℕ, ⊎_elim, ◌++◌, ◌+◌, ◌<◌, ◌==◌}
 pub use Rattle.std.proofs.Common.{◌||◌, ◌∙◌, ◌∷◌, ◌≡◌, ◌≤◌, ◌⊎◌}
-pub use Rattle.std.proofs.lemmas.Bool.{or_parts, true≢false}
-pub use Rattle.std.proofs.lemmas.List.{append-nil, append_assoc, map-append}
+pub use Rattle.std.proofs.Math.Numerals.{add-one}
+pub use Rattle.std.proofs.lemmas.Bool.{cases_Bool, lt-leb, or_parts}
+pub use Rattle.std.proofs.lemmas.List.{append-nil, append_assoc, map-append, map_more, take_all}
 pub use Rattle.std.proofs.lemmas.List.Sorted.{IsPermutation-refl}
 pub use Rattle.std.specs.Bool.{MatchBool}
 pub use Rattle.std.specs.Cmp.Lexicographic.{bytes_decides}

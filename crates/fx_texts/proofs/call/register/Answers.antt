@@ -1,4 +1,4 @@
-use Rattle.fx_texts.proofs.Words.{length, MOST_ENTRIES}
+use Rattle.fx_texts.proofs.Words.{MOST_ENTRIES, length}
 use Rattle.fx_calls.proofs.Entries.{good_registered}
 use Rattle.fx_texts.proofs.call.register.Goals as goal
 

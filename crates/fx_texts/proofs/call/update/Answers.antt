@@ -1,4 +1,4 @@
-use Rattle.fx_texts.proofs.Words.{length, ◌∙◌, MOST_ENTRIES}
+use Rattle.fx_texts.proofs.Words.{MOST_ENTRIES, length, ◌∙◌}
 use Rattle.fx_calls.proofs.Entries.{all_of_list, few_of_list, good_larger}
 use Rattle.fx_texts.proofs.call.update.Goals as goal
 

@@ -1,4 +1,4 @@
-use Rattle.fx_calls.proofs.Entries.{all_closed}
+use Rattle.fx_texts.proofs.Words.{all_closed}
 use Rattle.fx_texts.proofs.call.update_line.Goals as goal
 
 pub with_closes-requires : goal.with_closes-requires

@@ -1,4 +1,4 @@
-use Rattle.fx_order.proofs.Words.{arith}
+use Rattle.fx_texts.proofs.Words.{arith}
 use Rattle.std.proofs.lemmas.List.{same_lists}
 use Rattle.fx_texts.proofs.distinct.are_same_files.Goals as goal
 

@@ -1,4 +1,4 @@
-use Rattle.fx_order.proofs.Words.{◌≡◌, ℕ, ◌<◌, slice_index_or, Option, Closed}
+use Rattle.fx_texts.proofs.Words.{Closed, Option, slice_index_or, ℕ, ◌<◌, ◌≡◌}
 use Rattle.fx_texts.proofs.distinct.are_same_files.Given as goal
 
 abbrev pub invariant-loop-i : goal.invariant-loop-i

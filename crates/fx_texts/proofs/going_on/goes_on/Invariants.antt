@@ -1,4 +1,4 @@
-use Rattle.fx_texts.proofs.Words.{drop, instructions_of, ring_with_slots, IsRing, MayEnd}
+use Rattle.fx_texts.proofs.Words.{instructions_of, ring_with_slots, IsRing, MayEnd, drop}
 use Rattle.fx_texts.proofs.going_on.goes_on.Given as goal
 
 -- an end of the ring that is reached is one of the first ring

@@ -1,27 +1,30 @@
-use Rattle.fx_texts.proofs.Words.{◌≡◌, ◌++◌, sym, subst, string_bytes, ◌∙◌, IsRing, instruction_of, kept_text, stages_of}
-use Rattle.fx_texts.proofs.Calls.{call_grows, call_only}
-use Rattle.fx_texts.proofs.next.push_call.Goals.{In_ok-push_new}
+use Rattle.fx_texts.proofs.Words.{shown, instruction_of, ring_with_slots, IsLineOf, Stage, after_call, kept_text, stage_of, stages_of, string_bytes}
+use Rattle.fx_texts.proofs.Words.{◌++◌, ◌≡◌}
+use Rattle.fx_texts.proofs.Calls.{call_may_lead, call_only}
+use Rattle.fx_texts.proofs.Growth.{grows_on, stays}
 use Rattle.fx_texts.proofs.next.push_call.Goals as goal
 
-text : (c : In_ok-push_new) → string_bytes c.in_ok-printed.printed
-    ≡ kept_text c.args.setting.now.keeps (string_bytes c.args.from.now.printed ++ string_bytes c.in_ok-called.called.line)
-text c = c.in_ok-printed.ensures ∙ (λ i. kept_text c.args.setting.now.keeps (c.as_str.ensures.value i ++ c.as_str-2.ensures.value i))
-
-pub returns-clause-grows : goal.returns-clause-grows
-returns-clause-grows c =
-    let cat = c.args.setting.now.catalogue.now in
-    call_grows c.args.setting.now.keeps cat c.args.from.now.ring c.in_ok-copy.copy c.in_ok-called.called.ring (instruction_of c.args.command.now)
-    (string_bytes c.args.from.now.printed) (string_bytes c.in_ok-called.called.line) (string_bytes c.in_ok-printed.printed) c.requires.call
-    (c.in_ok-copy.ensures.same cat) c.in_ok-called.ensures.value c.in_ok-called.ensures.line (text (goal.at.returns-clause-grows c).In_ok-push_new)
-    (stages_of cat c.args.rings.now.items) (stages_of cat c.push_new.new.rings.items) c.args.from.now.few_slots (c.in_ok-push_new.ensures.grows cat)
-
-pub returns-clause-all : goal.returns-clause-all
-returns-clause-all c =
-    let cat = c.args.setting.now.catalogue.now in
-    call_only c.args.setting.now.keeps cat c.args.from.now.ring c.in_ok-copy.copy c.in_ok-called.called.ring (instruction_of c.args.command.now)
-    (string_bytes c.args.from.now.printed) (string_bytes c.in_ok-called.called.line) (string_bytes c.in_ok-printed.printed) c.requires.call
-    (c.in_ok-copy.ensures.same cat) c.in_ok-called.ensures.value c.in_ok-called.ensures.line (text (goal.at.returns-clause-all c).In_ok-push_new)
-    (stages_of cat c.args.rings.now.items) (stages_of cat c.push_new.new.rings.items) c.requires.ring (c.in_ok-push_new.ensures.there cat)
-
 pub call-requires-clause-ring : goal.call-requires-clause-ring
-call-requires-clause-ring c = subst IsRing (sym (c.in_ok-copy.ensures.same c.args.setting.now.catalogue.now)) c.requires.ring
+call-requires-clause-ring c = rw (c.in_ok-copy.ensures.same c.args.setting.now.catalogue.now) c.requires.ring
+
+pub returns : goal.returns
+returns c =
+    let cat = c.args.setting.now.catalogue.now in
+    let keeps = c.args.setting.now.keeps in
+    let from = stage_of cat c.args.from.now in
+    let new : Stage = record { ring = ring_with_slots cat c.in_ok-called.called.ring; printed = string_bytes c.in_ok-printed.printed } in
+    let command = instruction_of c.args.command.now in
+    let line = string_bytes c.in_ok-called.called.line in
+    let same = c.in_ok-copy.ensures.same cat in
+    let left : new.ring ≡ after_call from.ring command = rw same at c.in_ok-called.ensures.value in
+    let told : IsLineOf from.ring command line = rw same at c.in_ok-called.ensures.line in
+    let kept : new.printed ≡ kept_text keeps (from.printed ++ line) =
+    rw (c.as_str.ensures.value, c.as_str-2.ensures.value) at c.in_ok-printed.ensures in
+    let (next, shows) = shown cat c.in_ok-called.called.ring in
+    record {
+      grows = grows_on
+          (λ s is. rw is (call_may_lead keeps from new command line c.requires.call left told kept next shows c.args.from.now.few_slots)) stays
+          (c.in_ok-push_new.ensures.grows cat);
+      all = call_only keeps from new command line c.requires.call left told kept (stages_of cat c.push_new.new.rings.items) c.requires.ring
+          (c.in_ok-push_new.ensures.there cat);
+    }

@@ -1,4 +1,4 @@
-use Rattle.fx_texts.proofs.Words.{◌≡◌, ◌<◌, take, instructions_of, count_after_all}
+use Rattle.fx_texts.proofs.Words.{instructions_of, count_after_all, take, ◌<◌, ◌≡◌}
 use Rattle.fx_texts.proofs.place.asking_at.Given as goal
 
 abbrev pub invariant-loop-i : goal.invariant-loop-i
