@@ -228,9 +228,7 @@ pub(crate) fn are_all_states(claimed: &Claimed<'_>, slots: &Slots) -> Result<boo
     let Some(first) = claimed.found.states.get(0) else {
         return Ok(false);
     };
-    if slots.at.len() != claimed.submission.setting.size as usize
-        || !first.slots.is_same(slots)
-    {
+    if slots.at.len() != claimed.submission.setting.size as usize || !first.slots.is_same(slots) {
         return Ok(false);
     }
     if !has_removed_none(claimed.submission, first) {

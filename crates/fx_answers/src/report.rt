@@ -159,9 +159,7 @@ fn tells_of(submission: &Submission<'_>, state: &State, possible: &PossibleRepor
     if report.submission != submission.number {
         return false;
     }
-    if telling.answers.len() != submission.chains.len()
-        || !possible.slots.is_same(&state.slots)
-    {
+    if telling.answers.len() != submission.chains.len() || !possible.slots.is_same(&state.slots) {
         return false;
     }
     are_told(&report.completions, &telling.answers)
