@@ -1,13 +1,9 @@
 -- An order of a submission begins at its first state.
-use Rattle.fx_order.proofs.Words.{◌≡◌, ℕ, ◌+◌, ◌<◌, ◌≤◌, ◌==◌, List, [], ◌∷◌, ◌++◌, length, refl, sym, ap, subst, ◌∙◌, arith, if◌then◌else◌, Bool}
-use Rattle.fx_order.proofs.Words.{inr, FileEntry, by_equality, Completed, Asked, runs_of, first_member, Table, accesses_of, accesses_of_chain}
-use Rattle.fx_order.proofs.Words.{AreChainsDone, IsOneOrder, table_after, PermitsAll}
-use Rattle.fx_order.specs.declared.access.ChainAccess.{ChainAccess}
-use Rattle.fx_ring.specs.Ring.{RingState}
-use Rattle.fx_ring.specs.Submission.{Reported}
-use Rattle.std.specs.List.{AllByRecursion}
-use Rattle.fx_outcomes.specs.Rests.{HasMemory, Rest, rules_of, settled_at}
-use Rattle.fx_outcomes.specs.Nodes.{AreAllStates, AreAtStart, HasEnd, IsListed, StateView, EachOutcomeIsListed, told_from}
+use Rattle.fx_order.proofs.Words.{◌≡◌, ℕ, ◌+◌, ◌<◌, ◌≤◌, ◌==◌, List, [], ◌∷◌, ◌++◌, length, refl, sym, ap, ◌∙◌, arith, if◌then◌else◌, Bool, ⊎_elim}
+use Rattle.fx_order.proofs.Words.{inr, FileEntry, Completed, Asked, runs_of, first_member, Table, accesses_of, accesses_of_chain, AreChainsDone}
+use Rattle.fx_order.proofs.Words.{IsOneOrder, table_after, AllByRecursion, RingState, Reported, eq-eqb}
+use Rattle.fx_outcomes.proofs.Words.{ChainAccess, cases_eq, ne_eqb, at_itself, HasMemory, Rest, rules_of, settled_at, AreAllStates, AreAtStart}
+use Rattle.fx_outcomes.proofs.Words.{HasEnd, IsListed, StateView, EachOutcomeIsListed, told_from}
 use Rattle.fx_outcomes.proofs.Requests.{are_right}
 use Rattle.fx_outcomes.proofs.Chain.{settles}
 use Rattle.fx_outcomes.proofs.PartByPart.{order_by_part}
@@ -19,15 +15,13 @@ pub told_same : (f g : ℕ → List Completed) (chain : ℕ) (runs : List (List 
     → told_from f chain runs ≡ told_from g chain runs
 told_same f g chain [] same = refl
 told_same f g chain (run ∷ runs) same =
-    ap (λ (l : List Completed). l ++ told_from f (chain + 1) runs) (same chain (omega arith) (omega arith))
-    ∙ ap (λ (l : List Completed). g chain ++ l) (told_same f g (chain + 1) runs (λ q low high. same q (omega (arith, low)) (omega (arith, high))))
+    λ i. same chain (omega arith) (omega arith) i ++ told_same f g (chain + 1) runs (λ q low high. same q (omega arith) (omega arith)) i
 
 all_told : (P : Completed → Type 0) (told : ℕ → List Completed) (chain : ℕ) (runs : List (List Asked))
     → ((q : ℕ) → chain ≤ q → q < chain + length runs → AllByRecursion P (told q)) → AllByRecursion P (told_from told chain runs)
 all_told P told chain [] each = tt
-all_told P told chain (run ∷ runs) each =
-    both_said P (told chain) (told_from told (chain + 1) runs) (each chain (omega arith) (omega arith))
-    (all_told P told (chain + 1) runs (λ q low high. each q (omega (arith, low)) (omega (arith, high))))
+all_told P told chain (run ∷ runs) each = both_said P (told chain) (told_from told (chain + 1) runs) (each chain (omega arith) (omega arith))
+    (all_told P told (chain + 1) runs (λ q low high. each q (omega arith) (omega arith)))
 
 -- each chain is at its first request that comes to the table, and `Begins` has what it was told up to there
 module _ (catalogue : List FileEntry) (size submission : ℕ) (order : List ChainAccess) (rests : ℕ → Rest) (Begins : ℕ → List Completed → Type 0) where
@@ -51,64 +45,52 @@ module _ (catalogue : List FileEntry) (size submission : ℕ) (order : List Chai
       → Begins chain (settled chain run).0 × (rests chain ≡ (settled chain run).1) × AreAt (chain + 1) runs) where
     pub find : (chain : ℕ) (runs : List (List Asked)) (completions : List Completed) → AllByRecursion HasMemory completions
         → AreChainsDone catalogue size submission chain runs order completions → AreAt chain runs → Found chain runs completions
-    find chain [] completions memory done start = record {
-      finals = λ q. [];
-      whole = done;
-      each = λ q low high. absurd (omega (arith, low, high));
-    }
-    find chain (run ∷ runs) completions memory done start =
-        let mem = both_parts HasMemory done.0 done.1 (subst (AllByRecursion HasMemory) done.2 memory) in
-        let at = one_at chain run runs start in
-        let f = find (chain + 1) runs done.1 mem.1 done.4 at.2 in
-        let g = settles catalogue size (rules_of catalogue size) (are_right catalogue size) (first_member submission chain) run mem.0 done.3 in
+    find chain [] completions memory done start =
+        record { finals = λ q. []; whole = done; each = λ q low high. absurd (omega arith) }
+    find chain (run ∷ runs) completions memory (own, others, whole, made, done) start =
+        let mem = both_parts HasMemory own others (rw whole at memory) in
+        let (begins, rest_is, start_on) = one_at chain run runs start in
+        let f = find (chain + 1) runs others mem.1 done start_on in
+        let goes = settles catalogue size (rules_of catalogue size) (are_right catalogue size) (first_member submission chain) run mem.0 made in
+        let all = put chain own f.finals in
+        let same = told_same f.finals all (chain + 1) runs (λ q low high. rw (ne_eqb q chain (λ at. omega arith))) in
         record {
-          finals = put chain done.0 f.finals;
-          whole = done.2 ∙ (
-              ap (λ (l : List Completed). l ++ done.1)
-              (by_equality chain chain (λ b. done.0 ≡ (if b then done.0 else f.finals chain)) (λ _. refl) (λ other. absurd (other refl)))
-              ∙ ap (λ (l : List Completed). put chain done.0 f.finals chain ++ l)
-              (f.whole ∙ told_same f.finals (put chain done.0 f.finals) (chain + 1) runs (λ q low high.
-              by_equality q chain (λ b. f.finals q ≡ (if b then done.0 else f.finals q)) (λ same. absurd (omega (arith, low, same))) (λ _. refl))));
-          each = λ q low high. by_equality q chain
-              (λ b. Own q (if b then done.0 else f.finals q))
-              (λ same. subst (λ (n : ℕ). Own n done.0) (sym same) (
-                (settled chain run).0,
-                at.0,
-                subst (λ (r : Rest). OfChain catalogue size r (settled chain run).0 done.0 (accesses_of_chain chain order)) (sym at.1)
-                    (record { later = g.later; whole = g.whole; memory = g.memory; ready = g.ready; rest_is = g.rest }),
-              ))
-              (λ other. f.each q (omega (arith, low, other)) (omega (arith, high)));
+          finals = all;
+          whole = rw (at_itself chain own (f.finals chain), ← same, ← f.whole) whole;
+          each = λ q low high. ⊎_elim
+              (λ at. rw (eq-eqb q chain at, at, rest_is) ((settled chain run).0, begins, goes))
+              (λ other. rw (ne_eqb q chain other) (f.each q (omega arith) (omega arith)))
+              (cases_eq q chain);
         }
 
 -- whatever is to be said of the answers
 pub all_said : (idle : Rest → Bool) (says : Completed → Type 0) (old : RingState) (requests : List Asked) (states : List StateView)
-    → AreAllStates idle says old requests states → (report : Reported) (left : RingState) → AllByRecursion HasMemory report.completions → IsOneOrder old requests report left
-    → AllByRecursion says report.completions × HasEnd old requests idle states left
+    → AreAllStates idle says old requests states → (report : Reported) (left : RingState) → AllByRecursion HasMemory report.completions
+    → IsOneOrder old requests report left → AllByRecursion says report.completions × HasEnd old requests idle states left
 all_said idle says old requests states all report left memory any =
     let runs = runs_of requests in
     let one = order_by_part all.parts old requests report left all.apart any in
-    let done = subst (λ (n : ℕ). AreChainsDone old.catalogue old.size n 1 runs one.order report.completions) one.is.submission one.is.done in
-    let f = find old.catalogue old.size (old.submissions + 1) one.order all.first.rests (λ q told. AllByRecursion says told)
-    (λ chain left. AreAtStart (rules_of old.catalogue old.size) says (old.submissions + 1) chain left all.first) (λ chain run left start. start)
-    1 runs report.completions memory done all.begins.chains in
+    let f = find old.catalogue old.size report.submission one.order all.first.rests (λ q told. AllByRecursion says told)
+    (λ chain left. AreAtStart (rules_of old.catalogue old.size) says report.submission chain left all.first) (λ chain run left start. start)
+    1 runs report.completions memory one.is.done (rw one.is.submission all.begins.chains) in
     let comes : Comes old.catalogue old.size says idle all.idling (length runs) f.finals all.first one.order = record {
-      permitted = subst (λ (t : Table). PermitsAll t (accesses_of one.order)) (sym all.begins.table) one.is.permitted;
+      permitted = rw all.begins.table one.is.permitted;
       within = one.is.chains;
-      each = λ q low high. inr (f.each q low (omega (arith, high)));
+      each = λ q low high. inr (f.each q low (omega arith));
     } in
-    let run = runs_on old.catalogue old.size says idle all.idling (length runs) f.finals all.parts all.closed one.order one.by all.inside comes in (
-      subst (AllByRecursion says) (sym f.whole) (all_told says f.finals 1 runs (λ q low high. run.2.said q low (omega (arith, high)))),
+    let (end, inside, run) = runs_on old.catalogue old.size says idle all.idling (length runs) f.finals all.parts all.closed one.order one.by
+    all.inside comes in (
+      rw f.whole (all_told says f.finals 1 runs (λ q low high. run.said q low (omega arith))),
       record {
-        state = run.0;
-        inside = run.1;
-        over = run.2.over;
+        state = end;
+        inside = inside;
+        over = run.over;
         leaves = one.after ∙ (λ i. record old {
-          at = ((sym (run.2.table_is ∙ ap (λ (t : Table). table_after t (accesses_of one.order)) all.begins.table)) i).at;
+          at = ((sym (run.table_is ∙ ap (λ (t : Table). table_after t (accesses_of one.order)) all.begins.table)) i).at;
           submissions = old.submissions + 1;
         });
       },
     )
 
 pub each_outcome_is_listed : EachOutcomeIsListed
-each_outcome_is_listed place answers idle old requests states all report left memory one =
-    all_said idle (IsListed place answers) old requests states all report left memory one
+each_outcome_is_listed place answers idle = all_said idle (IsListed place answers)

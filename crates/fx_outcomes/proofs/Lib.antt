@@ -1,11 +1,12 @@
-pub mod Right
+pub mod Words
 pub mod Chain
 pub mod Requests
-pub mod Playing
 pub mod Commuting
 pub mod ByPart
 pub mod Turns
+pub mod Orders
 pub mod Idling
+pub mod Playing
 pub mod Staying
 pub mod PartByPart
 pub mod First

@@ -1,21 +1,15 @@
 -- An order goes from state to state of a closed list, up to one where no chain has an access left.
-use Rattle.fx_order.proofs.Words.{◌≡◌, ◌⊎◌, inl, inr, ℕ, ◌≤◌, List, [], ◌∷◌, ◌++◌, refl, sym, ap, subst, ◌∙◌, append_assoc, FileEntry, append-nil}
-use Rattle.fx_order.proofs.Words.{by_equality, All, All-head, All-tail, Bool, true, false, false≢true, Completed, Table, PermitsAll, table_after}
-use Rattle.fx_order.proofs.Words.{table_with, accesses_of, accesses_of_chain}
-use Rattle.fx_order.specs.declared.access.Access.{Access}
-use Rattle.fx_order.specs.declared.access.ChainAccess.{ChainAccess}
-use Rattle.std.specs.Prelude.{Contains}
-use Rattle.std.specs.List.{AllByRecursion}
-use Rattle.fx_outcomes.specs.Rests.{HasMemory, IsNext, Rest, rules_of, step}
-use Rattle.fx_outcomes.specs.Parts.{Parts}
-use Rattle.fx_outcomes.specs.Nodes.{AreClosed, IsOver, Leads, StateView}
-use Rattle.fx_outcomes.specs.Idle.{AreIdle}
-use Rattle.fx_order.proofs.Accesses.{not_own, own_first}
+use Rattle.fx_order.proofs.Words.{◌≡◌, arith, ◌⊎◌, Bool, inl, inr, ℕ, ◌≤◌, List, [], ◌∷◌, ◌++◌, refl, sym, ap, ◌∙◌, FileEntry, append-nil, All}
+use Rattle.fx_order.proofs.Words.{All-tail, true, false, false≢true, Completed, Table, table_after, AllByRecursion, Contains, ⊎_elim, table_with}
+use Rattle.fx_order.proofs.Words.{accesses_of, accesses_of_chain}
+use Rattle.fx_outcomes.proofs.Words.{Access, ChainAccess, cases_Bool, IsNext, Rest, rules_of, step, Parts, AreClosed, IsOver, StateView}
+use Rattle.fx_outcomes.proofs.Words.{AreIdle}
 use Rattle.fx_outcomes.proofs.ByPart.{IsByPart}
-use Rattle.fx_outcomes.proofs.Idling.{IsLook, Left, reads_done, weaker}
+use Rattle.fx_outcomes.proofs.Idling.{IsLook, reads_done}
+use Rattle.fx_outcomes.proofs.Orders.{Goes_on, first_within, its_first, past_first}
 use Rattle.fx_outcomes.proofs.Turns.{has_turn}
 use Rattle.fx_outcomes.proofs.Requests.{are_right}
-use Rattle.fx_outcomes.proofs.Chain.{IsRest, IsReady, ends, steps}
+use Rattle.fx_outcomes.proofs.Chain.{Goes, ends, steps, told_first}
 
 pub both_said : {X : Type 0} (P : X → Type 0) (xs ys : List X) → AllByRecursion P xs → AllByRecursion P ys → AllByRecursion P (xs ++ ys)
 both_said P [] ys one other = other
@@ -23,36 +17,22 @@ both_said P (x ∷ xs) ys one other = (one.0, both_said P xs ys one.1 other)
 
 module _ (catalogue : List FileEntry) (size : ℕ) where
   -- a chain goes on from its place, where it was told this, by these accesses, to what it tells in the end
-  pub record OfChain (rest : Rest) (told final : List Completed) (accesses : List Access) : Type 0 where
-    pub later : List Completed
-    pub whole : final ≡ told ++ later
-    pub memory : AllByRecursion HasMemory later
-    pub ready : IsReady catalogue size (rules_of catalogue size) (are_right catalogue size) rest.place rest.requests rest.made
-    pub rest_is : IsRest catalogue size (rules_of catalogue size) (are_right catalogue size) rest accesses later
+  abbrev pub OfChain : Rest → List Completed → List Completed → List Access → Type 0
+  OfChain rest told final accesses = Goes catalogue size (rules_of catalogue size) (are_right catalogue size) (told, rest) accesses final
 
   -- its first access is one that it may make next, and leads to what is left of it
   pub steps_on : (rest : Rest) (told final : List Completed) (a : Access) (accesses : List Access) → OfChain rest told final (a ∷ accesses)
       → IsNext catalogue size rest a
       × OfChain (step (rules_of catalogue size) rest a).1 (told ++ (step (rules_of catalogue size) rest a).0) final accesses
   steps_on rest told final a accesses of =
-      let stepped = steps catalogue size (rules_of catalogue size) (are_right catalogue size) rest.requests of.memory of.ready of.rest_is in
-      let goes = stepped.1 in (
-        stepped.0,
-        record {
-          later = goes.later;
-          whole = of.whole ∙ (ap (λ (l : List Completed). told ++ l) goes.whole
-              ∙ sym (append_assoc told (step (rules_of catalogue size) rest a).0 goes.later));
-          memory = goes.memory;
-          ready = goes.ready;
-          rest_is = goes.rest;
-        },
-      )
+      let (next, goes) = steps catalogue size (rules_of catalogue size) (are_right catalogue size) rest.requests of.memory of.ready of.rest_is in
+      (next, told_first catalogue size (rules_of catalogue size) (are_right catalogue size) told of.whole goes)
 
   -- without an access that is left it is over
   pub told_whole : (rest : Rest) (told final : List Completed) → OfChain rest told final [] → (rest.requests ≡ []) × (final ≡ told)
   told_whole rest told final of =
-      let none = ends catalogue size (rules_of catalogue size) (are_right catalogue size) of.memory of.ready of.rest_is in
-      (none.0, of.whole ∙ (ap (λ (l : List Completed). told ++ l) none.1 ∙ append-nil told))
+      let (none, nothing) = ends catalogue size (rules_of catalogue size) (are_right catalogue size) rest.requests of.memory of.ready of.rest_is in
+      (none, of.whole ∙ (rw nothing (append-nil told)))
 
 -- an idle chain is left alone: what it told and may tell is said, and its accesses look at slots
 pub record OfIdle (says : Completed → Type 0) (idle : Rest → Bool) (rest : Rest) (final : List Completed) (accesses : List Access) : Type 0 where
@@ -65,105 +45,61 @@ module _ (catalogue : List FileEntry) (size : ℕ) (says : Completed → Type 0)
   abbrev pub IsSaid : Rest → List Completed → List Access → Type 0
   IsSaid rest final accesses = (told : List Completed) × AllByRecursion says told × OfChain catalogue size rest told final accesses
 
-  abbrev pub Goes_on : Rest → List Completed → List Access → Type 0
-  Goes_on rest final accesses = OfIdle says idle rest final accesses ⊎ IsSaid rest final accesses
+  abbrev pub Plays : Rest → List Completed → List Access → Type 0
+  Plays rest final accesses = OfIdle says idle rest final accesses ⊎ IsSaid rest final accesses
 
   -- a chain that is idle from here on
-  as_idle : {rest : Rest} {final : List Completed} {accesses : List Access} → idle rest ≡ true → Goes_on rest final accesses → OfIdle says idle rest final accesses
+  as_idle : {rest : Rest} {final : List Completed} {accesses : List Access} → idle rest ≡ true → Plays rest final accesses
+      → OfIdle says idle rest final accesses
   as_idle is (inl of) = of
-  as_idle {rest} {accesses} is (inr (told, said, of)) =
-      let done = reads_done rest.made catalogue size rest.place rest.requests (of.rest_is.front ++ accesses) of.later (idling.reads rest is) of.rest_is.done in
-      record {
-        is_idle = is;
-        looks = behind of.rest_is.front accesses done.0;
-        said = subst (AllByRecursion says) (sym of.whole)
-            (both_said says told of.later said
-            (weaker (Left rest.made rest.place rest.requests) says of.later (λ c left. idling.said rest c is left) done.1));
-      }
+  as_idle {rest} {final} {accesses} is (inr (told, said, of)) =
+      let (looks, later) = reads_done catalogue size says rest.place rest.requests (of.rest_is.front ++ accesses) of.later
+      (λ c. idling.said rest c is) (idling.reads rest is) of.rest_is.done in
+      record { is_idle = is; looks = behind of.rest_is.front accesses looks; said = rw of.whole (both_said says told of.later said later) }
     where
       behind : (front l : List Access) → All IsLook (front ++ l) → All IsLook l
       behind [] l all = all
       behind (x ∷ front) l all = behind front l (All-tail IsLook x (front ++ l) all)
 
   -- and one that isn't
-  as_chain : {rest : Rest} {final : List Completed} {accesses : List Access} → idle rest ≡ false → Goes_on rest final accesses
+  as_chain : {rest : Rest} {final : List Completed} {accesses : List Access} → idle rest ≡ false → Plays rest final accesses
       → IsSaid rest final accesses
   as_chain isnt (inl of) = absurd (false≢true (sym isnt ∙ of.is_idle))
   as_chain isnt (inr of) = of
 
   -- without an access that is left it is idle, and all that it tells is said
-  ended : {rest : Rest} {final : List Completed} {accesses : List Access} → accesses ≡ [] → Goes_on rest final accesses
-      → (idle rest ≡ true) × AllByRecursion says final
-  ended is (inl of) = (of.is_idle, of.said)
-  ended {rest} {final} is (inr (told, said, of)) =
-      let none = told_whole catalogue size rest told final (subst (OfChain catalogue size rest told final) is of) in
-      (idling.over rest none.0, subst (AllByRecursion says) (sym none.1) said)
+  ended : {rest : Rest} {final : List Completed} → Plays rest final [] → (idle rest ≡ true) × AllByRecursion says final
+  ended (inl of) = (of.is_idle, of.said)
+  ended {rest} {final} (inr (told, said, of)) =
+      let (none, whole) = told_whole catalogue size rest told final of in (idling.over rest none, rw whole said)
 
   module _ (chains : ℕ) (finals : ℕ → List Completed) where
+    abbrev Each : StateView → ℕ → List Access → Type 0
+    Each state chain accesses = Plays (state.rests chain) (finals chain) accesses
+
     -- an order goes on from a state
-    pub record Comes (state : StateView) (order : List ChainAccess) : Type 0 where
-      pub permitted : PermitsAll state.table (accesses_of order)
-      pub within : All (λ x. (1 ≤ x.chain) × (x.chain ≤ chains)) order
-      pub each : (chain : ℕ) → 1 ≤ chain → chain ≤ chains → Goes_on (state.rests chain) (finals chain) (accesses_of_chain chain order)
+    abbrev pub Comes : StateView → List ChainAccess → Type 0
+    Comes state order = Goes_on chains state.table (Each state) order
 
     -- its first access is one that its chain may make next, unless the chain is idle
     next_one : {state : StateView} {x : ChainAccess} {order : List ChainAccess} → idle (state.rests x.chain) ≡ false → Comes state (x ∷ order)
-        → (told : List Completed) × AllByRecursion says told
-        × (IsNext catalogue size (state.rests x.chain) x.access
-        × OfChain catalogue size (step (rules_of catalogue size) (state.rests x.chain) x.access).1
-        (told ++ (step (rules_of catalogue size) (state.rests x.chain) x.access).0) (finals x.chain) (accesses_of_chain x.chain order))
-    next_one {state} {x} {order} awake comes =
-        let own = All-head (λ (y : ChainAccess). (1 ≤ y.chain) × (y.chain ≤ chains)) x order comes.within in
-        let (told, said, of) = subst (IsSaid (state.rests x.chain) (finals x.chain)) (own_first x order)
-        (as_chain awake (comes.each x.chain own.0 own.1)) in
-        (told, said, steps_on catalogue size (state.rests x.chain) told (finals x.chain) x.access (accesses_of_chain x.chain order) of)
-
-    -- and where what that answers is said, the others go on from where it leads
-    goes_on : {state next : StateView} {x : ChainAccess} {order : List ChainAccess} → idle (state.rests x.chain) ≡ false → Comes state (x ∷ order)
-        → AllByRecursion says (step (rules_of catalogue size) (state.rests x.chain) x.access).0
-        → Leads (rules_of catalogue size) state x.chain x.access next → Comes next order
-    goes_on {state} {next} {x} {order} awake comes said leads =
-        let one = next_one awake comes in
+        → IsNext catalogue size (state.rests x.chain) x.access
+        × (AllByRecursion says (step (rules_of catalogue size) (state.rests x.chain) x.access).0
+        → IsSaid (step (rules_of catalogue size) (state.rests x.chain) x.access).1 (finals x.chain) (accesses_of_chain x.chain order))
+    next_one {state} {x} awake comes =
+        let (told, said, of) = as_chain awake (its_first chains comes) in
+        let (next, on) = steps_on catalogue size _ told _ x.access _ of in
         let now = (step (rules_of catalogue size) (state.rests x.chain) x.access).0 in
-        record {
-          permitted = subst (λ (t : Table). PermitsAll t (accesses_of order)) (sym leads.table) comes.permitted.1;
-          within = All-tail (λ (y : ChainAccess). (1 ≤ y.chain) × (y.chain ≤ chains)) x order comes.within;
-          each = λ chain low high. by_equality chain x.chain
-              (λ _. Goes_on (next.rests chain) (finals chain) (accesses_of_chain chain order))
-              (λ same.
-              subst (λ (n : ℕ). Goes_on (next.rests n) (finals n) (accesses_of_chain n order)) (sym same)
-              (subst (λ (r : Rest). Goes_on r (finals x.chain) (accesses_of_chain x.chain order)) (sym leads.own)
-              (inr (one.0 ++ now, both_said says one.0 now one.1 said, one.2.1))))
-              (λ apart.
-              subst (λ (r : Rest). Goes_on r (finals chain) (accesses_of_chain chain order)) (sym (leads.others chain low apart))
-              (subst (Goes_on (state.rests chain) (finals chain)) (not_own x order chain apart) (comes.each chain low high)));
-        }
+        (next, λ saying. (told ++ now, both_said says told now said saying, on))
 
     -- the access of an idle chain looks at a slot, and the order goes on without it
     goes_by : {state : StateView} {x : ChainAccess} {order : List ChainAccess} → idle (state.rests x.chain) ≡ true → Comes state (x ∷ order)
         → (table_with state.table x.access ≡ state.table) × Comes state order
     goes_by {state} {x} {order} asleep comes =
-        let own = All-head (λ (y : ChainAccess). (1 ≤ y.chain) × (y.chain ≤ chains)) x order comes.within in
-        let rest : Rest = state.rests x.chain in
-        let of = subst (OfIdle says idle rest (finals x.chain)) (own_first x order) (as_idle asleep (comes.each x.chain own.0 own.1)) in
-        let look = All-head IsLook x.access (accesses_of_chain x.chain order) of.looks in
-        let same : table_with state.table x.access ≡ state.table = ap (table_with state.table) look.2 in (
-          same,
-          record {
-            permitted = subst (λ (t : Table). PermitsAll t (accesses_of order)) same comes.permitted.1;
-            within = All-tail (λ (y : ChainAccess). (1 ≤ y.chain) × (y.chain ≤ chains)) x order comes.within;
-            each = λ chain low high. by_equality chain x.chain
-                (λ _. Goes_on (state.rests chain) (finals chain) (accesses_of_chain chain order))
-                (λ same_chain.
-                subst (λ (n : ℕ). Goes_on (state.rests n) (finals n) (accesses_of_chain n order)) (sym same_chain)
-                (inl (record {
-                  is_idle = asleep;
-                  looks = All-tail IsLook x.access (accesses_of_chain x.chain order) of.looks;
-                  said = of.said;
-                })))
-                (λ apart. subst (Goes_on (state.rests chain) (finals chain)) (not_own x order chain apart) (comes.each chain low high));
-          },
-        )
+        let of = as_idle asleep (its_first chains comes) in
+        let same = ap (table_with state.table) (of.looks 0 x.access (omega arith)).2 in
+        let others = All-tail IsLook x.access (accesses_of_chain x.chain order) of.looks in
+        (same, past_first chains comes (Each state) (sym same) (inl (record { is_idle = asleep; looks = others; said = of.said })) (λ _ _ _ on. on))
 
     -- where the order is over
     pub record Ended (table : Table) (state : StateView) : Type 0 where
@@ -178,26 +114,21 @@ module _ (catalogue : List FileEntry) (size : ℕ) (says : Completed → Type 0)
       state,
       there,
       record {
-        over = λ chain low high. (ended refl (comes.each chain low high)).0;
-        said = λ chain low high. (ended refl (comes.each chain low high)).1;
+        over = λ chain low high. (ended (comes.each chain low high)).0;
+        said = λ chain low high. (ended (comes.each chain low high)).1;
         table_is = refl;
       },
     )
-    runs_on {states} parts closed (x ∷ order) by {state} there comes =
-        elim (idle (state.rests x.chain)) as (λ b. idle (state.rests x.chain) ≡ b
-        → (end : StateView) × Contains states end × Ended (table_after (table_with state.table x.access) (accesses_of order)) end) [
-          | true ↦ λ asleep.
-              let on = goes_by asleep comes in
-              let rest = runs_on parts closed order by.1 there on.1 in
-              (rest.0, rest.1, subst (λ (t : Table). Ended (table_after t (accesses_of order)) rest.0) (sym on.0) rest.2)
-          | false ↦ λ awake.
-              let own = All-head (λ (y : ChainAccess). (1 ≤ y.chain) × (y.chain ≤ chains)) x order comes.within in
-              let one = next_one awake comes in
-              let turn = has_turn idle parts state.rests chains x order (λ chain low high none. (ended none (comes.each chain low high)).0) by in
-              let to = closed state there x.chain own.0 own.1 turn awake x.access one.2.0 comes.permitted.0 in
-              let rest = runs_on parts closed order by.1 to.inside (goes_on awake comes to.said to.leads) in (
-                rest.0,
-                rest.1,
-                subst (λ (t : Table). Ended (table_after t (accesses_of order)) rest.0) to.leads.table rest.2,
-              )
-        ] refl
+    runs_on parts closed (x ∷ order) by {state} there comes = ⊎_elim
+        (λ asleep.
+        let (same, on) = goes_by asleep comes in
+        rw (same, table_after) (runs_on parts closed order by.1 there on))
+        (λ awake.
+        let (next, on) = next_one awake comes in
+        let (low, high) = first_within chains comes in
+        let turn = has_turn idle parts state.rests chains x order (λ chain low high none. (ended (rw none at (comes.each chain low high))).0) by in
+        let to = closed state there x.chain low high turn awake x.access next comes.permitted.0 in
+        let goes = past_first chains comes (Each to.next) to.leads.table (rw to.leads.own (inr (on to.said)))
+        (λ chain low apart still. rw (to.leads.others chain low apart) still) in
+        rw (← to.leads.table, table_after) (runs_on parts closed order by.1 to.inside goes))
+        (cases_Bool (idle (state.rests x.chain)))

@@ -1,6 +1,5 @@
-use Rattle.std.proofs.Common.{ℕ, ◌<◌}
-use Rattle.std.specs.Prelude.{Contains}
-use Rattle.fx_order.specs.declared.access.Access.TheVariants.{Allocates, FindsFull}
+use Rattle.fx_order.proofs.Words.{ℕ, ◌<◌, Contains}
+use Rattle.fx_outcomes.proofs.Words.{Allocates, FindsFull}
 use Rattle.fx_outcomes.proofs.choice.open_any_choices.Given as goal
 
 abbrev pub invariant-loop-slot : goal.invariant-loop-slot
