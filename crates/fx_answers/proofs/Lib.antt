@@ -1,12 +1,10 @@
 pub mod Words
 pub mod Lists
 pub mod Settling
-pub mod Choosing
 pub mod SameAnswers
 pub mod Viewing
 pub mod Idle
 pub mod AllOfThem
-pub mod Turns
 pub mod Promised
 pub mod ToldStates
 pub mod Reporting

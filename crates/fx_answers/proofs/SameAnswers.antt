@@ -1,13 +1,11 @@
 -- Lists that say the same, and a list of answers that one chain adds to.
-use Rattle.fx_order.proofs.Words.{◌≡◌, ℕ, ◌+◌, ◌-◌, ◌<◌, List, [], ◌∷◌, ◌++◌, length, map, take, drop, refl, sym, ap, ◌∙◌, arith, slice_index_or, false≢true}
-use Rattle.fx_order.proofs.Words.{Vec, Completed, Completion, all_completed, completed_of, map-append, take_all}
-use Rattle.std.specs.Prelude.{slice_set}
+use Rattle.fx_order.proofs.Words.{◌≡◌, ℕ, ◌-◌, ◌<◌, ◌≤◌, List, [], ◌∷◌, ◌++◌, length, map, take, drop, refl, sym, ap, ◌∙◌, arith}
+use Rattle.fx_order.proofs.Words.{slice_index_or, false≢true, Vec, Completed, Completion, all_completed, completed_of, map-append, take_all, get_or-map, take-append-drop}
+use Rattle.fx_answers.proofs.Words.{slice_set, length-drop, map-set, all_told, answers_of}
+use Rattle.std.proofs.Common.{Bool, true, rules}
+use Rattle.std.proofs.lemmas.Bool.{and_parts}
 use Rattle.std.specs.Cmp.Lexicographic.{pointwise}
 use Rattle.fx_chain.specs.contracts.completion.CompletionPartialEq.TheImpl.{eq-value as eq_of_completion}
-use Rattle.std.proofs.Common.{Bool, true, rules, ◌&&◌}
-use Rattle.std.proofs.lemmas.Bool.{and_parts}
-use Rattle.std.proofs.lemmas.List.{get_or-map, length-drop, map-set, take-append-drop}
-use Rattle.fx_answers.specs.Tellings.{all_told, answers_of}
 
 -- lists of which `==` tells that they say the same
 pub same_each : {X Y : Type 0} (f : X → Y) {E : X → X → Bool} → ((x y : X) → E x y ≡ true → f x ≡ f y) → (xs ys : List X)
@@ -23,23 +21,19 @@ pub completion_same : (one other : Completion) → eq_of_completion.it one other
 completion_same one other is = search rules
 
 -- one chain answers more
-pub set_answers : (before all : List (Vec Completion)) {i : ℕ} {old : Vec Completion} (mine : Vec Completion) (own : List Completed) → answers_of all ≡ answers_of before
-    → i < length before → old ≡ slice_index_or before i old → all_completed mine.items ≡ all_completed old.items ++ own
+pub set_answers : (before all : List (Vec Completion)) {i : ℕ} {old : Vec Completion} (mine : Vec Completion) (own : List Completed)
+    → answers_of all ≡ answers_of before → i < length before → old ≡ slice_index_or before i old
+    → all_completed mine.items ≡ all_completed old.items ++ own
     → answers_of (slice_set all i mine) ≡ slice_set (answers_of before) i (slice_index_or (answers_of before) i [] ++ own)
 set_answers before all {i} {old} mine own same within is adds =
     let f : Vec Completion → List Completed = λ v. all_completed v.items in
-    let at : slice_index_or (answers_of before) i [] ≡ all_completed old.items = get_or-map f before i old [] within ∙ ap f (sym is) in
-    map-set f all i mine ∙ (λ j. slice_set (same j) i ((adds ∙ ap (λ (l : List Completed). l ++ own) (sym at)) j))
+    rw (get_or-map f before i old [] within, ← is) (map-set f all i mine ∙ (λ j. slice_set (same j) i (adds j)))
 
 -- a list is cut where the first chain's answers end
 pub cut_told : (cs : List Completion) {n m : ℕ} {own : Vec Completion} {others answers : List (Vec Completion)} → n ≡ m → answers ≡ own ∷ others
     → all_completed (take n cs) ≡ all_completed own.items → all_completed (take (length cs - m) (drop m cs)) ≡ all_told (answers_of others)
     → all_completed cs ≡ all_told (answers_of answers)
-cut_told cs {n} {m} {others} same is front back =
-    let left = length-drop m cs in
-    let behind : all_completed (drop m cs) ≡ all_told (answers_of others) =
-    ap all_completed (sym (take_all (length cs - m) (drop m cs) (omega (arith, left)))) ∙ back in
-    ap all_completed (sym (take-append-drop n cs))
-    ∙ (map-append completed_of (take n cs) (drop n cs)
-    ∙ ((λ j. front j ++ (ap (λ (k : ℕ). all_completed (drop k cs)) same ∙ behind) j)
-    ∙ ap (λ (l : List (Vec Completion)). all_told (answers_of l)) (sym is)))
+cut_told cs {n} {m} same is front back =
+    let all : length (drop m cs) ≤ length cs - m = omega (arith, length-drop m cs) in
+    rw (is, ← front, ← back, take_all (length cs - m) (drop m cs) all, same)
+    (ap all_completed (sym (take-append-drop m cs)) ∙ map-append completed_of (take m cs) (drop m cs))

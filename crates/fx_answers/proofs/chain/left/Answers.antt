@@ -1,5 +1,10 @@
-use Rattle.fx_answers.proofs.Choosing.{left_is}
+use Rattle.fx_order.proofs.Words.{◌-◌, length, drop, sym, ap, ◌∙◌, arith, drop-map, take_all, all_asked, asked_of}
+use Rattle.fx_answers.proofs.Words.{length-drop}
 use Rattle.fx_answers.proofs.chain.left.Goals as goal
 
 pub returns-clause-left : goal.returns-clause-left
-returns-clause-left c = left_is c.args.members.now c.args.done
+returns-clause-left c =
+    let members = c.args.members.now in
+    let done = c.args.done in
+    ap all_asked (take_all (length members - done) (drop done members) (omega (arith, length-drop done members)))
+    ∙ sym (drop-map asked_of done members)

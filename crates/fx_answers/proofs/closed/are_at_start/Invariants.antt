@@ -1,4 +1,5 @@
-use Rattle.fx_answers.proofs.Words.{◌<◌, ℕ, IsAtStartBy}
+use Rattle.fx_order.proofs.Words.{◌<◌, ℕ}
+use Rattle.fx_answers.proofs.Words.{IsAtStartBy}
 use Rattle.fx_answers.proofs.closed.are_at_start.Given as goal
 
 abbrev pub invariant-loop-i : goal.invariant-loop-i

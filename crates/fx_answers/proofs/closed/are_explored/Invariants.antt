@@ -1,4 +1,5 @@
-use Rattle.fx_answers.proofs.Words.{ℕ, ◌<◌, slice_index_or, Permits, table_of_slots, Access, IsExploredBy}
+use Rattle.fx_order.proofs.Words.{ℕ, ◌<◌, slice_index_or, Permits, table_of_slots}
+use Rattle.fx_answers.proofs.Words.{Access, IsExploredBy}
 use Rattle.fx_answers.proofs.closed.are_explored.Given as goal
 
 abbrev pub invariant-loop-access : goal.invariant-loop-access

@@ -1,4 +1,5 @@
-use Rattle.fx_answers.proofs.Words.{ℕ, ◌<◌, slice_index_or, Completion, completed_of, says}
+use Rattle.fx_order.proofs.Words.{ℕ, ◌<◌, slice_index_or, Completion, completed_of}
+use Rattle.fx_answers.proofs.Words.{says}
 use Rattle.fx_answers.proofs.closed.are_listed.Given as goal
 
 abbrev pub invariant-loop-c : goal.invariant-loop-c

@@ -1,4 +1,5 @@
-use Rattle.fx_answers.proofs.Words.{◌<◌, ℕ, slice_index_or, IsStateExploredBy, State}
+use Rattle.fx_order.proofs.Words.{◌<◌, ℕ, slice_index_or}
+use Rattle.fx_answers.proofs.Words.{IsStateExploredBy, State}
 use Rattle.fx_answers.proofs.closed.are_states_explored.Given as goal
 
 abbrev pub invariant-loop-state : goal.invariant-loop-state

@@ -1,4 +1,5 @@
-use Rattle.fx_answers.proofs.Words.{◌∙◌, sym, completed_of, Answer}
+use Rattle.fx_order.proofs.Words.{◌∙◌, sym, completed_of}
+use Rattle.fx_answers.proofs.Words.{Answer}
 use Rattle.fx_answers.proofs.Lists.{inside_at}
 use Rattle.fx_answers.proofs.SameAnswers.{completion_same}
 use Rattle.fx_answers.proofs.closed.is_answered.Goals as goal

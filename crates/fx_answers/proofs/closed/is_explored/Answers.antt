@@ -1,17 +1,13 @@
-use Rattle.fx_answers.proofs.Words.{All, subst, all_completed, completed_of, Completion, said_by, IsStepTo, runs_in}
+use Rattle.fx_answers.proofs.Words.{runs_in}
 use Rattle.fx_answers.proofs.Lists.{ok_two}
 use Rattle.fx_answers.proofs.Viewing.{explored}
 use Rattle.fx_answers.proofs.closed.is_explored.Goals as goal
 
 pub returns : goal.returns
 returns c =
-    let claimed = c.args.claimed.now in
-    let step : IsStepTo claimed.submission.now c.args.state.now c.args.i c.args.access.now (all_completed c.next_state.new.told.items) c.in-Some.next =
-    rw c.in-Some.is at c.in_ok-next.ensures.step in
+    let submission = c.args.claimed.now.submission.now in
     ok_two c.has.result _ _ _
-    (λ yes inside among it permits. explored claimed c.args.state.now c.args.i c.args.access.now c.next_state.new.told.items c.in-Some.next step
-    (subst (All (λ (x : Completion). said_by claimed (completed_of x))) c.deref.ensures.value (c.are_listed.ensures c.if-not-are_listed.false))
-    (inside it claimed.submission.now.number (runs_in claimed.submission.now))
-    (rw c.in-Some.is at c.in_ok-next.ensures.told)
-    (among it claimed.submission.now.number (runs_in claimed.submission.now)))
+    (λ yes inside among it permits. explored c.next_state.new.told.items (rw c.in-Some.is at c.in_ok-next.ensures.step)
+    (rw c.deref.ensures.value at (c.are_listed.ensures c.if-not-are_listed.false)) (inside it submission.number (runs_in submission))
+    (rw c.in-Some.is at c.in_ok-next.ensures.told) (among it submission.number (runs_in submission)))
     c.has.ensures.view c.has.ensures.told

@@ -1,4 +1,5 @@
-use Rattle.fx_answers.proofs.Words.{◌<◌, ℕ, IsExploredInTurn}
+use Rattle.fx_order.proofs.Words.{◌<◌, ℕ}
+use Rattle.fx_answers.proofs.Words.{IsExploredInTurn}
 use Rattle.fx_answers.proofs.closed.is_state_explored.Given as goal
 
 abbrev pub invariant-loop-i : goal.invariant-loop-i

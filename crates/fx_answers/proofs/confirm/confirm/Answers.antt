@@ -1,5 +1,7 @@
-use Rattle.fx_answers.proofs.Words.{All-map, Completion, RingState, Slots, all_asked, completed_of, ring_of_slots, HasMemory, report_of, IsReportBy}
-use Rattle.std.proofs.Common.{◌≡◌, ◌↔◌, ◌-◌, All, IfOk, IfSome, IsSome, Option, Result, Ok, Err, Some, None, arith, length, refl, subst, sym}
+use Rattle.fx_order.proofs.Words.{All-map, RingState, all_asked, completed_of, ring_of_slots, ◌≡◌, ◌↔◌, ◌-◌, IfOk, IsSome, Option, Result, Some, None}
+use Rattle.fx_order.proofs.Words.{arith, length, refl, sym}
+use Rattle.fx_answers.proofs.Words.{Slots, HasMemory, report_of, IsReportBy}
+use Rattle.std.proofs.Common.{IfSome, Ok, Err}
 use Rattle.fx_answers.proofs.Promised.{may_of}
 use Rattle.fx_answers.proofs.confirm.confirm.Goals as goal
 
@@ -14,17 +16,12 @@ pub returns : goal.returns
 returns c = of_both c.slots_left.result _ _ _ c.slots_left.ensures.order c.slots_left.ensures.left (λ left is leaves submissions registrations number.
     let sub = c.args.submission.now in
     let slots = c.args.slots.now in
-    let order = c.args.play.now.order.items in
-    let old : RingState = ring_of_slots sub.setting.catalogue.now slots submissions registrations in
     let size : sub.setting.size ≡ length slots.at.items = omega (arith, c.args.slots.now.at.ok.0) in
     let before : sub.number - 1 ≡ submissions = omega arith in
-    let by : IsReportBy old (all_asked sub.requests.now) order (report_of sub c.args.play.now) left = record {
+    let by : IsReportBy (ring_of_slots sub.setting.catalogue.now slots submissions registrations) (all_asked sub.requests.now)
+    c.args.play.now.order.items (report_of sub c.args.play.now) left = record {
       is = rw (c.deref-2.ensures.value, c.deref-3.ensures.value, c.deref-4.ensures.value, before, sym number) at (is registrations 0);
-      memory = All-map HasMemory completed_of c.args.play.now.completions.items
-          (subst (All (λ (x : Completion). HasMemory (completed_of x))) c.deref.ensures.value (c.have_memory.ensures c.if-not-have_memory.false));
+      memory = All-map HasMemory completed_of _ (rw c.deref.ensures.value at (c.have_memory.ensures c.if-not-have_memory.false));
       leaves = rw (c.deref-4.ensures.value, before) at (leaves registrations);
     } in
-    record {
-      by = by;
-      may = may_of (omega (arith, size, sub.few_slots)) sub.accepted by;
-    })
+    record { by = by; may = may_of (omega (arith, size, sub.few_slots)) sub.accepted by })

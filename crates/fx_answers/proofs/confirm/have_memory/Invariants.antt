@@ -1,4 +1,5 @@
-use Rattle.fx_answers.proofs.Words.{ℕ, ◌<◌, slice_index_or, Completion, completed_of, HasMemory}
+use Rattle.fx_order.proofs.Words.{ℕ, ◌<◌, slice_index_or, Completion, completed_of}
+use Rattle.fx_answers.proofs.Words.{HasMemory}
 use Rattle.fx_answers.proofs.confirm.have_memory.Given as goal
 
 abbrev pub invariant-loop-c : goal.invariant-loop-c

@@ -1,4 +1,4 @@
-use Rattle.fx_answers.specs.Listed.{IsEndListed}
+use Rattle.fx_answers.proofs.Words.{IsEndListed}
 use Rattle.fx_answers.proofs.Lists.{one_more_of}
 use Rattle.fx_answers.proofs.end.are_listed.Goals as goal
 

@@ -1,4 +1,5 @@
-use Rattle.fx_answers.proofs.Words.{ℕ, ◌<◌, slice_index_or, IsEndListed, State}
+use Rattle.fx_order.proofs.Words.{ℕ, ◌<◌, slice_index_or}
+use Rattle.fx_answers.proofs.Words.{IsEndListed, State}
 use Rattle.fx_answers.proofs.end.are_listed.Given as goal
 
 abbrev pub invariant-loop-state : goal.invariant-loop-state

@@ -1,4 +1,5 @@
-use Rattle.fx_answers.proofs.Words.{table_of_slots, End}
+use Rattle.fx_order.proofs.Words.{table_of_slots}
+use Rattle.fx_answers.proofs.Words.{End}
 use Rattle.fx_answers.proofs.Lists.{inside_at}
 use Rattle.fx_answers.proofs.end.is_listed.Goals as goal
 

@@ -1,4 +1,5 @@
-use Rattle.fx_answers.proofs.Words.{All, IsAnswerIn}
+use Rattle.fx_order.proofs.Words.{All}
+use Rattle.fx_answers.proofs.Words.{IsAnswerIn}
 use Rattle.fx_answers.proofs.outcome.all_confirmed.Given as goal
 
 abbrev pub invariant-loop-by : goal.invariant-loop-by

@@ -1,5 +1,5 @@
 use Rattle.fx_order.proofs.Words.{◌<◌, ℕ}
-use Rattle.fx_answers.specs.Views.{IsInPart}
+use Rattle.fx_answers.proofs.Words.{IsInPart}
 use Rattle.fx_answers.proofs.parts.are_parts.Given as goal
 
 abbrev pub invariant-loop-i : goal.invariant-loop-i

@@ -1,4 +1,5 @@
-use Rattle.fx_answers.proofs.Words.{◌<◌, ℕ, slice_index_or, asked_of, Request, table_of_slots, StaysIn, parts_of}
+use Rattle.fx_order.proofs.Words.{◌<◌, ℕ, slice_index_or, asked_of, Request, table_of_slots}
+use Rattle.fx_answers.proofs.Words.{StaysIn, parts_of}
 use Rattle.fx_answers.proofs.parts.stay_in.Given as goal
 
 abbrev pub invariant-loop-request : goal.invariant-loop-request

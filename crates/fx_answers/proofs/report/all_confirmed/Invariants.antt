@@ -1,4 +1,5 @@
-use Rattle.fx_answers.proofs.Words.{All, IsPossibleIn}
+use Rattle.fx_order.proofs.Words.{All}
+use Rattle.fx_answers.proofs.Words.{IsPossibleIn}
 use Rattle.fx_answers.proofs.report.all_confirmed.Given as goal
 
 abbrev pub invariant-loop-i : goal.invariant-loop-i

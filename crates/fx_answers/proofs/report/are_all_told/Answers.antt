@@ -1,4 +1,4 @@
-use Rattle.fx_answers.specs.Listed.{IsToldAt}
+use Rattle.fx_answers.proofs.Words.{IsToldAt}
 use Rattle.fx_answers.proofs.Lists.{one_more_of}
 use Rattle.fx_answers.proofs.report.are_all_told.Goals as goal
 

@@ -1,4 +1,4 @@
-use Rattle.fx_answers.proofs.Words.{◌≡◌, ◌∙◌, sym}
+use Rattle.fx_order.proofs.Words.{◌≡◌, ◌∙◌, sym}
 use Rattle.std.proofs.Common.{rules}
 use Rattle.std.proofs.lemmas.Slice.Eq.{slice_eq-Decides}
 use Rattle.fx_order.proofs.EqualFiles.{file_Decides}

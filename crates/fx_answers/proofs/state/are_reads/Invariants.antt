@@ -1,4 +1,5 @@
-use Rattle.fx_answers.proofs.Words.{◌≡◌, drop, asked_of, list_all, is_read}
+use Rattle.fx_order.proofs.Words.{◌≡◌, drop, asked_of}
+use Rattle.fx_answers.proofs.Words.{list_all, is_read}
 use Rattle.fx_answers.proofs.state.are_reads.Given as goal
 
 -- whether all are reads is told by the requests that are left

@@ -1,4 +1,4 @@
-use Rattle.fx_answers.proofs.Words.{sym, ◌∙◌, all_completed, completed_of, Vec, Completion}
+use Rattle.fx_order.proofs.Words.{sym, ◌∙◌, all_completed, completed_of, Vec, Completion}
 use Rattle.fx_answers.proofs.SameAnswers.{completion_same, same_each}
 use Rattle.fx_answers.proofs.telling.are_all_same.Goals as goal
 

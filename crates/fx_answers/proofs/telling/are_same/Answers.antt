@@ -1,5 +1,5 @@
 use Rattle.fx_answers.proofs.SameAnswers.{completion_same, same_each}
-use Rattle.fx_answers.proofs.Words.{sym, ◌∙◌, completed_of}
+use Rattle.fx_order.proofs.Words.{sym, ◌∙◌, completed_of}
 use Rattle.fx_answers.proofs.telling.are_same.Goals as goal
 
 pub returns : goal.returns

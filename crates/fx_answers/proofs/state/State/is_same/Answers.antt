@@ -1,4 +1,5 @@
-use Rattle.fx_answers.proofs.Words.{◌≡◌, ◌∙◌, refl, sym, Progress}
+use Rattle.fx_order.proofs.Words.{◌≡◌, ◌∙◌, sym, refl}
+use Rattle.fx_answers.proofs.Words.{Progress}
 use Rattle.std.proofs.Common.{rules}
 use Rattle.std.specs.Bool.{Decides}
 use Rattle.std.proofs.lemmas.Bool.{not-false}

@@ -1,4 +1,4 @@
-use Rattle.fx_answers.proofs.Words.{◌≡◌, ◌∙◌, ◌++◌, List, ap, subst, all_completed, Closed, Completed, IsPermutation, removed_by, option_to_list}
+use Rattle.fx_order.proofs.Words.{◌≡◌, ◌∙◌, ◌++◌, all_completed}
 use Rattle.fx_answers.proofs.Words.{answers_of}
 use Rattle.fx_answers.proofs.SameAnswers.{set_answers}
 use Rattle.fx_answers.proofs.telling.Telling.after.Goals as goal
@@ -6,17 +6,13 @@ use Rattle.fx_answers.proofs.telling.Telling.after.Goals as goal
 pub returns : goal.returns
 returns c =
     let before = c.args.self.now.answers.items in
-    let old = c.index.result in
     let lists : answers_of c.push_lists.new.all.items ≡ answers_of before =
-    c.in_ok-push_lists.ensures
-    ∙ ((λ j. answers_of (c.new-answers.ensures.items j) ++ answers_of (c.deref.ensures.value j))) in
+    c.in_ok-push_lists.ensures ∙ (λ j. answers_of (c.new-answers.ensures.items j) ++ answers_of (c.deref.ensures.value j)) in
     let first : all_completed c.push_copies.new.all.items ≡ all_completed c.index.result.now.items =
-    c.in_ok-push_copies.ensures
-    ∙ (λ j. all_completed (c.new-mine.ensures.items j) ++ all_completed (c.deref-2.ensures.value j)) in
+    c.in_ok-push_copies.ensures ∙ (λ j. all_completed (c.new-mine.ensures.items j) ++ all_completed (c.deref-2.ensures.value j)) in
     record {
       there = c.requires;
       answers = set_answers before c.push_lists.new.all.items c.push_copies-2.new.all (all_completed c.args.own.now)
-          lists c.requires c.index.ensures (c.in_ok-push_copies-2.ensures ∙ ap (λ (l : List Completed). l ++ all_completed c.args.own.now) first);
-      removed = subst (λ (l : List Closed). IsPermutation (l ++ option_to_list (removed_by c.args.access.now)) c.in_ok-removed.removed.items)
-          c.deref-3.ensures.value c.in_ok-removed.ensures;
+          lists c.requires c.index.ensures (rw first at c.in_ok-push_copies-2.ensures);
+      removed = rw c.deref-3.ensures.value at c.in_ok-removed.ensures;
     }
