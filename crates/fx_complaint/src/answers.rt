@@ -1,7 +1,7 @@
 //! What a request may answer, whatever the others answer (docs/MODEL.md, "What a request answers").
 use crate::may_be::MayBe;
 use fx_base::{Errno, NoMemory};
-use fx_chain::{Completion, Op, Request, Target, is_bad_entry};
+use fx_chain::{Completion, Op, Request, Target, has_bad_entry};
 use fx_report::{Case, name_of};
 use std::alloc::{AllocError, Global};
 
@@ -49,10 +49,7 @@ fn update_refusal(case: &Case<'_>, off: u32, list: &[i32]) -> Option<Errno> {
         Some(Errno::ENXIO)
     } else if list.is_empty() || end > case.size() {
         Some(Errno::EINVAL)
-    } else if list
-        .iter()
-        .any(|number| is_bad_entry(case.catalogue.len(), *number))
-    {
+    } else if has_bad_entry(case.catalogue.len(), list) {
         Some(Errno::EBADF)
     } else {
         None
