@@ -1,9 +1,9 @@
 -- What an accepted submission may come to at a ring that is kept as slots.
 use Rattle.fx_texts.proofs.Words.{HasEachEnd, HasEachReport, IsAnswer, IsEnd, IsPossible, ring_behind, End, Answer, PossibleReport, FileEntry, Closed}
-use Rattle.fx_texts.proofs.Words.{completed_of, fault_of, Asked, Place, Instruction, SubmitsAll, ring_of_slots, MOST_SLOTS, closes_text, IsRing}
+use Rattle.fx_texts.proofs.Words.{completed_of, fault_of, Asked, Place, Instruction, SubmitsAll, MOST_SLOTS, closes_text, IsRing}
 use Rattle.fx_texts.proofs.Words.{RingContents, RingState, ring_of, Reported, reported, MOST_SUBMISSIONS, Prints, PrintsReport, contains_map}
 use Rattle.fx_texts.proofs.Words.{contains_mapped, HasEachNext, Leads, MayEnd, MayLeadTo, MaySay, Stage, count_behind, stage_left, stage_reported}
-use Rattle.fx_texts.proofs.Words.{IsReportFound, Bool, List, None, Option, Some, [], ap, arith, false, length, map, refl, slice_get, slice_index_or}
+use Rattle.fx_texts.proofs.Words.{IsReportFound, Bool, List, None, Some, [], ap, arith, false, length, map, refl, slice_get}
 use Rattle.fx_texts.proofs.Words.{sym, ℕ, ◌++◌, ◌+◌, ◌<◌, ◌∙◌, ◌≡◌, ◌≤◌, lt-leb, IsPermutation-refl, All, Contains}
 use Rattle.fx_order.specs.declared.access.ChainAccess.{ChainAccess}
 use Rattle.fx_order.specs.declared.slots.Slots.{Slots}
@@ -18,6 +18,7 @@ use Rattle.fx_order.specs.Order.{ring_left}
 use Rattle.fx_print.specs.Text.{completion_lines}
 use Rattle.fx_search.proofs.Hopeless.{get_at}
 use Rattle.std.proofs.lemmas.List.Elements.{All-contains, All-contains_itself}
+use Rattle.fx_order.specs.Access.{Table}
 use Rattle.fx_texts.proofs.Growth.{stays}
 use Rattle.fx_texts.proofs.Walks.{history_counts, submission_counts}
 
@@ -133,13 +134,10 @@ reports_are_all keeps old {asked} reports stages is_ring accepted each inside co
     (inside _ (contains_mapped (stage_reported keeps old) reports possible there))
 
 -- a ring whose slots were copied
-pub copied_ring : (catalogue : List FileEntry) (slots : Slots) (at : Vec (Option Closed)) (n k : ℕ) → at.items ≡ slots.at.items
-    → ring_of_slots catalogue (record { range = slots.range; at = at }) n k ≡ ring_of_slots catalogue slots n k
-copied_ring catalogue slots at n k same = λ i. record {
-  catalogue = catalogue;
-  size = length (same i);
-  range = slots.range;
-  at = λ slot. slice_index_or (same i) slot None;
-  submissions = n;
-  registrations = k;
-}
+abbrev ring_of_table : List FileEntry → ℕ → ℕ → Table → RingState
+ring_of_table catalogue n k t =
+    record { catalogue = catalogue; size = t.size; range = t.range; at = t.at; submissions = n; registrations = k }
+
+pub copied_ring : (catalogue : List FileEntry) (n k : ℕ) {copy table : Table} → copy ≡ table
+    → ring_of_table catalogue n k copy ≡ ring_of_table catalogue n k table
+copied_ring catalogue n k same = ap (ring_of_table catalogue n k) same

@@ -6,8 +6,8 @@ ghost use Rattle.fx_texts.specs.Rings.{Grows, stage_of, stages_of};
 
 use crate::reached::Reached;
 use crate::setting::Setting;
-use fx_base::{Closed, NoMemory};
-use fx_order::{RingSlots, Slots};
+use fx_base::NoMemory;
+use fx_order::RingSlots;
 use std::alloc::Global;
 
 /// The same ring once more.
@@ -17,30 +17,12 @@ pub(crate) fn copy_of(alloc: Global, ring: &RingSlots) -> Result<RingSlots, NoMe
     ensures size { IfOk result (λ copy.
         length copy.slots.at.items ≡ length ring.now.slots.at.items) }
 {
-    let at = Vec::from_slice(alloc, &ring.slots.at)?;
+    let slots = ring.slots.copy(alloc)?;
     Ok(RingSlots {
-        slots: Slots {
-            range: ring.slots.range,
-            at,
-        },
+        slots,
         submissions: ring.submissions,
         registrations: ring.registrations,
     })
-}
-
-// Whether both lists have the same files at the same slots.
-fn are_same_files(files: &[Option<Closed>], others: &[Option<Closed>]) -> bool
-    ensures { IsTrue result → files.now ≡ others.now }
-{
-    if files.len() != others.len() {
-        return false;
-    }
-    for i in 0..files.len() {
-        if files[i] != others[i] {
-            return false;
-        }
-    }
-    true
 }
 
 // Whether both rings have the same slots, the same allocation range and the same counts.
@@ -48,13 +30,10 @@ fn are_same(one: &RingSlots, other: &RingSlots) -> bool
     ensures { IsTrue result → (catalogue : List FileEntry)
         → ring_with_slots catalogue one.now ≡ ring_with_slots catalogue other.now }
 {
-    if one.slots.range.0 != other.slots.range.0 || one.slots.range.1 != other.slots.range.1 {
-        return false;
-    }
     if one.submissions != other.submissions || one.registrations != other.registrations {
         return false;
     }
-    are_same_files(&one.slots.at, &other.slots.at)
+    one.slots.is_same(&other.slots)
 }
 
 // Whether both are the same ring, behind the same text.

@@ -125,7 +125,7 @@ fn push_end(
 {
     let printed = printed_behind(setting, from.printed.as_str(), end.line)?;
     let order = Vec::from_slice(setting.alloc, end.order)?;
-    let at = Vec::from_slice(setting.alloc, &end.slots.at)?;
+    let slots = end.slots.copy(setting.alloc)?;
     let past = pasts.len();
     pasts.push(Past {
         submission: from.ring.submissions + 1,
@@ -133,9 +133,8 @@ fn push_end(
         order,
         before: from.past,
     })?;
-    let range = end.slots.range;
     let ring = RingSlots {
-        slots: Slots { range, at },
+        slots,
         submissions: from.ring.submissions + 1,
         registrations: from.ring.registrations,
     };

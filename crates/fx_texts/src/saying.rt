@@ -19,8 +19,7 @@ use fx_answers::{Answer, Question, may_answer};
 use fx_base::NoMemory;
 use fx_chain::Completion;
 use fx_language::Command;
-use fx_order::{RingSlots, Slots};
-use std::alloc::Global;
+use fx_order::RingSlots;
 
 /// What a request may answer.
 #[derive(Debug, Drop)]
@@ -39,31 +38,12 @@ pub(crate) struct Sayings {
     pub(crate) are_all: bool,
 }
 
-// A completion once more.
-fn copy_of(alloc: Global, c: &Completion) -> Result<Completion, NoMemory>
-    ensures { IfOk result (λ copy. completed_of copy ≡ completed_of c.now) }
-{
-    let got = Vec::from_slice(alloc, &c.got)?;
-    Ok(Completion {
-        place: c.place,
-        res: c.res,
-        got,
-    })
-}
-
-// Whether both completions are one.
-fn is_same(one: &Completion, other: &Completion) -> bool
-    ensures { IsTrue result → completed_of one.now ≡ completed_of other.now }
-{
-    one.place == other.place && one.res == other.res && one.got.as_slice() == other.got.as_slice()
-}
-
 // Whether an answer is in a list.
 fn has_answer(answers: &[Said], c: &Completion) -> bool
     ensures { IsTrue result → Contains (said_in answers.now) (completed_of c.now) }
 {
     for said in answers {
-        if is_same(&said.completion, c) {
+        if said.completion == *c {
             return true;
         }
     }
@@ -94,10 +74,9 @@ fn push_answer(
     if has_answer(answers, &answer.completion) {
         return Ok(true);
     }
-    let at = Vec::from_slice(setting.alloc, &answer.slots.at)?;
-    let range = answer.slots.range;
+    let slots = answer.slots.copy(setting.alloc)?;
     let ring = RingSlots {
-        slots: Slots { range, at },
+        slots,
         submissions: from.ring.submissions + 1,
         registrations: from.ring.registrations,
     };
@@ -110,7 +89,7 @@ fn push_answer(
         return Ok(false);
     }
     let order = Vec::from_slice(setting.alloc, &answer.order)?;
-    let completion = copy_of(setting.alloc, &answer.completion)?;
+    let completion = answer.completion.copy(setting.alloc)?;
     let past = pasts.len();
     pasts.push(Past {
         submission: from.ring.submissions + 1,
