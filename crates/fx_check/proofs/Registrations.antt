@@ -1,6 +1,6 @@
 -- The rings that the calls between submissions leave, as they are kept.
 use Rattle.fx_check.proofs.Words.{◌≡◌, ◌≤◌, ◌<◌, ◌+◌, ℕ, ℤ, List, [], length, refl, sym, ap, subst, ◌∙◌, arith, Option, Some, None, slice_index_or}
-use Rattle.fx_check.proofs.Words.{Vec, FileEntry, Closed, AreInRange, MOST_SLOTS, Table, ring_with_slots, table_of_slots, Slots, files_after}
+use Rattle.fx_check.proofs.Words.{FileEntry, Closed, AreInRange, MOST_SLOTS, Table, ring_with_slots, table_of_slots, Slots, files_after}
 use Rattle.fx_check.proofs.Words.{registered, registered_sparse, updated, IsRing, RingState, RingSlots, IsKept, IsOfScript, MOST_REGISTRATIONS}
 use Rattle.fx_ring.proofs.Rings.{none_rings}
 
@@ -10,10 +10,6 @@ empty_table n = record { size = n; range = (0, n); at = λ _. None }
 -- slots without files
 pub none_in_range : (at : ℕ → Option Closed) → at ≡ (λ _. None) → AreInRange at
 none_in_range at none slot file is = let e : None ≡ Some file = sym (ap (λ (a : ℕ → Option Closed). a slot) none) ∙ is in cc
-
--- a table whose slots were copied
-pub copied : (slots : Slots) (v : Vec (Option Closed)) → v.items ≡ slots.at.items → table_of_slots (record { range = slots.range; at = v }) ≡ table_of_slots slots
-copied slots v same = λ i. record { size = length (same i); range = slots.range; at = λ slot. slice_index_or (same i) slot None }
 
 pub none_left : (slots : Slots) → slots.at.items ≡ [] → slots.range ≡ (0, 0) → table_of_slots slots ≡ empty_table 0
 none_left slots none no_range = λ i. record { size = length (none i); range = no_range i; at = λ slot. slice_index_or (none i) slot None }

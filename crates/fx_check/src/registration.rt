@@ -189,10 +189,7 @@ pub(crate) fn play_update(
         return meet_refusal(alloc, text, "regupdate", errno);
     }
     let k = ring.registrations + 1;
-    let mut slots = Slots {
-        range: ring.slots.range,
-        at: Vec::from_slice(alloc, &ring.slots.at)?,
-    };
+    let mut slots = ring.slots.copy(alloc)?;
     let files = apply_list(alloc, &mut slots, k, off, given.list, given.tags)?;
     let closes = close_in_order(alloc, catalogue, &files)?;
     let count = given.list.len() as u32;

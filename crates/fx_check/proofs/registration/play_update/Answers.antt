@@ -3,23 +3,23 @@ use Rattle.fx_check.proofs.Words.{to_z, MOST_ENTRIES, Instruction, UpdatesRing, 
 use Rattle.fx_check.proofs.Words.{updated, tags_for, PrintsClosed, all_closed, closes_text, result_line, w64, updated_rings, AreOf, all_of_list}
 use Rattle.fx_check.proofs.Words.{few_of_list, good_larger, AreInRange, subst}
 use Rattle.fx_check.proofs.Calls.{accepted, no_memory, refused}
-use Rattle.fx_check.proofs.Registrations.{copied, counted_keeps, counted_with, updated_now}
-use Rattle.fx_check.proofs.registration.play_update.Goals.{After-deref-2, After-meet-met}
+use Rattle.fx_check.proofs.Registrations.{counted_keeps, counted_with, updated_now}
+use Rattle.fx_check.proofs.registration.play_update.Goals.{After-deref, After-meet-met}
 use Rattle.fx_check.proofs.registration.play_update.Goals as goal
 
 pub apply_list-requires-clause-good : goal.apply_list-requires-clause-good
 apply_list-requires-clause-good c =
     good_larger (length c.args.catalogue.now) MOST_ENTRIES c.args.given.now.list.now c.in_default.ensures.entries c.in_default.ensures.good
 
-module _ (c : After-deref-2) where
-  same : table_of_slots (record { range = c.args.ring.now.slots.range; at = c.in_ok-from_slice.field-0 }) ≡ table_of_slots c.args.ring.now.slots
-  same = copied c.args.ring.now.slots c.in_ok-from_slice.field-0 (c.in_ok-from_slice.ensures.items ∙ c.deref.ensures.value)
+module _ (c : After-deref) where
+  same : table_of_slots c.in_ok-slots.slots ≡ table_of_slots c.args.ring.now.slots
+  same = c.in_ok-slots.ensures
 
-  removed : c.deref-2.result.now ≡ removed_from (table_of_slots c.args.ring.now.slots).at c.args.off c.args.given.now.list.now
-  removed = c.deref-2.ensures.value ∙ c.in_ok-files.ensures.removed ∙ ap (λ (t : Table). removed_from t.at c.args.off c.args.given.now.list.now) same
+  removed : c.deref.result.now ≡ removed_from (table_of_slots c.args.ring.now.slots).at c.args.off c.args.given.now.list.now
+  removed = c.deref.ensures.value ∙ c.in_ok-files.ensures.removed ∙ ap (λ (t : Table). removed_from t.at c.args.off c.args.given.now.list.now) same
 
-  entries : AreOf c.args.catalogue.now c.deref-2.result.now
-  entries = all_of_list c.args.catalogue.now c.args.ring.now c.args.off c.args.given.now.list.now c.deref-2.result.now removed c.requires.is_ring
+  entries : AreOf c.args.catalogue.now c.deref.result.now
+  entries = all_of_list c.args.catalogue.now c.args.ring.now c.args.off c.args.given.now.list.now c.deref.result.now removed c.requires.is_ring
 
   now : ring_with_slots c.args.catalogue.now (counted_with c.args.ring.now c.apply_list.new.slots)
       ≡ updated (ring_with_slots c.args.catalogue.now c.args.ring.now) c.args.off c.args.given.now.list.now
@@ -32,21 +32,21 @@ module _ (c : After-deref-2) where
 
 pub close_in_order-requires : goal.close_in_order-requires
 close_in_order-requires c =
-    let d = (goal.at.close_in_order-requires c).After-deref-2 in record {
+    let d = (goal.at.close_in_order-requires c).After-deref in record {
       entries = entries d;
-      few = few_of_list c.args.ring.now c.args.off c.args.given.now.list.now c.deref-2.result.now (removed d)
+      few = few_of_list c.args.ring.now c.args.off c.args.given.now.list.now c.deref.result.now (removed d)
           c.in_default.ensures.inside c.requires.few_slots;
     }
 
 pub with_closes-requires : goal.with_closes-requires
 with_closes-requires c =
-    all_closed c.args.catalogue.now c.deref-2.result.now c.in_ok-closes.closes (entries (goal.at.with_closes-requires c).After-deref-2) c.in_ok-closes.ensures
+    all_closed c.args.catalogue.now c.deref.result.now c.in_ok-closes.closes (entries (goal.at.with_closes-requires c).After-deref) c.in_ok-closes.ensures
 
 module _ (c : After-meet-met) where
   abbrev command : Instruction
   command = UpdatesRing c.args.off c.args.given.now.list.now (option_map (λ given. given.now) c.args.given.now.tags)
 
-  told : c.deref-2.result.now ≡ removed_from (table_of_slots c.args.ring.now.slots).at c.args.off c.args.given.now.list.now
+  told : c.deref.result.now ≡ removed_from (table_of_slots c.args.ring.now.slots).at c.args.off c.args.given.now.list.now
       → PrintsClosed (ring_with_slots c.args.catalogue.now c.args.ring.now)
       (removed_from (table_of_slots c.args.ring.now.slots).at c.args.off c.args.given.now.list.now)
       (result_line (codes "regupdate") (pos (length c.args.given.now.list.now))) (string_bytes c.in_ok-whole.whole)
@@ -70,7 +70,7 @@ returns-in-Some-clause-step c =
 
 pub returns-in-Here-clause-step : goal.returns-in-Here-clause-step
 returns-in-Here-clause-step c =
-    let d = (goal.at.returns-in-Here-clause-step c).After-deref-2 in
+    let d = (goal.at.returns-in-Here-clause-step c).After-deref in
     let m = (goal.at.returns-in-Here-clause-step c).After-meet-met in
     accepted c.args.catalogue.now c.args.ring.now (command m) c.args.text.now tt c.requires.is_ring (sym c.in_default.ensures.value) (few m)
     (string_bytes c.in_ok-whole.whole) (told m (removed d)) c.meet-met.result c.meet-met.ensures
@@ -78,7 +78,7 @@ returns-in-Here-clause-step c =
 
 pub returns-in-Here-clause-kept : goal.returns-in-Here-clause-kept
 returns-in-Here-clause-kept c =
-    let d = (goal.at.returns-in-Here-clause-kept c).After-deref-2 in
+    let d = (goal.at.returns-in-Here-clause-kept c).After-deref in
     counted_keeps c.args.catalogue.now c.args.ring.now c.apply_list.new.slots (now d) c.requires.few_slots
     (updated_rings (ring_with_slots c.args.catalogue.now c.args.ring.now) c.args.off c.args.given.now.list.now
     (tags_for c.args.given.now.list.now c.args.given.now.tags) c.requires.is_ring c.in_default.ensures.good) c.in_default.ensures.counted
@@ -86,7 +86,7 @@ returns-in-Here-clause-kept c =
 
 pub returns-in-Apart-clause-step : goal.returns-in-Apart-clause-step
 returns-in-Apart-clause-step c =
-    let d = (goal.at.returns-in-Apart-clause-step c).After-deref-2 in
+    let d = (goal.at.returns-in-Apart-clause-step c).After-deref in
     let m = (goal.at.returns-in-Apart-clause-step c).After-meet-met in
     no_memory c.args.catalogue.now c.args.ring.now (command m) c.args.text.now tt c.requires.is_ring (sym c.in_default.ensures.value) (few m)
     (string_bytes c.in_ok-whole.whole) (told m (removed d)) c.meet-met.result c.meet-met.ensures c.or_no_memory.result c.in-Apart.is
