@@ -9,7 +9,6 @@ use Rattle.fx_order.specs.declared.access.ChainAccess.{ChainAccess}
 use Rattle.fx_order.specs.declared.slots.Slots.{Slots}
 use Rattle.fx_answers.specs.Outcomes.{IsReportBy, MayReport, TellsOf}
 use Rattle.fx_script.specs.Text.{report_text}
-use Rattle.std.specs.Global.{Vec}
 use Rattle.fx_chain.specs.Accepted.{IsAccepted}
 use Rattle.fx_calls.proofs.ClosesInOrder.{one_close_list}
 use Rattle.fx_order.proofs.OneRing.{each_closed_file_is_known}

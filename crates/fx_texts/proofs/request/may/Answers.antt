@@ -1,4 +1,4 @@
-use Rattle.fx_texts.proofs.Words.{completed_of, all_asked, instructions_of, said_in, stages_of, IsAskedIn, MayAnswerIn, Said, false, sym, ◌∙◌}
+use Rattle.fx_texts.proofs.Words.{completed_of, instructions_of, said_in, stages_of, IsAskedIn, MayAnswerIn, Said, false, sym, ◌∙◌}
 use Rattle.fx_texts.proofs.Growth.{all_of_values}
 use Rattle.fx_texts.proofs.Whole.{answer_is_said, none_answered, said_is_answered}
 use Rattle.fx_texts.proofs.request.may.Goals as goal
@@ -25,10 +25,8 @@ pub returns-clause-all : goal.returns-clause-all
 returns-clause-all c = λ yes it may.
     let script = c.args.script.now in
     let a : IsAskedIn (instructions_of c.commands.result.now) c.args.place c.in-Some.asking = c.in-Some.ensures.some in
-    let asking = c.in-Some.asking in
     let two = c.both.ensures yes in
-    answer_is_said script c.args.place (instructions_of asking.front.now) (all_asked asking.requests.now) (instructions_of asking.behind.now)
-    (sym c.commands.ensures ∙ a.split) a.number false (stages_of c.catalogue.result.now c.deref.result.now)
-    (said_in c.in_ok-found.found.answers.items) a.counted
+    answer_is_said script c.args.place _ _ _ (sym c.commands.ensures ∙ a.split) a.number false
+    (stages_of c.catalogue.result.now c.deref.result.now) (said_in c.in_ok-found.found.answers.items) a.counted
     (rw (c.deref.ensures.value, sym c.catalogue.ensures.value) (c.in_ok-rings.ensures.all two.0))
     (rw a.place_same at (c.in_ok-found.ensures.all two.1)) may
