@@ -1,8 +1,8 @@
 -- States that were looked through are all of a submission.
-use Rattle.fx_order.proofs.Words.{◌≡◌, refl, ℕ, ◌+◌, ◌-◌, ◌<◌, List, [], length, map, sym, ap, ◌∙◌, arith, slice_index_or, All, Bool, true, Table}
-use Rattle.fx_order.proofs.Words.{Contains, IsTrue, Completed, length-map, Asked, runs_of, first_member, table_of_slots, all_asked, All-contains}
+use Rattle.fx_order.proofs.Words.{◌≡◌, refl, ℕ, ◌+◌, ◌-◌, ◌<◌, List, [], length, map, sym, ap, ◌∙◌, arith, slice_index_or, All, Bool}
+use Rattle.fx_order.proofs.Words.{IsTrue, Completed, length-map, Asked, runs_of, first_member, table_of_slots, All-contains}
 use Rattle.fx_order.proofs.Words.{AllByRecursion, false, false≢true, Chain, members_of, ⊎_elim}
-use Rattle.fx_answers.proofs.Words.{Slots, contains_map, Rest, settled_at, Parts, StaysIn, AreAtStart, StateView, AreAllBy, IsAtStartBy}
+use Rattle.fx_answers.proofs.Words.{Slots, contains_map, Rest, settled_at, Parts, StaysIn, AreAtStart, AreAllBy, IsAtStartBy}
 use Rattle.fx_answers.proofs.Words.{IsStateExploredBy, said_by, states_of, told_by, told_states, AreToldAtStart, AreToldClosed, is_idle, parts_of}
 use Rattle.fx_answers.proofs.Words.{rules_in, runs_in, view_in, Claimed, State, IsTurnOf, is_idle_at, Submission, cases_Bool, AreParts, AreClosed}
 use Rattle.fx_answers.proofs.Words.{ArePartsIn}

@@ -1,5 +1,5 @@
 -- What was looked through shows all reports.
-use Rattle.fx_order.proofs.Words.{◌≡◌, ℕ, suc, ◌+◌, ◌-◌, ◌<◌, List, [], ◌∷◌, ◌++◌, length, sym, ap, subst, ◌∙◌, arith, slice_index_or, All, IsTrue}
+use Rattle.fx_order.proofs.Words.{◌≡◌, ℕ, suc, ◌+◌, ◌<◌, List, [], ◌∷◌, ◌++◌, length, sym, ap, subst, ◌∙◌, arith, slice_index_or, All, IsTrue}
 use Rattle.fx_order.proofs.Words.{Asked, Closed, Completed, Vec, Completion, IsOneOrder, RingState, Reported, all_asked, refl, all_completed}
 use Rattle.fx_order.proofs.Words.{length-map, ring_of, ring_of_slots, All-contains}
 use Rattle.fx_answers.proofs.Words.{Slots, each_history_is_an_order, contains_map, told_from, IsPlayOf, IsPossibleIn, IsToldAt, told_by, told_states}

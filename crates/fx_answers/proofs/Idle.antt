@@ -1,6 +1,6 @@
 -- A chain that is idle has nothing but reads left, which nobody asks for.
 use Rattle.fx_order.proofs.Words.{◌≡◌, inl, inr, ◌==◌, ◌&&◌, not, Bool, true, false, if◌then◌else◌, List, [], ◌∷◌, length, refl, sym, ap, ◌∙◌, arith}
-use Rattle.fx_order.proofs.Words.{Option, Some, false≢true, Asked, Place, asked_of, Request, all_asked, ℕ, ◌⊎◌, ⊎_elim, nil_from_length, eq-eqb}
+use Rattle.fx_order.proofs.Words.{Some, false≢true, Asked, Place, asked_of, Request, all_asked, ℕ, ◌⊎◌, ⊎_elim, nil_from_length, eq-eqb}
 use Rattle.fx_answers.proofs.Words.{list_all, has_none, is_read, Rest, said_by, asks_from, rest_for, is_idle, Claimed, Submission, and_from}
 use Rattle.fx_answers.proofs.Words.{and_parts, cases_eq, eqb-true, le-leb, ne_eqb, AreIdle, IsLeft}
 

@@ -3,7 +3,7 @@ use Rattle.fx_order.proofs.Words.{Bool, ◌≡◌, ℕ, ◌+◌, ◌≤◌, List
 use Rattle.fx_order.proofs.Words.{table_of_slots, completed_of, ring_of_slots, all_asked, All-map, IsOneOrder, RingState, ring_of, Reported, runs_of}
 use Rattle.fx_order.proofs.Words.{All-contains, recursion_from_All, AllByRecursion, All-weaker, IsAccepted, IsOrderOf, RingContents, ring_left}
 use Rattle.fx_answers.proofs.Words.{ChainAccess, Slots, each_history_is_an_order, contains_map, HasMemory, Rest, AreAllStates, IsOver, StateView}
-use Rattle.fx_answers.proofs.Words.{IsReportBy, MayReport, AreAllBy, IsEndIn, IsEndListed, IsPlayOf, said_by, says, is_idle, view_in, Claimed, End}
+use Rattle.fx_answers.proofs.Words.{IsReportBy, MayReport, AreAllBy, IsEndIn, IsPlayOf, says, is_idle, view_in, Claimed, End}
 use Rattle.fx_answers.proofs.Words.{Answer, contains_mapped, HasEnd, ring_at, all_said, IsAnswer, HasEachAnswer, HasEachEnd, IsEnd, ring_behind}
 use Rattle.fx_answers.proofs.Words.{AreAllEndsBy, tables_behind}
 use Rattle.fx_order.proofs.Histories.{each_order_is_a_history}

@@ -1,5 +1,5 @@
 -- An order of a submission begins at the first of its states, and ends at one that tells of its report.
-use Rattle.fx_order.proofs.Words.{◌≡◌, ℕ, ◌+◌, ◌++◌, length, sym, ap, ◌∙◌, arith, IsPermutation, runs_of, Table, accesses_of, table_after, removed_in}
+use Rattle.fx_order.proofs.Words.{◌≡◌, ◌+◌, length, sym, ap, ◌∙◌, arith, runs_of, Table, accesses_of, table_after}
 use Rattle.fx_order.proofs.Words.{recursion_from_All}
 use Rattle.fx_answers.proofs.Words.{HasMemory, rules_of, AreToldAtStart, find, told_same, EachReportIsListed}
 use Rattle.fx_outcomes.proofs.PartByPart.{order_by_part}

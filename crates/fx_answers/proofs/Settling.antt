@@ -2,7 +2,7 @@
 use Rattle.fx_order.proofs.Words.{◌≡◌, ℕ, suc, ◌+◌, ◌==◌, true, false, List, [], ◌∷◌, ◌++◌, drop, refl, sym, ap, ◌∙◌, arith, Some, None, append-nil}
 use Rattle.fx_order.proofs.Words.{append_assoc, Completed, severs, Asked, Place, Completion, all_completed, completed_of, map-append, next_member}
 use Rattle.fx_order.proofs.Words.{eq-eqb}
-use Rattle.fx_answers.proofs.Words.{Access, Rules, settled_at, Settles, moved, rest_for, Progress, ne_eqb, drop-drop, Steps}
+use Rattle.fx_answers.proofs.Words.{Access, Rules, Settles, moved, rest_for, Progress, ne_eqb, drop-drop, Steps}
 
 -- what was told, and one answer behind it
 pub pushed : (before : List Completion) {after : List Completion} (c : Completion) {d : Completed} → after ≡ before ++ c ∷ [] → completed_of c ≡ d

@@ -1,5 +1,5 @@
 -- What the states of the program say, chain by chain.
-use Rattle.fx_order.proofs.Words.{◌≡◌, ℕ, ◌+◌, ◌-◌, ◌<◌, List, [], ◌++◌, length, map, sym, ap, ◌∙◌, arith, slice_index_or, All, length-map, Bool}
+use Rattle.fx_order.proofs.Words.{◌≡◌, ℕ, ◌+◌, ◌-◌, List, [], ◌++◌, length, map, sym, ◌∙◌, arith, slice_index_or, All, length-map, Bool}
 use Rattle.fx_order.proofs.Words.{false, not, ◌&&◌, Contains, IsTrue, Vec, Completed, Asked, Place, table_of_slots, first_member, Request, Completion}
 use Rattle.fx_order.proofs.Words.{all_asked, all_completed, asked_of, completed_of, drop, get_or_from_slice_get, AllByRecursion, recursion_from_All}
 use Rattle.fx_order.proofs.Words.{Some, slice_get, slice_get_within, All-map}

@@ -1,4 +1,4 @@
-use Rattle.fx_order.proofs.Words.{◌≡◌, ◌∙◌, List, [], length, sym, ap, refl, all_asked, arith, nil_from_length}
+use Rattle.fx_order.proofs.Words.{◌∙◌, sym, ap, refl, all_asked, arith, nil_from_length}
 use Rattle.fx_answers.proofs.Words.{first_is}
 use Rattle.fx_answers.proofs.Settling.{pushed, steps_more, steps_on, steps_over}
 use Rattle.fx_answers.proofs.chain.step.Goals as goal

@@ -1,6 +1,5 @@
 use Rattle.fx_answers.proofs.Words.{IsExploredInTurn}
 use Rattle.fx_answers.proofs.closed.is_state_explored.Goals as goal
-
 use borrow.Author.Count.{below_more}
 
 pub loop-i-preserved : goal.loop-i-preserved

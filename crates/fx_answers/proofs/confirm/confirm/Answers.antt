@@ -1,4 +1,4 @@
-use Rattle.fx_order.proofs.Words.{All-map, RingState, all_asked, completed_of, ring_of_slots, ◌≡◌, ◌↔◌, ◌-◌, IfOk, IsSome, Option, Result, Some, None}
+use Rattle.fx_order.proofs.Words.{All-map, all_asked, completed_of, ring_of_slots, ◌≡◌, ◌↔◌, ◌-◌, IfOk, IsSome, Option, Result, Some, None}
 use Rattle.fx_order.proofs.Words.{arith, length, refl, sym}
 use Rattle.fx_answers.proofs.Words.{Slots, HasMemory, report_of, IsReportBy}
 use Rattle.std.proofs.Common.{IfSome, Ok, Err}

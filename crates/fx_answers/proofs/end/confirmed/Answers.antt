@@ -1,4 +1,3 @@
-use Rattle.fx_answers.proofs.Words.{report_of}
 use Rattle.fx_answers.proofs.Promised.{is_end}
 use Rattle.fx_answers.proofs.end.confirmed.Goals as goal
 

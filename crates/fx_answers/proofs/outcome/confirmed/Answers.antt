@@ -1,4 +1,3 @@
-use Rattle.fx_answers.proofs.Words.{report_of}
 use Rattle.fx_answers.proofs.Promised.{is_answer}
 use Rattle.fx_answers.proofs.outcome.confirmed.Goals as goal
 

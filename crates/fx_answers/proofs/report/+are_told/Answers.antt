@@ -1,4 +1,4 @@
-use Rattle.fx_order.proofs.Words.{◌-◌, ◌∙◌, length, take, drop, sym, ap, refl, all_completed}
+use Rattle.fx_order.proofs.Words.{◌∙◌, sym, ap, refl, all_completed}
 use Rattle.fx_answers.proofs.Words.{first_is}
 use Rattle.fx_answers.proofs.SameAnswers.{cut_told}
 use Rattle.fx_answers.proofs.report.+are_told.Goals as goal

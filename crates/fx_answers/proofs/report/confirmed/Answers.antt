@@ -1,5 +1,4 @@
 use Rattle.fx_order.proofs.Words.{◌∙◌}
-use Rattle.fx_answers.proofs.Words.{report_of}
 use Rattle.fx_answers.proofs.EachReport.{is_possible, same_report}
 use Rattle.fx_answers.proofs.report.confirmed.Goals as goal
 
