@@ -24,4 +24,4 @@ pub use flags::SqeFlags;
 pub use gate::{Gate, OpenGate};
 pub use player::{perform, run_chain};
 pub use request::{LONGEST_READ, LONGEST_UPDATE, Op, Request, Target};
-pub use update::{has_bad_entry, is_bad_entry};
+pub use update::has_bad_entry;

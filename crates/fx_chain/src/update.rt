@@ -14,9 +14,8 @@ use fx_base::{Errno, MOST_ENTRIES};
 use fx_table::FileTable;
 use std::sync::Wait;
 
-/// Whether an entry of an update is below -2 or past a catalogue of so many entries (io_uring_register(2),
-/// "IORING_REGISTER_FILES_UPDATE").
-pub fn is_bad_entry(entries: u32, entry: i32) -> bool
+// Whether an entry of an update is below -2 or past a catalogue of so many entries.
+fn is_bad_entry(entries: u32, entry: i32) -> bool
     ensures { result ≡ is_bad_entry entries entry }
 {
     if entry < 0 {

@@ -1,9 +1,9 @@
 -- Which lists have the same files: how often a file stands in each of them.
-use Rattle.fx_order.proofs.Words.{◌≡◌, ◌≢◌, ℕ, suc, ◌+◌, ◌<◌, ◌≤◌, ◌==◌, ◌&&◌, Bool, false, cond, List, [], ◌∷◌, ◌++◌, length, take, drop, IsTrue}
-use Rattle.fx_order.proofs.Words.{not-true, Decides-not, nil_from_length, ◌↔◌, subst, refl, sym, ap, ◌∙◌, arith, slice_index_or, Decides}
-use Rattle.fx_order.proofs.Words.{IsPermutation, sum_by, remove, false≢true, Decides-eqb, Decides-and, Decides-like, append-nil, length-append}
+use Rattle.fx_order.proofs.Words.{◌≡◌, ◌≢◌, ℕ, suc, ◌+◌, ◌<◌, ◌≤◌, ◌==◌, Bool, cond, List, [], ◌∷◌, ◌++◌, length, take, drop, IsTrue}
+use Rattle.fx_order.proofs.Words.{not-true, Decides-not, nil_from_length, ◌↔◌, subst, refl, sym, ap, ◌∙◌, arith, slice_index_or}
+use Rattle.fx_order.proofs.Words.{IsPermutation, sum_by, remove, Decides-eqb, append-nil, length-append}
 use Rattle.fx_order.proofs.Words.{take_all, take_more, split_at, sum_by-IsPermutation, length_permutation, IsPermutation-more, sum_by-append}
-use Rattle.fx_order.proofs.Words.{sum_by-cons, Mark, Registered, Submitted, Closed}
+use Rattle.fx_order.proofs.Words.{sum_by-cons, Closed}
 use Rattle.fx_order.proofs.EqualFiles.{file_Decides, same_file}
 
 -- how often a file stands in a list
