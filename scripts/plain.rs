@@ -1,22 +1,14 @@
 //! A plain program for the same scripts, for scripts/bench to measure fixfiles beside: written as one would write it
-//! without proofs, with maps, `Rc` and `String`. It knows the lines that the bench uses and those with tags, refuses a script
-//! with any other, and looks at no limit but those of a table.
+//! without proofs, with maps, `Rc` and `String`. It knows the lines that the bench uses, refuses a script with any other,
+//! and looks at no limit but those of a table.
 use std::collections::HashMap;
 use std::fmt::Write as _;
 use std::io::{self, Read, Write};
 use std::rc::Rc;
 
-/// Registered files come first.
-#[derive(Clone, Copy, PartialEq, Eq, PartialOrd, Ord)]
-enum Mark {
-    Registered([u32; 2]),
-    Submitted([u32; 4]),
-}
-
 struct File {
-    mark: Mark,
+    mark: [u32; 4],
     entry: usize,
-    tag: u64,
 }
 
 enum Op {
@@ -26,23 +18,12 @@ enum Op {
     Update(usize, Vec<i32>),
 }
 
-/// What links the next request to one.
-#[derive(Clone, Copy, PartialEq)]
-enum Link {
-    None,
-    Soft,
-    Hard,
-}
-
-/// Numbers of a list, and their tags.
-struct List(Vec<i32>, Option<Vec<u64>>);
+/// A request, with whether the next one is linked to it.
+type Request = (Op, bool);
 
 enum Command {
     Sparse(usize),
-    Register(List),
-    Update(usize, List),
-    Unregister,
-    Submit(Vec<(Op, Link)>),
+    Submit(Vec<Request>),
 }
 
 #[derive(Default)]
@@ -61,16 +42,6 @@ fn hexadecimal(word: &str) -> Option<Vec<u8>> {
     digits.map(|it| u8::from_str_radix(std::str::from_utf8(it).ok()?, 16).ok()).collect()
 }
 
-fn list_of(list: &str, tags: &[&str]) -> Option<List> {
-    let list: Option<Vec<i32>> = list.split(',').map(|it| it.parse().ok()).collect();
-    let tags = match tags {
-        [] => None,
-        [word] => Some(word.split(',').map(|it| it.parse().ok()).collect::<Option<Vec<u64>>>()?),
-        _ => return None,
-    };
-    Some(List(list?, tags))
-}
-
 fn read_script(text: &str) -> Option<Script> {
     let mut script = Script::default();
     let mut waiting = Vec::new();
@@ -80,9 +51,8 @@ fn read_script(text: &str) -> Option<Script> {
         }
         let words: Vec<&str> = line.split(' ').collect();
         let (words, link) = match words.as_slice() {
-            [front @ .., "link"] => (front, Link::Soft),
-            [front @ .., "hardlink"] => (front, Link::Hard),
-            all => (all, Link::None),
+            [front @ .., "link"] => (front, true),
+            all => (all, false),
         };
         match words {
             ["file", name, hex] => {
@@ -91,11 +61,6 @@ fn read_script(text: &str) -> Option<Script> {
                 script.bytes.push(hexadecimal(hex)?);
             }
             ["sparse", n] => script.commands.push(Command::Sparse(n.parse().ok()?)),
-            ["register", list, tags @ ..] => script.commands.push(Command::Register(list_of(list, tags)?)),
-            ["regupdate", off, list, tags @ ..] => {
-                script.commands.push(Command::Update(off.parse().ok()?, list_of(list, tags)?));
-            }
-            ["unregister"] => script.commands.push(Command::Unregister),
             ["open", name, "at", slot] => waiting.push((Op::Open(name.to_string(), slot.parse().ok()?), link)),
             ["read", slot, off, len] => waiting.push((Op::Read(slot.parse().ok()?, off.parse().ok()?, len.parse().ok()?), link)),
             ["close", slot] => waiting.push((Op::Close(slot.parse().ok()?), link)),
@@ -124,9 +89,7 @@ impl Table {
 
     fn perform(&mut self, script: &Script, place: [u32; 3], op: &Op, got: &mut Vec<u8>) -> i32 {
         let [submission, chain, member] = place;
-        let opened = |entry, nth| {
-            Some(Rc::new(File { mark: Mark::Submitted([submission, chain, member, nth]), entry, tag: 0 }))
-        };
+        let opened = |entry, nth| Some(Rc::new(File { mark: [submission, chain, member, nth], entry }));
         match op {
             Op::Open(name, slot) => match script.entries.get(name) {
                 None => -2,
@@ -169,13 +132,13 @@ impl Table {
         }
     }
 
-    fn submit(&mut self, script: &Script, submission: u32, requests: &[(Op, Link)]) -> String {
+    fn submit(&mut self, script: &Script, submission: u32, requests: &[Request]) -> String {
         let (mut text, mut chain, mut member, mut is_severed) = (String::new(), 1, 1, false);
         for (op, link) in requests {
             let mut got = Vec::new();
             let res = if is_severed { -125 } else { self.perform(script, [submission, chain, member], op, &mut got) };
             let has_failed = res < 0 || matches!(op, Op::Read(_, _, len) if (res as usize) < *len);
-            is_severed |= has_failed && *link != Link::Hard;
+            is_severed |= has_failed;
             let _ = write!(text, "{submission}.{chain}.{member} {res}");
             if !got.is_empty() {
                 text.push(' ');
@@ -185,102 +148,29 @@ impl Table {
                 }
             }
             text.push('\n');
-            (chain, member, is_severed) = if *link != Link::None { (chain, member + 1, is_severed) } else { (chain + 1, 1, false) };
+            (chain, member, is_severed) = if *link { (chain, member + 1, is_severed) } else { (chain + 1, 1, false) };
         }
         text
     }
 
     fn tell_closed(&mut self, script: &Script, text: &mut String) {
         self.closed.sort_by_key(|it| it.mark);
-        for file in &self.closed {
-            let name = &script.names[file.entry];
-            let _ = match file.mark {
-                Mark::Registered([k, nth]) => writeln!(text, "closed r{k}.{nth} {name}"),
-                Mark::Submitted([submission, chain, member, nth]) => {
-                    writeln!(text, "closed {submission}.{chain}.{member}.{nth} {name}")
-                }
-            };
+        for file in self.closed.drain(..) {
+            let [submission, chain, member, nth] = file.mark;
+            let _ = writeln!(text, "closed {submission}.{chain}.{member}.{nth} {}", script.names[file.entry]);
         }
-        for file in self.closed.drain(..).filter(|it| it.tag != 0) {
-            let _ = writeln!(text, "tag {}", file.tag);
-        }
-    }
-
-    /// Why a list is refused whose numbers are at least `least`, by its tags first; 0 where it isn't.
-    fn refusal(script: &Script, List(list, tags): &List, least: i32) -> i32 {
-        let has_bad_tags = tags.as_ref().is_some_and(|tags| {
-            tags.len() != list.len() || list.iter().zip(tags).any(|(it, tag)| *it < 0 && *tag != 0)
-        });
-        match has_bad_tags {
-            true => -22,
-            false if list.len() > 256 => -24,
-            false if list.iter().any(|it| *it < least || *it >= script.names.len() as i32) => -9,
-            false => 0,
-        }
-    }
-
-    /// Applies the k-th list.
-    fn work_off(&mut self, k: u32, off: usize, List(list, tags): &List) {
-        for (nth, entry) in list.iter().enumerate().filter(|(_, entry)| **entry != -2) {
-            let mark = Mark::Registered([k, nth as u32]);
-            let tag = tags.as_ref().map_or(0, |tags| tags[nth]);
-            self.put(off + nth, (*entry >= 0).then(|| Rc::new(File { mark, entry: *entry as usize, tag })));
-        }
-    }
-
-    fn register(&mut self, script: &Script, k: &mut u32, list: &List) -> i32 {
-        if !self.slots.is_empty() {
-            return -16;
-        }
-        let refusal = Table::refusal(script, list, -1);
-        if refusal == 0 {
-            *k += 1;
-            self.slots.resize_with(list.0.len(), || None);
-            self.work_off(*k, 0, list);
-        }
-        refusal
-    }
-
-    fn update(&mut self, script: &Script, k: &mut u32, off: usize, list: &List) -> i32 {
-        if self.slots.is_empty() {
-            return -6;
-        }
-        if off + list.0.len() > self.slots.len() {
-            return -22;
-        }
-        match Table::refusal(script, list, -2) {
-            0 => {
-                *k += 1;
-                self.work_off(*k, off, list);
-                list.0.len() as i32
-            }
-            refusal => refusal,
-        }
-    }
-
-    fn unregister(&mut self) -> i32 {
-        if self.slots.is_empty() {
-            return -6;
-        }
-        self.closed.extend(self.slots.drain(..).flatten());
-        0
     }
 }
 
 fn play(script: &Script, mut out: impl Write) -> io::Result<()> {
     let mut table = Table { slots: Vec::new(), closed: Vec::new() };
-    let (mut submissions, mut registrations) = (0, 0);
+    let mut submissions = 0;
     for command in &script.commands {
         let mut text = match command {
             Command::Sparse(n) => {
                 table.slots.resize_with(*n, || None);
                 "sparse 0\n".to_string()
             }
-            Command::Register(list) => format!("register {}\n", table.register(script, &mut registrations, list)),
-            Command::Update(off, list) => {
-                format!("regupdate {}\n", table.update(script, &mut registrations, *off, list))
-            }
-            Command::Unregister => format!("unregister {}\n", table.unregister()),
             Command::Submit(requests) => {
                 submissions += 1;
                 table.submit(script, submissions, requests)
