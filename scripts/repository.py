@@ -6,6 +6,8 @@ import os
 
 HERE = os.path.dirname(os.path.abspath(__file__))
 ROOT = os.path.dirname(HERE)
+# where a crate has its sources, definitions and proofs
+SOURCES = "src", "specs", "proofs"
 
 
 def read(path):
@@ -32,6 +34,12 @@ def scripts_of(*folders):
     found = (glob.glob(f"{folder}/*.script", root_dir=ROOT) for folder in folders)
     for path in sorted(it for those in found for it in those):
         yield path, read_bytes(path)
+
+
+def files_of(crate, *parts):
+    """The files in these folders of a crate, or of each crate for `*`, by their paths from the top."""
+    found = (glob.glob(f"crates/{crate}/{part}/**/*.*", root_dir=ROOT, recursive=True) for part in parts)
+    return sorted(it for those in found for it in those)
 
 
 def text_beside(path):
