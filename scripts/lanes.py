@@ -16,6 +16,7 @@ import sys
 import tempfile
 import time
 
+import refusals
 from crate_times import KEPT, UNMEASURED, behind, crates, expected, measured, needed, told
 from proved import copy_below, take_back
 from repository import ROOT
@@ -159,7 +160,7 @@ class Lanes:
             log.write(f"== {job.name}\n{job.said()}")
         if job.process.returncode:
             self.tell("", "")
-            subprocess.run(["scripts/tell-refusals", job.path], check=False)
+            refusals.main(job.path)
             return False
         # scripts/dist gives the verdict away
         with open(VERDICTS, "a", encoding="utf-8") as log:

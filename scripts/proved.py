@@ -1,8 +1,9 @@
-"""What the gate has proved, and a copy of the crates that goes on from there."""
+"""What the gate has proved, a copy of the crates that goes on from there, and what the prover says there."""
 import glob
 import os
 import re
 import shutil
+import subprocess
 import sys
 
 from crate_times import needed
@@ -77,6 +78,14 @@ def copy_below(room, name, below):
     for it in those:
         for part in (*PARTS[:-1], "out" if it == name else "out/rlib"):
             copy_part(room, it, part)
+
+
+def prove(folder, paths=(), jobs=()):
+    """What the prover says of the crate in a folder, or of these functions of it and those that they call, and its status. It says
+    it of the whole crate where it knows a function by another name."""
+    how = {"stdin": subprocess.DEVNULL, "stdout": subprocess.PIPE, "stderr": subprocess.STDOUT, "errors": "replace"}
+    ran = subprocess.run(["rt", "check", *jobs, *(word for it in paths for word in ("--only", it))], cwd=folder, check=False, **how)
+    return prove(folder, (), jobs) if paths and ran.returncode == 2 else (ran.stdout, ran.returncode)
 
 
 def take_back(room, name):

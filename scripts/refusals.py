@@ -1,9 +1,11 @@
-"""What of a crate the prover refused, by what it wrote of it: a line `fn NAME: ` for each function, and errors in proof files.
+"""refusals.py LOG: says in a few lines why a crate was not proved, by what the prover wrote of it: a line `fn NAME: ` for each
+function, and errors in proof files.
 
 `proved` may be followed by `, may wait`, `, may abort` or `where its callers give what it asks`: those are proved too. A
 function that calls one that is not proved has `no proof: it calls X, ..` or `not proved; it calls X, ..`. That is no refusal
 of its own: its goals were proved, or nobody tried them. It is refused itself where its own proof files have an error."""
 import re
+import sys
 
 LINE = re.compile(r"(?:fn|impl) (\S+): (.*)")
 PROVED = re.compile(r"proved(?: where its callers give what it asks)?(?:, may (?:wait|abort))*$")
@@ -12,6 +14,7 @@ OF_ANOTHER = re.compile(r"it (?:calls|waits for|holds|names) |it is a (?:functio
 # its own file has an error, which may be all that is said of it
 ERROR = re.compile(r"(?:\./)?proofs/(\S+)/(?:Answers|Invariants|Proof)\.antt:\d+:\d+: error")
 UNPROVED = ("not proved", "no proof")
+GOAL = re.compile(r"note: (src/\S+?:\d+):\d+: it is not proved that (.*?) \(`([^`]*)`\)")
 
 
 def is_refusal(said):
@@ -40,3 +43,25 @@ def unknown_lines(lines):
     forms = (*UNPROVED, "could not tell", "assumed", "not assumed", "no holes", "depends on a hole")
     said = ((it, LINE.match(it)) for it in lines if it.startswith("fn "))
     return [it for it, at in said if at and not is_proved(at[2]) and not at[2].startswith(forms)]
+
+
+def complaints(lines):
+    """What can't be read or has no type; else the functions that are themselves not proved, and what of them."""
+    errors = [it for it in lines if re.match(r"src/\S+: error", it)]
+    if errors:
+        return errors
+    goals = []
+    for place, what, name in (it.groups() for it in map(GOAL.match, lines) if it):
+        clause = re.search(r"clause-(\w+)$", name)
+        goals.append(f"    {place}: it is not proved that {what}" + (f": {clause[1]}" if clause else ""))
+    return [*(f"{it} is not proved:" for it in refused_functions(lines)), *dict.fromkeys(goals)]
+
+
+def main(path):
+    with open(path, encoding="utf-8", errors="replace") as it:
+        lines = it.read().split("\n")
+    print("\n".join((complaints(lines) or [f"The end of {path}:", *lines[-20:]])[:20]), file=sys.stderr)
+
+
+if __name__ == "__main__":
+    main(sys.argv[1])
