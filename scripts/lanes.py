@@ -19,7 +19,7 @@ import time
 import refusals
 from crate_times import KEPT, UNMEASURED, behind, crates, expected, measured, needed, told
 from proved import copy_below, take_back
-from repository import ROOT
+from repository import ROOT, SOURCES, files_of
 
 LOG = "build/program.log"
 STARTED = "build/program.started"
@@ -50,8 +50,7 @@ def is_kept(name, below, kept):
     built = f"crates/{name}/out/rlib/{name}.rlib"
     if not os.path.exists(built) or not all(it in kept for it in below[name]):
         return False
-    files = (f"{at}/{it}" for part in ("src", "specs", "proofs") for at, _, those in os.walk(f"crates/{name}/{part}") for it in those)
-    return all(os.path.getmtime(it) <= os.path.getmtime(built) for it in files)
+    return all(os.path.getmtime(it) <= os.path.getmtime(built) for it in files_of(name, *SOURCES))
 
 
 class Job:

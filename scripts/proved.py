@@ -1,5 +1,4 @@
 """What the gate has proved, a copy of the crates that goes on from there, and what the prover says there."""
-import glob
 import os
 import re
 import shutil
@@ -7,9 +6,9 @@ import subprocess
 import sys
 
 from crate_times import needed
-from repository import ROOT, read, write
+from repository import ROOT, SOURCES, files_of, read, write
 
-PARTS = ("src", "specs", "proofs", "out")
+PARTS = (*SOURCES, "out")
 # how the gate ends
 VERDICT = re.compile(r"^\d+ passed, \d+ failed$", re.MULTILINE)
 
@@ -35,9 +34,7 @@ class Gate:
 
     def is_newer(self):
         """Whether each source was last written before the gate began."""
-        tops = (top for part in PARTS[:-1] for top in glob.glob(f"{ROOT}/crates/*/{part}"))
-        sources = (f"{folder}/{file}" for top in tops for folder, _, files in os.walk(top) for file in files)
-        return all(os.stat(it).st_mtime < self.began for it in sources)
+        return all(os.stat(f"{ROOT}/{it}").st_mtime < self.began for it in files_of("*", *SOURCES))
 
 
 def link_or_copy(one, other):
