@@ -12,40 +12,29 @@ def agree(table):
         number = table.named(word)
         want(number == history.at[slot], "the word of slot {} names {}", slot, number)
         want(number is None or takes_of(word) == history.looks[number], "the takes of slot {} are not its looks", slot)
-    removed = {it[1]: it[2] for it in table.work if it and it[0] == "retiring"}
-    for number, (stands, node, place) in enumerate(zip(history.stands, table.nodes, table.places)):
-        if (stands, node, place) != UNBORN:
-            is_right = PHASES.get(stands, is_seated)(history, number, node, place, removed.get(number))
-            want(is_right, "{} is {}, its word is {}, and in its place is {}", number, stands, node, place)
+    takes = {it[1]: it[2] for it in table.work if it and it[0] == "retiring"}
+    for number, (node, place) in enumerate(zip(table.nodes, table.places)):
+        is_right = number_agrees(history, number, node, place, takes.get(number))
+        want(is_right, "{} is {}, its word is {}, and in its place is {}", number, history.stands[number], node, place)
     control_agrees(table)
     given = sum(it is not None for it in table.drawn)
     want(table.draws == given + sum(table.told), "the draw word is {}", table.draws)
 
 
-def is_fresh(history, number, node, place, takes):
-    """Placed by a pass, which has the place."""
-    return node == BORN and isinstance(place, int)
-
-
-def is_seated(history, number, node, place, takes):
-    """The releases are the looks less the holds."""
-    return node == BORN - (history.looks[number] - history.holds[number]) and place == FILE
-
-
-def is_removed(history, number, node, place, takes):
-    """Leaving, with a pass that has its takes; or retired, and then somebody holds it."""
-    if takes is not None:
-        return takes == history.looks[number] and is_seated(history, number, node, place, takes)
-    return node == history.holds[number] > 0 and place == FILE
-
-
-def is_closed(history, number, node, place, takes):
-    """Closed; or being emptied by a pass, which has the place."""
-    return node == 0 and (place == EMPTY or isinstance(place, int))
-
-
-UNBORN = FRESH, 0, EMPTY
-PHASES = {FRESH: is_fresh, REMOVED: is_removed, CLOSED: is_closed}
+def number_agrees(history, number, node, place, takes):
+    """Whether the word and the place of a number are right, and the takes that a pass has which is retiring its file."""
+    stands, looks, holds = history.stands[number], history.looks[number], history.holds[number]
+    # a place that is with a pass, which placed the file or is emptying it
+    is_with_pass = isinstance(place, int)
+    if stands == FRESH:
+        return node == BORN and is_with_pass or (node, place) == (0, EMPTY)
+    if stands == CLOSED:
+        return node == 0 and (place == EMPTY or is_with_pass)
+    if stands == REMOVED and takes is None:
+        # retired, and then somebody holds it
+        return node == holds > 0 and place == FILE
+    # at a slot, or leaving it: the releases are the looks less the holds
+    return takes in (None, looks) and node == BORN - (looks - holds) and place == FILE
 
 
 def control_agrees(table):
