@@ -1,11 +1,14 @@
 """What a program did in a run, as scripts/count.c counts it: the threads that it made, the bytes that
 it asked for, its growths and its writes. A growth is a call by which the program asks the C library
-for memory, from the begin of main on."""
+for memory, from the begin of main on. And what comes where one growth is refused, each in its turn."""
+import collections
+import shutil
 import sys
 import tempfile
 from typing import NamedTuple
 
-from programs import preloaded, run
+from checks import Counted
+from programs import built, preloaded, run
 
 # the numbers of count.c, and how many writes it tells of
 NUMBERS, WRITES = 4, 64
@@ -34,9 +37,53 @@ def counted(command, script, refused=0):
     return Ran(threads, size, growths, numbers[NUMBERS:][:writes], ended)
 
 
-def tell(check, what, growths, kinds, wrong):
-    """A line for what was run with its growths refused in turn, and one for each of the first outcomes
-    that are wrong."""
-    print(f"{check}: {what}: {growths}; {kinds}; {len(wrong)} wrong", flush=True)
-    for it in wrong[:3]:
-        print(f"{check}:   {it}")
+def spread(count, most):
+    """Which of so many growths are refused: all, or where they are more than `most`, a third of that at the begin, at the end and
+    between, evenly spread."""
+    third = most // 3
+    if count <= most:
+        return range(1, count + 1)
+    between = range(third + 1, count - third, max(1, (count - 2 * third) // third))
+    return sorted({*range(1, third + 1), *between, *range(count - third + 1, count + 1)})
+
+
+class Refused(Counted):
+    """How many growths a check refused, of each run no more than `most`, and how many outcomes of that were wrong."""
+
+    def __init__(self, name, most):
+        super().__init__(name)
+        self.most = most
+
+    def can_refuse(self):
+        """Builds what refuses growths. Whether that can be had."""
+        if shutil.which("cc") is None:
+            print(f"{self.name}: there is no C compiler cc here, which builds what refuses allocations")
+            return False
+        built("count.c")
+        return True
+
+    def refuse(self, name, command, given, kind_of, whole, wanted=()):
+        """Runs a command with one growth refused, each in its turn. `kind_of` names an outcome, beside that of a run where none is
+        refused; it is None where it may not be. Without a refusal it is `whole`, and each that is wanted comes."""
+        kinds, wrong, ran = collections.Counter(), [], counted(command, given)
+        count, ended = ran.growths, ran.ended
+        if kind_of(ended, ended) != whole or count == 0:
+            wrong.append(f"with no allocation refused: {str(ended)[:300]}")
+        refused = spread(count, self.most)
+        for nth in refused:
+            ran = counted(command, given, nth)
+            # on several workers there may be a growth less than before
+            if ran.growths >= nth:
+                kind = kind_of(ran.ended, ended)
+                kinds[kind] += 1
+                if kind is None:
+                    wrong.append(f"with allocation {nth} refused: {str(ran.ended)[:600]}")
+        # a refusal of the growth behind the last one is no refusal
+        if len(refused) == count and counted(command, given, count + 1).growths > count + 1:
+            wrong.append(f"there are more allocations than {count}")
+        wrong += [f"never: {it}" for it in sorted(wanted) if it not in kinds]
+        found = ", ".join(f"{it}: {kinds[it]}" for it in sorted(filter(None, kinds)))
+        print(f"{self.name}: {name}: {count:,} allocations, {len(refused)} refused; {found}; {len(wrong)} wrong", flush=True)
+        for it in wrong[:3]:
+            print(f"{self.name}:   {it}")
+        self.seen, self.wrong = self.seen + len(refused), self.wrong + len(wrong)

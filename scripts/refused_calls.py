@@ -3,9 +3,6 @@ memory is refused. What is wanted is what the documentation of each call says: i
 the same call answers afterwards."""
 
 TABLES = ("words", "baton")
-NO_SETTING = ["no setting"]
-# what stands behind everything else: whether the growth behind the last one was refused
-ENDS = {"end": False, "end: refused": True}
 
 
 def ring(slots, start, count, submissions, registrations):
@@ -34,11 +31,20 @@ class Call:
         # the outcomes that must each come at some growth
         self.wanted = {it for it in self.outcomes if it not in ("done", "behind the call")}
 
-    def kind(self, lines):
-        """The name of an outcome, or None where it may not be."""
-        if lines == NO_SETTING:
-            return "no setting"
-        return next((it for it, wanted in self.outcomes.items() if wanted == lines), None)
+    def name(self):
+        return self.words.replace(" -", "").removesuffix(" 0")
+
+    def kind(self, ended, _whole):
+        """The name of an outcome, or None where it may not be. The last growth stands behind the call, and the program tells
+        whether it is refused."""
+        status, text, message = ended
+        *lines, end = text.splitlines() or [""]
+        if (status, message, text[-1:]) != (0, "", "\n") or end not in ("end", "end: refused"):
+            return None
+        if lines == ["no setting"]:
+            return "no setting" if end == "end" else None
+        kind = next((it for it, wanted in self.outcomes.items() if wanted == lines), None)
+        return kind if end == "end" else "behind all" if kind == "done" else None
 
 
 def entries(count):
@@ -153,47 +159,3 @@ def calls():
     yield read_script()
     yield text_of_report()
     yield from (run(table, workers) for table in TABLES for workers in (1, 2))
-
-
-class Sweep:
-    """What came of a call, with one growth refused, then the next one, and so on. So many of the growths before the call are
-    refused too, or some."""
-
-    def __init__(self, call, refuser, settings=None):
-        self.call, self.refuser, self.wanted_settings = call, refuser, settings
-        self.kinds, self.wrong, self.is_whole = [], [], False
-
-    def settings(self):
-        """How many of the growths stand before the call."""
-        return self.kinds.count("no setting")
-
-    def take(self, nth, status, text):
-        """What came where the nth growth was refused."""
-        lines = text.split("\n")
-        end = lines[-2] if len(lines) > 1 and lines[-1] == "" else None
-        kind = self.call.kind(lines[:-2])
-        if status != "0" or end not in ENDS or kind is None:
-            self.wrong.append(f"growth {nth}: status {status}: {text[:600]!r}")
-        elif not ENDS[end]:
-            self.kinds.append(kind)
-        else:
-            # the refused growth is the first one behind all others
-            self.is_whole = True
-            if kind != "done":
-                self.wrong.append(f"growth {nth}, which is behind the end: {kind}")
-
-    def judge(self):
-        """The growths before the call come first, and there is an end; each answer that is to come did."""
-        settings = self.settings()
-        if self.wanted_settings not in (None, settings) or "no setting" in self.kinds[settings:]:
-            self.wrong.append(f"there are {settings} growths before the call")
-        if not self.is_whole:
-            self.wrong.append("the growths have no end")
-        self.wrong += [f"never: {it}" for it in sorted(self.call.wanted - set(self.kinds))]
-
-    def told(self):
-        """What was refused, how many growths there were, and what came of them."""
-        of_the_call = [it for it in self.kinds if it not in ("no setting", "behind the call")]
-        kinds = ", ".join(f"{it}: {of_the_call.count(it)}" for it in self.call.outcomes if it in of_the_call)
-        name = self.call.words.replace(" -", "").removesuffix(" 0")
-        return f"{name}, refused by {self.refuser}", f"{len(of_the_call)} growths", kinds
