@@ -24,10 +24,6 @@
  * At the end the table is unregistered in front of the ring's own end, since a ring that is gone can't tell a tag. What the
  * requests of a submission have as their data is chosen so that none of the script's tags is among it.
  *
- * With the argument --times it tells for each submission, on standard error, how long the kernel had it: from the call
- * that submits to the last completion. Making links and writing text are no part of that; the watch on the links' folder
- * is, and so an open and a close take longer than without it.
- *
  * With the argument --async each request is started by a thread of the kernel (IOSQE_ASYNC), so that the chains of a submission
  * run beside each other. Without it a kernel does the first requests of all chains in their order.
  *
@@ -57,7 +53,6 @@ struct play {
 	const struct command **requests;	/* since the last submit */
 	unsigned request_count;
 	unsigned submissions, registrations;	/* that were accepted */
-	int tells_times;
 };
 
 static unsigned largest_submission(const struct script *script)
@@ -137,10 +132,7 @@ static void play_list(struct play *play, const struct command *command, const ch
 
 static void play_requests(struct play *play)
 {
-	unsigned count = play->request_count;
-	long long took = play_submission(&play->ring, &play->script, play->requests, count, ++play->submissions);
-	if (play->tells_times)
-		fprintf(stderr, "submission %u: %u requests, %lld ns\n", play->submissions, count, took);
+	play_submission(&play->ring, &play->script, play->requests, play->request_count, ++play->submissions);
 	play->request_count = 0;
 }
 
@@ -185,7 +177,6 @@ int main(int count, char **words)
 {
 	static struct play play;
 	for (int at = 1; at < count; at++) {
-		play.tells_times |= !strcmp(words[at], "--times");
 		if (!strcmp(words[at], "--async"))
 			start_in_threads();
 		if (!strcmp(words[at], "--mistake"))

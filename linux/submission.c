@@ -5,7 +5,6 @@
 #include <limits.h>
 #include <stdio.h>
 #include <stdlib.h>
-#include <time.h>
 
 #include "files.h"
 #include "tags.h"
@@ -99,13 +98,6 @@ static void prepare(struct io_uring *ring, const struct script *script, struct m
 	sqe->user_data = data;
 }
 
-static long long nanoseconds(void)
-{
-	struct timespec now;
-	clock_gettime(CLOCK_MONOTONIC, &now);
-	return now.tv_sec * 1000000000LL + now.tv_nsec;
-}
-
 static void submit(struct io_uring *ring, unsigned count)
 {
 	int submitted = count ? io_uring_submit(ring) : 0;
@@ -148,8 +140,8 @@ static void write_member(struct member *it, unsigned submission)
 		close_list(&it->list, it->res > 0 ? it->res : 0);
 }
 
-long long play_submission(struct io_uring *ring, const struct script *script, const struct command **requests,
-			  unsigned count, unsigned number)
+void play_submission(struct io_uring *ring, const struct script *script, const struct command **requests,
+		     unsigned count, unsigned number)
 {
 	struct member *members = memory_of(count * sizeof *members);
 	unsigned chain = 1, place = 1;
@@ -160,12 +152,9 @@ long long play_submission(struct io_uring *ring, const struct script *script, co
 		place = is_last ? 1 : place + 1;
 		chain += is_last;
 	}
-	long long submitted = nanoseconds();
 	submit(ring, count);
 	wait_for_all(ring, members, count, script->first_data);
-	long long took = nanoseconds() - submitted;
 	for (unsigned at = 0; at < count; at++)
 		write_member(&members[at], number);
 	free(members);
-	return took;
 }

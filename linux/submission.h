@@ -22,11 +22,8 @@ void close_list(struct descriptors *list, unsigned taken);
 /* From now on each request is started by a thread of the kernel (IOSQE_ASYNC), so that chains run beside each other. */
 void start_in_threads(void);
 
-/*
- * Submits the requests as the submission of that number, waits for all of them, and writes their lines. The answer is how
- * many nanoseconds passed from the call that submits to the last completion.
- */
-long long play_submission(struct io_uring *ring, const struct script *script, const struct command **requests,
-			  unsigned count, unsigned number);
+/* Submits the requests as the submission of that number, waits for all of them, and writes their lines. */
+void play_submission(struct io_uring *ring, const struct script *script, const struct command **requests,
+		     unsigned count, unsigned number);
 
 #endif
