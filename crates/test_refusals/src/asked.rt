@@ -9,8 +9,6 @@ pub(crate) struct Asked<'a> {
     pub(crate) table: &'a str,
     /// Workers, passes, file numbers or catalogue entries, as the call needs.
     pub(crate) count: u32,
-    /// How often memory is to grow for nothing before.
-    pub(crate) growths: u32,
 }
 
 impl<'a> Asked<'a> {
@@ -22,7 +20,6 @@ impl<'a> Asked<'a> {
             call: words.next()?,
             table: words.next()?,
             count: words.next()?.parse().ok()?,
-            growths: words.next()?.parse().ok()?,
         })
     }
 }

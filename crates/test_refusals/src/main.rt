@@ -20,18 +20,10 @@ use std::sync::Wait;
 use std::thread::Threads;
 
 const USAGE: &str = "\
-test_refusals reads a line CALL TABLE COUNT GROWTHS: it grows its memory so often for nothing, and makes the call";
+test_refusals reads a line CALL TABLE COUNT, and makes the call";
 
 // How often a call is made: once more where memory was refused.
 const ATTEMPTS: u32 = 2;
-
-// Takes memory so often and gives it back, so that a run which always refuses the growth of one number refuses any growth
-// of the call.
-fn grow(alloc: Global, growths: u32) {
-    for _ in 0..growths {
-        let _ = Vec::<u8>::with_capacity(alloc, 1);
-    }
-}
 
 // Makes the call. `None` where memory is refused before it, or where there is no such call.
 fn make<R: Threads + Wait + Print + Sync>(rt: &R, alloc: Global, asked: Asked<'_>) -> Option<()> {
@@ -67,7 +59,6 @@ fn main(rt: HostRuntime) -> ExitCode {
         let _ = println!(rt; "{USAGE}");
         return ExitCode::SUCCESS;
     };
-    grow(rt.alloc(), asked.growths);
     if make(&rt, rt.alloc(), asked).is_none() {
         let _ = println!(rt; "no setting");
     }
