@@ -1,9 +1,8 @@
 """What a kernel gives for scripts (linux/play.c), and how that stands to the rules. scripts/agree and scripts/conform ask it.
 
 A text is right where fixcheck calls it legal. Where it says no, the text may be what linux/rules.py makes of the model in some
-order (scripts/orders.py), by rules that docs/LINUX.md lists by their names. Where fixcheck isn't built or gives no verdict,
-scripts/orders.py has the word."""
-import collections
+order (scripts/orders.py), by rules that docs/LINUX.md lists by their names. Where fixcheck gives no verdict, scripts/orders.py has
+the word."""
 import functools
 import os
 import re
@@ -24,7 +23,7 @@ FIXCHECK = os.path.join(ROOT, "bin/fixcheck")
 CANT_SAY, NO_KERNEL = 78, 77
 # how many states fixcheck looks at of most texts, and where these don't suffice
 STATES, MOST_STATES = 1_000, 1_000_000
-SAME, ORDER, REFUSED, LEFT_OUT, UNSAID = "same", "order", "refused", "left out", "unsaid"
+AGREES, LEFT_OUT, UNSAID = "agrees", "left out", "unsaid"
 
 
 def listed():
@@ -47,32 +46,20 @@ def built_player():
     return status, (text + message).strip().removeprefix("kernel: skipped: ")
 
 
-class Fixcheck:
-    """The program, where it is built, and how many texts it was asked of, by what it said with how many states."""
-
-    def __init__(self, program=FIXCHECK):
-        self.program, self.asked = program, collections.Counter()
-
-    def is_built(self):
-        return os.path.exists(self.program)
-
-    def verdict(self, text, written):
-        """LEGAL, NOT_LEGAL or UNDECIDED, and what it says; None where it isn't there."""
-        if not self.is_built():
-            return None, ""
-        for states in (STATES, MOST_STATES):
-            status, said, complaint = verdict(self.program, text, written, "--states", str(states))
-            if complaint or status not in (LEGAL, NOT_LEGAL, UNDECIDED):
-                raise RuntimeError(f"fixcheck ended with status {status}: {said}{complaint}")
-            if status != UNDECIDED:
-                break
-        self.asked[status, states] += 1
-        return status, "".join(f"{it}\n" for it in said)
+def verdict_of(fixcheck, text, written):
+    """LEGAL, NOT_LEGAL or UNDECIDED, and what fixcheck says."""
+    for states in (STATES, MOST_STATES):
+        status, said, complaint = verdict(fixcheck, text, written, "--states", str(states))
+        if complaint or status not in (LEGAL, NOT_LEGAL, UNDECIDED):
+            raise RuntimeError(f"fixcheck ended with status {status}: {said}{complaint}")
+        if status != UNDECIDED:
+            break
+    return status, "".join(f"{it}\n" for it in said)
 
 
 class Found(NamedTuple):
-    """What a player gave for a script: how its text stands to the rules (SAME, ORDER, LEFT_OUT, REFUSED or UNSAID, the names of
-    the differences that explain it, or None), what it wrote, what it complained of, and what fixcheck says of the text."""
+    """What a player gave for a script: how its text stands to the rules (AGREES, LEFT_OUT or UNSAID, the names of the
+    differences that explain it, or None), what it wrote, what it complained of, and what fixcheck says of the text."""
 
     standing: object
     written: str
@@ -80,27 +67,24 @@ class Found(NamedTuple):
     said: str = ""
 
 
-def ending_by_linux(text, written, shown, splits=False):
+def ending_by_linux(text, written, shown):
     """The player at the end of a play, by the rules and these differences, that writes the text in some order, or None."""
-    return ending_of(Script(text), written, functools.partial(Linux, shown=shown), splits)
+    return ending_of(Script(text), written, functools.partial(Linux, shown=shown))
 
 
-def found(fixcheck, text, written, splits=False, shown=frozenset()):
-    """How a text stands to what the rules allow."""
-    is_same, (status, said) = written == play(text)[0], fixcheck.verdict(text, written)
-    if is_same:
-        return Found(None if status == NOT_LEGAL else SAME, written, said=said)
+def found(status, said, text, written, shown):
+    """How a text stands to what the rules allow, where fixcheck ended with that status and said so."""
     if status == LEGAL:
-        return Found(ORDER, written)
+        return Found(AGREES, written)
+    # without a difference the text is legal, and fixcheck must not say that there is no order
+    legal = None if status == NOT_LEGAL else AGREES
+    if written == play(text)[0]:
+        return Found(legal, written, said=said)
     try:
-        ending = ending_by_linux(text, written, shown, splits)
+        ending = ending_by_linux(text, written, shown)
     except TooManyOrders:
         return Found(LEFT_OUT, written, said=said)
-    standing = ending and ending.met
-    if ending and not ending.met:
-        # an order without a difference makes the text legal, and fixcheck must not say that there is none
-        standing = None if status == NOT_LEGAL else ORDER
-    return Found(standing, written, said=said)
+    return Found(ending and (ending.met or legal), written, said=said)
 
 
 def found_of_kernel(player, fixcheck, text, shown):
@@ -110,10 +94,10 @@ def found_of_kernel(player, fixcheck, text, shown):
     if status == CANT_SAY:
         return Found(UNSAID, written, complaint)
     if fault:
-        return Found(REFUSED if status == 3 and f"line {fault.line}:" in complaint else None, written, complaint)
+        return Found(AGREES if status == 3 and f"line {fault.line}:" in complaint else None, written, complaint)
     if status:
         return Found(None, written, f"{complaint}status {status}")
-    return found(fixcheck, text, written, shown=shown)._replace(complaint=complaint)
+    return found(*verdict_of(fixcheck, text, written), text, written, shown)._replace(complaint=complaint)
 
 
 def text_of_kernel(player, text, nth):

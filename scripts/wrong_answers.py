@@ -8,7 +8,7 @@ import re
 import contradictions
 from illegal import Illegal
 import kernels
-from kernels import ORDER, SAME
+from kernels import AGREES
 from model import Script, play
 from programs import LEGAL, NOT_LEGAL, UNDECIDED, run, verdict
 from refused_growths import NO_MEMORY, Outcomes
@@ -22,7 +22,7 @@ TOLD = ("open_read_close", "tagged_files_leave_in_each_way", "replaced_between_t
         "allocation_fills_its_range", "ring_update_clears_skips_and_replaces", "tag_at_the_teardown")
 # how many lines their histories have, and how many pairs of steps of one chain stand beside each other in their orders; and how
 # many rows there are of outcomes, growths, verdicts and what they name
-LINES, PAIRS, OUTCOMES, GROWTHS, VERDICTS, NAMES = 110, 3, 15, 6, 8, 9
+LINES, PAIRS, OUTCOMES, GROWTHS, VERDICTS, NAMES = 110, 3, 15, 6, 7, 9
 # kept texts with lines that have no order, each of which is needed for that; and how many lines these texts have
 UNORDERED, UNORDERED_LINES = "examples/judged/submissions.judged", 44
 
@@ -132,16 +132,12 @@ def verdicts():
     other = same.replace("1.1.2 5 68656c6c6f", "1.1.2 2 6869")
     refused, opened = b"file a.txt 61\nsparse 1\nopen a.txt at 1\nsubmit\n", "sparse 0\n1.1.1 -22\nclosed 1.1.1.0 a.txt\n"
     rows = [
-        (script, same, LEGAL, SAME), (script, same, NOT_LEGAL, None), (script, other, LEGAL, ORDER), (script, other, NOT_LEGAL, None),
-        (script, other, UNDECIDED, ORDER), (script, other, None, ORDER), (script, same[:-2], NOT_LEGAL, None),
+        (script, same, LEGAL, AGREES), (script, same, NOT_LEGAL, None), (script, other, LEGAL, AGREES), (script, other, NOT_LEGAL, None),
+        (script, other, UNDECIDED, AGREES), (script, same[:-2], NOT_LEGAL, None),
         (refused, opened, NOT_LEGAL, frozenset({"refused_open_opens_its_file"})),
     ]
-    missed, fixcheck = [], kernels.Fixcheck()
-    for text, written, verdict, wanted in rows:
-        fixcheck.verdict = lambda *_, verdict=verdict: (verdict, "")
-        found = kernels.found(fixcheck, text, written, shown=names).standing
-        missed += [f"agree makes {found} of {written!r} with verdict {verdict}"] * (found != wanted)
-    return len(rows), missed
+    found = [kernels.found(status, "", text, written, names).standing for text, written, status, _ in rows]
+    return len(rows), [f"agree makes {it} of {row[1]!r} with verdict {row[2]}" for it, row in zip(found, rows) if it != row[3]]
 
 
 def names_told():
