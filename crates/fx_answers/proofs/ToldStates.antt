@@ -6,7 +6,7 @@ use Rattle.fx_answers.proofs.Words.{ChainAccess, Access, rules_of, IsOver, has_n
 use Rattle.fx_outcomes.proofs.Playing.{OfChain, steps_on, told_whole}
 use Rattle.std.proofs.lemmas.List.Sorted.{IsPermutation-append_left}
 use Rattle.fx_outcomes.proofs.ByPart.{IsByPart}
-use Rattle.fx_outcomes.proofs.Orders.{Goes_on, first_within, its_first, past_first}
+use Rattle.fx_outcomes.proofs.Orders.{OrderGoesOn, first_within, its_first, past_first}
 use Rattle.fx_outcomes.proofs.Turns.{has_turn}
 
 module _ (catalogue : List FileEntry) (size chains : ℕ) (finals : ℕ → List Completed) (files : List Closed) where
@@ -16,7 +16,7 @@ module _ (catalogue : List FileEntry) (size chains : ℕ) (finals : ℕ → List
 
   -- an order goes on from a state
   pub record Comes (here : ToldState) (order : List ChainAccess) : Type 0 where
-    pub goes : Goes_on chains here.state.table (Each here) order
+    pub goes : OrderGoesOn chains here.state.table (Each here) order
     pub closed : IsPermutation (here.removed ++ removed_in (accesses_of order)) files
 
   -- behind its first access, which is one that its chain may make next

@@ -5,13 +5,13 @@ use Rattle.fx_outcomes.proofs.Words.{Access, ChainAccess, not_own, own_first, ca
 
 module _ (chains : ℕ) where
   -- an order goes on from a table
-  pub record Goes_on (table : Table) (Each : ℕ → List Access → Type 0) (order : List ChainAccess) : Type 0 where
+  pub record OrderGoesOn (table : Table) (Each : ℕ → List Access → Type 0) (order : List ChainAccess) : Type 0 where
     pub permitted : PermitsAll table (accesses_of order)
     pub within : All (λ x. (1 ≤ x.chain) × (x.chain ≤ chains)) order
     pub each : (chain : ℕ) → 1 ≤ chain → chain ≤ chains → Each chain (accesses_of_chain chain order)
 
   module _ {table : Table} {Each : ℕ → List Access → Type 0} {x : ChainAccess} {order : List ChainAccess}
-      (comes : Goes_on table Each (x ∷ order)) where
+      (comes : OrderGoesOn table Each (x ∷ order)) where
     pub first_within : (1 ≤ x.chain) × (x.chain ≤ chains)
     first_within = comes.within 0 x (omega arith)
 
@@ -23,7 +23,7 @@ module _ (chains : ℕ) where
     pub past_first : {next : Table} (Next : ℕ → List Access → Type 0) → next ≡ table_with table x.access
         → Next x.chain (accesses_of_chain x.chain order)
         → ((chain : ℕ) → 1 ≤ chain → (chain ≡ x.chain → ⊥) → Each chain (accesses_of_chain chain order) → Next chain (accesses_of_chain chain order))
-        → Goes_on next Next order
+        → OrderGoesOn next Next order
     past_first Next leads own others = record {
       permitted = rw leads comes.permitted.1;
       within = λ k d lt. comes.within (suc k) d (omega arith);

@@ -6,7 +6,7 @@ use Rattle.fx_outcomes.proofs.Words.{Access, ChainAccess, cases_Bool, IsNext, Re
 use Rattle.fx_outcomes.proofs.Words.{AreIdle}
 use Rattle.fx_outcomes.proofs.ByPart.{IsByPart}
 use Rattle.fx_outcomes.proofs.Idling.{IsLook, reads_done}
-use Rattle.fx_outcomes.proofs.Orders.{Goes_on, first_within, its_first, past_first}
+use Rattle.fx_outcomes.proofs.Orders.{OrderGoesOn, first_within, its_first, past_first}
 use Rattle.fx_outcomes.proofs.Turns.{has_turn}
 use Rattle.fx_outcomes.proofs.Requests.{are_right}
 use Rattle.fx_outcomes.proofs.Chain.{Goes, ends, steps, told_first}
@@ -79,7 +79,7 @@ module _ (catalogue : List FileEntry) (size : ℕ) (says : Completed → Type 0)
 
     -- an order goes on from a state
     abbrev pub Comes : StateView → List ChainAccess → Type 0
-    Comes state order = Goes_on chains state.table (Each state) order
+    Comes state order = OrderGoesOn chains state.table (Each state) order
 
     -- its first access is one that its chain may make next, unless the chain is idle
     next_one : {state : StateView} {x : ChainAccess} {order : List ChainAccess} → idle (state.rests x.chain) ≡ false → Comes state (x ∷ order)
