@@ -17,7 +17,7 @@ use Rattle.fx_base.specs.declared.catalogue.Entry.{Entry}
 use Rattle.fx_base.specs.declared.catalogue.TheConstants.{MOST_ENTRIES, LONGEST_ENTRY}
 use Rattle.fx_base.specs.declared.name.TheConstants.{LONGEST_NAME}
 
--- the place of a name in front of one more entry, or that entry's own
+-- a name's place in a longer catalogue is its place in the old one, or that of the new entry
 either_place : (xs : List FileEntry) (y : FileEntry) (i : ℕ) (name : List ℕ) → name_at (xs ++ y ∷ []) i ≡ Some name
     → (name_at xs i ≡ Some name) ⊎ ((i ≡ length xs) × (y.name ≡ name))
 either_place [] y zero name is = inr (refl, cc)
@@ -25,14 +25,14 @@ either_place [] y (suc i) name is = cc
 either_place (x ∷ xs) y zero name is = inl is
 either_place (x ∷ xs) y (suc i) name is = elim (either_place xs y i name is) [ inl old ↦ inl old | inr new ↦ inr (ap suc new.0, new.1) ]
 
--- an entry with a name is one of the catalogue
+-- the place of a name is below the length of the catalogue
 pub entry_named : (catalogue : List FileEntry) (entry : ℕ) (name : List ℕ) → name_at catalogue entry ≡ Some name → entry < length catalogue
 entry_named catalogue entry name is = elim (cases_lt entry (length catalogue)) [
   | inl inside ↦ inside
   | inr past ↦ let e : None ≡ Some name = sym (ap (option_map (λ (file : FileEntry). file.name)) (slice_get_past catalogue entry past)) ∙ is in cc
 ]
 
--- a name that no entry has is at no place
+-- a name that no entry has is found at no place
 not_named : (catalogue : List FileEntry) (name : List ℕ) → has_name name catalogue ≡ false → (i : ℕ) → name_at catalogue i ≡ Some name → ⊥
 not_named [] name new i is = cc
 not_named (x ∷ xs) name new zero is =
@@ -56,7 +56,7 @@ still_distinct catalogue y distinct new i j name at_i at_j = elim (either_place 
   ])
 ]
 
--- an entry that was read has its size and its name, and both are what a catalogue keeps
+-- an entry that was read has its size and its name, and both are within the limits of a catalogue
 pub record IsRead (catalogue : List FileEntry) (i : ℕ) (e : Entry) : Type 0 where
   pub size : size_at catalogue i ≡ Some (length e.bytes.items)
   pub small : length e.bytes.items ≤ LONGEST_ENTRY
@@ -79,7 +79,7 @@ read_at entries {i = i} {e = e} seen good inside is =
       named = rw there at (good.named i (file_entry_of e) within);
     })
 
--- a catalogue with one more entry
+-- a catalogue with one more entry is a catalogue
 pub one_more : (catalogue : List FileEntry) (y : FileEntry) → IsCatalogue catalogue → length catalogue < MOST_ENTRIES → length y.bytes ≤ LONGEST_ENTRY
     → is_name y.name ≡ true → has_name y.name catalogue ≡ false → IsCatalogue (catalogue ++ y ∷ [])
 one_more catalogue y good few small named new = record {
@@ -89,7 +89,7 @@ one_more catalogue y good few small named new = record {
   distinct = still_distinct catalogue y good.distinct new;
 }
 
--- how many bytes a name has
+-- a name has 1 to `LONGEST_NAME` bytes
 pub some_bytes : (name : List ℕ) → IsTrue (is_name name) → 1 ≤ length name
 some_bytes name good = grind (arith, common_steps)
 

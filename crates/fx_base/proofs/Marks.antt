@@ -1,4 +1,4 @@
--- The derived comparison of marks is the one by cases.
+-- The derived comparison of marks equals `mark_cmp`, which is written by cases.
 use Rattle.std.proofs.Common.{◌≡◌, refl}
 use Rattle.fx_base.specs.CloseList.{mark_cmp}
 use Rattle.fx_base.specs.contracts.mark.MarkOrd.TheImpl.{ghosts}

@@ -1,4 +1,4 @@
--- The place of a name, among the entries of a catalogue.
+-- The place of a name among the entries of a catalogue.
 use Rattle.std.proofs.Common.{◌≡◌, ℕ, suc, ◌+◌, ◌<◌, Bool, true, false, List, [], ◌∷◌, ◌++◌, length, refl, sym, ap, ◌∙◌, Option, Some, None, arith}
 use Rattle.std.proofs.Common.{is_some, IfSome}
 use Rattle.std.proofs.lemmas.Slice.Eq.{bytes_eq-Decides}
@@ -16,7 +16,7 @@ place_from name i catalogue = position_from (λ file. bytes_eq file.name name) i
 same_names : (a b : List ℕ) → bytes_eq a b ≡ true → a ≡ b
 same_names a b is = (bytes_eq-Decides a b).0 is
 
--- a name that is found stands there
+-- if a name is found at a place, the entry at that place has it
 module _ (name : List ℕ) where
   abbrev pub Stands : ℕ → ℕ → List FileEntry → Type 0
   Stands i k catalogue = (j : ℕ) × (k ≡ i + j) × (j < length catalogue) × (name_at catalogue j ≡ Some name)
@@ -30,7 +30,7 @@ module _ (name : List ℕ) where
             (suc j, omega (arith, at), omega (arith, inside), named)
       ] refl is
 
--- what is found for a name has the name, and is an entry
+-- the place found for a name is below the length of the catalogue, and its entry has the name
 pub found_there : (name : List ℕ) (catalogue : List FileEntry) {found : Option ℕ} → found ≡ place_from name 0 catalogue
     → IfSome found (λ entry. name_at catalogue entry ≡ Some name) × IfSome found (λ entry. entry < length catalogue)
 found_there name catalogue {found = None} is = (tt, tt)
@@ -38,7 +38,7 @@ found_there name catalogue {found = Some k} is =
     let (j, at, inside, named) = name_at-place_from name 0 k catalogue (sym is) in
     let same : k ≡ j = omega (arith, at) in (rw same named, omega (arith, at, inside))
 
--- a name is found exactly where an entry has it
+-- a name is found if and only if an entry has it
 pub is_some-place_from : (name : List ℕ) (i : ℕ) (catalogue : List FileEntry) → is_some (place_from name i catalogue) ≡ has_name name catalogue
 is_some-place_from name i [] = refl
 is_some-place_from name i (x ∷ xs) =
@@ -47,7 +47,7 @@ is_some-place_from name i (x ∷ xs) =
       | false ↦ is_some-place_from name (i + 1) xs
     ]
 
--- a name that is found among the entries so far is another one than a new name
+-- an entry found under a name doesn't have the name of a new entry
 apart : (name : List ℕ) (x y : FileEntry) (b : Bool) → bytes_eq x.name y.name ≡ false → bytes_eq x.name name ≡ true → bytes_eq y.name name ≡ b
     → b ≡ false
 apart name x y false new here there = refl
@@ -55,7 +55,7 @@ apart name x y true new here there =
     let same : x.name ≡ y.name = same_names x.name name here ∙ sym (same_names y.name name there) in
     let found : bytes_eq x.name y.name ≡ true = (bytes_eq-Decides x.name y.name).1 same in cc
 
--- one more entry with a new name is found behind the others, which are found where they were
+-- a new entry with a new name is found after the others, and the others are found where they were
 pub place_from-push : (name : List ℕ) (i : ℕ) (catalogue : List FileEntry) (y : FileEntry) → has_name y.name catalogue ≡ false
     → place_from name i (catalogue ++ y ∷ []) ≡ cond (bytes_eq y.name name) (Some (i + length catalogue)) (place_from name i catalogue)
 place_from-push name i [] y new = let e : i ≡ i + 0 = omega arith in ap (λ (k : ℕ). cond (bytes_eq y.name name) (Some k) None) e

@@ -1,3 +1,4 @@
+//! The catalogue: the files that a script can open, found by name and read by place (this project's own).
 ghost use Rattle.std.specs.Prelude.{◌≡◌, ◌+◌, ◌<◌, ◌≤◌, ℕ, [], ◌∷◌, ◌++◌, length, OnOk, OnErr, IfSome, IfNone, IsOkUnless, Some, None, option_map, slice_get, string_bytes, IsTrue, ◌↔◌, vec_len, vec_capacity, is_some};
 ghost use Rattle.std.specs.Prelude.{take, drop};
 ghost use Rattle.fx_base.specs.Name.{is_name};
@@ -13,26 +14,26 @@ use std::alloc::{AllocError, AllocFailed, Global};
 use std::collections::HashMap;
 use std::marker::Model;
 
-/// How many entries a catalogue may have.
+/// The greatest number of entries in a catalogue.
 pub const MOST_ENTRIES: usize = 256;
 
-/// How many bytes an entry may have.
+/// The greatest number of bytes in an entry.
 pub const LONGEST_ENTRY: usize = 4096;
 
-/// Why a file was not added, in the order in which the faults are looked for.
+/// The reason why a file was not added. [`Catalogue::add`] checks for these faults in the order of the variants.
 #[derive(Clone, Copy, Debug, PartialEq, Eq)]
 pub enum AddFault {
-    /// The catalogue has 256 entries.
+    /// The catalogue already has [`MOST_ENTRIES`] entries.
     TooMany,
     /// The name has no bytes.
     EmptyName,
-    /// The name has a byte that is no ASCII letter, digit, `.`, `_` or `-`, or more than 32 bytes.
+    /// The name has more than 32 bytes, or a byte other than an ASCII letter, a digit, `.`, `_` or `-`.
     BadName,
-    /// An entry has this name already.
+    /// An entry with this name exists already.
     SameName,
-    /// There are more than 4,096 bytes.
+    /// The file has more than [`LONGEST_ENTRY`] bytes.
     TooLong,
-    /// The memory for one more entry was refused.
+    /// An allocation for the new entry failed.
     NoMemory,
 }
 
@@ -59,12 +60,13 @@ struct Entry {
     bytes: Vec<u8>,
 }
 
-/// The files that can be opened: at most 256 entries, each a name of its own and at most 4,096 bytes. An entry keeps
-/// its place, from 0, and its bytes never change (this project's own; a kernel has a file system here).
+/// The files that can be opened: at most 256 entries, each with a name of its own and at most 4,096 bytes. An entry
+/// keeps its place, counted from 0, and its bytes never change (this project's own; a kernel opens files of a file
+/// system).
 #[derive(Debug, Drop)]
 pub struct Catalogue {
     entries: Vec<Entry>,
-    // The place of each name, so that a long catalogue needn't be gone through.
+    // The place of each name, so that a look-up by name doesn't search the whole catalogue.
     places: HashMap<String, u8>,
 }
 
@@ -86,7 +88,7 @@ impl Model for Catalogue {
 }
 
 impl Catalogue {
-    /// A catalogue without entries.
+    /// Creates a catalogue without entries.
     pub fn new(alloc: Global) -> Catalogue
         ensures { result ≡ [] }
     {
@@ -96,7 +98,7 @@ impl Catalogue {
         }
     }
 
-    /// How many entries there are, at most 256.
+    /// Returns the number of entries, at most 256.
     pub fn len(&self) -> u32
         ensures value { result ≡ length self.now }
         ensures few { result ≤ MOST_ENTRIES }
@@ -104,14 +106,14 @@ impl Catalogue {
         self.entries.len() as u32
     }
 
-    /// Whether there are no entries.
+    /// Checks whether the catalogue has no entries.
     pub fn is_empty(&self) -> bool
         ensures { IsTrue result ↔ (self.now ≡ []) }
     {
         self.entries.is_empty()
     }
 
-    /// The entry with this name, from 0, or `None` where no entry has it.
+    /// Returns the place of the entry with this name, from 0, or `None` if no entry has the name.
     pub fn find(&self, name: &str) -> Option<u8>
         ensures found { IfSome result (λ entry. name_at self.now entry ≡ Some name.now) }
         ensures inside { IfSome result (λ entry. entry < length self.now) }
@@ -120,8 +122,8 @@ impl Catalogue {
         self.places.get(name).copied()
     }
 
-    /// The name of an entry, 1 to 32 bytes. The caller knows that there is such an entry, as one that
-    /// [`Catalogue::find`] gave or one below [`Catalogue::len`].
+    /// Returns the name of an entry, 1 to 32 bytes. Requires that the entry exists: [`Catalogue::find`] returned it, or
+    /// it is below [`Catalogue::len`].
     pub fn name_of(&self, entry: u8) -> &str
         requires { entry < length self.now }
         ensures value { name_at self.now entry ≡ Some result.now }
@@ -132,7 +134,7 @@ impl Catalogue {
         self.entries[entry as usize].name.as_str()
     }
 
-    /// How many bytes an entry has, at most 4,096. The caller knows that there is such an entry.
+    /// Returns the number of bytes of an entry, at most 4,096. Requires that the entry exists.
     pub fn size_of(&self, entry: u8) -> u32
         requires { entry < length self.now }
         ensures value { size_at self.now entry ≡ Some result }
@@ -141,8 +143,8 @@ impl Catalogue {
         self.entries[entry as usize].bytes.len() as u32
     }
 
-    /// Opens an entry: a new open file, with this mark and this tag, 0 for none (openat(2), read only). The caller knows
-    /// that there is such an entry.
+    /// Opens an entry: returns a new open file with this mark and this tag, 0 for no tag (openat(2), read only).
+    /// Requires that the entry exists.
     pub fn open(&self, entry: u8, mark: Mark, tag: u64) -> OpenFile
         requires { entry < length self.now }
         ensures entry { result.entry ≡ entry }
@@ -152,9 +154,9 @@ impl Catalogue {
         OpenFile::new(mark, entry, tag)
     }
 
-    /// Appends the bytes of an entry from place `off` on, `len` of them or as many as there are, and gives their
-    /// number, at most 4,096 (read(2)). Past the last entry there are none. The caller has reserved room for `len` more bytes
-    /// (`Vec::reserve`), so it can't run out of memory, and room that isn't used stays.
+    /// Appends the bytes of an entry from byte `off` on, at most `len` of them, and returns their number, at most 4,096
+    /// (read(2)). Appends none if the catalogue has no such entry. Requires room for `len` more bytes in `into`
+    /// (`Vec::reserve`), so that it can't run out of memory; `into` keeps the room that isn't used.
     pub fn read_into(&self, entry: u8, off: u32, len: u32, into: &mut Vec<u8>) -> u32
         requires { vec_len into.old + len ≤ vec_capacity into.old }
         ensures bytes { into.new.items ≡ into.old.items ++ bytes_at self.now entry off len }
@@ -171,11 +173,11 @@ impl Catalogue {
         part.len() as u32
     }
 
-    /// Adds an entry at the end. The others keep their places.
+    /// Appends an entry. The other entries keep their places.
     ///
     /// # Errors
-    /// The first fault that applies, in the order of [`AddFault`]. The catalogue is then as before, and the name and
-    /// the bytes are given up.
+    /// Returns the first fault that applies, in the order of [`AddFault`]. The catalogue then stays as it was, and the
+    /// name and the bytes are dropped.
     pub fn add(&mut self, name: String, bytes: Vec<u8>) -> Result<(), AddFault>
         ensures fault { IfSome (add_fault_of self.old (string_bytes name) bytes.items)
             (λ fault. result ≡ Err fault) }
@@ -209,7 +211,7 @@ impl Catalogue {
     }
 }
 
-// The part of the bytes from a place on, of at most so many.
+// Returns the bytes from `off` on, at most `len` of them.
 fn part(bytes: &[u8], off: usize, len: usize) -> &[u8]
     ensures { result.now ≡ take len (drop off bytes.now) }
 {

@@ -1,3 +1,4 @@
+//! Lists of closes: the files that were closed, in order (this project's own).
 ghost use Rattle.std.specs.Prelude.{◌≡◌, ◌+◌, ◌-◌, ◌<◌, ◌≤◌, [], ◌∷◌, ◌++◌, length, IfOk, IsPermutation};
 ghost use Rattle.fx_base.specs.CloseList.{IsInOrderOfMark};
 ghost use Rattle.fx_base.specs.Tags.{tags_of};
@@ -8,8 +9,8 @@ use crate::tag_completion::TagCompletion;
 use std::alloc::Global;
 use std::marker::Model;
 
-/// The files that were closed, in order, with room that was made earlier for more (this project's own: a kernel's
-/// close leaves no list). Contracts see the files as `files` and the number that still fits as `room`.
+/// The files that were closed, in order, and the number of further files that the list has reserved room for (this
+/// project's own; a kernel's close leaves no list). Contracts see the files as `files` and that number as `room`.
 #[derive(Debug, Drop)]
 pub struct CloseList {
     files: Vec<Closed>,
@@ -30,10 +31,10 @@ impl Model for CloseList {
 }
 
 impl CloseList {
-    /// An empty list with room for `n` files. It takes the memory of all of them now.
+    /// Creates an empty list with room for `n` files. It allocates the memory for all of them now.
     ///
     /// # Errors
-    /// `NoMemory` where that memory is refused.
+    /// `NoMemory` if that allocation fails.
     pub fn with_room(alloc: Global, n: u32) -> Result<CloseList, NoMemory>
         ensures { IfOk result (λ list. list ≡ record { files = []; room = n }) }
     {
@@ -41,29 +42,29 @@ impl CloseList {
         Ok(CloseList { files, room: n })
     }
 
-    /// For how many more files there is room: those that the list was made for, less those that it has.
+    /// Returns the number of further files that the list has room for.
     pub fn room(&self) -> u32
         ensures { result ≡ self.now.room }
     {
         self.room
     }
 
-    /// The number of the files: the files that the list was made for, less those that still fit.
+    /// Returns the number of files in the list.
     pub fn len(&self) -> u32
         ensures { result ≡ length self.now.files }
     {
         self.files.len() as u32
     }
 
-    /// The files, in the order in which they were closed, or in that of the last [`CloseList::sort`].
+    /// Returns the files in the order in which they were closed, or in the order of marks after [`CloseList::sort`].
     pub fn files(&self) -> &[Closed]
         ensures { result.now ≡ self.now.files }
     {
         self.files.as_slice()
     }
 
-    /// Closes a file (close(2)): it goes to the end of the list and takes one of the room. The caller has seen that
-    /// there is room, as where [`CloseList::room`] is above 0, so it can't run out of memory.
+    /// Closes a file (close(2)): appends it to the list and uses one place of the room. Requires that there is room, so
+    /// that [`CloseList::room`] is above 0; it can't run out of memory.
     pub fn close(&mut self, file: OpenFile)
         requires { 0 < self.old.room }
         ensures files { self.new.files ≡ self.old.files ++ file ∷ [] }
@@ -73,9 +74,9 @@ impl CloseList {
         self.room -= 1;
     }
 
-    /// Adds the files of another list at the end, in their order. The room falls by their number, and the other list's
-    /// own room is lost. It can't fail: the caller has seen that the room ([`CloseList::room`]) is at least the number of
-    /// the other's files ([`CloseList::files`]).
+    /// Appends the files of another list, in their order. The room shrinks by their number, and the other list's own
+    /// room is lost. Requires that [`CloseList::room`] is at least the number of the other list's files
+    /// ([`CloseList::files`]), so that it can't fail.
     pub fn append(&mut self, other: CloseList)
         requires { length other.files ≤ self.old.room }
         ensures files { self.new.files ≡ self.old.files ++ other.files }
@@ -87,7 +88,7 @@ impl CloseList {
         self.room = room as u32;
     }
 
-    /// Orders the files by mark, in place. It can't run out of memory, and the room stays.
+    /// Sorts the files by mark, in place. It can't run out of memory, and the room stays the same.
     pub fn sort(&mut self)
         ensures same_files { IsPermutation self.old.files self.new.files }
         ensures in_order { IsInOrderOfMark self.new.files }
@@ -96,11 +97,12 @@ impl CloseList {
         self.files.sort_unstable_by_key(|file| file.mark);
     }
 
-    /// The completions of the files' tags, in the order of the files: one for each file whose tag isn't 0, and none for
-    /// the others (io_uring_register(2), "IORING_REGISTER_FILES2"). The list stays, so a second call gives them again.
+    /// Returns the completions of the files' tags, in the order of the files: one for each file whose tag isn't 0
+    /// (io_uring_register(2), "IORING_REGISTER_FILES2"). The list stays the same, so a second call returns the same
+    /// completions.
     ///
     /// # Errors
-    /// `NoMemory` where the memory of the completions is refused.
+    /// `NoMemory` if the allocation for the completions fails.
     pub fn tags(&self, alloc: Global) -> Result<Vec<TagCompletion>, NoMemory>
         ensures { IfOk result (λ tags. tags.items ≡ tags_of self.now.files) }
     {

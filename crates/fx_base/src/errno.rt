@@ -1,3 +1,4 @@
+//! The error numbers that requests and calls return, as errno(3) lists them.
 ghost use Rattle.std.specs.Prelude.{◌≡◌, pos};
 ghost use Rattle.fx_base.specs.Errno.{code_of};
 
@@ -8,26 +9,27 @@ pub enum Errno {
     ENOENT,
     /// No table is registered.
     ENXIO,
-    /// The slot is empty, or a list names no file.
+    /// A slot has no file, or a list names a file that isn't in the catalogue.
     EBADF,
-    /// A count of this ring is used up.
+    /// A counter of the ring is exhausted.
     EAGAIN,
-    /// Out of memory.
+    /// An allocation failed.
     ENOMEM,
     /// A table is registered already.
     EBUSY,
-    /// A slot, a list or a range is not within the table.
+    /// A slot, a list or a range isn't within the table.
     EINVAL,
-    /// No slot of the allocation range is free.
+    /// No slot of the allocation range is empty.
     ENFILE,
-    /// More slots than a table may have.
+    /// A registration asks for more slots than a table may have.
     EMFILE,
-    /// A member of the chain in front of this one failed.
+    /// An earlier member severed the chain.
     ECANCELED,
 }
 
 impl Errno {
-    /// The positive number that Linux gives the error. Results carry it negated (io_uring_enter(2), "CQE ERRORS").
+    /// Returns the positive number that Linux assigns to the error. Results carry it negated (io_uring_enter(2), "CQE
+    /// ERRORS").
     pub fn code(self) -> i32
         ensures { result ≡ pos (code_of self) }
     {

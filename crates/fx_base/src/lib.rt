@@ -1,5 +1,9 @@
-//! What every crate of the file table speaks of: error numbers, marks of open files, open files, the catalogue of
-//! files that can be opened, lists of closes, and the completions of tags.
+//! The vocabulary of every crate of the file table: error numbers, marks of installations, open files, the catalogue of
+//! files that can be opened, lists of closes, and completions of resource tags.
+//!
+//! The contract that others rely on: an [`OpenFile`] can't be lost. A program must consume it, by [`CloseList::close`],
+//! which appends its identity to a list, or by [`OpenFile::discard`]. Begin reading at `open_file.rt`, then
+//! `catalogue.rt` and `close_list.rt`.
 #![tactic(auto)]
 
 mod catalogue;

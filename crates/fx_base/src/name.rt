@@ -1,12 +1,12 @@
-//! Names of catalogue entries (this project's own; names of a kernel's files are longer and have other bytes).
+//! Names of catalogue entries (this project's own; a kernel's file names may be longer and have other bytes).
 ghost use Rattle.std.specs.Prelude.{◌≡◌};
 ghost use Rattle.std.specs.List.{list_all};
 ghost use Rattle.fx_base.specs.Name.{name_byte, is_name};
 
-/// How many bytes a name may have.
+/// The greatest number of bytes in a name.
 pub const LONGEST_NAME: usize = 32;
 
-/// Whether the bytes are a name: 1 to [`LONGEST_NAME`] of them, each an ASCII letter, a digit, `.`, `_` or `-`.
+/// Checks whether the bytes are a name: 1 to [`LONGEST_NAME`] of them, each an ASCII letter, a digit, `.`, `_` or `-`.
 pub fn is_name(bytes: &[u8]) -> bool
     ensures { result ≡ is_name bytes.now }
 {

@@ -1,7 +1,8 @@
+//! The error of a failed allocation.
 use std::alloc::{AllocError, AllocFailed};
 
-/// There was no memory. The call that answers it has left its arguments as they were, unless it says otherwise
-/// (this project's own; the kernel answers ENOMEM).
+/// The error of a failed allocation. A call that returns it leaves its arguments as they were, unless its documentation
+/// says otherwise (this project's own; the kernel returns ENOMEM).
 #[derive(Clone, Copy, Debug, PartialEq, Eq)]
 pub struct NoMemory;
 

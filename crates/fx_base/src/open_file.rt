@@ -1,13 +1,14 @@
+//! Open files, which a program can't lose, and their identities.
 ghost use Rattle.std.specs.Prelude.{◌≡◌};
 
 use crate::mark::Mark;
 use std::marker::Model;
 
-/// What a list of closes says of a file: which installation it was, the catalogue entry that it was opened from, and its
-/// resource tag.
+/// The identity of an open or closed file: the installation that it comes from, the catalogue entry that it was opened
+/// from, and its resource tag.
 #[derive(Clone, Copy, Debug, PartialEq, Eq)]
 pub struct Closed {
-    /// The installation.
+    /// The installation that the file comes from.
     pub mark: Mark,
     /// The catalogue entry, from 0.
     pub entry: u8,
@@ -15,8 +16,8 @@ pub struct Closed {
     pub tag: u64,
 }
 
-/// An open file. It is no `Drop`: a program that drops one without closing or discarding it is not accepted.
-/// Contracts see it as what its close will say (this project's own; a kernel has a `struct file` here).
+/// An open file. It must be consumed: the compiler rejects a program that drops one without [`crate::CloseList::close`]
+/// or [`OpenFile::discard`]. Contracts see it as its identity (this project's own; a kernel has a `struct file` here).
 pub struct OpenFile {
     mark: Mark,
     entry: u8,
@@ -40,28 +41,29 @@ impl OpenFile {
         OpenFile { mark, entry, tag }
     }
 
-    /// Which installation the file is of.
+    /// Returns the mark of the installation that the file comes from.
     pub fn mark(&self) -> Mark
         ensures { result ≡ self.now.mark }
     {
         self.mark
     }
 
-    /// The catalogue entry that the file was opened from, from 0.
+    /// Returns the catalogue entry that the file was opened from, from 0.
     pub fn entry(&self) -> u8
         ensures { result ≡ self.now.entry }
     {
         self.entry
     }
 
-    /// The resource tag that the file was installed with, 0 for none (io_uring_register(2), "IORING_REGISTER_FILES2").
+    /// Returns the resource tag that the file was installed with, 0 for none (io_uring_register(2),
+    /// "IORING_REGISTER_FILES2").
     pub fn tag(&self) -> u64
         ensures { result ≡ self.now.tag }
     {
         self.tag
     }
 
-    /// What the file's close will say: its mark, its entry and its tag.
+    /// Returns the file's identity: its mark, its entry and its tag.
     pub fn identity(&self) -> Closed
         ensures { result ≡ self.now }
     {
@@ -72,7 +74,7 @@ impl OpenFile {
         }
     }
 
-    /// Spends a file that no list shall name: an open that was refused, or a file of an abandoned table.
+    /// Consumes the file without listing it: for an open that was refused, or for a file of an abandoned table.
     pub fn discard(self) {
         let OpenFile {
             mark: _,
@@ -81,7 +83,7 @@ impl OpenFile {
         } = self;
     }
 
-    // Spends a file, for a list that names it.
+    // Consumes the file and returns its identity, for a list that names it.
     pub(crate) fn close(self) -> Closed
         ensures { result ≡ self }
     {

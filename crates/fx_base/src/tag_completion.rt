@@ -1,8 +1,9 @@
+//! Completions of resource tags.
 ghost use Rattle.std.specs.Prelude.{◌≡◌};
 ghost use Rattle.fx_base.specs.Tags.{tag_completion};
 
-/// What tells that a file with a resource tag is closed: a completion that no request has asked for
-/// (io_uring_register(2), "IORING_REGISTER_FILES2"; `struct io_uring_cqe` there).
+/// The completion that reports the close of a file with a resource tag. No request asks for it (io_uring_register(2),
+/// "IORING_REGISTER_FILES2"; `struct io_uring_cqe` there).
 #[derive(Clone, Copy, Debug, PartialEq, Eq)]
 pub struct TagCompletion {
     /// The tag, never 0.
@@ -14,7 +15,7 @@ pub struct TagCompletion {
 }
 
 impl TagCompletion {
-    // The completion of a tag.
+    // Creates the completion of a tag.
     pub(crate) fn of(tag: u64) -> TagCompletion
         ensures { result ≡ tag_completion tag }
     {
