@@ -1,8 +1,8 @@
--- What holds of words, whatever numbers they are made of.
+-- Laws of slot words, for all numbers.
 use Rattle.std.specs.Prelude.{◌≡◌, ℕ, ◌+◌, ◌^◌, ◌<◌, ◌≤◌, Some}
 use Rattle.fx_words.specs.Words.{last_node, slot_word_of, node_in, entry_in, takes_in}
 
--- the word is one, and its readers give back what it was made of
+-- the number fits 64 bits, and its readers return what it was packed from
 pub record ReadsBack (node entry : ℕ) : Type 0 where
   pub word : slot_word_of node entry < 2 ^ 64
   pub node_back : node_in (slot_word_of node entry) ≡ Some node
@@ -17,7 +17,7 @@ MakerUndoesReaders =
     (word node : ℕ) → node_in word ≡ Some node
     → word ≡ slot_word_of node (entry_in word) + takes_in word
 
--- one take more, and nothing else
+-- one more take, and nothing else changes
 pub record HasOneMoreTake (old new : ℕ) : Type 0 where
   pub word : new < 2 ^ 64
   pub same_node : node_in new ≡ node_in old

@@ -1,17 +1,19 @@
-//! The readers undo the makers, and one take more changes the takes alone.
+//! Laws of slot words: reading undoes packing, and one more take changes only the takes. Each is the contract of a
+//! function with an empty body.
 ghost use Rattle.fx_words.specs.Laws.{ReadersUndoMaker, MakerUndoesReaders, OneMoreTakeChangesTakes};
 
-/// What a slot word was made of is read from it, and it has no takes.
+/// States that a slot word yields the number and the entry that it was packed from, and that it has no takes.
 pub fn readers_undo_maker()
     ensures { ReadersUndoMaker }
 {}
 
-/// A slot word that names a file is the one that is made of what is read from it, and its takes.
+/// States that a slot word that names a file is the word packed from its number and entry, plus its takes.
 pub fn maker_undoes_readers()
     ensures { MakerUndoesReaders }
 {}
 
-/// While the takes are below 2^32 - 1, adding 1 to a slot word neither overflows nor changes what it names.
+/// States that while the takes are below 2^32 - 1, adding 1 to a slot word neither overflows nor changes the number or
+/// the entry.
 pub fn one_more_take_changes_takes()
     ensures { OneMoreTakeChangesTakes }
 {}

@@ -1,7 +1,8 @@
+//! The slot word: the file at a slot, and how often it was looked up.
 ghost use Rattle.std.specs.Prelude.{◌≡◌, ◌≤◌};
 ghost use Rattle.fx_words.specs.Words.{slot_word_of, node_in, entry_in, takes_in, last_node};
 
-/// The word of a slot that names a file, with no takes. Numbers are at most 16,777,214.
+/// Returns the word of a slot with this file and no takes. `node` is at most 16,777,214.
 pub fn slot_word(node: u32, entry: u8) -> u64
     requires { node ≤ last_node }
     ensures { result ≡ slot_word_of node entry }
@@ -9,7 +10,7 @@ pub fn slot_word(node: u32, entry: u8) -> u64
     (u64::from(node) + 1) * (1 << 40) + u64::from(entry) * (1 << 32)
 }
 
-/// The number of the file that a slot word names, if it names one.
+/// Returns the number of the file that a slot word names, or `None` for an empty slot.
 pub fn node_of(word: u64) -> Option<u32>
     ensures { result ≡ node_in word }
 {
@@ -19,14 +20,14 @@ pub fn node_of(word: u64) -> Option<u32>
     }
 }
 
-/// The catalogue entry of the file that a slot word names. It says nothing of an empty slot.
+/// Returns the catalogue entry of the file that a slot word names. The entry of an empty slot has no meaning.
 pub fn entry_of(word: u64) -> u8
     ensures { result ≡ entry_in word }
 {
     (word / (1 << 32) % 256) as u8
 }
 
-/// How often the slot was looked up since the word was put in place.
+/// Returns the number of look-ups of the slot since the word was put in place.
 pub fn takes_of(word: u64) -> u32
     ensures { result ≡ takes_in word }
 {
