@@ -1,4 +1,4 @@
--- What holds of every history of a file table, whoever took the steps and in whichever order (this
+-- Laws of every history of a file table, whoever takes the steps and in whichever order (this
 -- project's own).
 use Rattle.std.specs.Prelude.{◌≡◌, ℕ, ◌<◌, ◌≤◌, ◌==◌, ◌⊎◌, false, if◌then◌else◌, List, [], ◌∷◌}
 use Rattle.std.specs.Prelude.{◌++◌, length, Option, Some, None}
@@ -32,7 +32,7 @@ abbrev pub closed_of : ℕ → Action → List File
 closed_of number (Close f) = if_numbered number f
 closed_of number _ = []
 
--- the closes of a number: the file of each, the first one first
+-- the files closed under a number, in order
 abbrev pub closes_of : ℕ → List Event → List File
 closes_of number [] = []
 closes_of number (e ∷ h) = closes_of number h ++ closed_of number e.action
@@ -41,7 +41,7 @@ abbrev pub released_by : Action → List File
 released_by (Release f) = f ∷ []
 released_by _ = []
 
--- the files that were released, the first one first
+-- the files that were released, in order
 abbrev pub releases_in : List Event → List File
 releases_in [] = []
 releases_in (e ∷ h) = releases_in h ++ released_by e.action
@@ -65,12 +65,12 @@ IsClosed (e ∷ h) f = IsClosed h f ⊎ (e.action ≡ Close f)
 abbrev pub IsStillThere : List Event → State → File → Type 0
 IsStillThere h end f = IsAtSlot end f × (closes_of f.number h ≡ [])
 
--- the file is at no slot at the end, and its number was closed once: the file itself
+-- the file is at no slot at the end, and exactly one file of its number was closed: this file
 abbrev pub IsClosedOnce : List Event → State → File → Type 0
 IsClosedOnce h end f = (IsAtSlot end f → ⊥) × (closes_of f.number h ≡ f ∷ [])
 
--- from the look-up of a pass on that found a file, as long as the pass releases nothing, no file of
--- that number is closed, wherever the history began
+-- after a pass's look-up that found a file, and as long as the pass releases nothing, no file of
+-- that number is closed, in whichever state the history began
 abbrev pub NoCloseWhileHeld : Type 0
 NoCloseWhileHeld =
     (start end : State) (before since others : List Event) (look : Event) (slot : ℕ) (f : File)
@@ -87,7 +87,7 @@ ClosedAtMostOnce =
     → IsLegal start h end
     → length (closes_of number h) ≤ 1
 
--- at a settled end, each file that was ever at a slot is still there or was closed, once
+-- at a settled end, each file that was ever at a slot is still at one, or was closed exactly once
 abbrev pub EveryRemovedFileIsClosed : Type 0
 EveryRemovedFileIsClosed =
     (start end : State) (h : List Event) (f : File)
@@ -97,8 +97,8 @@ EveryRemovedFileIsClosed =
     → IsAtSlot start f ⊎ IsInstalled h f
     → IsStillThere h end f ⊎ IsClosedOnce h end f
 
--- where no file was removed and not closed at the start, each file that was closed, or is at a slot
--- at the end, was at a slot at the start or was installed
+-- if no file was removed but not closed at the start, each file that was closed, or is at a slot at
+-- the end, was at a slot at the start or was installed
 abbrev pub EveryFileWasThereOrInstalled : Type 0
 EveryFileWasThereOrInstalled =
     (start end : State) (h : List Event) (f : File)
@@ -107,6 +107,6 @@ EveryFileWasThereOrInstalled =
     → IsAtSlot end f ⊎ IsClosed h f
     → IsAtSlot start f ⊎ IsInstalled h f
 
--- the state that passes begin with is one in which the laws' histories may begin
+-- histories to which the laws apply may begin in the state in which passes begin
 abbrev pub OpeningIsStart : Type 0
 OpeningIsStart = (st : State) (numbers : ℕ) → IsStart (opening st numbers)

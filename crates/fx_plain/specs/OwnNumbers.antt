@@ -1,4 +1,4 @@
--- How the files of a table come under the numbers of their slots.
+-- Files that get their slots' own numbers.
 use Rattle.std.specs.Prelude.{◌≡◌, ℕ, ◌<◌, ◌≤◌, ◌⊎◌, false, List, length, Option, Some, None}
 use Rattle.std.specs.Prelude.{sum_by}
 use Rattle.fx_plain.specs.Contents.{slot_at, node_at, file_in, is_fresh, moved_node, opening_slot}
@@ -9,13 +9,13 @@ use Rattle.fx_plain.specs.declared.slot_span.SlotSpan.{SlotSpan}
 abbrev pub IsOutside : SlotSpan → ℕ → Type 0
 IsOutside span slot = (slot < span.start) ⊎ (span.end ≤ slot)
 
--- the file of a slot outside of the span has the slot's own number
+-- the file of each slot outside the span has the slot's own number
 pub record HaveOwnOutside (slots : List (Option ℕ)) (span : SlotSpan) : Type 0 where
   pub inside : span.end ≤ length slots
   pub own : (slot number : ℕ) → slot_at slots slot ≡ Some number → IsOutside span slot
       → number ≡ slot
 
--- no removed file stands in the node, and no new file gets its number
+-- the node has no removed file, and no new file gets its number
 pub record IsVacant (node : Node) : Type 0 where
   pub used : is_fresh node ≡ false
   pub none_removed : removed_count_of node ≡ 0
@@ -25,14 +25,14 @@ abbrev pub AreVacant : List (Option ℕ) → List Node → Type 0
 AreVacant slots nodes = (slot : ℕ) → slot < length slots → slot_at slots slot ≡ None
     → IsVacant (node_at nodes slot)
 
--- what the node of a slot's own number becomes: it has the slot's file, if there is one
+-- the new node of a slot's own number: it has the slot's file, if there is one
 pub record IsFiled (slots : List (Option ℕ)) (nodes : List Node) (slot : ℕ) (node : Node)
     : Type 0 where
   pub file : (number : ℕ) → slot_at slots slot ≡ Some number
       → node ≡ moved_node (file_in (node_at nodes number)) slot
   pub vacant : slot_at slots slot ≡ None → IsVacant node
 
--- each file has the number of its slot now, and stands in the node of that number
+-- each file now has its slot's number, and is in the node of that number
 pub record AreFiled (slots : List (Option ℕ)) (nodes : List Node) (new : List (Option ℕ))
     (moved : List Node) : Type 0 where
   pub same_size : length new ≡ length slots
@@ -41,7 +41,7 @@ pub record AreFiled (slots : List (Option ℕ)) (nodes : List Node) (new : List 
   pub filed : (slot : ℕ) → slot < length slots → IsFiled slots nodes slot (node_at moved slot)
   pub same_full : sum_by file_count_of new ≡ sum_by file_count_of slots
 
--- and so many numbers are there, of which those behind the slots' own are fresh
+-- and there are `numbers` numbers; those after the slots' own are fresh
 pub record IsRenumbered (slots : List (Option ℕ)) (nodes : List Node) (new : List (Option ℕ))
     (moved : List Node) (numbers : ℕ) : Type 0 where
   pub files : AreFiled slots nodes new moved

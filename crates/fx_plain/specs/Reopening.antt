@@ -1,4 +1,5 @@
--- File numbers are names: a later part of a table's history is one of a table that is opened anew.
+-- File numbers are names: a later part of a table's history is also a history of a newly opened
+-- table.
 use Rattle.std.specs.Prelude.{◌≡◌, ℕ, ◌+◌, ◌≤◌, List, [], ◌∷◌, length, map, Option, Some, None}
 use Rattle.std.specs.Prelude.{option_map}
 use Rattle.fx_plain.specs.State.{State, IsSettled, opening}
@@ -48,19 +49,20 @@ abbrev pub numbers_given : List Action → List ℕ
 numbers_given [] = []
 numbers_given (action ∷ h) = with_number_of (installed_by action) (numbers_given h)
 
--- the same files at the same slots, and it is settled where the other one is
+-- the same files at the same slots; the other state is settled if the first one is
 pub record HasOtherNumbers (one other : State) : Type 0 where
   pub size : other.size ≡ one.size
   pub range : other.range ≡ one.range
   pub files : (slot : ℕ) → identity_of (other.at slot) ≡ identity_of (one.at slot)
   pub settled : IsSettled one → IsSettled other
 
--- a table between submissions: histories may begin there, and no file is past its slots
+-- a table between submissions: the laws' histories may begin there, and it has no file past its
+-- slots
 pub record IsAtRest (st : State) : Type 0 where
   pub start : IsStart st
   pub inside : (slot : ℕ) → st.size ≤ slot → st.at slot ≡ None
 
--- a table that was opened is at rest, and so is one wherever it is settled afterwards
+-- a table that is opened is at rest, and is at rest again in each later settled state
 abbrev pub OpeningIsAtRest : Type 0
 OpeningIsAtRest = (plain : Contents) (numbers : ℕ) → IsAtRest (opening (state_of plain) numbers)
 
@@ -72,8 +74,8 @@ StaysAtRest =
     → IsSettled end
     → IsAtRest end
 
--- what happens to a table at rest may happen to one that is opened with its files, if that has
--- numbers for all that are installed; events may be of other chains there
+-- what happens to a table at rest may also happen to a table that is opened with its files, if that
+-- has numbers for all installed files; its events may be of other chains
 abbrev pub OpenedAnew : Type 0
 OpenedAnew =
     (chain : ℕ → ℕ) (numbers : ℕ) (start end : State) (h : List Event)
@@ -84,7 +86,8 @@ OpenedAnew =
     × IsLegal (opening start numbers) (map (renamed_event r) h) left
     × HasOtherNumbers end left
 
--- where nobody holds anything, what comes behind a legal history is legal from the state there
+-- if no pass holds a file, the continuation of a legal history is legal from the state reached so
+-- far
 abbrev pub LegalBehind : Type 0
 LegalBehind =
     (start end : State) (h more : List Event)

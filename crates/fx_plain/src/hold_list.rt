@@ -1,4 +1,5 @@
-//! The holds of a table's files by number. As with the nodes, what no look-up reached isn't written and is 0.
+//! The holds of a table's files by number. As in the list of nodes, numbers that no look-up has reached aren't written;
+//! their holds are 0.
 ghost use Rattle.std.specs.Prelude.{◌≡◌, ◌+◌, ◌-◌, ◌<◌, ◌^◌, ◌≤◌, ℕ, [], length, replicate, slice_index, slice_set, vec_len, vec_capacity, IfOk, IfSome, IfNone};
 ghost use Rattle.fx_plain.specs.Reserved.{with_rest};
 
@@ -6,7 +7,7 @@ use fx_base::NoMemory;
 use std::alloc::Global;
 use std::marker::Model;
 
-// The holds of all numbers below `len`. Those behind the ones that were written are 0.
+// The holds of all numbers below `len`. Those after the written ones are 0.
 #[derive(Drop)]
 pub(crate) struct HoldList {
     written: Vec<u32>,
@@ -35,7 +36,7 @@ impl HoldList {
         }
     }
 
-    // So many zeros.
+    // Creates `len` zeros.
     pub(crate) fn zeros(alloc: Global, len: u32) -> Result<HoldList, NoMemory>
         ensures { IfOk result (λ holds. holds ≡ replicate len 0) }
     {
@@ -43,7 +44,7 @@ impl HoldList {
         Ok(HoldList { written, len })
     }
 
-    // So many zeros, or `None` where there are as many holds here, which may start again.
+    // Creates `len` zeros, or returns `None` if this list has at least `len` numbers and can be reused.
     pub(crate) fn zeros_beyond(&self, alloc: Global, len: u32) -> Result<Option<HoldList>, NoMemory>
         ensures new { IfOk result (λ new. IfSome new (λ holds. holds ≡ replicate len 0)) }
         ensures here { IfOk result (λ new. IfNone new (len ≤ length self.now)) }
@@ -54,7 +55,7 @@ impl HoldList {
         Ok(Some(HoldList::zeros(alloc, len)?))
     }
 
-    // So many zeros: new ones, or else the first of those that are here.
+    // Makes the list `len` zeros: the new ones, or else the first of those in this list.
     pub(crate) fn start_again(&mut self, new: Option<HoldList>, len: u32)
         requires new { IfSome new (λ holds. holds ≡ replicate len 0) }
         requires here { IfNone new (len ≤ length self.old) }
@@ -71,7 +72,7 @@ impl HoldList {
         self.len = len;
     }
 
-    // How many holds the file of a number has.
+    // Returns the number of holds of a file.
     pub(crate) fn of(&self, number: u32) -> u32
         ensures { result ≡ slice_index self.now number }
     {
@@ -81,7 +82,7 @@ impl HoldList {
         }
     }
 
-    // One more hold of a number.
+    // Adds a hold of a number.
     pub(crate) fn add_hold(&mut self, number: u32)
         requires inside { number < length self.old }
         requires fits { slice_index self.old number + 1 < 2 ^ 32 }
@@ -91,7 +92,7 @@ impl HoldList {
         self.written[number as usize] += 1;
     }
 
-    // One hold less. How many are left.
+    // Ends a hold of a number, and returns the number of holds that remain.
     pub(crate) fn end_hold(&mut self, number: u32) -> u32
         requires { 0 < slice_index self.old number }
         ensures after { self.new ≡ slice_set self.old number (slice_index self.old number - 1) }
@@ -102,7 +103,7 @@ impl HoldList {
     }
 }
 
-// Zeros up to this number, unless it is there already.
+// Appends zeros up to this number, unless they are written already.
 fn write_up_to(holds: &mut Vec<u32>, number: u32)
     requires { number < vec_capacity holds.old }
     ensures inside { number < vec_len holds.new }

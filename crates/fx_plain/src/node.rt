@@ -1,9 +1,10 @@
+//! Nodes: the state of the file with a given number.
 ghost use Rattle.std.specs.Prelude.{◌≡◌, MatchOption, Some, None};
 ghost use Rattle.fx_plain.specs.Contents.{is_fresh, is_leaving, is_retired, file_in, node_after_removal, node_after_retirement};
 
 use fx_base::OpenFile;
 
-// Where the file of a number stands.
+// The state of a number and its file.
 pub(crate) enum Node {
     // No file has had the number.
     Fresh,
@@ -13,7 +14,7 @@ pub(crate) enum Node {
     Leaving(OpenFile),
     // Retired, and still held.
     Retired(OpenFile),
-    // Closed, or never any file's.
+    // The file was closed, or the number was never assigned to one.
     Gone,
 }
 
@@ -35,7 +36,7 @@ pub(crate) fn is_retired(node: &Node) -> bool
     matches!(node, Node::Retired(_))
 }
 
-// The file of a node, wherever it stands.
+// Returns the file of a node in any state that has one.
 pub(crate) fn file_in(node: &Node) -> Option<&OpenFile>
     ensures { MatchOption result (file_in node.now ≡ None)
         (λ file. file_in node.now ≡ Some file.now) }
@@ -46,7 +47,7 @@ pub(crate) fn file_in(node: &Node) -> Option<&OpenFile>
     }
 }
 
-// The file of a node, if it has one, for a caller that spends it.
+// Takes the file out of a node, if it has one, for a caller that consumes it.
 pub(crate) fn into_file(node: Node) -> Option<OpenFile>
     ensures { result ≡ file_in node }
 {
@@ -56,14 +57,14 @@ pub(crate) fn into_file(node: Node) -> Option<OpenFile>
     }
 }
 
-// Drops the file of a node, if it has one.
+// Discards the file of a node, if it has one.
 pub(crate) fn spend_node(node: Node) {
     if let Some(file) = into_file(node) {
         file.discard();
     }
 }
 
-// A file that left its slot is leaving from now on.
+// Marks the file of a node as leaving, when it has left its slot.
 pub(crate) fn node_after_removal(node: Node) -> Node
     ensures { result ≡ node_after_removal node }
 {
@@ -73,7 +74,7 @@ pub(crate) fn node_after_removal(node: Node) -> Node
     }
 }
 
-// A file that is leaving is retired from now on.
+// Marks the leaving file of a node as retired.
 pub(crate) fn node_after_retirement(node: Node) -> Node
     ensures { result ≡ node_after_retirement node }
 {

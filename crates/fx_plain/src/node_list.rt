@@ -1,5 +1,5 @@
-//! The nodes of a table by number. Room for all of them is reserved at once, and a node is written when its number is
-//! reached, so that a table with many numbers costs no time for those that no file gets.
+//! The nodes of a table by number. Memory for all of them is reserved at once, and a node is written when its number is
+//! first used, so that unused numbers cost no time.
 ghost use Rattle.std.specs.Prelude.{◌≡◌, ◌<◌, ◌≤◌, ℕ, [], false, length, take, slice_index_or, slice_set, vec_len, vec_capacity, IsSome, IsTrue, Some};
 ghost use Rattle.fx_plain.specs.Contents.{node_at, is_fresh, is_leaving, is_retired, file_in, node_after_removal, node_after_retirement, KeepsFirst, Fresh, Gone};
 ghost use Rattle.fx_plain.specs.Reserved.{with_rest};
@@ -13,7 +13,7 @@ use std::alloc::Global;
 use std::marker::Model;
 use std::mem;
 
-// The nodes of all numbers below `len`. Those behind the ones that were written are fresh.
+// The nodes of all numbers below `len`. Those after the written ones are fresh.
 pub(crate) struct NodeList {
     written: Vec<Node>,
     len: u32,
@@ -43,7 +43,7 @@ impl NodeList {
         }
     }
 
-    // So many nodes: those that were written, and fresh ones.
+    // Creates `len` nodes: the written ones, and then fresh ones.
     pub(crate) fn new(written: Vec<Node>, len: u32) -> NodeList
         requires few { vec_len written ≤ len }
         requires room { len ≤ vec_capacity written }
@@ -52,7 +52,8 @@ impl NodeList {
         NodeList { written, len }
     }
 
-    // Room for so many nodes, if the first `kept` are there and it takes no memory: whether that is so.
+    // Extends the list to at least `len` nodes, if the first `kept` nodes are there and no allocation is needed.
+    // Returns whether it did.
     pub(crate) fn extend(&mut self, kept: usize, len: u32) -> bool
         ensures there { IsTrue result → kept ≤ length self.old }
         ensures enough { IsTrue result → len ≤ length self.new }
@@ -74,7 +75,8 @@ impl NodeList {
         true
     }
 
-    // Keeps the first nodes, and drops the files of the others. There are `len` from now on, and the others are fresh.
+    // Keeps the first `kept` nodes and discards the files of the others. Afterwards there are `len` nodes, and those
+    // after the kept ones are fresh.
     pub(crate) fn cut(&mut self, kept: usize, len: u32)
         requires kept { kept ≤ len }
         requires len { len ≤ length self.old }
@@ -121,7 +123,7 @@ impl NodeList {
         }
     }
 
-    // The file of a number, wherever it stands.
+    // Returns the file of a number in any state that has one.
     pub(crate) fn file(&self, number: u32) -> &OpenFile
         requires { IsSome (file_in (node_at self.now number)) }
         ensures { Some result.now ≡ file_in (node_at self.now number) }
@@ -132,7 +134,7 @@ impl NodeList {
         file
     }
 
-    // Writes a node. Callers write where no file is.
+    // Writes a node. Callers write only where there is no file.
     pub(crate) fn set_node(&mut self, number: u32, node: Node)
         requires { number < length self.old }
         ensures { self.new ≡ slice_set self.old number node }
@@ -153,7 +155,7 @@ impl NodeList {
         file
     }
 
-    // The file of a number left its slot, and is leaving from now on.
+    // Marks the file of a number as leaving: it has left its slot.
     pub(crate) fn leave(&mut self, number: u32)
         requires { IsSome (file_in (node_at self.old number)) }
         ensures { self.new
@@ -163,7 +165,7 @@ impl NodeList {
         spend_node(put_in(&mut self.written, number as usize, node_after_removal(node)));
     }
 
-    // The file of a number was leaving, and is retired from now on.
+    // Marks the leaving file of a number as retired.
     pub(crate) fn retire(&mut self, number: u32)
         requires { IsSome (file_in (node_at self.old number)) }
         ensures { self.new
@@ -177,7 +179,7 @@ impl NodeList {
         ));
     }
 
-    // Drops every file of the nodes.
+    // Discards every file of the nodes.
     pub(crate) fn spend(self) {
         let NodeList {
             mut written,
@@ -190,7 +192,7 @@ impl NodeList {
     }
 }
 
-// Puts a node in a place, and gives the one that was there.
+// Puts a node at a place, and returns the one that was there.
 fn put_in(nodes: &mut Vec<Node>, at: usize, node: Node) -> Node
     requires { at < vec_len nodes.old }
     ensures after { nodes.new.items ≡ slice_set nodes.old.items at node }
@@ -201,7 +203,7 @@ fn put_in(nodes: &mut Vec<Node>, at: usize, node: Node) -> Node
     mem::replace(&mut nodes[at], node)
 }
 
-// Drops the nodes behind the first ones.
+// Discards the files of all nodes but the first `kept`, and drops these nodes.
 fn cut_off(nodes: &mut Vec<Node>, kept: usize)
     ensures nodes { nodes.new.items ≡ take kept nodes.old.items }
     ensures capacity { vec_capacity nodes.new ≡ vec_capacity nodes.old }
@@ -213,7 +215,7 @@ fn cut_off(nodes: &mut Vec<Node>, kept: usize)
     }
 }
 
-// Fresh nodes up to this number, unless they are there already.
+// Appends fresh nodes up to this number, unless they are written already.
 fn write_up_to(nodes: &mut Vec<Node>, number: u32)
     requires { number < vec_capacity nodes.old }
     ensures inside { number < vec_len nodes.new }

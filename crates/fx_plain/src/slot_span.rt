@@ -1,8 +1,8 @@
-//! A span of slots that grows by the slots that are written.
+//! The span of slots that were written since the last preparation.
 ghost use Rattle.std.specs.Prelude.{◌≡◌, ◌≤◌, ◌<◌, ◌+◌, ◌^◌, ℕ};
 ghost use Rattle.fx_plain.specs.OwnNumbers.{IsOutside};
 
-// The slots from `start` up to `end`, which isn't one of them. There are none where `end` isn't above `start`.
+// The slots from `start` up to, but not including, `end`. The span is empty unless `end` is above `start`.
 #[derive(Drop)]
 pub(crate) struct SlotSpan {
     pub(crate) start: u32,
@@ -10,14 +10,14 @@ pub(crate) struct SlotSpan {
 }
 
 impl SlotSpan {
-    // No slots.
+    // Creates an empty span.
     pub(crate) fn none() -> SlotSpan
         ensures end { result.end ≡ 0 }
     {
         SlotSpan { start: 0, end: 0 }
     }
 
-    // The slots so far and one more, with those between.
+    // Widens the span to include one more slot.
     pub(crate) fn widen(&mut self, slot: u32)
         requires { slot + 1 < 2 ^ 32 }
         ensures inside { (size : ℕ) → self.old.end ≤ size → slot < size → self.new.end ≤ size }

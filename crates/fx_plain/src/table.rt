@@ -1,3 +1,4 @@
+//! The file table of one thread.
 ghost use Rattle.std.specs.Prelude.{◌≡◌, ◌+◌, ◌<◌, ◌≤◌, ◌↔◌, ℕ, length, true, option_map, IfOk, IsTrue, IsOk, OnOk, OnErr, None};
 ghost use Rattle.fx_plain.specs.State.{vacant, IsSettled, files_of};
 ghost use Rattle.fx_plain.specs.Contents.{state_of, leaving, numbers_of, IsTable};
@@ -15,35 +16,37 @@ use fx_base::{Closed, Mark, NoMemory};
 use std::alloc::Global;
 use std::marker::Model;
 
-/// How many slots a table may have.
+/// The greatest number of slots of a table.
 pub const MOST_SLOTS: u32 = 256;
 
-/// The range is not within the table (EINVAL; io_uring_register(2), "IORING_REGISTER_FILE_ALLOC_RANGE").
+/// The error that an allocation range isn't within the table (EINVAL; io_uring_register(2),
+/// "IORING_REGISTER_FILE_ALLOC_RANGE").
 #[derive(Clone, Copy, Debug, PartialEq, Eq)]
 pub struct BadRange;
 
-/// The file table of one thread: slots, each empty or with one open file, an allocation range, and the files that
-/// were removed and are not closed yet. It is no `Drop`: a program that drops one without closing its files is not
-/// accepted. Slots count from 0, and a call that names a slot asks that it is below [`PlainTable::size`].
+/// The file table of one thread: slots, each empty or with one open file, an allocation range, and the files that were
+/// removed and aren't closed yet. It must be consumed: the compiler rejects a program that drops one without
+/// [`PlainTable::dismiss`] or [`PlainTable::abandon`]. Slots are numbered from 0, and a call that names a slot requires
+/// that it is below [`PlainTable::size`].
 ///
-/// Each file has a number of its own from [`PlainTable::prepare`] on. A file that was removed is *leaving* until it is
-/// retired, and comes out to be closed once it is retired and nobody holds it. Numbers, holds and retirement are this
-/// project's own. Contracts see the state of the model by `state_of`, which files are leaving by `leaving`, and how
-/// many numbers there are by `numbers_of`.
+/// Each file has a number of its own from [`PlainTable::prepare`] on. A removed file is *leaving* until it is retired.
+/// It is handed out, to be closed, once it is retired and has no holds. Numbers, holds and retirement are this
+/// project's own. Contracts see the state of the model as `state_of`, the set of leaving files as `leaving`, and the
+/// number of prepared numbers as `numbers_of`.
 pub struct PlainTable {
     // The number of the file at each slot.
     slots: Vec<Option<u32>>,
     range_start: u32,
     range_len: u32,
-    // By number, where each file stands, and its holds.
+    // By number, each file's state and its holds.
     nodes: NodeList,
     holds: HoldList,
     numbers: u32,
-    // Full slots, holds and removed files, counted so that no test has to go over the lists.
+    // Counters of full slots, holds and removed files, so that no check has to search the lists.
     full: u32,
     held: u64,
     removed: u32,
-    // Outside of these slots each file has its slot's own number, so that a preparation has nothing to do there.
+    // Outside this span each file has its slot's own number, so that a preparation has nothing to do there.
     to_renumber: SlotSpan,
 }
 
@@ -73,7 +76,7 @@ impl Model for PlainTable {
 }
 
 impl PlainTable {
-    /// A table without slots, whose allocation range is empty: what a ring has before a registration.
+    /// Creates a table without slots and with an empty allocation range, as a ring has before a registration.
     pub fn none(alloc: Global) -> PlainTable
         ensures state { state_of result ≡ vacant 0 }
         ensures numbers { numbers_of result ≡ 0 }
@@ -92,11 +95,12 @@ impl PlainTable {
         }
     }
 
-    /// A table of `n` empty slots, 1 to [`MOST_SLOTS`], all of them in the allocation range (io_uring_register_files(3),
-    /// `io_uring_register_files_sparse`). It is settled, as a preparation and a shared table want it.
+    /// Creates a table of `n` empty slots, 1 to [`MOST_SLOTS`], all of them in the allocation range
+    /// (io_uring_register_files(3), `io_uring_register_files_sparse`). It is settled, as a preparation and a shared
+    /// table require.
     ///
     /// # Errors
-    /// `NoMemory` where the memory of the slots is refused.
+    /// `NoMemory` if the allocation for the slots fails.
     pub fn sparse(alloc: Global, n: u32) -> Result<PlainTable, NoMemory>
         requires some { 1 ≤ n }
         requires few { n ≤ MOST_SLOTS }
@@ -121,7 +125,7 @@ impl PlainTable {
         })
     }
 
-    /// How many slots there are, at most [`MOST_SLOTS`].
+    /// Returns the number of slots, at most [`MOST_SLOTS`].
     pub fn size(&self) -> u32
         ensures value { result ≡ (state_of self.now).size }
         ensures few { result ≤ MOST_SLOTS }
@@ -130,8 +134,8 @@ impl PlainTable {
         self.slots.len() as u32
     }
 
-    /// The allocation range: the first slot and the number of slots. It is within the table (io_uring_register(2),
-    /// "IORING_REGISTER_FILE_ALLOC_RANGE").
+    /// Returns the allocation range: the first slot and the number of slots. It is within the table
+    /// (io_uring_register(2), "IORING_REGISTER_FILE_ALLOC_RANGE").
     pub fn range(&self) -> (u32, u32)
         ensures value { result ≡ (state_of self.now).range }
         ensures inside { (state_of self.now).range.0 + (state_of self.now).range.1
@@ -140,11 +144,11 @@ impl PlainTable {
         (self.range_start, self.range_len)
     }
 
-    /// Sets the allocation range (io_uring_register(2), "IORING_REGISTER_FILE_ALLOC_RANGE"). Length 0 is permitted.
-    /// Nothing else changes.
+    /// Sets the allocation range to `len` slots from `off` on (io_uring_register(2),
+    /// "IORING_REGISTER_FILE_ALLOC_RANGE"). `len` may be 0. Nothing else changes.
     ///
     /// # Errors
-    /// `BadRange` where `off + len`, as whole numbers, is above the size. The table is then as before.
+    /// `BadRange` if `off + len`, computed without overflow, is above the size. The table then stays as it was.
     pub fn set_range(&mut self, off: u32, len: u32) -> Result<(), BadRange>
         ensures accepted { IsOk result ↔ (off + len ≤ (state_of self.old).size) }
         ensures ok { OnOk result (SetsRange self.old self.new off len) }
@@ -158,14 +162,14 @@ impl PlainTable {
         Ok(())
     }
 
-    /// How many slots have a file, whether they are in the allocation range or not.
+    /// Returns the number of slots that have a file, in the allocation range or not.
     pub fn full(&self) -> u32
         ensures { result ≡ length (files_of (state_of self.now)) }
     {
         self.full
     }
 
-    /// The mark of the file at a slot, or `None` where the slot is empty.
+    /// Returns the mark of the file at a slot, or `None` if the slot is empty.
     pub fn mark_at(&self, slot: u32) -> Option<Mark>
         requires { slot < (state_of self.now).size }
         ensures { result ≡ option_map (λ f. f.identity.mark) ((state_of self.now).at slot) }
@@ -173,7 +177,7 @@ impl PlainTable {
         Some(self.identity_at(slot)?.mark)
     }
 
-    /// The catalogue entry of the file at a slot, or `None` where the slot is empty.
+    /// Returns the catalogue entry of the file at a slot, or `None` if the slot is empty.
     pub fn entry_at(&self, slot: u32) -> Option<u8>
         requires { slot < (state_of self.now).size }
         ensures { result ≡ option_map (λ f. f.identity.entry) ((state_of self.now).at slot) }
@@ -189,35 +193,35 @@ impl PlainTable {
         Some(self.nodes.file(number).identity())
     }
 
-    /// How many numbers were prepared, or the size before the first preparation.
+    /// Returns the number of file numbers that were last prepared; before the first preparation, the size at creation.
     pub fn numbers(&self) -> u32
         ensures { result ≡ numbers_of self.now }
     {
         self.numbers
     }
 
-    /// Whether no file has had the number, and one may get it. A number that was not prepared is not fresh.
+    /// Checks whether the number was prepared and no file has had it, so that a file may get it.
     pub fn is_fresh(&self, number: u32) -> bool
         ensures { result ≡ (state_of self.now).fresh number }
     {
         self.nodes.is_fresh(number)
     }
 
-    /// Whether the file of the number has a hold. It may be at a slot or removed.
+    /// Checks whether the file with the number has a hold. The file may be at a slot or removed.
     pub fn is_held(&self, number: u32) -> bool
         ensures { IsTrue result ↔ (0 < (state_of self.now).holds number) }
     {
         self.holds.of(number) > 0
     }
 
-    /// Whether the file of the number was removed and is not retired yet.
+    /// Checks whether the file with the number was removed and isn't retired yet.
     pub fn is_leaving(&self, number: u32) -> bool
         ensures { result ≡ leaving self.now number }
     {
         self.nodes.is_leaving(number)
     }
 
-    /// Whether no file has a hold and each removed file is closed.
+    /// Checks whether no file has a hold and every removed file is closed.
     pub fn is_settled(&self) -> bool
         ensures { IsTrue result ↔ IsSettled (state_of self.now) }
     {

@@ -1,4 +1,4 @@
-//! How the files of a table go elsewhere, and come back (this project's own).
+//! Taking all files out of a table, and putting files back (this project's own).
 ghost use Rattle.std.specs.Prelude.{◌≡◌, ◌+◌, ◌<◌, ◌≤◌, ◌↔◌, ◌++◌, ℕ, length, IsTrue, IfSome, IsSome, Some, None, vec_len, vec_capacity, sum_by};
 ghost use Rattle.fx_plain.specs.State.{IsSettled};
 ghost use Rattle.fx_plain.specs.Step.{changed_at};
@@ -11,17 +11,17 @@ use crate::table::PlainTable;
 use fx_base::OpenFile;
 
 impl PlainTable {
-    /// Whether there is room for a file at each slot under the slot's own number: since a preparation
-    /// ([`PlainTable::prepare`]), and where there are no slots.
+    /// Checks whether there is room for a file at each slot under the slot's own number. That is so after a preparation
+    /// ([`PlainTable::prepare`]), and in a table without slots.
     pub fn is_prepared(&self) -> bool
         ensures { IsTrue result ↔ IsPrepared self.now }
     {
         self.slots.len() <= self.nodes.len() as usize
     }
 
-    /// Takes the files of a settled table ([`PlainTable::is_settled`]) out, slot by slot: each slot's file, or `None`, goes
-    /// to the end of the list. The caller has made room there for as many as there are slots, so it can't run out
-    /// of memory. Every slot is empty from now on. Size, range and numbers stay.
+    /// Takes all files out of a settled table ([`PlainTable::is_settled`]), slot by slot: each slot's file, or `None`,
+    /// is appended to the list. Requires room in the list for as many elements as there are slots, so that it can't run
+    /// out of memory. Afterwards every slot is empty. Size, range and numbers stay the same.
     pub fn take_files(&mut self, files: &mut Vec<Option<OpenFile>>)
         requires settled { IsSettled (state_of self.old) }
         requires room { vec_len files.old + (state_of self.old).size ≤ vec_capacity files.old }
@@ -38,9 +38,9 @@ impl PlainTable {
     }
 
     /// Puts a file at an empty slot of a settled table ([`PlainTable::is_settled`]), under the slot's own number, as a
-    /// preparation does. The table has room for it ([`PlainTable::is_prepared`]), so it can't fail for memory, and it stays
-    /// settled. It is the way in for a file that is there before the table is shared, and the way back for one that
-    /// [`PlainTable::take_files`] took.
+    /// preparation does. Requires that the table has room for it ([`PlainTable::is_prepared`]), so that it can't run
+    /// out of memory. The table stays settled. It is for files that are installed before the table is shared, and for
+    /// those that [`PlainTable::take_files`] took out.
     pub fn put_back(&mut self, slot: u32, file: OpenFile)
         requires slot { slot < (state_of self.old).size }
         requires empty { (state_of self.old).at slot ≡ None }
@@ -70,7 +70,7 @@ fn take_named(slot: Option<u32>, nodes: &mut NodeList) -> Option<OpenFile>
     Some(nodes.take_file(slot?))
 }
 
-// Takes the files of all slots, in order.
+// Takes the files of all slots out, in order of slot.
 fn take_each(slots: &Vec<Option<u32>>, nodes: &mut NodeList, files: &mut Vec<Option<OpenFile>>)
     requires placed { AllPlaced slots.now.items nodes.old }
     requires room { vec_len files.old + vec_len slots.now ≤ vec_capacity files.old }

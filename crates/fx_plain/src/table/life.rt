@@ -1,4 +1,4 @@
-//! How a table is prepared for passes, emptied and given up.
+//! Preparing a table for passes, emptying it, and consuming it.
 ghost use Rattle.std.specs.Prelude.{◌≡◌, ◌≤◌, ◌<◌, ◌+◌, ℕ, [], ◌++◌, ◌-◌, ◌^◌, ◌∷◌, length, OnOk, OnErr, IfOk, IfSome, IsSome, Some, None, true, vec_len, vec_capacity, slice_set, sum_by};
 ghost use Rattle.std.specs.Option.{option_to_list};
 ghost use Rattle.fx_base.specs.declared.open_file.Closed.{Closed};
@@ -16,14 +16,14 @@ use std::alloc::Global;
 use std::mem;
 
 impl PlainTable {
-    /// Makes a settled table ([`PlainTable::is_settled`]) ready for passes: the file at a slot gets the slot's number,
-    /// and the numbers from the size up to `numbers - 1` are fresh. `numbers` is at least [`PlainTable::size`]. Files,
-    /// size and range stay. The memory of all numbers is reserved now, under 64 bytes for each, or was by an earlier
-    /// preparation; a number's part of it is written once a file gets the number or one behind it. The table stays settled,
-    /// and an empty slot empty (this project's own).
+    /// Prepares a settled table ([`PlainTable::is_settled`]) for passes: the file at a slot gets the slot's number, and
+    /// the numbers from the size up to `numbers - 1` are fresh. Requires that `numbers` is at least
+    /// [`PlainTable::size`]. Files, size and range stay the same, the table stays settled, and empty slots stay empty.
+    /// Memory for all numbers, under 64 bytes for each, is reserved now unless an earlier preparation reserved it. It
+    /// is written only up to the greatest number that a file gets (this project's own).
     ///
     /// # Errors
-    /// `NoMemory` where that memory is refused. The table is then as before.
+    /// `NoMemory` if that allocation fails. The table then stays as it was.
     pub fn prepare(&mut self, numbers: u32) -> Result<(), NoMemory>
         requires settled { IsSettled (state_of self.old) }
         requires numbers { (state_of self.old).size ≤ numbers }
@@ -47,10 +47,10 @@ impl PlainTable {
         Ok(())
     }
 
-    /// Closes all files of a settled table ([`PlainTable::is_settled`]), in order of slot, where the list has room for
-    /// them ([`CloseList::room`] is at least [`PlainTable::full`]), so that it can't run out of memory. No slot is
-    /// left, the allocation range is empty, and how many numbers were prepared stays (io_uring_register(2),
-    /// "IORING_UNREGISTER_FILES").
+    /// Closes all files of a settled table ([`PlainTable::is_settled`]), in order of slot. Requires room for them in
+    /// the list ([`CloseList::room`] is at least [`PlainTable::full`]), so that it can't run out of memory. Afterwards
+    /// the table has no slots and an empty allocation range. The number of prepared numbers stays the same
+    /// (io_uring_register(2), "IORING_UNREGISTER_FILES").
     pub fn empty_into(&mut self, closes: &mut CloseList)
         requires settled { IsSettled (state_of self.old) }
         requires room { length (files_of (state_of self.old)) ≤ closes.old.room }
@@ -68,7 +68,7 @@ impl PlainTable {
         self.to_renumber = SlotSpan::none();
     }
 
-    /// Spends a settled table ([`PlainTable::is_settled`]) that has no file ([`PlainTable::full`] is 0).
+    /// Consumes a settled table ([`PlainTable::is_settled`]) that has no file ([`PlainTable::full`] is 0).
     pub fn dismiss(self)
         requires settled { IsSettled (state_of self) }
         requires empty { files_of (state_of self) ≡ [] }
@@ -76,7 +76,8 @@ impl PlainTable {
         self.abandon();
     }
 
-    /// Drops every file of the table, in no list. It is the way out after a fault, and can't run out of memory.
+    /// Consumes the table and discards all its files, without listing them. It is the way out after a fault, and can't
+    /// run out of memory.
     pub fn abandon(self) {
         let PlainTable {
             slots: _,
@@ -94,7 +95,7 @@ impl PlainTable {
     }
 }
 
-// Takes the file of a slot out of its node, to stand in the node of the slot's own number.
+// Takes the file of a slot out of its node, and returns the node that the slot's own number gets.
 fn move_file(slots: &mut Vec<Option<u32>>, nodes: &mut NodeList, slot: usize) -> Node
     requires slot { (slot < vec_len slots.old) × (slot < 2 ^ 32) }
     requires inside { IfSome (slot_at slots.old.items slot)
@@ -111,8 +112,8 @@ fn move_file(slots: &mut Vec<Option<u32>>, nodes: &mut NodeList, slot: usize) ->
     Node::At(slot as u32, nodes.take_file(number))
 }
 
-// The file at each slot moves to the node of the slot's own number, and so many nodes stand behind them: in the list
-// that is there, if it has room.
+// Moves the file at each slot to the node of the slot's own number, and makes the list `numbers` nodes long. It reuses
+// the list if that has room.
 fn renumber(
     slots: &mut Vec<Option<u32>>,
     nodes: &mut NodeList,
@@ -141,7 +142,7 @@ fn renumber(
     Ok(())
 }
 
-// Each file that stands at a slot moves to the node of the slot's own number, in a new list.
+// Moves each file at a slot to the node of the slot's own number, in a new list.
 fn renumber_into(slots: &mut Vec<Option<u32>>, nodes: &mut NodeList, moved: &mut Vec<Node>)
     requires few { vec_len slots.old < 2 ^ 32 }
     requires placed { AllPlaced slots.old.items nodes.old }
@@ -156,7 +157,7 @@ fn renumber_into(slots: &mut Vec<Option<u32>>, nodes: &mut NodeList, moved: &mut
     }
 }
 
-// Moves the file that a slot names to the node of the slot's own number, unless it stands there.
+// Moves the file that a slot names to the node of the slot's own number, unless it is there already.
 fn settle(slots: &mut Vec<Option<u32>>, nodes: &mut NodeList, slot: usize)
     requires slot { (slot < vec_len slots.old) × (slot < 2 ^ 32) }
     requires node { slot < length nodes.old }
@@ -176,7 +177,7 @@ fn settle(slots: &mut Vec<Option<u32>>, nodes: &mut NodeList, slot: usize)
     nodes.set_node(slot as u32, node);
 }
 
-// As `renumber_into` does, in the list that is there, where the slots outside of a span need nothing.
+// Does what `renumber_into` does, within the same list. Slots outside the span need no change.
 fn renumber_in_place(slots: &mut Vec<Option<u32>>, nodes: &mut NodeList, span: &SlotSpan)
     requires few { vec_len slots.old < 2 ^ 32 }
     requires placed { AllPlaced slots.old.items nodes.old }
@@ -192,7 +193,7 @@ fn renumber_in_place(slots: &mut Vec<Option<u32>>, nodes: &mut NodeList, span: &
     }
 }
 
-// Closes the file that a slot names.
+// Closes the file that a slot names, if there is one.
 fn close_file(slot: Option<u32>, nodes: &mut NodeList, closes: &mut CloseList)
     requires inside { IfSome slot (λ n. IsSome (file_in (node_at nodes.old n))) }
     requires room { length (option_to_list (file_named nodes.old slot)) ≤ closes.old.room }
@@ -208,7 +209,7 @@ fn close_file(slot: Option<u32>, nodes: &mut NodeList, closes: &mut CloseList)
     closes.close(nodes.take_file(number));
 }
 
-// Closes the files of all slots, in order.
+// Closes the files of all slots, in order of slot.
 fn close_all(slots: &Vec<Option<u32>>, nodes: &mut NodeList, closes: &mut CloseList)
     requires placed { AllPlaced slots.now.items nodes.old }
     requires room { length

@@ -11,9 +11,9 @@ use crate::table::PlainTable;
 use fx_base::OpenFile;
 
 impl PlainTable {
-    /// Installs a file at a slot, under a number that is fresh ([`PlainTable::is_fresh`]). The answer is the number of
-    /// the file that it replaced, which is leaving from now on, or `None` where the slot was empty. A table that was
-    /// settled stays so where the slot was empty (io_uring_prep_openat(3), `io_uring_prep_openat_direct`).
+    /// Installs a file at a slot, under a fresh number ([`PlainTable::is_fresh`]). Returns the number of the file that
+    /// it replaced, which is leaving from now on, or `None` if the slot was empty. A settled table stays settled if the
+    /// slot was empty (io_uring_prep_openat(3), `io_uring_prep_openat_direct`).
     pub fn put(&mut self, slot: u32, number: u32, file: OpenFile) -> Option<u32>
         requires slot { slot < (state_of self.old).size }
         requires fresh { (state_of self.old).fresh number ≡ true }
@@ -42,13 +42,13 @@ impl PlainTable {
         }
     }
 
-    /// Installs a file at a free slot of the allocation range, under a number that is fresh ([`PlainTable::is_fresh`]).
-    /// The answer is the slot; it is the first free one, which no contract promises (io_uring_prep_openat(3),
+    /// Installs a file at an empty slot of the allocation range, under a fresh number ([`PlainTable::is_fresh`]), and
+    /// returns the slot. It is the first such slot, which no contract promises (io_uring_prep_openat(3),
     /// "IORING_FILE_INDEX_ALLOC").
     ///
     /// # Errors
-    /// The file comes back where every slot of the range has a file (ENFILE). The table is then as before, and the
-    /// number stays fresh.
+    /// Returns the file if every slot of the range has a file (ENFILE). The table then stays as it was, and the number
+    /// stays fresh.
     pub fn put_any(&mut self, number: u32, file: OpenFile) -> Result<u32, OpenFile>
         requires { (state_of self.old).fresh number ≡ true }
         ensures ok { IfOk result (λ slot.
@@ -67,7 +67,7 @@ impl PlainTable {
         Ok(slot)
     }
 
-    // The first free slot of the allocation range.
+    // Returns the first empty slot of the allocation range.
     fn free_slot(&self) -> Option<u32>
         ensures found { IfSome result (λ slot.
             (slot < (state_of self.now).size)
@@ -84,8 +84,8 @@ impl PlainTable {
         None
     }
 
-    /// Empties a slot for an update. The answer is the number of the file that was there, which is leaving from now
-    /// on, or `None` where the slot was empty (io_uring_register(2), "IORING_REGISTER_FILES_UPDATE", an entry of -1).
+    /// Empties a slot for an update. Returns the number of the file that was there, which is leaving from now on, or
+    /// `None` if the slot was empty (io_uring_register(2), "IORING_REGISTER_FILES_UPDATE", an entry of -1).
     pub fn clear(&mut self, slot: u32) -> Option<u32>
         requires { slot < (state_of self.old).size }
         ensures { let found = (state_of self.old).at slot in
@@ -94,8 +94,8 @@ impl PlainTable {
         self.take(slot)
     }
 
-    /// Empties a slot for a close. The answer is the number of the file that was there, which is leaving from now on,
-    /// or `None` where the slot was empty (io_uring_prep_close(3), `io_uring_prep_close_direct`).
+    /// Empties a slot for a close. Returns the number of the file that was there, which is leaving from now on, or
+    /// `None` if the slot was empty (io_uring_prep_close(3), `io_uring_prep_close_direct`).
     pub fn take(&mut self, slot: u32) -> Option<u32>
         requires { slot < (state_of self.old).size }
         ensures { let found = (state_of self.old).at slot in
