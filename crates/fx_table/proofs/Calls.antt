@@ -10,7 +10,7 @@ seen_again h = ([], refl)
 pub seen_further : (f g h : List Event) → IsSeenBy f g → IsSeenBy g h → IsSeenBy f h
 seen_further f g h a b = (b.0 ++ a.0, b.1 ∙ (ap (λ (x : List Event). b.0 ++ x) a.1 ∙ sym (append_assoc b.0 a.0 f)))
 
--- a pass that does nothing has added nothing
+-- a pass that makes no event adds nothing
 pub adds_nothing : (o : Opening) (v : PassView) → IsFront o v → Adds o v [] v.doing no_use v
 adds_nothing o v front = record {
   seen = seen_again v.front;
@@ -25,7 +25,7 @@ adds_nothing o v front = record {
   looks_left = omega arith;
 }
 
--- two calls in a row add what both add
+-- two calls in a row add what each of them adds
 pub adds_then : (o : Opening) (u v w : PassView) (xs ys : List Action) (d e : Doing) (a b : Use) → Adds o u xs d a v → Adds o v ys e b w
     → Adds o u (xs ▷▷ ys) e (both_uses a b) w
 adds_then o u v w xs ys d e a b one two = record {

@@ -1,4 +1,4 @@
--- A chain has one pass, and its part of the one history is what that pass did for it.
+-- A chain has one pass, and its events in the history are those that the pass made for it.
 use Rattle.fx_table.proofs.Words.{◌≡◌, ℕ, ◌≤◌, true, false, cond, List, [], ◌∷◌, map, sym, refl, ap, subst, ◌∙◌, arith, eqb, eq-eqb, ⊎_elim}
 use Rattle.fx_table.proofs.Words.{Contains, dite, ℕ_discrete, ne_eqb, sum_by, count_by, Contains-append_cases, sum_by-cons, Contents, part_of_pass}
 use Rattle.fx_table.proofs.Words.{Event, Action, Doing, Opening, PassView, event_of, Use, Adds, ClosesTable, times_drawn}
@@ -8,15 +8,15 @@ use Rattle.fx_table.proofs.Members.{contains_none, contains_head, contains_tail,
 use Rattle.fx_table.proofs.Ones.{bit_here, one_if}
 use Rattle.fx_table.proofs.SumLemmas.{found_by, sum_of}
 
--- what stands in a list is counted
+-- an element of a list is counted at least once
 pub some_times : (c : ℕ) (l : List ℕ) → Contains l c → 1 ≤ count_by (λ d. eqb d c) l
 some_times c l h = omega (arith, bit_here c c refl, sum_of (λ d. one_if (eqb d c)) l c h)
 
--- what is counted stands there
+-- an element that is counted at least once is in the list
 pub some_there : (c : ℕ) (l : List ℕ) → 1 ≤ count_by (λ d. eqb d c) l → Contains l c
 some_there c l low = let d = found_by (λ n. n) c l low in subst (Contains l) d.2 d.1
 
--- of passes that have drawn a chain at most once in all, those that drew it are one
+-- if the passes drew a chain at most once in all, at most one of them drew it
 pub one_pass : (c : ℕ) (vs : List PassView) → sum_by (times_drawn c) vs ≤ 1 → (v w : PassView)
     → Contains vs v → Contains vs w → Contains v.drawn c → Contains w.drawn c → v ≡ w
 one_pass c [] few v w h i d e = absurd (contains_none v h)
@@ -34,7 +34,7 @@ pub one_pass_of_chain : (o : Opening) (passes : List PassView) (left : Contents)
     → ClosesTable o passes left → Contains passes one → Contains passes other → Contains one.drawn chain → Contains other.drawn chain → one ≡ other
 one_pass_of_chain o passes left chain one other k h i d e = one_pass chain passes (k.drawn_once chain) one other h i d e
 
--- an event of a pass stands in its part
+-- an event of a pass is in the pass's part
 pub in_part : (p : ℕ) (h : List Event) (e : Event) → Contains h e → e.pass ≡ p → Contains (part_of_pass p h) e
 in_part p [] e i is = absurd (contains_none e i)
 in_part p (x ∷ h) e i is = ⊎_elim
@@ -43,7 +43,7 @@ in_part p (x ∷ h) e i is = ⊎_elim
     [ true ↦ contains_tail x (part_of_pass p h) e (in_part p h e t is) | false ↦ in_part p h e t is ])
     (contains_cases x h e i)
 
--- where all events of a chain are of one pass, the chain's part is that of the pass's part
+-- if all events of a chain are of one pass, the chain's part is a part of the pass's part
 chain_in_pass : (c p : ℕ) (h : List Event) → ((e : Event) → Contains h e → e.chain ≡ c → e.pass ≡ p)
     → part_of_chain c h ≡ part_of_chain c (part_of_pass p h)
 chain_in_pass c p [] one = refl

@@ -1,4 +1,4 @@
--- Passes are dealt out, one for each number from 1 on.
+-- Passes are handed out, one for each number from 1 on.
 use Rattle.fx_table.proofs.Words.{Contains, ◌≡◌, ℕ, suc, ◌+◌, ◌-◌, ◌<◌, ◌≤◌, List, [], ◌∷◌, ◌++◌, map, length, take, sym, ap, ◌∙◌, arith, All}
 use Rattle.fx_table.proofs.Words.{range_with_len, PassView}
 use Rattle.std.proofs.Common.{length-append}
@@ -7,7 +7,7 @@ use Rattle.std.proofs.lemmas.List.Elements.{All-push, All-contains}
 use Rattle.std.proofs.lemmas.List.FromFn.{map-range_with_len_more}
 use Rattle.fx_table.specs.Pass.{IsIdle, new_pass, new_passes}
 
--- what is left to deal of n, where p is next
+-- the passes that remain to be handed out of n, if p is next
 module _ {X : Type 0} (new : ℕ → X) (p n : ℕ) where
   abbrev left : ℕ → List X
   left q = map new (range_with_len q ((n + 1) - q))
@@ -26,7 +26,7 @@ module _ {P : Type 0} (Is : P → Type 0) (shown : P → PassView) where
   pub fits : (ps : List P) → All IsReady ps → (p : P) → Contains ps p → Is p
   fits ps ready p h = (All-contains IsReady ps p ready h).0
 
-  -- the passes before p were dealt, of n
+  -- the passes before p were handed out, of n
   pub record AreDealt (p n : ℕ) (list : List P) : Type 0 where
     pub low : 1 ≤ p
     pub high : p ≤ n

@@ -1,4 +1,4 @@
--- Where files are, before and after an action.
+-- The places of files before and after an action.
 use Rattle.fx_table.proofs.Words.{◌≡◌, ◌≢◌, ℕ, true, false, List, sym, refl, ap, ◌∙◌, subst, ◌⊎◌, inl, inr, ⊎_elim, dite, ℕ_discrete, None, State}
 use Rattle.fx_table.proofs.Words.{changed_at, Contents, state_of}
 use Rattle.std.specs.Prelude.{Option, Some}
@@ -16,12 +16,12 @@ some_file f g e = cc
 pub none_file : (f : File) → None ≡ Some f → ⊥
 none_file f e = cc
 
--- what a slot names
+-- a file at a slot has the number that the slot names
 named : (nodes : List Node) (o : Option ℕ) (f : File) → file_at nodes o ≡ Some f → (n : ℕ) × (o ≡ Some n) × (placed_at n (node_at nodes n) ≡ Some f)
 named nodes None f e = absurd (none_file f e)
 named nodes (Some n) f e = (n, refl, e)
 
--- the node of a file at a slot says so
+-- the node of a file at a slot is `At` that slot
 pub node_of : (c : Contents) → IsTable c → (slot : ℕ) (f : File) → (state_of c).at slot ≡ Some f → node_at c.nodes f.number ≡ At slot f.identity
 node_of c sound slot f e =
     let (n, at, placed) = named c.nodes (slot_at c.slots slot) f e in
@@ -29,7 +29,7 @@ node_of c sound slot f e =
     let is : record { number = n; identity = p.0 } ≡ f = some_file _ f (sym (ap (placed_at n) p.1) ∙ placed) in
     subst (λ (g : File). node_at c.nodes g.number ≡ At slot g.identity) is p.1
 
--- a file at a slot was not removed, and isn't leaving
+-- a file at a slot isn't removed, and isn't leaving
 pub not_removed : (c : Contents) → IsTable c → (slot : ℕ) (f : File) → (state_of c).at slot ≡ Some f → (state_of c).removed f.number ≡ None
 not_removed c sound slot f e = ap (removed_at f.number) (node_of c sound slot f e)
 
@@ -47,11 +47,11 @@ pub leaving_file : (c : Contents) → IsTable c → (f : File) → HasFile (stat
     → (state_of c).removed f.number ≡ Some f
 leaving_file c sound f there leaves = ⊎_elim (λ s. let put = stays_put c sound s.0 f s.1 in absurd (cc (put, leaves))) (λ e. e) there
 
--- a removed file that comes out is the file that the pass had to do with
+-- the removed file under a file's number is that file
 pub removed_file : (c : Contents) → IsTable c → (f g : File) → HasFile (state_of c) f → (state_of c).removed f.number ≡ Some g → f ≡ g
 removed_file c sound f g there out = ⊎_elim (λ s. let put = not_removed c sound s.0 f s.1 in absurd (cc (put, out))) (λ e. cc (e, out)) there
 
--- A slot gets another file, or none, and what stood there is removed: each file is still somewhere
+-- A slot gets another file, or none, and the file that was there is removed: each file is still in the table
 module _ (s : State) (slot : ℕ) (new found : Option File) (is : found ≡ s.at slot) (apart : (x f : File) → found ≡ Some x
     → s.removed f.number ≡ Some f → f.number ≢ x.number) where
   at_slot : (f : File) (o : Option File) → o ≡ Some f → with_removed s.removed o f.number ≡ Some f
@@ -71,7 +71,7 @@ module _ (s : State) (slot : ℕ) (new found : Option File) (is : found ≡ s.at
   pub now_removed : (f : File) → found ≡ Some f → with_removed s.removed found f.number ≡ Some f
   now_removed f e = at_slot f found e
 
--- a file is closed: each other one is still where it was
+-- after a close each other file is where it was
 pub not_closed : (s : State) (g f : File) → f.number ≢ g.number → HasFile s f
     → ((slot : ℕ) × (s.at slot ≡ Some f)) ⊎ (changed_at s.removed g.number None f.number ≡ Some f)
 not_closed s g f other there = ⊎_elim (λ p. inl p) (λ e. inr (changed_else s.removed g.number None f.number other ∙ e)) there

@@ -1,4 +1,4 @@
--- What a list contains, by its first element and the others.
+-- Membership in a list, by its first element and the others.
 use Rattle.fx_table.proofs.Words.{ℕ, ◌<◌, length, get_elem?, some, some-ne-none, some-injective, ◌≡◌, List, [], ◌∷◌, map, reverse, sym, refl, ap, ◌∙◌}
 use Rattle.fx_table.proofs.Words.{suc, zero, arith, ◌⊎◌, inl, inr, ⊎_elim, Contains, All}
 use Rattle.std.specs.Prelude.{slice_index_or}

@@ -1,4 +1,4 @@
--- Counts by ones: of what has a number, and of the numbers from 1 on.
+-- Sums of ones: elements with a number, and the numbers from 1 on.
 use Rattle.fx_table.proofs.Words.{◌≡◌, ◌≢◌, ℕ, zero, suc, ◌+◌, ◌-◌, ◌<◌, ◌≤◌, cond, eqb, List, map, refl, ap, arith, eq-eqb, ne_eqb, ◌⊎◌, inl, inr}
 use Rattle.fx_table.proofs.Words.{count_by, range_with_len, sum_by-cons, dite, ℕ_discrete, changed_at}
 use Rattle.std.proofs.Common.{Bool, lt-ltb, le-ltb}
@@ -8,7 +8,7 @@ use Rattle.fx_table.specs.Numbers.{once}
 abbrev pub one_if : Bool → ℕ
 one_if b = cond b 1 0
 
--- how often the chain is in the list
+-- the number of times that the chain is in the list
 abbrev pub times : ℕ → List ℕ → ℕ
 times c l = count_by (λ d. eqb d c) l
 
@@ -37,7 +37,7 @@ one_more_at f q n = grind arith
 pub one_less_at : (f : ℕ → ℕ) (q n : ℕ) → 0 < f q → changed_at f q (f q - 1) n + one_if (eqb q n) ≡ f n
 one_less_at f q n some = grind arith
 
--- one for each number: how many have this number
+-- one element for each number: the count of elements with this number
 module _ {X : Type 0} (number : X → ℕ) (new : ℕ → X) (its : (p : ℕ) → number (new p) ≡ p) (q : ℕ) where
   abbrev counted : ℕ → ℕ → ℕ
   counted p n = count_by (λ x. eqb (number x) q) (map new (range_with_len p n))

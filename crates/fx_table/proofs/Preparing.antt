@@ -1,4 +1,4 @@
--- A table that was prepared has its files still, under other numbers.
+-- A prepared table has the same files, under other numbers.
 use Rattle.fx_table.proofs.Words.{◌≡◌, ℕ, refl, Contents, state_of}
 use Rattle.fx_plain.proofs.Prepared.{same_identity, settled_at_opening}
 use Rattle.fx_plain.specs.State.{opening}

@@ -1,4 +1,4 @@
--- What a call answers that removed a file from a slot, or found none.
+-- The results of calls that empty or replace a slot.
 use Rattle.fx_table.proofs.Words.{◌≡◌, ℕ, [], refl, None, Adds, Opening, PassView}
 use Rattle.std.specs.Prelude.{Option, Some, option_map, Result, ok_or}
 use Rattle.fx_base.specs.Identity.{Identity}

@@ -1,4 +1,4 @@
--- Passes go from seats that do nothing to other such seats.
+-- Passes move between idle seats.
 use Rattle.fx_table.proofs.Words.{◌≡◌, ◌≢◌, ℕ, zero, suc, ◌+◌, List, [], ◌∷◌, ◌++◌, set, take, refl, sym, ap, ◌∙◌, subst, arith, ◌⊎◌, inl, inr}
 use Rattle.fx_table.proofs.Words.{⊎_elim, Contains, sum_by, Contains-append_left, Contains-append_right, Contains-append_cases, sum_by-append, dite}
 use Rattle.fx_table.proofs.Words.{some, some-injective, some-ne-none, ℕ_discrete, get_elem?}
@@ -30,13 +30,13 @@ module _ {A : Type 0} where
   at_snoc (x ∷ l) a b (suc j) e = at_snoc l a b j e
 
 module _ {V L S : Type 0} (logs : V → List L) (start : V → S) (k : S) (Idle : V → Type 0) where
-  -- a seat that does nothing, whose passes were in such seats
+  -- an idle seat, whose passes were in idle seats
   pub record IsAnew (views : List V) (u : V) : Type 0 where
     pub idle : Idle u
     pub its : (x : L) → Contains (logs u) x → (i : ℕ) × (w : V) × (get_elem? views i ≡ some w) × Idle w × Contains (logs w) x
     pub begun : (logs u ≡ []) ⊎ (start u ≡ k)
 
-  -- seats that do something are as they were, and all together have the same passes
+  -- seats that aren't idle stay, and the passes of all seats are the same
   pub record AreReseated (views views' : List V) : Type 0 where
     pub each : (j : ℕ) (u : V) → get_elem? views' j ≡ some u → IsAnew views u ⊎ (get_elem? views j ≡ some u)
     pub others : (j : ℕ) (u : V) → get_elem? views j ≡ some u → (Idle u → ⊥) → get_elem? views' j ≡ some u
@@ -45,7 +45,7 @@ module _ {V L S : Type 0} (logs : V → List L) (start : V → S) (k : S) (Idle 
     pub by_work : (f : V → ℕ) → ((u : V) → Idle u → f u ≡ 0) → sum_by f views' ≡ sum_by f views
 
   module _ (views : List V) (id : ℕ) (v : V) (at : get_elem? views id ≡ some v) (idle : Idle v) where
-    -- a seat that does something is another one
+    -- a seat that isn't idle is another one
     other_than : (j : ℕ) (u : V) → get_elem? views j ≡ some u → (Idle u → ⊥) → j ≢ id
     other_than j u e busy same = let is : v ≡ u = cc in busy (subst Idle is idle)
 
@@ -54,7 +54,7 @@ module _ {V L S : Type 0} (logs : V → List L) (start : V → S) (k : S) (Idle 
         (λ same. inl (subst (IsAnew views) (set_here views id a u (rw same at e)) new))
         (λ other. inr (sym (set_else views id j a other) ∙ e))
 
-    -- a seat gives its first pass to a new one
+    -- a seat hands its first pass to a new seat
     module _ (cut : List L → V) (its_logs : (l : List L) → logs (cut l) ≡ l) (its_idle : (l : List L) → Idle (cut l))
         (its_start : (l : List L) → start (cut l) ≡ start v) (begun : (logs v ≡ []) ⊎ (start v ≡ k)) where
       abbrev rest : V

@@ -1,4 +1,4 @@
--- The one history of all passes, which a close tells, and a table of one pass without it.
+-- The history of all passes, which a close yields, and that of a table with one pass before its close.
 use Rattle.fx_table.proofs.Words.{◌≡◌, ℕ, ◌<◌, ◌≤◌, true, List, [], ◌∷◌, sym, ap, ◌∙◌, Contains, None, sum_by, Contains-append_right, Contents}
 use Rattle.fx_table.proofs.Words.{state_of, IsLegal, IsSeenBy, part_of_pass, held_by, Event, ClosesTable, times_drawn, Opening, PassView, IsFront}
 use Rattle.fx_plain.specs.State.{IsSettled}
@@ -7,7 +7,7 @@ use Rattle.fx_table.specs.Settling.{IsSettledSoFar}
 use Rattle.fx_table.proofs.Histories.{part_all}
 use Rattle.fx_table.proofs.Members.{contains_head, contains_only}
 
--- what a close tells, the table that comes back aside
+-- the contract of a close, except for the table that is returned
 pub record IsWhole (o : Opening) (history : List Event) (passes : List PassView) : Type 0 where
   pub legal : IsLegal (start_of o) history (state_at o history)
   pub settled : IsSettled (state_at o history)
@@ -24,7 +24,7 @@ pub closes_table : (o : Opening) (h : List Event) (passes : List PassView) (left
 closes_table o h passes left whole same at_rest =
     search (whole.legal, whole.settled, whole.seen, whole.own, whole.authors, whole.chains_inside, whole.drawn_once, whole.all_drawn)
 
--- a history that one pass made is its own
+-- a history with events of one pass only is that pass's own
 pub own_history : (v : PassView) (h : List Event) → ((e : Event) → Contains h e → (w : PassView) × Contains (v ∷ []) w × (e.pass ≡ w.number))
     → part_of_pass v.number h ≡ v.own → h ≡ v.own
 own_history v h authors own =

@@ -1,4 +1,4 @@
--- Sums over lists, and what one changed element does to them.
+-- Sums over lists, and the change of a sum if one element changes.
 use Rattle.fx_table.proofs.Words.{◌≡◌, ◌≢◌, ℕ, zero, suc, ◌+◌, ◌≤◌, List, [], ◌∷◌, map, set, reverse, sym, refl, ap, ◌∙◌, arith, cond, eqb, sum_by}
 use Rattle.fx_table.proofs.Words.{count_by, Contains, sum_by-cons, some, some-injective, some-ne-none, dite, ℕ_discrete, get_elem?, by_equality}
 use Rattle.std.specs.List.{sum}
@@ -44,7 +44,7 @@ module _ {X : Type 0} (f : X → ℕ) where
   sum_zero l each = dite (ℕ_discrete (sum_by f l) 0) (λ none. none)
       (λ some. let x = found_sum l (omega (arith, some)) in let none = each x.0 x.1 in absurd (omega arith))
 
-  -- a sum to which one element alone adds
+  -- a sum that only one element adds to
   pub sum_only : (l : List X) (i : ℕ) (v : X) → get_elem? l i ≡ some v → ((j : ℕ) (u : X) → j ≢ i → get_elem? l j ≡ some u → f u ≡ 0)
       → sum_by f l ≡ f v
   sum_only [] i v at zeros = absurd (some-ne-none v (sym at))

@@ -1,4 +1,4 @@
--- Passes that take turns at the chains: no chain is drawn twice, and none is left out.
+-- Passes that take turns at the chains: each chain is drawn exactly once.
 use Rattle.fx_table.proofs.Words.{◌≡◌, ◌⊎◌, inl, inr, ℕ, zero, suc, ◌+◌, ◌-◌, ◌<◌, ◌≤◌, true, cond, List, sym, refl, ap, ◌∙◌, subst, arith, eqb}
 use Rattle.fx_table.proofs.Words.{dite, ℕ_discrete, Contains, count_by, sum_by, sum_by-cons, Opening, PassView, times_drawn}
 use Rattle.std.proofs.Common.{◌*◌, ◌/◌, ◌%◌, suc-mul, mul-le-mul_right, lt_of_not-le, div-add-mod', mod-lt}
@@ -30,7 +30,7 @@ chain_below p n (suc k) c h =
     let few : i ≤ k = omega (arith, inside) in
     let m : i * n ≤ k * n = mul-le-mul_right n few in omega (arith, is, m)
 
--- how often the chain is among the first so many of the pass
+-- the number of times that the chain is among the pass's first `count`
 abbrev times : ℕ → ℕ → ℕ → ℕ → ℕ
 times c p n count = count_by (λ d. eqb d c) (chains_of_pass p n count)
 
@@ -68,7 +68,7 @@ times_small p n count c low high = elim (times_cases p n count c low high) [
   | inr (one, before, is) ↦ omega (arith, one, bit_here (pass_of_chain n c) p is)
 ]
 
--- the number that a pass of n gives next is one of its own
+-- the next number of a pass of n is one of its own
 number_of_its_pass : (n p count : ℕ) → 1 ≤ p → p ≤ n → (left : ℕ) → 1 ≤ left → left ≤ 64
     → pass_of_number n ((256 + 64 * (p + count * n)) - left) ≡ p
 number_of_its_pass n p count low high left one few =
@@ -107,7 +107,7 @@ module _ (o : Opening) (vs : List PassView) (counts : (v : PassView) → Contain
   drawn_few c = sum_le_of (times_drawn c) (λ v. cond (eqb v.number (pass_of_chain o.passes c)) 1 0) vs (λ v h.
       let (count, t) = counts v h in rw t.drawn (times_small v.number o.passes count c t.number.0 t.number.1))
 
-  -- where each number has its pass, and each pass has all of its chains, each chain was drawn
+  -- if each number has its pass, and each pass drew all its chains, each chain was drawn
   pub all_are_drawn : 0 < o.passes → ((n : ℕ) → 1 ≤ n → n ≤ o.passes → (v : PassView) × Contains vs v × (v.number ≡ n))
       → ((v : PassView) → Contains vs v → v.no_chains_left ≡ true)
       → (c : ℕ) → 0 < c → c ≤ o.chains → (v : PassView) × Contains vs v × Contains v.drawn c

@@ -1,4 +1,4 @@
--- What each call of a shared table adds to its pass.
+-- The events and uses that each call of a shared table adds to its pass.
 use Rattle.std.specs.Prelude.{◌≡◌, ℕ, ◌+◌, ◌<◌, ◌≤◌, true, false, List, [], map, Option, Some, None}
 use Rattle.std.specs.Prelude.{Result, Ok, Err}
 use Rattle.fx_base.specs.Identity.{Identity}
@@ -18,7 +18,7 @@ use Rattle.fx_table.specs.declared.values.Empty.{Empty}
 use Rattle.fx_table.specs.declared.values.LookFault.{LookFault}
 use Rattle.fx_table.specs.declared.values.LookFault.TheVariants.{Spent, Empty as EmptySlot}
 
--- what calls use up
+-- the numbers and look-ups that calls use
 pub record Use : Type 0 where
   pub numbers : ℕ
   pub looks : ℕ
@@ -35,7 +35,7 @@ one_number = record { numbers = 1; looks = 0 }
 abbrev pub both_uses : Use → Use → Use
 both_uses a b = record { numbers = a.numbers + b.numbers; looks = a.looks + b.looks }
 
--- The pass saw more of the history and took these actions, whatever others did between. Now it does
+-- the pass's front grew by events of others and by these actions of its own, and afterwards it does
 -- `doing`
 pub record Adds (o : Opening) (v : PassView) (actions : List Action) (doing : Doing) (used : Use)
     (w : PassView) : Type 0 where
@@ -50,11 +50,11 @@ pub record Adds (o : Opening) (v : PassView) (actions : List Action) (doing : Do
   pub numbers_left : w.numbers_left + used.numbers ≡ v.numbers_left
   pub looks_left : w.looks_left + used.looks ≡ v.looks_left
 
--- the file that a call hands out to be closed
+-- the identity that a call returns for a file that is to be closed
 abbrev pub IsHandedOut : File → Identity → Type 0
 IsHandedOut f file = file ≡ f.identity
 
--- a draw takes no action: the pass has a later chain, with all numbers of it, or gets `None`
+-- a draw makes no action: the pass gets a later chain with all its numbers, or `None`
 abbrev pub Draws : Opening → PassView → Option ℕ → PassView → Type 0
 Draws o v None w = w ≡ record v { no_chains_left = true }
 Draws o v (Some c) w = (v.no_chains_left ≡ false) × (v.chain < c) × (c ≤ o.chains)
@@ -66,7 +66,7 @@ Looked o v slot (Ok hold) w =
 Looked o v slot (Err Spent) w = (v.looks_left ≡ 0) × (w ≡ v)
 Looked o v slot (Err EmptySlot) w = Adds o v ([] ▷ Look slot None) Idle one_look w
 
--- what the pass held is `f`
+-- the release of `f`, the file that the pass held
 abbrev pub ReleasesFile : Opening → PassView → File → Option Identity → PassView → Type 0
 ReleasesFile o v f None w = Adds o v ([] ▷ Release f) Idle no_use w
 ReleasesFile o v f (Some file) w =
@@ -76,11 +76,11 @@ abbrev pub Released : Opening → PassView → Hold → Option Identity → Pass
 Released o v hold result w =
     (f : File) × (v.doing ≡ Holding f) × (hold ≡ hold_of f) × ReleasesFile o v f result w
 
--- a new file has the pass's next number
+-- a new file, under the pass's next number
 abbrev pub new_file : Opening → PassView → Identity → File
 new_file o v file = numbered (next_number o v) file
 
--- what a pass does that removed this file, of so many takes
+-- the activity of a pass that removed a file with these takes, or found none
 abbrev pub retiring : Option File → ℕ → Doing
 retiring None takes = Idle
 retiring (Some f) takes = Retiring f takes
@@ -108,8 +108,8 @@ Taken o v slot (Ok x) w =
     (f : File) × (x ≡ retired_of f x.takes)
     × Adds o v ([] ▷ Take slot (Some f)) (Retiring f x.takes) no_use w
 
--- what the pass removed is `f`: some pass holds it still, at the end of what was seen, or it is
--- closed
+-- the retirement of `f`, the file that the pass removed: it is closed, or some pass still holds it
+-- at the end of the front
 abbrev pub RetiresFile : Opening → PassView → File → Option Identity → PassView → Type 0
 RetiresFile o v f None w = (0 < (state_at o w.front).holds f.number) × Adds o v [] Idle no_use w
 RetiresFile o v f (Some file) w = IsHandedOut f file × Adds o v ([] ▷ Close f) Idle no_use w

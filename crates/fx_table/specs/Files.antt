@@ -1,4 +1,4 @@
--- The files that a table still has.
+-- The files that a table has.
 use Rattle.std.specs.Prelude.{◌≡◌, ℕ, ◌⊎◌, Some}
 use Rattle.fx_plain.specs.State.{State}
 use Rattle.fx_plain.specs.declared.event.File.{File}

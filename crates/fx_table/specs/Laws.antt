@@ -1,4 +1,4 @@
--- What holds of every shared table, from what its calls add and what its close tells.
+-- Laws of every shared table, which follow from the contracts of its calls and of its close.
 use Rattle.std.specs.Prelude.{◌≡◌, ℕ, List, Contains}
 use Rattle.fx_plain.specs.Contents.{Contents}
 use Rattle.fx_plain.specs.History.{part_of_chain, ◌▷▷◌}
@@ -9,7 +9,7 @@ use Rattle.fx_table.specs.Pass.{PassView, IsOfDrawnChains}
 use Rattle.fx_table.specs.Calls.{Use, both_uses, Adds}
 use Rattle.fx_table.specs.Closing.{ClosesTable}
 
--- two calls in a row add what both add
+-- two calls in a row add what each of them adds
 abbrev pub CallsCompose : Type 0
 CallsCompose =
     (o : Opening) (first middle last : PassView) (actions more : List Action) (doing then : Doing)
@@ -18,7 +18,7 @@ CallsCompose =
     → Adds o middle more then more_used last
     → Adds o first (actions ▷▷ more) then (both_uses used more_used) last
 
--- of the passes of a closed table, those that drew one chain are one
+-- among the passes of a closed table at most one drew a given chain
 abbrev pub ChainHasOnePass : Type 0
 ChainHasOnePass =
     (o : Opening) (passes : List PassView) (left : Contents) (chain : ℕ) (one other : PassView)
@@ -29,7 +29,8 @@ ChainHasOnePass =
     → Contains other.drawn chain
     → one ≡ other
 
--- a pass whose last chain is one that it drew does what it does for chains that it drew
+-- a call's actions are for a drawn chain, if the pass's earlier actions are and its last chain is a
+-- drawn one
 abbrev pub CallsKeepDrawnChains : Type 0
 CallsKeepDrawnChains =
     (o : Opening) (before after : PassView) (actions : List Action) (doing : Doing) (used : Use)
@@ -38,7 +39,7 @@ CallsKeepDrawnChains =
     → Adds o before actions doing used after
     → IsOfDrawnChains after
 
--- what the one history has of a chain is what the pass that drew it did for it
+-- a chain's events in the history are those that the pass which drew it made for it
 abbrev pub ChainIsPartOfItsPass : Type 0
 ChainIsPartOfItsPass =
     (o : Opening) (passes : List PassView) (left : Contents) (chain : ℕ) (v : PassView)

@@ -1,4 +1,4 @@
--- What a shared table begins with, and the states that histories lead to from there.
+-- The opening of a shared table, and the states that histories lead to from there.
 use Rattle.std.specs.Prelude.{◌≡◌, ℕ, ◌≤◌, List, map}
 use Rattle.fx_plain.specs.State.{State, opening, IsSettled}
 use Rattle.fx_plain.specs.Contents.{Contents, state_of}
@@ -11,23 +11,23 @@ use Rattle.fx_table.specs.declared.limits.TheConstants.{CHAIN_NUMBERS}
 pub record Opening : Type 0 where
   -- the table that was opened
   pub contents : Contents
-  -- how many chains there are, from 1
+  -- the number of chains, which are numbered from 1
   pub chains : ℕ
-  -- how many passes there are, from 1
+  -- the number of passes, which are numbered from 1
   pub passes : ℕ
-  -- how many file numbers each chain has
+  -- the number of file numbers of each chain
   pub numbers : ℕ
 
 abbrev pub opening_of_chains : Contents → ℕ → ℕ → ℕ → Opening
 opening_of_chains plain chains numbers passes =
     record { contents = plain; chains = chains; passes = passes; numbers = numbers }
 
--- each chain has all of its numbers
+-- an opening whose chains have all `CHAIN_NUMBERS` numbers
 abbrev pub opening_with : Contents → ℕ → ℕ → Opening
 opening_with plain chains passes = opening_of_chains plain chains CHAIN_NUMBERS passes
 
--- this table was opened for so many chains, of which none installs more than `most` files,
--- and for so many passes
+-- this table was opened for `count` chains, which install at most `most` files each, and for `crew`
+-- passes
 pub record IsOpenedFor (plain : Contents) (count most crew : ℕ) (o : Opening) : Type 0 where
   pub contents : o.contents ≡ plain
   pub chains : o.chains ≡ count
@@ -43,17 +43,17 @@ size_of o = (state_of o.contents).size
 abbrev pub range_of : Opening → ℕ × ℕ
 range_of o = (state_of o.contents).range
 
--- the state to which a history leads
+-- the state that a history leads to
 abbrev pub state_at : Opening → List Event → State
 state_at o h = state_after (start_of o) (map action_of h)
 
--- the same slots, range and files, their numbers aside
+-- the same size, range and files, whatever the files' numbers
 pub record HasSameFiles (one other : State) : Type 0 where
   pub size : other.size ≡ one.size
   pub range : other.range ≡ one.range
   pub files : (slot : ℕ) → identity_of (other.at slot) ≡ identity_of (one.at slot)
 
--- the table that comes back where it could not be opened
+-- the table that a refused opening returns
 pub record IsGivenBack (plain back : Contents) : Type 0 where
   pub files : HasSameFiles (state_of plain) (state_of back)
   pub settled : IsSettled (state_of back)

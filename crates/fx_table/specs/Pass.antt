@@ -17,15 +17,15 @@ pub record PassView : Type 0 where
   pub number : ℕ
   -- the history that the pass has seen
   pub front : List Event
-  -- what the pass has done
+  -- the events that the pass has made
   pub own : List Event
   -- the chain that the pass drew last, or 0
   pub chain : ℕ
   -- all chains that the pass drew
   pub drawn : List ℕ
-  -- whether a draw has answered that there are no more chains
+  -- whether a draw has returned `None`
   pub no_chains_left : Bool
-  -- how many file numbers of the chain are left to the pass
+  -- the number of file numbers of the chain that the pass has left
   pub numbers_left : ℕ
   pub looks_left : ℕ
   pub doing : Doing
@@ -33,7 +33,7 @@ pub record PassView : Type 0 where
 abbrev pub IsIdle : PassView → Type 0
 IsIdle v = v.doing ≡ Idle
 
--- a pass that has seen and done nothing
+-- a pass that has seen and made no event
 abbrev pub new_pass : ℕ → PassView
 new_pass number = record {
   number = number;
@@ -48,23 +48,23 @@ new_pass number = record {
   doing = Idle;
 }
 
--- the passes from a number on
+-- `n` new passes, numbered from `first`
 abbrev pub new_passes_from : ℕ → ℕ → List PassView
 new_passes_from first n = map new_pass (range_with_len first n)
 
--- so many passes, numbered from 1
+-- `n` new passes, numbered from 1
 abbrev pub new_passes : ℕ → List PassView
 new_passes n = new_passes_from 1 n
 
--- the number that the pass's next installation uses: a chain's numbers are used in their order
+-- the number that the pass's next installation uses; a chain's numbers are used in order
 abbrev pub next_number : Opening → PassView → ℕ
 next_number o v = numbers_up_to o.numbers v.chain - v.numbers_left
 
--- an action of the pass
+-- the event of an action of the pass
 abbrev pub event_of : PassView → Action → Event
 event_of v action = record { pass = v.number; chain = v.chain; action = action }
 
--- each thing that the pass did, it did for a chain that it drew
+-- each event of the pass is for a chain that it drew
 abbrev pub IsOfDrawnChains : PassView → Type 0
 IsOfDrawnChains v = (e : Event) → Contains v.own e → Contains v.drawn e.chain
 

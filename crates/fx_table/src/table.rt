@@ -18,32 +18,33 @@ use std::sync::Wait;
 /// A file table that threads share, each by a pass of its own.
 ///
 /// A pass is idle, holding between `look` and `release`, or retiring between a removal and `retire`. It has a *front*,
-/// the history that it has seen, and its *own* events, what it has done; contracts alone see them. Each call goes on
-/// from the front before it, and adds to the pass's own events what its clause names.
+/// the history that it has seen, and its *own* events, those that it has made; only contracts see them. Each call
+/// extends the front, and adds to the pass's own events those that its clause names.
 ///
-/// What a call asks of its caller has a test: a pass is idle where [`FileTable::is_idle`] says so, a slot is below
-/// [`FileTable::size`], and an installation takes one of [`FileTable::numbers_left`]. No test says which table a pass
-/// is of: it is used with the one whose `open` gave it. A `Hold` and a `Retired` go back to the pass that got them.
+/// Each requirement on the caller has a test: [`FileTable::is_idle`] returns whether a pass is idle, a slot must be
+/// below [`FileTable::size`], and an installation uses one of [`FileTable::numbers_left`]. No test says which table a
+/// pass belongs to: use it only with the table whose `open` returned it. A `Hold` or a `Retired` goes back to the pass
+/// that got it.
 pub trait FileTable: Sync {
-    /// What a thread uses the table with.
+    /// The type of a thread's access to the table.
     type Pass: Send;
 
-    // What the table was opened with.
+    // The table's opening: the contents, chains, passes and numbers that it was opened with.
     ghost opening: { Self → Opening };
 
-    // The pass is one that this table gave.
+    // The pass belongs to this table.
     ghost fits: { Self → Self.Pass → Type 0 };
 
-    // What the pass has seen and done.
+    // The events that the pass has seen and made, and its counters.
     ghost view: { Self.Pass → PassView };
 
-    /// Shares a settled table (`PlainTable::is_settled`) between `passes` passes, 1 to [`crate::MAX_PASSES`], which play
-    /// `chains` chains, at most [`crate::MAX_CHAINS`]. The file at slot `s` has number `s`, and chain `c`, from 1, the
-    /// numbers from `numbers_for(c - 1)` up to `numbers_for(c)` ([`crate::numbers_for`]). The passes are idle, and
-    /// numbered from 1 in the list's order.
+    /// Shares a settled table (`PlainTable::is_settled`) between `passes` passes, 1 to [`crate::MAX_PASSES`], which
+    /// play `chains` chains, at most [`crate::MAX_CHAINS`]. The file at slot `s` gets number `s`, and chain `c`, from
+    /// 1, the numbers from `numbers_for(c - 1)` up to, but not including, `numbers_for(c)` ([`crate::numbers_for`]).
+    /// The passes are idle, and numbered from 1 in the order of the list.
     ///
     /// # Errors
-    /// `NoMemory` where memory is refused. The table comes back settled, with its files, size and range.
+    /// `NoMemory` if an allocation fails. The table comes back settled, with its files, size and range.
     fn open(
         alloc: Global,
         plain: PlainTable,
@@ -60,13 +61,13 @@ pub trait FileTable: Sync {
         ensures new { IfOk result (λ (_, list). map (λ p. view p) list.items ≡ new_passes passes) }
         ensures refused { IfErr result (λ (back, _). IsGivenBack plain back) };
 
-    /// Shares a settled table as [`FileTable::open`] does, for chains of which none installs more than `most` files, and
-    /// `most` is at most [`crate::CHAIN_NUMBERS`]. Each chain has the same count `n` of numbers, from `most` to
-    /// `CHAIN_NUMBERS`: chain `c` has those from `256 + n * (c - 1)` on. A table that has a use for `most` takes room for
-    /// fewer numbers; any other opens as by `open`.
+    /// Shares a settled table as [`FileTable::open`] does, for chains that install at most `most` files each. `most` is
+    /// at most [`crate::CHAIN_NUMBERS`]. Each chain has the same number `n` of file numbers, from `most` to
+    /// `CHAIN_NUMBERS`: chain `c` has those from `256 + n * (c - 1)` on. An implementation may use `most` to reserve
+    /// memory for fewer numbers; the default opens the table as [`FileTable::open`] does.
     ///
     /// # Errors
-    /// Those of [`FileTable::open`].
+    /// The errors of [`FileTable::open`].
     fn open_for(
         alloc: Global,
         plain: PlainTable,
@@ -88,46 +89,47 @@ pub trait FileTable: Sync {
         Self::open(alloc, plain, chains, passes)
     }
 
-    /// Makes a table of one thread of it again, when all passes have come back, each of them idle (`is_idle`): as many as
-    /// `open` gave, in any order. It can't run out of memory.
+    /// Turns the table back into a table of one thread, after all its passes have come back, idle (`is_idle`). Requires
+    /// as many passes as `open` returned, in any order. It can't run out of memory.
     fn close(self, passes: Vec<Self::Pass>) -> PlainTable
         requires all { length passes.items ≡ (opening self).passes }
         requires ready { All (λ p. fits self p × IsIdle (view p)) passes.items }
         ensures { ClosesTable (opening self) (map (λ p. view p) passes.items) result };
 
-    /// How many slots there are, at most [`fx_plain::MOST_SLOTS`].
+    /// Returns the number of slots, at most [`fx_plain::MOST_SLOTS`].
     fn size(&self) -> u32
         ensures value { result ≡ size_of (opening self.now) }
         ensures few { result ≤ MOST_SLOTS };
 
-    /// The allocation range: the first slot and the number of slots.
+    /// Returns the allocation range: the first slot and the number of slots.
     fn range(&self) -> (u32, u32)
         ensures { result ≡ range_of (opening self.now) };
 
-    /// How many passes it was opened for.
+    /// Returns the number of passes that the table was opened for.
     fn passes(&self) -> u32
         ensures { result ≡ (opening self.now).passes };
 
-    /// Whether the pass does nothing now.
+    /// Checks whether the pass is idle: it neither holds nor retires a file.
     fn is_idle(&self, pass: &Self::Pass) -> bool
         requires { fits self.now pass.now }
         ensures { IsTrue result ↔ IsIdle (view pass.now) };
 
-    /// How many look-ups are left to the pass, of [`crate::PASS_LOOKS`] at first. Each `look` that isn't `Spent` uses one.
+    /// Returns the number of look-ups that the pass has left, [`crate::PASS_LOOKS`] at first. Each `look` uses one
+    /// unless it returns `Spent`.
     fn looks_left(&self, pass: &Self::Pass) -> u32
         requires { fits self.now pass.now }
         ensures { result ≡ (view pass.now).looks_left };
 
-    /// How many files the pass can install before it draws again: 0 before the first draw, all numbers of a chain after each
-    /// draw that gives one ([`crate::CHAIN_NUMBERS`] where the table is of [`FileTable::open`]), and one less after each
-    /// installation.
+    /// Returns the number of files that the pass can install before its next draw: 0 before the first draw, all numbers
+    /// of a chain after each draw that returns one ([`crate::CHAIN_NUMBERS`] in a table of [`FileTable::open`]), and
+    /// one less after each installation.
     fn numbers_left(&self, pass: &Self::Pass) -> u32
         requires { fits self.now pass.now }
         ensures { result ≡ (view pass.now).numbers_left };
 
-    /// The next chain of an idle pass (`is_idle`), or `None` where there are no more. The chains of a pass rise, and no
-    /// chain is given twice; those of a pass alone are 1, 2 and so on. After `None` a pass is answered `None`. A draw adds
-    /// nothing to the history.
+    /// Draws the next chain for an idle pass (`is_idle`), or returns `None` if there are no more. The chains of a pass
+    /// rise, and no chain is drawn twice; a single pass draws 1, 2 and so on. After `None`, each draw of the pass
+    /// returns `None`. A draw adds no event to the history.
     fn draw(&self, pass: &mut Self::Pass) -> Option<u32>
         requires fits { fits self.now pass.old }
         requires idle { IsIdle (view pass.old) }
@@ -136,12 +138,12 @@ pub trait FileTable: Sync {
         ensures next { (opening self.now).passes ≡ 1
             → DrawsNext (opening self.now) (view pass.old) result };
 
-    /// Looks a slot below `size` up, by an idle pass (`is_idle`). The file there has one more hold until the pass releases
-    /// it (io_uring_enter(2), "IOSQE_FIXED_FILE").
+    /// Looks up a slot below `size`, for an idle pass (`is_idle`). The file there has one more hold until the pass
+    /// releases it (io_uring_enter(2), "IOSQE_FIXED_FILE").
     ///
     /// # Errors
-    /// `Spent` where the pass has no look-ups left (`looks_left`), and nothing is done. `Empty` where the slot has no
-    /// file. Every look-up but one that answers `Spent` uses one of the pass's look-ups.
+    /// `Spent` if the pass has no look-ups left (`looks_left`); then nothing changes. `Empty` if the slot has no file.
+    /// Each look-up uses one of the pass's look-ups unless it returns `Spent`.
     fn look(&self, rt: &impl Wait, pass: &mut Self::Pass, slot: u32) -> Result<Hold, LookFault>
         requires fits { fits self.now pass.old }
         requires idle { IsIdle (view pass.old) }
@@ -149,8 +151,8 @@ pub trait FileTable: Sync {
         ensures fits { fits self.now pass.new }
         ensures looked { Looked (opening self.now) (view pass.old) slot result (view pass.new) };
 
-    /// Gives up what the pass looked up, by the `Hold` that it got. The file comes out, to be closed, where it was retired
-    /// and this was its last hold. Then the pass is idle.
+    /// Releases the file that the pass looked up, by the `Hold` that it got. Returns the file, to be closed, if it was
+    /// retired and this was its last hold. Afterwards the pass is idle.
     fn release(&self, rt: &impl Wait, pass: &mut Self::Pass, hold: Hold) -> Option<OpenFile>
         requires fits { fits self.now pass.old }
         requires held { IsHoldOf (view pass.old) hold }
@@ -158,8 +160,8 @@ pub trait FileTable: Sync {
         ensures released { Released (opening self.now) (view pass.old) hold result
             (view pass.new) };
 
-    /// Installs a file at a slot below `size`, under the next number of an idle pass (`is_idle`) that has one
-    /// (`numbers_left`). The file that it replaced is to be retired (io_uring_prep_openat(3),
+    /// Installs a file at a slot below `size`, under the next number of an idle pass (`is_idle`) that has one left
+    /// (`numbers_left`). Returns the file that it replaced, to be retired, or `None` (io_uring_prep_openat(3),
     /// `io_uring_prep_openat_direct`).
     fn put(
         &self,
@@ -176,11 +178,11 @@ pub trait FileTable: Sync {
         ensures placed { Placed (opening self.now) (view pass.old) slot file result
             (view pass.new) };
 
-    /// Installs a file at a free slot of the allocation range, under the next number of an idle pass (`is_idle`) that has
-    /// one (`numbers_left`). The answer is the slot (io_uring_prep_openat(3), "IORING_FILE_INDEX_ALLOC").
+    /// Installs a file at an empty slot of the allocation range, under the next number of an idle pass (`is_idle`) that
+    /// has one left (`numbers_left`), and returns the slot (io_uring_prep_openat(3), "IORING_FILE_INDEX_ALLOC").
     ///
     /// # Errors
-    /// The file comes back where every slot of the range has a file (ENFILE). It costs no number.
+    /// Returns the file if every slot of the range has a file (ENFILE). No number is used.
     fn put_any(
         &self,
         rt: &impl Wait,
@@ -194,8 +196,8 @@ pub trait FileTable: Sync {
         ensures allocated { Allocated (opening self.now) (view pass.old) file result
             (view pass.new) };
 
-    /// Empties a slot below `size` for an update, by an idle pass (`is_idle`). The file that was there is to be retired
-    /// (io_uring_register(2), "IORING_REGISTER_FILES_UPDATE", an entry of -1).
+    /// Empties a slot below `size` for an update, for an idle pass (`is_idle`). Returns the file that was there, to be
+    /// retired, or `None` (io_uring_register(2), "IORING_REGISTER_FILES_UPDATE", an entry of -1).
     fn clear(&self, rt: &impl Wait, pass: &mut Self::Pass, slot: u32) -> Option<Retired>
         requires fits { fits self.now pass.old }
         requires idle { IsIdle (view pass.old) }
@@ -203,11 +205,11 @@ pub trait FileTable: Sync {
         ensures fits { fits self.now pass.new }
         ensures cleared { Cleared (opening self.now) (view pass.old) slot result (view pass.new) };
 
-    /// Empties a slot below `size` for a close, by an idle pass (`is_idle`). The file that was there is to be retired
-    /// (io_uring_prep_close(3), `io_uring_prep_close_direct`).
+    /// Empties a slot below `size` for a close, for an idle pass (`is_idle`). Returns the file that was there, to be
+    /// retired (io_uring_prep_close(3), `io_uring_prep_close_direct`).
     ///
     /// # Errors
-    /// `Empty` where the slot has no file.
+    /// `Empty` if the slot has no file.
     fn take(&self, rt: &impl Wait, pass: &mut Self::Pass, slot: u32) -> Result<Retired, Empty>
         requires fits { fits self.now pass.old }
         requires idle { IsIdle (view pass.old) }
@@ -215,8 +217,8 @@ pub trait FileTable: Sync {
         ensures fits { fits self.now pass.new }
         ensures taken { Taken (opening self.now) (view pass.old) slot result (view pass.new) };
 
-    /// Retires the file that the pass removed, by the `Retired` that it got. The file comes out, to be closed, where nobody
-    /// holds it now; else its last release hands it out. Then the pass is idle.
+    /// Retires the file that the pass removed, by the `Retired` that it got. Returns the file, to be closed, if it has
+    /// no holds now; otherwise its last release returns it. Afterwards the pass is idle.
     fn retire(&self, rt: &impl Wait, pass: &mut Self::Pass, retired: Retired) -> Option<OpenFile>
         requires fits { fits self.now pass.old }
         requires removed { IsRetiredOf (view pass.old) retired }
@@ -224,8 +226,8 @@ pub trait FileTable: Sync {
         ensures retired { HasRetired (opening self.now) (view pass.old) retired result
             (view pass.new) };
 
-    /// Shows an idle pass (`is_idle`) of a table that it has alone (`passes` is 1) all that has happened: what it did is
-    /// the whole history so far, no file is held, and each removed file is closed. Nothing changes.
+    /// Establishes, for an idle pass (`is_idle`) that is the table's only one (`passes` is 1), that its own events are
+    /// the whole history so far, that no file is held, and that each removed file is closed. Nothing changes.
     fn settle(&self, pass: &mut Self::Pass)
         requires alone { (opening self.now).passes ≡ 1 }
         requires fits { fits self.now pass.old }
@@ -234,7 +236,7 @@ pub trait FileTable: Sync {
         ensures same { view pass.new ≡ view pass.old }
         ensures settled { IsSettledSoFar (opening self.now) (view pass.new) };
 
-    // What a pass has seen is legal, and its own events there are what it has done.
+    // A pass's front is legal, and its events of this pass are the pass's own.
     ghost fronts: { (table : Self) (pass : Self.Pass) → fits table pass
         → IsFront (opening table) (view pass) };
 }
