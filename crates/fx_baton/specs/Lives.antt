@@ -1,4 +1,4 @@
--- Passes as they are dealt out and gathered.
+-- Passes as they are handed out and gathered.
 use Rattle.std.specs.Prelude.{◌≡◌, ℕ, ◌+◌, ◌-◌, true, false, List, [], flat_map, None}
 use Rattle.atomic_table.specs.declared.shared.Seat.{Seat}
 use lib.ListN.{get_elem?}
@@ -21,7 +21,7 @@ dealt k p = record (first_view k) { logs = new_logs p ((k.passes + 1) - p) }
 abbrev pub logs_in : List BatonPass → List Log
 logs_in ps = flat_map (λ p. p.seat.me.0.logs) ps
 
--- the pass of this seat and number, of so many, has done nothing
+-- the pass has this seat and number, of `passes`, and has made no event
 pub record IsNewPass (seat : Seat Contents View) (number passes : ℕ) (p : BatonPass) : Type 0 where
   pub its_seat : p.seat ≡ seat
   pub its_number : p.number ≡ number
@@ -38,7 +38,7 @@ pub record HasAllPasses (t : BatonTable) (seat : Seat Contents View) : Type 0 wh
   pub table : seat.table_id ≡ t.table.shared.table_id
   pub me : seat.me ≡ (first_view t.table.shared.key, [])
 
--- a seat of the table with some passes, which do nothing
+-- a seat of the table whose passes are idle
 pub record IsIdleSeatOf (t : BatonTable) (seat : Seat Contents View) : Type 0 where
   pub table : seat.table_id ≡ t.table.shared.table_id
   pub slots : seat.me.1 ≡ []
@@ -46,12 +46,12 @@ pub record IsIdleSeatOf (t : BatonTable) (seat : Seat Contents View) : Type 0 wh
   pub idle : seat.me.0.doing ≡ Idle
   pub free : seat.me.0.loan ≡ None
 
--- whatever the last state is, the table is at home
+-- in every last state the table is at home
 abbrev pub AllIsHome : Start → ℕ → View → Type 0
 AllIsHome k id v =
     (s : Shared) (r : IsKept k s) → get_elem? s.views id ≡ some v → IsHome r.contents s
 
--- the table comes back as it is in some last state
+-- the table is returned as it is in some last state
 abbrev pub Leaves : Start → ℕ → View → Contents → Type 0
 Leaves k id v c =
     (s : Shared) × (r : IsKept k s) × (get_elem? s.views id ≡ some v) × (r.contents ≡ c)

@@ -1,4 +1,4 @@
--- A pass of the table guarded by one word, as all shared tables show it.
+-- A pass of the table guarded by one word, as the contract of all shared tables shows it.
 use Rattle.std.specs.Prelude.{◌≡◌, ℕ, ◌-◌, ◌≤◌, Bool, true, false, List, [], ◌∷◌, Some, None}
 use Rattle.atomic_table.specs.Seated.{TableId}
 use Rattle.atomic_table.specs.declared.shared.Seat.{Seat}
@@ -42,7 +42,7 @@ view_of p = record {
   doing = p.seat.me.0.doing;
 }
 
--- the pass with another seat, behind a call
+-- the pass with another seat, after a call
 abbrev pub pass_behind : BatonPass → Call → Bool → Seat Contents View → BatonPass
 pass_behind p call idle seat = record p {
   seat = seat;
@@ -56,7 +56,7 @@ is_idle Idle = true
 is_idle (Holding f) = false
 is_idle (Retiring f takes) = false
 
--- a seat with the view v has one pass, which is shown as w, at a table that began so
+-- a seat with the view v has one pass, which is shown as w, at a table with this start
 pub record HasOnePass (k : Start) (v : View) (w : PassView) (count : ℕ) (idle : Bool) : Type 0 where
   pub log : Log
   pub one : v.logs ≡ log ∷ []
@@ -66,7 +66,7 @@ pub record HasOnePass (k : Start) (v : View) (w : PassView) (count : ℕ) (idle 
   pub turns : HasDrawnInTurn (opening_of k) count w
   pub flag : idle ≡ is_idle v.doing
 
--- a pass of the table, which doesn't have it
+-- a pass of the table, while it doesn't have the table
 pub record IsPassOf (id : TableId) (k : Start) (p : BatonPass) : Type 0 where
   pub table : p.seat.table_id ≡ id
   pub slots : p.seat.me.1 ≡ []
@@ -74,12 +74,12 @@ pub record IsPassOf (id : TableId) (k : Start) (p : BatonPass) : Type 0 where
   pub passes : p.passes ≡ k.passes
   pub seated : HasOnePass k p.seat.me.0 (view_of p) p.count p.idle
 
--- more of the history was seen, and nothing else has changed
+-- the pass has seen more of the history, and all else is as before
 pub record HasSeenMore (v w : PassView) : Type 0 where
   pub seen : IsSeenBy v.front w.front
   pub same : w ≡ record v { front = w.front }
 
--- a pass of the table, which was shown as u, has taken it as c, and it is d now
+-- a pass of the table, shown as u before, took it as c, and the table is d now
 pub record HasTable (id : TableId) (k : Start) (u : PassView) (c d : Contents) (p : BatonPass)
     : Type 0 where
   pub table : p.seat.table_id ≡ id
@@ -90,7 +90,7 @@ pub record HasTable (id : TableId) (k : Start) (u : PassView) (c d : Contents) (
   pub seated : HasOnePass k p.seat.me.0 (view_of p) p.count p.idle
   pub knows : Knows p.seat.me.0 seated.log c seated.log.front
 
--- the pass's next number: each chain has all of its numbers
+-- the pass's next number, if each chain has `CHAIN_NUMBERS` numbers
 abbrev pub next_of : PassView → ℕ
 next_of v = numbers_for v.chain - v.numbers_left
 
@@ -100,7 +100,7 @@ UsesNext v (PutCall slot number file) = number ≡ next_of v
 UsesNext v (AllocateCall slot number file) = number ≡ next_of v
 UsesNext v _ = Unit {0}
 
--- a pass did this while it had the table
+-- a pass made these events while it had the table
 pub record HasPlayed (id : TableId) (k : Start) (events : List Event) (doing : Doing)
     (p : BatonPass) : Type 0 where
   pub before : PassView
@@ -110,7 +110,7 @@ pub record HasPlayed (id : TableId) (k : Start) (events : List Event) (doing : D
   pub sound : IsTable given
   pub turn : IsTurn p.seat.me.0 has.seated.log taken given events doing
 
--- a pass made a call of the table that it has, and may give the table back
+-- a pass made a call of the table that it has, and may put the table back
 pub record HasCalled (id : TableId) (k : Start) (call : Call) (idle : Bool) (p : BatonPass)
     : Type 0 where
   pub before : PassView
@@ -125,10 +125,10 @@ pub record HasCalled (id : TableId) (k : Start) (call : Call) (idle : Bool) (p :
   pub looks : (use_of call).looks ≤ p.looks_left
   pub flag : idle ≡ is_idle (doing_of taken call)
 
--- the pass p put the table back behind the call, as q
+-- the pass p put the table back after the call, as q
 pub record HasGivenBack (id : TableId) (k : Start) (call : Call) (p q : BatonPass) : Type 0 where
   pub fits : IsPassOf id k q
-  -- wherever the pass had come from
+  -- whatever the pass was shown as before
   pub adds : (u : PassView) (c d : Contents) → HasTable id k u c d p
       → Adds (opening_of k) u (actions_of c p.seat.me.0.doing call) (doing_of c call) (use_of call)
       (view_of q)

@@ -34,14 +34,14 @@ opening_of k = opening_with k.plain.value k.chains k.passes
 abbrev pub begin_of : Start → State
 begin_of k = start_of (opening_of k)
 
--- how many of the logs are of the pass
+-- the number of logs of the pass
 abbrev pub logs_of : ℕ → List Log → ℕ
 logs_of p logs = count_by (λ x. x.number == p) logs
 
 abbrev pub new_log : ℕ → Log
 new_log p = record { number = p; front = []; own = [] }
 
--- so many new passes, from p on
+-- `n` new passes, numbered from `p`
 abbrev pub new_logs : ℕ → ℕ → List Log
 new_logs p n = map new_log (range_with_len p n)
 
@@ -70,7 +70,7 @@ no_start = record {
   passes = 0;
 }
 
--- the view of a seat whose passes another took in
+-- the view of a seat whose passes went to another
 abbrev pub empty_view : View
 empty_view = record { start = no_start; logs = []; doing = Idle; loan = None }
 
@@ -80,13 +80,13 @@ file_held Idle = None
 file_held (Holding f) = Some f
 file_held (Retiring f takes) = None
 
--- the file that the pass holds or has removed
+-- the file that the pass holds or has to retire
 abbrev pub file_in_hand : Doing → Option File
 file_in_hand Idle = None
 file_in_hand (Holding f) = Some f
 file_in_hand (Retiring f takes) = Some f
 
--- 1 where the pass holds the file of the number, and where it has to retire it
+-- 1 if the pass holds the file of the number, and 1 if it has to retire it
 abbrev pub holds_by : ℕ → Doing → ℕ
 holds_by n Idle = 0
 holds_by n (Holding f) = if f.number == n then 1 else 0
@@ -97,17 +97,17 @@ removals_by n Idle = 0
 removals_by n (Holding f) = 0
 removals_by n (Retiring f takes) = if f.number == n then 1 else 0
 
--- 1 where the file of the number has yet to be retired
+-- 1 if the file of the number has yet to be retired
 abbrev pub leaving_count : Contents → ℕ → ℕ
 leaving_count c n = if leaving c n then 1 else 0
 
--- the pass's numbers behind the last one that it gave are fresh
+-- the pass's numbers after the last one that it used are fresh
 abbrev pub HasFreshNumbers : Start → State → Log → Type 0
 HasFreshNumbers k st x =
     (n : ℕ) → FIRST_CHAIN_NUMBER ≤ n → number_behind x.own ≤ n → n < numbers_for k.chains
     → pass_of_number k.passes n ≡ x.number → st.fresh n ≡ true
 
--- what the history says of one pass of a seat
+-- the agreement of the history with one pass of a seat
 pub record IsLog (k : Start) (h : List Event) (c : Contents) (doing : Doing) (x : Log)
     : Type 0 where
   pub seen : IsSeenBy x.front h
@@ -127,7 +127,7 @@ IsHome c s =
     (s.words ≡ 1 ∷ []) × (s.homes ≡ some c ∷ [])
     × ((i : ℕ) (v : View) → get_elem? s.views i ≡ some v → v.loan ≡ None)
 
--- the table is with one seat, which has seen the whole history
+-- one seat has the table, and has seen the whole history
 pub record IsAway (c : Contents) (h : List Event) (s : Shared) : Type 0 where
   pub words : s.words ≡ 0 ∷ []
   pub homes : s.homes ≡ none ∷ []
@@ -138,7 +138,7 @@ pub record IsAway (c : Contents) (h : List Event) (s : Shared) : Type 0 where
   pub whole : (x : Log) → Contains view.logs x → x.front ≡ h
   pub others : (i : ℕ) (v : View) → i ≢ holder → get_elem? s.views i ≡ some v → v.loan ≡ None
 
--- one history stands behind the table and all views
+-- the table and all views agree with one history
 pub record IsKept (k : Start) (s : Shared) : Type 0 where
   pub history : List Event
   pub contents : Contents
@@ -151,12 +151,12 @@ pub record IsKept (k : Start) (s : Shared) : Type 0 where
   pub count : sum_by (λ v. length v.logs) s.views ≡ k.passes
   pub few : k.passes ≤ MAX_PASSES
   pub authors : (e : Event) → Contains history e → (1 ≤ e.pass) × (e.pass ≤ k.passes)
-  -- the holds of a file are the passes that hold it, and a file is leaving while one pass has yet
-  -- to retire it
+  -- a file's holds are the passes that hold it, and a file is leaving while one pass has yet to
+  -- retire it
   pub held : (n : ℕ) → sum_by (λ v. holds_by n v.doing) s.views ≡ (state_of contents).holds n
   pub leaves : (n : ℕ) → sum_by (λ v. removals_by n v.doing) s.views ≡ leaving_count contents n
 
--- what a seat with one pass knows when it has taken the table
+-- the knowledge of a seat with one pass that has taken the table
 pub record Knows (v : View) (x : Log) (c : Contents) (h : List Event) : Type 0 where
   pub legal : IsLegal (begin_of v.start) h (state_of c)
   pub sound : IsTable c
@@ -169,7 +169,7 @@ pub record Knows (v : View) (x : Log) (c : Contents) (h : List Event) : Type 0 w
   pub holds : (n : ℕ) → holds_by n v.doing ≤ (state_of c).holds n
   pub leaves : (n : ℕ) → removals_by n v.doing ≤ leaving_count c n
 
--- the view of a seat with one pass that has the table, and has seen the whole history
+-- the view of a seat with one pass that has the table and has seen the whole history
 abbrev pub lent_view : View → Log → List Event → Contents → View
 lent_view v x h c = record v { logs = record x { front = h } ∷ []; loan = Some c }
 
@@ -186,18 +186,18 @@ abbrev pub Grabs : Step Contents → Seated → ℕ → Seated → Type 0
 Grabs st m found m' =
     ((found ≡ 1) × ((x : Log) → m.0.logs ≡ x ∷ [] → Takes m x m')) ⊎ ((found ≢ 1) × (m' ≡ m))
 
--- a pass behind these events of its own
+-- a pass after these events of its own
 abbrev pub log_behind : List Event → Log → Log
 log_behind es x = record x { front = x.front ▷▷ es; own = x.own ▷▷ es }
 
--- the view of a pass that gave the table back
+-- the view of a pass that put the table back
 abbrev pub view_behind : View → List Event → Doing → View
 view_behind v es doing = record v { logs = map (log_behind es) v.logs; doing = doing; loan = None }
 
 abbrev pub Gives : List Event → Doing → Step Contents → Seated → ℕ → Seated → Type 0
 Gives es doing st m found m' = (m'.0 ≡ view_behind m.0 es doing) × (m'.1 ≡ [])
 
--- what a seat with one pass has to show when it gives the table c back as d, behind the events es
+-- the condition for a seat with one pass to put the table c back as d, after the events es
 pub record IsTurn (v : View) (x : Log) (c d : Contents) (es : List Event) (doing : Doing)
     : Type 0 where
   pub authors : (e : Event) → Contains es e → e.pass ≡ x.number
@@ -211,7 +211,7 @@ pub record IsTurn (v : View) (x : Log) (c d : Contents) (es : List Event) (doing
       → (0 < (state_of d).holds f.number) ⊎ (leaving d f.number ≡ true) → HasFile (state_of d) f
   pub now : held_by (x.front ▷▷ es) x.number ≡ file_held doing
   pub file : (f : File) → file_in_hand doing ≡ Some f → HasFile (state_of d) f
-  -- of fresh numbers it used up none but its own
+  -- it used no fresh numbers but its own
   pub fresh : HasFreshNumbers v.start (state_of d) (log_behind es x)
   pub others : (n : ℕ) → pass_of_number v.start.passes n ≢ x.number → (state_of c).fresh n ≡ true
       → (state_of d).fresh n ≡ true

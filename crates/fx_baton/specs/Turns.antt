@@ -1,4 +1,4 @@
--- What one turn at the table adds.
+-- The events that one turn at the table adds.
 use Rattle.std.specs.Prelude.{ℕ, List, [], ◌∷◌, map, Option, Some, None}
 use Rattle.fx_plain.specs.Contents.{Contents, state_of}
 use Rattle.fx_plain.specs.History.{close_of, ◌▷◌, ◌▷▷◌}
@@ -31,12 +31,12 @@ abbrev pub table_of_slots : List (ℕ × Contents) → Contents
 table_of_slots [] = empty_table
 table_of_slots (x ∷ xs) = x.1
 
--- what a pass does that found this file
+-- the activity of a pass that found this file
 abbrev pub holds_now : Option File → Doing
 holds_now None = Idle
 holds_now (Some f) = Holding f
 
--- a release and a retirement, and the close of the file that comes out
+-- a release or a retirement, and the close of the file that it returns
 abbrev pub release_in : Contents → Doing → List Action
 release_in c Idle = []
 release_in c (Holding f) = [] ▷ Release f ▷▷ close_of (closed_by_release c f.number)
@@ -47,7 +47,7 @@ retirement_in c Idle = []
 retirement_in c (Holding f) = []
 retirement_in c (Retiring f takes) = close_of (closed_by_retirement c f.number)
 
--- the actions of a call of the table c, by a pass that did this before
+-- the actions of a call of the table c, for a pass with this activity
 abbrev pub actions_of : Contents → Doing → Call → List Action
 actions_of c doing (LookCall slot) = [] ▷ Look slot ((state_of c).at slot)
 actions_of c doing ReleaseCall = release_in c doing
@@ -59,7 +59,7 @@ actions_of c doing (ClearCall slot) = [] ▷ Clear slot ((state_of c).at slot)
 actions_of c doing (TakeCall slot) = [] ▷ Take slot ((state_of c).at slot)
 actions_of c doing RetireCall = retirement_in c doing
 
--- what the pass does afterwards
+-- the activity of the pass afterwards
 abbrev pub doing_of : Contents → Call → Doing
 doing_of c (LookCall slot) = holds_now ((state_of c).at slot)
 doing_of c (PutCall slot number file) = retiring ((state_of c).at slot) 0
@@ -67,7 +67,7 @@ doing_of c (ClearCall slot) = retiring ((state_of c).at slot) 0
 doing_of c (TakeCall slot) = retiring ((state_of c).at slot) 0
 doing_of c _ = Idle
 
--- what a call uses up
+-- the numbers and look-ups that a call uses
 abbrev pub use_of : Call → Use
 use_of (LookCall slot) = one_look
 use_of (PutCall slot number file) = one_number

@@ -1,4 +1,4 @@
-//! The table guarded by one word is a shared table.
+//! The implementation of `FileTable` for the table guarded by one word.
 ghost use Rattle.std.specs.Prelude.{◌≡◌, Option, length, map, option_map, All};
 ghost use Rattle.fx_plain.specs.declared.event.File.{File};
 ghost use Rattle.fx_plain.specs.Table.{number_of};
@@ -81,7 +81,7 @@ impl FileTable for BatonTable {
         pass.numbers_left
     }
 
-    // Pass p of n has the chains p, p + n, p + 2n and so on.
+    // Pass p of n draws the chains p, p + n, p + 2n and so on.
     fn draw(&self, pass: &mut BatonPass) -> Option<u32> {
         if pass.no_chains_left {
             return None;
@@ -202,7 +202,7 @@ impl FileTable for BatonTable {
 }
 
 impl BatonTable {
-    // The number that the pass's next installation uses.
+    // Returns the number that the pass's next installation uses.
     fn next_number(&self, pass: &BatonPass) -> u32
         requires { IsPassOfTable self.now pass.now }
         ensures { result ≡ next_of (view_of pass.now) }
@@ -211,7 +211,7 @@ impl BatonTable {
     }
 }
 
-// The file that was removed from a slot, if there was one.
+// Builds the result of a call that removed a file, or `None`.
 fn retired(node: Option<u32>, entry: Option<u8>) -> Option<Retired>
     ensures { (found : Option File) → node ≡ number_of found
         → entry ≡ option_map (λ f. f.identity.entry) found

@@ -4,8 +4,8 @@ use atomic_table::{Join, Play, Split, TableRule};
 use fx_plain::PlainTable;
 use std::marker::{Brand, PhantomData};
 
-/// The rule: one legal history stands behind the table and all passes. The word is 1 while the table is at home, and
-/// 0 while one pass has it.
+/// The rule of the shared table: the table and all passes agree with one legal history. The word is 1 while the table
+/// is at home, and 0 while one pass has it.
 pub struct OneHistory;
 
 impl TableRule<PlainTable, View, Start> for OneHistory {
@@ -16,7 +16,7 @@ impl TableRule<PlainTable, View, Start> for OneHistory {
     ghost first = { first_view };
 }
 
-/// Split: the first pass of a seat goes to a seat of its own.
+/// The split of a seat: its first pass gets a seat of its own.
 pub struct Deal;
 
 impl Split<View> for Deal {
@@ -27,7 +27,7 @@ impl Split<View> for Deal {
     ghost right = { view_of_first };
 }
 
-/// Join: a seat takes in the passes of another.
+/// The join of two seats: one takes in the passes of the other.
 pub struct Gather;
 
 impl Join<View> for Gather {
@@ -38,7 +38,7 @@ impl Join<View> for Gather {
     ghost spent = { empty_view };
 }
 
-/// Grab: the word is tried, and the table taken where it was at home.
+/// The attempt to take the table: it succeeds if the table is at home.
 pub struct Grab;
 
 impl Play<PlainTable, View> for Grab {
@@ -47,16 +47,16 @@ impl Play<PlainTable, View> for Grab {
     ghost then = { Grabs };
 }
 
-/// What a pass did while it had the table, for contracts alone.
+/// The events of a pass while it had the table, for contracts alone.
 pub trait Turn {
     ghost use Rattle.std.specs.Prelude.{List};
     ghost use Rattle.fx_plain.specs.declared.event.Event.{Event};
     ghost use Rattle.fx_table.specs.declared.values.Doing.{Doing};
 
-    // What it did, the newest event first.
+    // The events, the newest first.
     ghost events: { List Event };
 
-    // What it does from now on.
+    // The activity of the pass afterwards.
     ghost doing: { Doing };
 }
 
@@ -69,7 +69,7 @@ impl Turn for Brand {
     ghost doing = { Idle };
 }
 
-/// Give: the table goes home, and what the pass did stands in the history.
+/// The return of the table: it goes home, and the pass's events are appended to the history.
 pub struct Give<U> {
     turn: PhantomData<U>,
 }
@@ -80,7 +80,7 @@ impl<U: Turn> Play<PlainTable, View> for Give<U> {
     ghost then = { Gives U.events U.doing };
 }
 
-/// Observe: nothing changes. It tells that the rule holds, of some state with this seat in it.
+/// A step that changes nothing. It yields that the rule holds in some state with this seat in it.
 pub struct Observe;
 
 impl Play<PlainTable, View> for Observe {

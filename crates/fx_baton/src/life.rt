@@ -1,4 +1,4 @@
-//! How a table is opened and closed.
+//! Opening and closing a table.
 ghost use Rattle.std.specs.Prelude.{◌≡◌, ◌≤◌, ◌∷◌, ◌++◌, [], length, map, reverse, All, IfOk, IfErr, vec_capacity};
 ghost use Rattle.fx_plain.specs.State.{IsSettled};
 ghost use Rattle.fx_plain.specs.Contents.{Contents, state_of};
@@ -21,7 +21,7 @@ use fx_table::{MAX_CHAINS, MAX_PASSES, numbers_for};
 use std::alloc::Global;
 use std::snapshot::Snapshot;
 
-// The table in a list that has just this one.
+// Takes the only table out of a list.
 fn only_table(mut slots: Vec<PlainTable>) -> PlainTable
     requires { (x : Contents) × (slots.items ≡ x ∷ []) }
     ensures { slots.items ≡ result ∷ [] }
@@ -36,7 +36,7 @@ fn only_table(mut slots: Vec<PlainTable>) -> PlainTable
 }
 
 impl BatonTable {
-    // The shared table, and a seat with all passes.
+    // Creates the shared table, and a seat with all passes.
     pub(crate) fn start(
         alloc: Global,
         mut plain: PlainTable,
@@ -82,7 +82,7 @@ impl BatonTable {
         }
     }
 
-    // Each pass gets a seat of its own.
+    // Gives each pass a seat of its own.
     pub(crate) fn deal(&self, mut seat: Seat<PlainTable, View>, list: &mut Vec<BatonPass>)
         requires seat { HasAllPasses self.now seat }
         requires list { (list.old.items ≡ []) × (self.now.passes ≤ vec_capacity list.old) }
@@ -99,7 +99,7 @@ impl BatonTable {
         list.push_reserved(BatonPass::new(seat, number, self.passes));
     }
 
-    // All passes in one seat.
+    // Joins all passes in one seat.
     fn gather(
         &self,
         mut seat: Seat<PlainTable, View>,
@@ -118,7 +118,7 @@ impl BatonTable {
         seat
     }
 
-    // The table that comes back, when all passes are in one seat.
+    // Takes the table out of the shared one, when all passes are in one seat.
     fn finish(self, seat: Seat<PlainTable, View>) -> PlainTable
         requires fits { seat.table_id ≡ self.table.shared.table_id }
         requires home { AllIsHome self.table.shared.key seat.id seat.me.0 }
@@ -138,7 +138,7 @@ impl BatonTable {
         plain
     }
 
-    // Shows the only pass of a table all that has happened, while it does nothing.
+    // Establishes for the only pass of a table, while it is idle, that its events are the whole history.
     pub(crate) fn settle(&self, pass: &mut BatonPass)
         requires alone { (opening_of_table self.now).passes ≡ 1 }
         requires fits { IsPassOfTable self.now pass.old }
@@ -150,7 +150,7 @@ impl BatonTable {
         self.table.shared.load::<Observe>(&mut pass.seat, 0);
     }
 
-    // The table, when all passes have come back.
+    // Closes the table, when all passes have come back.
     pub(crate) fn close_all(self, mut passes: Vec<BatonPass>) -> PlainTable
         requires all { length passes.items ≡ (opening_of_table self).passes }
         requires ready { All (λ p. IsPassOfTable self p × IsIdle (view_of p)) passes.items }

@@ -1,3 +1,4 @@
+//! The passes of the table guarded by one word.
 ghost use Rattle.fx_baton.specs.Lives.{IsNewPass};
 
 use crate::view::View;
@@ -5,14 +6,14 @@ use atomic_table::Seat;
 use fx_plain::PlainTable;
 use fx_table::PASS_LOOKS;
 
-/// A pass of a [`crate::BatonTable`]. It is no `Drop`: a program that drops one is not accepted. Two passes that lie
-/// side by side in a list are 128 bytes apart, so that threads that use them share no cache line.
+/// A pass of a [`crate::BatonTable`]. It must be consumed: the compiler rejects a program that drops one. Two
+/// neighbouring passes of a list are 128 bytes apart, so that threads that use them share no cache line.
 pub struct BatonPass {
     pub(crate) seat: Seat<PlainTable, View>,
     // From 1 to the number of passes.
     pub(crate) number: u32,
     pub(crate) passes: u32,
-    // How many chains were drawn, the last of them or 0, and whether there are no more.
+    // The number of chains that were drawn, the last of them or 0, and whether there are no more.
     pub(crate) count: u32,
     pub(crate) chain: u32,
     pub(crate) no_chains_left: bool,
@@ -22,7 +23,7 @@ pub struct BatonPass {
     pub(crate) spacing: Spacing,
 }
 
-// What keeps a pass away from the next one: the fields before it take 32 bytes.
+// The distance between a pass and the next one: the fields before it take 32 bytes.
 #[derive(Drop)]
 pub(crate) struct Spacing {
     unused: [u64; 12],

@@ -1,3 +1,4 @@
+//! The table guarded by one word: taking it, and putting it back.
 ghost use Rattle.std.specs.Prelude.{◌≡◌, ◌≤◌, ◌∷◌, []};
 ghost use Rattle.fx_plain.specs.declared.table.TheConstants.{MOST_SLOTS};
 ghost use Rattle.fx_table.specs.declared.limits.TheConstants.{MAX_CHAINS, MAX_PASSES};
@@ -17,10 +18,10 @@ use std::marker::Brand;
 use std::sync::Wait;
 use std::thread;
 
-/// A file table that threads share, guarded by one word: whoever exchanges the word has the whole table of one thread, in
-/// its place, and puts the word back behind its call. A pass that waits for the table yields its thread. Pass p of n
-/// draws the chains p, p + n, p + 2n and so on, and the takes of a removed file are 0. It is no `Drop`: a program that
-/// drops one is not accepted (this project's own).
+/// A file table that threads share, guarded by one word: a pass that exchanges the word has the whole table of one
+/// thread, in place, and puts the word back after its call. A pass that waits for the table yields its thread. Pass p
+/// of n draws the chains p, p + n, p + 2n and so on, and the takes of a removed file are 0. It must be consumed: the
+/// compiler rejects a program that drops one (this project's own).
 pub struct BatonTable {
     pub(crate) table: Table<PlainTable, View, Start, OneHistory, Global>,
     pub(crate) chains: u32,
@@ -37,7 +38,7 @@ pub struct BatonTable {
 }
 
 impl BatonTable {
-    // Takes the table, as soon as nobody else has it.
+    // Takes the table as soon as no other pass has it.
     fn grab<R: Wait>(&self, rt: &R, seat: &mut Seat<PlainTable, View>)
         requires fits { seat.old.table_id ≡ self.now.table.shared.table_id }
         requires free { (seat.old.me.1 ≡ []) × (seat.old.me.0.loan ≡ None) }
@@ -54,7 +55,7 @@ impl BatonTable {
         unreachable!()
     }
 
-    // A pass takes the table.
+    // Takes the table for a pass.
     pub(crate) fn borrow<R: Wait>(&self, rt: &R, pass: &mut BatonPass)
         requires { IsPassOf self.now.table.shared.table_id self.now.table.shared.key pass.old }
         ensures { let t = self.now.table.shared in
@@ -64,7 +65,7 @@ impl BatonTable {
         self.grab(rt, &mut pass.seat)
     }
 
-    // A pass puts the table back, behind what it did.
+    // Puts the table back, with the pass's events appended to the history.
     fn give<U: Turn>(&self, pass: &mut BatonPass, call: Call, idle: bool)
         requires turn { let t = self.now.table.shared in
             HasPlayed t.table_id t.key U.events U.doing pass.old }
@@ -81,7 +82,7 @@ impl BatonTable {
         pass.idle = idle;
     }
 
-    // A pass puts the table back behind a call of it.
+    // Puts the table back after a call of the pass.
     pub(crate) fn give_back(&self, pass: &mut BatonPass, call: Call, idle: bool)
         requires { let t = self.now.table.shared in
             HasCalled t.table_id t.key call idle pass.old }
@@ -92,7 +93,7 @@ impl BatonTable {
     }
 }
 
-// How many numbers and look-ups a call uses up.
+// Returns the numbers and look-ups that a call uses.
 fn used(call: Call) -> (u32, u32)
     ensures { result ≡ ((use_of call).numbers, (use_of call).looks) }
 {

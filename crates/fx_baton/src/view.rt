@@ -1,61 +1,60 @@
+//! The values that contracts see of seats and passes, and the calls of a turn.
 use fx_base::Closed;
 use fx_plain::{Event, PlainTable};
 use fx_table::Doing;
 use std::collections::LinkedList;
 use std::snapshot::Snapshot;
 
-/// What a shared table begins with, for contracts alone: the table that was opened, and how many chains and passes
-/// there are.
+/// The start of a shared table, for contracts alone: the table that was opened, and the numbers of chains and passes.
 #[derive(Drop)]
 pub struct Start {
     /// The table as it was opened.
     pub plain: Snapshot<PlainTable>,
-    /// The chains are 1 to this number.
+    /// The number of chains; they are numbered from 1.
     pub chains: u32,
-    /// The passes are 1 to this number.
+    /// The number of passes; they are numbered from 1.
     pub passes: u32,
 }
 
-/// What one pass has seen and done, as contracts see it. No value of it is made.
+/// The events that one pass has seen and made, as contracts see them. No code creates a value of it.
 pub struct Log {
     /// The number of the pass, from 1.
     pub number: u32,
     /// The history that the pass has seen, the newest event first.
     pub front: LinkedList<Event>,
-    /// What the pass has done, the newest event first.
+    /// The events that the pass has made, the newest first.
     pub own: LinkedList<Event>,
 }
 
-/// What a seat at the table knows, as contracts see it. No value of it is made.
+/// The knowledge of a seat at the table, as contracts see it. No code creates a value of it.
 pub struct View {
-    /// What the table began with.
+    /// The start of the table.
     pub start: Start,
-    /// The passes of the seat: one, but while the table is opened and closed.
+    /// The passes of the seat: exactly one, except while the table is opened or closed.
     pub logs: LinkedList<Log>,
-    /// What the pass of the seat does now.
+    /// The activity of the seat's pass.
     pub doing: Doing,
-    /// The table as the seat took it, while it has the table.
+    /// The table as it was when the seat took it, while the seat has it.
     pub loan: Option<PlainTable>,
 }
 
-/// Which call of the plain table a pass made while it had the table. Slots come first, then the new file's number and
-/// what its close will say.
+/// A call that a pass made while it had the table. Slots come first, then the new file's number and its identity.
 #[derive(Clone, Copy)]
 pub enum Call {
     /// A look-up at a slot.
     Look(u32),
-    /// The release of what the pass held.
+    /// The release of the file that the pass held.
     Release,
     /// An installation at a slot.
     Put(u32, u32, Closed),
-    /// An installation at a free slot, which was found.
+    /// An installation at an empty slot of the allocation range.
     Allocate(u32, u32, Closed),
-    /// An installation for which no slot was free.
+    /// An installation for which no slot of the range was empty.
     Full,
-    /// A slot was emptied for an update.
+    /// The emptying of a slot for an update.
     Clear(u32),
-    /// A slot was emptied for a close.
+    /// The emptying of a slot for a close.
     Take(u32),
-    /// The retirement of what the pass removed.
+    /// The retirement of the file that the pass removed.
     Retire,
 }
