@@ -1,4 +1,4 @@
--- The rule of the table without a lock: words, places and views agree with the state that one legal
+-- The rule of the lock-free table: words, places and views agree with the state that one legal
 -- history leads to.
 use Rattle.std.specs.Prelude.{◌≡◌, ℕ, ◌+◌, ◌*◌, ◌<◌, ◌≤◌, ◌⊎◌, true, List, [], length, slice_index}
 use Rattle.std.specs.Prelude.{Option, Some, None, ◌==◌, Contains, count_by, sum_by}
@@ -35,7 +35,7 @@ use Rattle.fx_counted.specs.declared.view.Work.{Work}
 use Rattle.fx_counted.specs.declared.view.Work.TheVariants.{Between, Placing, Emptying}
 use Rattle.fx_table.specs.declared.values.Doing.TheVariants.{Idle, Holding, Retiring}
 
--- what a slot's word says of the file at the slot
+-- the slot's word names the file at the slot, or no file
 abbrev pub Names : ℕ → Option File → Type 0
 Names word None = name_in word ≡ 0
 Names word (Some f) = (name_in word ≡ f.number + 1) × (entry_in word ≡ f.identity.entry)
@@ -53,15 +53,15 @@ pub record SlotAgrees (k : Start) (h : List Event) (phase : ℕ → Phase)
   pub seat : IsSeated k (looks h) phase slot word ((state_after_all k h).at slot)
   pub takes : takes_in word ≤ all_looks h
 
--- what lies in a number's place: nothing, while the place is with a pass, or else a file or none
+-- the content of a number's place: nothing while a pass has the place, otherwise a file or none
 abbrev pub Home : Type 0
 Home = maybe.Option (maybe.Option (Option Identity))
 
--- One number: its word, what lies in its place, and what the state says of it. The releases of a
--- file are its looks less its holds, so `word + looks ≡ born + holds` says that the word is 2^32
--- less the releases
+-- One number: its word, the content of its place, and its part of the state. The releases of a file
+-- are its looks minus its holds, so `word + looks ≡ born + holds` says that the word is 2^32 minus
+-- the releases
 module _ (st : State) (number looks word : ℕ) (home : Home) where
-  -- no file has had it: this is its word, and this lies in its place
+  -- no file has had it: its word and the content of its place
   pub record IsUnused (first : ℕ) (lies : Home) : Type 0 where
     pub counts : word ≡ first
     pub at_home : home ≡ lies
@@ -85,21 +85,21 @@ module _ (st : State) (number looks word : ℕ) (home : Home) where
     pub all_takes : takes ≡ looks
     pub removed : st.removed number ≡ Some (numbered number file)
 
-  -- its file was retired: the word counts the holds that are left
+  -- its file was retired: the word is the number of holds
   pub record IsRetired (file : Identity) : Type 0 where
     pub counts : word ≡ st.holds number
     pub at_home : home ≡ some (some (Some file))
     pub some_hold : 0 < word
     pub removed : st.removed number ≡ Some (numbered number file)
 
-  -- its file is closed: this lies in its place
+  -- its file is closed: the content of its place
   pub record IsGone (lies : Home) : Type 0 where
     pub counts : word ≡ 0
     pub at_home : home ≡ lies
     pub no_holds : st.holds number ≡ 0
     pub not_removed : st.removed number ≡ None
 
-  -- what the number's phase says
+  -- the condition of the number's phase
   abbrev pub NodeAgrees : Phase → Type 0
   NodeAgrees unborn = IsUnused 0 (some (some None))
   NodeAgrees (spare pass) = IsUnused 0 (some (some None))
@@ -110,11 +110,11 @@ module _ (st : State) (number looks word : ℕ) (home : Home) where
   NodeAgrees (emptied seat) = IsGone (some none)
   NodeAgrees closed = IsGone (some (some None))
 
--- the pass of the seat does this work
+-- the pass of the seat has this work
 abbrev pub Does : List View → ℕ → Work → Type 0
 Does views seat work = (v : View) × (get_elem? views seat ≡ some v) × (v.work ≡ work)
 
--- a number that a pass works with is known to the pass
+-- the owner of a number works with it
 abbrev pub OwnerAgrees : List View → ℕ → Phase → Type 0
 OwnerAgrees views number (placed seat) = Does views seat (Placing number)
 OwnerAgrees views number (leaving seat takes file) =
@@ -122,7 +122,7 @@ OwnerAgrees views number (leaving seat takes file) =
 OwnerAgrees views number (emptied seat) = Does views seat (Emptying number)
 OwnerAgrees views number _ = Unit {0}
 
--- what a pass works with is where the pass left it
+-- the number that a pass works with is in the phase of that work
 abbrev pub WorkAgrees : Start → (ℕ → Phase) → ℕ → Work → Type 0
 WorkAgrees k phase seat (Between Idle) = Unit {0}
 WorkAgrees k phase seat (Placing number) = IsNumber k number × (phase number ≡ placed seat)
@@ -137,19 +137,19 @@ abbrev pub PlacesNext : Start → Log → Work → Type 0
 PlacesNext k x (Placing number) = (number ≡ next_in k x) × (0 < x.numbers_left)
 PlacesNext k x _ = Unit {0}
 
--- one pass of a seat that does this work
+-- one pass of a seat with this work
 pub record LogAgrees (k : Start) (h : List Event) (phase : ℕ → Phase)
     (work : Work) (x : Log) : Type 0 where
-  -- it has seen a beginning of the history, and all that it did itself
+  -- it has seen an initial part of the history, with all its own events
   pub seen : IsSeenBy x.front h
   pub own : part_of_pass x.number h ≡ part_of_pass x.number x.front
   pub held : held_by h x.number ≡ held_in work
   pub chain : chain_in x ≤ k.chains
-  -- it drew no chain behind its last one
+  -- it drew no chain after its last one
   pub last : (c : ℕ) → chain_in x < c → count_by (λ d. d == c) x.drawn ≡ 0
   pub few_left : x.numbers_left ≤ CHAIN_NUMBERS
   pub left_inside : x.numbers_left ≤ k.numbers * chain_in x
-  -- the numbers that are left to it are its own
+  -- the numbers that it has left are its own
   pub next : PlacesNext k x work
   pub spares : (n : ℕ) → next_in k x + placing work ≤ n → n < end_in k x → phase n ≡ spare x.number
 
@@ -161,7 +161,7 @@ pub record ViewAgrees (k : Start) (h : List Event) (phase : ℕ → Phase)
   pub empty : v.logs ≡ [] → (v.work ≡ Between Idle) × (v.change ≡ Outside)
   pub start : (v.logs ≡ []) ⊎ (v.start ≡ k)
 
--- how large everything is
+-- the counts of words, places and chains
 pub record HasShape (k : Start) (s : Shared) : Type 0 where
   pub slots : slots_of k ≤ MOST_SLOTS
   pub range : (range_of (opening_of k)).0 + (range_of (opening_of k)).1 ≤ slots_of k
@@ -171,11 +171,11 @@ pub record HasShape (k : Start) (s : Shared) : Type 0 where
   pub words : length s.words ≡ words_for (slots_of k) (chain_numbers k)
   pub homes : length s.homes ≡ homes_for (slots_of k) (chain_numbers k)
 
--- how many passes a seat has
+-- the number of passes of a seat
 abbrev pub lengths : View → ℕ
 lengths v = length v.logs
 
--- what holds between any two steps
+-- the rule, which holds between any two steps
 pub record Agrees (k : Start) (s : Shared) : Type 0 where
   pub shape : HasShape k s
   pub history : List Event
@@ -191,11 +191,11 @@ pub record Agrees (k : Start) (s : Shared) : Type 0 where
   pub no_other : (n : ℕ) → (IsNumber k n → ⊥) → (state_after_all k history).removed n ≡ None
   pub each_view : (seat : ℕ) (v : View) → get_elem? s.views seat ≡ some v
       → ViewAgrees k history phase seat v
-  -- the holds of a file are the passes that hold it
+  -- a file's holds are the passes that hold it
   pub holds : (n : ℕ) → (state_after_all k history).holds n ≡ sum_by (held_of n) s.views
-  -- each pass began with as many look-ups
+  -- each pass began with `PASS_LOOKS` look-ups
   pub look_ups : all_looks history + sum_by looks_of s.views ≡ PASS_LOOKS * k.passes
-  -- each pass is in one view, and nobody else did anything
+  -- each pass is in one view, and no event has another author
   pub passes : (p : ℕ) → sum_by (logs_of p) s.views ≡ once k.passes p
   pub whole : sum_by lengths s.views ≡ k.passes
   pub authors : (p : ℕ) → once k.passes p ≡ 0 → part_of_pass p history ≡ []

@@ -1,4 +1,4 @@
--- A pass that changes a slot, and tells of it where the slot is in the allocation range.
+-- A pass that changes a slot, and reports the change if the slot is in the allocation range.
 use Rattle.std.specs.Prelude.{◌≡◌, ℕ, ℤ, pos, negsuc, Bool, true, false}
 use Rattle.fx_table.specs.Pass.{IsFront}
 use Rattle.fx_counted.specs.Control.{in_change}
@@ -10,7 +10,7 @@ use Rattle.fx_counted.specs.declared.view.Change.TheVariants.{Outside, Same, Mor
 use Rattle.fx_counted.specs.declared.view.Log.{Log}
 use Rattle.fx_counted.specs.declared.view.Start.{Start}
 
--- a seat with one pass of the table, whose front is legal, and what it works with is the table's
+-- a seat with one pass of the table, whose front is legal, and whose work agrees with the table
 pub record IsAtWork (k : Start) (m : Sat) : Type 0 where
   pub log : Log
   pub pass : HasPass k m log
@@ -22,19 +22,19 @@ abbrev pub InRange : Start → ℕ → Bool → Type 0
 InRange k slot true = IsInRange k slot
 InRange k slot false = IsOutOfRange k slot
 
--- what a pass has to tell that began a change or didn't: nothing yet
+-- the change after a beginning, or without one: nothing to report yet
 abbrev pub begun : Bool → Change
 begun true = Same
 begun false = Outside
 
--- by how much the number of full slots has become greater since the pass told
+-- the difference in the number of full slots that the pass hasn't reported yet
 abbrev pub difference : Change → ℤ
 difference Outside = pos 0
 difference Same = pos 0
 difference More = pos 1
 difference Less = negsuc 0
 
--- a pass that began a change is in it, with this difference; another one is not
+-- a pass that began a change is in it with this difference; otherwise it is in none
 abbrev pub HasToTell : Bool → ℤ → Change → Type 0
 HasToTell true delta c = (in_change c ≡ 1) × (difference c ≡ delta)
 HasToTell false delta c = c ≡ Outside

@@ -1,4 +1,4 @@
--- How a view is cut in two, and how two are made one.
+-- Splitting a view in two, and joining two.
 use Rattle.std.specs.Prelude.{ℕ, List, [], ◌++◌, map, take, drop}
 use Rattle.std.specs.List.{range_with_len}
 use Rattle.fx_plain.specs.Contents.{Contents}
@@ -10,7 +10,7 @@ use Rattle.fx_counted.specs.declared.view.View.{View}
 use Rattle.fx_counted.specs.declared.view.Work.TheVariants.{Between}
 use Rattle.fx_table.specs.declared.values.Doing.TheVariants.{Idle}
 
--- so many new passes, from p on
+-- `n` new passes, numbered from `p`
 abbrev pub new_logs : ℕ → ℕ → List Log
 new_logs p n = map new_log (range_with_len p n)
 
@@ -27,7 +27,7 @@ first_view k = record {
 abbrev pub without_first : View → View
 without_first v = record v { logs = drop 1 v.logs }
 
--- a view with the first of them alone
+-- a view with only the first of its passes
 abbrev pub first_alone : View → View
 first_alone v = record v { logs = take 1 v.logs }
 
@@ -35,11 +35,11 @@ first_alone v = record v { logs = take 1 v.logs }
 abbrev pub together : View → View → View
 together v w = record v { logs = v.logs ++ w.logs }
 
--- a table of no slots
+-- a table without slots
 abbrev pub empty_table : Contents
 empty_table = record { slots = []; range = (0, 0); nodes = []; holds = []; numbers = 0 }
 
--- the view of a seat that was taken in
+-- the view of a seat whose passes went to another
 abbrev pub spent : View
 spent = record {
   start = record {

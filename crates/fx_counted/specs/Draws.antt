@@ -1,20 +1,20 @@
--- The draw word: how many chains were given, of so many numbers each, and how many passes got None.
+-- The draw word: how many chains were drawn, and how many passes got `None`.
 use Rattle.std.specs.Prelude.{◌≡◌, ℕ, ◌+◌, ◌<◌, ◌≤◌, List, sum_by}
 use Rattle.fx_table.specs.Numbers.{numbers_up_to, once}
 use Rattle.fx_counted.specs.Passes.{drawn_of, told_of}
 use Rattle.fx_counted.specs.Phases.{Phase, unborn}
 use Rattle.fx_counted.specs.declared.view.View.{View}
 
--- the draw word counts the chains that were given, and the passes that got None
+-- the draw word counts the chains that were drawn and the passes that got `None`
 pub record DrawsCount (chains numbers : ℕ) (phase : ℕ → Phase)
     (views : List View) (word : ℕ) : Type 0 where
-  -- the chains from 1 to this one were given, each to one pass
+  -- the chains from 1 to `given` were drawn, each by one pass
   pub given : ℕ
   pub few : given ≤ chains
   pub each : (c : ℕ) → sum_by (drawn_of c) views ≡ once given c
   pub counts : word ≡ given + sum_by told_of views
-  -- a pass was told so only when all were given
+  -- a pass got `None` only after all chains were drawn
   pub all : 0 < sum_by told_of views → given ≡ chains
-  -- nobody uses the numbers of the others
+  -- no pass uses the numbers of the other chains
   pub unused : (n : ℕ) → numbers_up_to numbers given ≤ n → n < numbers_up_to numbers chains
       → phase n ≡ unborn

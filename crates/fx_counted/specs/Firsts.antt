@@ -1,4 +1,4 @@
--- The words and places with which a shared table begins, from the table of one thread.
+-- The first words and places of a shared table, from the table of one thread.
 use Rattle.std.specs.Prelude.{◌≡◌, ℕ, ◌+◌, ◌*◌, ◌<◌, ◌≤◌, List, Option, Some, None, length}
 use Rattle.std.specs.Prelude.{slice_index}
 use mathlib.Core.Option.{some}
@@ -17,8 +17,8 @@ use Rattle.fx_counted.specs.Opens.{word_for, node_for}
 abbrev pub first_at : State → ℕ → Option File
 first_at st slot = file_numbered (st.at slot) slot
 
--- the words with which the table begins, where its chains have so many numbers together: those of
--- the slots and of their numbers, and else 0
+-- the first words, if the chains have `numbers` numbers together: those of the slots and of their
+-- numbers, and 0 elsewhere
 pub record AreFirstWords (st : State) (numbers : ℕ) (words : List ℕ) : Type 0 where
   pub count : length words ≡ words_for st.size numbers
   pub entries : (slot : ℕ) (f : File) → slot < st.size → first_at st slot ≡ Some f
@@ -32,7 +32,7 @@ pub record AreFirstWords (st : State) (numbers : ℕ) (words : List ℕ) : Type 
       → slice_index words (node_place st.size slot) ≡ node_for (first_at st slot)
   pub fresh : (place : ℕ) → 16 + 8 * st.size ≤ place → slice_index words place ≡ 0
 
--- the places with which it begins: those of the slots' numbers have the files
+-- the first places: those of the slots' numbers have the files
 pub record AreFirstHomes (st : State) (numbers : ℕ) (homes : List (Option Identity)) : Type 0 where
   pub count : length homes ≡ homes_for st.size numbers
   pub files : (slot : ℕ) → slot < st.size → get_elem? homes slot ≡ some (identity_of (st.at slot))

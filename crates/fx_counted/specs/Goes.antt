@@ -1,4 +1,4 @@
--- Some steps of a pass in a row.
+-- Several steps of a pass in a row.
 use Rattle.std.specs.Prelude.{◌≡◌, ℕ, ◌+◌, ◌≤◌, List, [], ◌∷◌}
 use Rattle.fx_plain.specs.declared.event.Action.{Action}
 use Rattle.fx_table.specs.Calls.{Use, Adds}
@@ -8,8 +8,8 @@ use Rattle.fx_counted.specs.declared.view.Change.{Change}
 use Rattle.fx_counted.specs.declared.view.Log.{Log}
 use Rattle.fx_counted.specs.declared.view.Work.{Work}
 
--- At most so many steps of a seat with one pass: it took these actions and used this up, and now it
--- does this work
+-- At most `most` steps of a seat with one pass: it took these actions, used these numbers and
+-- look-ups, and now has this work
 pub record Goes (m : Sat) (actions : List Action) (used : Use) (w : Work) (c : Change)
     (most : ℕ) (m' : Sat) : Type 0 where
   pub one : (x : Log) × (m'.0.logs ≡ x ∷ [])

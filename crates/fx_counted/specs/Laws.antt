@@ -1,5 +1,5 @@
--- The kinds of step keep the rule, whatever the table and the other passes are. A law takes the
--- place of its word as a premise.
+-- Laws: each kind of step keeps the rule, whatever the table and the other passes are. The place of
+-- a step's word is a premise.
 use Rattle.std.specs.Prelude.{◌≡◌, ℕ, ◌+◌, ◌-◌, ◌%◌, ◌^◌, ◌<◌, ◌≤◌, ◌==◌, ◌⊎◌, false, [], ◌∷◌, Some}
 use Rattle.std.specs.Prelude.{None}
 use mathlib.Core.Option.{none}
@@ -29,11 +29,11 @@ use Rattle.fx_table.specs.declared.values.Doing.TheVariants.{Idle, Holding, Reti
 abbrev pub HasPass : Start → Sat → Log → Type 0
 HasPass k m x = (m.0.start ≡ k) × (m.0.logs ≡ x ∷ [])
 
--- where the word of a number lies
+-- the place of a number's word
 abbrev pub word_of : Start → ℕ → ℕ
 word_of k number = node_place (slots_of k) number
 
--- where its open file lies
+-- the place of a number's open file
 abbrev pub place_of : Start → ℕ → ℕ
 place_of k number = home_place (slots_of k) number
 
@@ -42,12 +42,12 @@ abbrev pub IsInRange : Start → ℕ → Type 0
 IsInRange k slot = let range = range_of (opening_of k) in
     (range.0 ≤ slot) × (slot < range.0 + range.1)
 
--- the slot is not in it
+-- the slot is outside the allocation range
 abbrev pub IsOutOfRange : Start → ℕ → Type 0
 IsOutOfRange k slot = let range = range_of (opening_of k) in
     (slot < range.0) ⊎ (range.0 + range.1 ≤ slot)
 
--- a pass changes a slot of the range in a change, and another one outside
+-- a pass is in a change if the slot is in the range, and in none otherwise
 abbrev pub MayChange : Start → ℕ → Change → Type 0
 MayChange k slot change =
     (IsInRange k slot × (change ≡ Same)) ⊎ (IsOutOfRange k slot × (change ≡ Outside))
@@ -98,7 +98,7 @@ TakesKeep = (k : Start) (slots id i slot : ℕ) (m : Sat) (x : Log) → HasPass 
     → i ≡ slot_place slot
     → Allows (Agrees k) slots id m i (λ _. 0) (Removes Take (step slots i 0 0 none) m)
 
--- a pass subtracts 2^32 less the takes from the word of the file that it removed
+-- a pass subtracts 2^32 minus the takes from the word of the file that it removed
 abbrev pub RetiresKeep : Type 0
 RetiresKeep = (k : Start) (slots id i amount takes : ℕ) (f : File) (m : Sat) (x : Log)
     → HasPass k m x → m.0.work ≡ Between (Retiring f takes) → i ≡ word_of k f.number
@@ -113,7 +113,7 @@ ReleasesKeep = (k : Start) (slots id i : ℕ) (f : File) (m : Sat) (x : Log) →
     → Allows (Agrees k) slots id m i (λ word. (word + (2 ^ 64 - 1)) % 2 ^ 64)
     (Releases (step slots i 1 0 none) m)
 
--- a pass stores 0 in the word of a number whose file is closed, or which was placed in vain
+-- a pass stores 0 in the word of a number whose file is closed, or was never installed
 abbrev pub RestsKeep : Type 0
 RestsKeep = (k : Start) (slots id i n : ℕ) (m : Sat) (x : Log) → HasPass k m x
     → (m.0.work ≡ Emptying n) ⊎ (m.0.work ≡ Placing n) → m.1 ≡ (place_of k n, None) ∷ []
@@ -127,7 +127,7 @@ BeginsKeep = (k : Start) (slots id i : ℕ) (m : Sat) (x : Log) → HasPass k m 
     → Allows (Agrees k) slots id m i (λ word. (word + one_change) % 2 ^ 64)
     (GoesOn Same (step slots i one_change 0 none) m)
 
--- a pass in a change subtracts 2^32 from it, less the difference that the pass made
+-- a pass in a change subtracts 2^32 minus its difference from the control word
 abbrev pub EndsKeep : Type 0
 EndsKeep = (k : Start) (slots id i amount : ℕ) (m : Sat) (x : Log) → HasPass k m x
     → in_change m.0.change ≡ 1 → amount + added m.0.change ≡ one_change + removed_by m.0.change
@@ -135,7 +135,8 @@ EndsKeep = (k : Start) (slots id i amount : ℕ) (m : Sat) (x : Log) → HasPass
     → Allows (Agrees k) slots id m i (λ word. (word + (2 ^ 64 - amount)) % 2 ^ 64)
     (GoesOn Outside (step slots i amount 0 none) m)
 
--- a pass in a change subtracts 2^32 from it, and reads whether every slot of the range is full
+-- a pass in a change subtracts 2^32 from the control word, and reads whether every slot of the
+-- range is full
 abbrev pub AnswersKeep : Type 0
 AnswersKeep = (k : Start) (slots id i : ℕ) (m : Sat) (x : Log) → HasPass k m x
     → m.0.change ≡ Same → i ≡ control_place
@@ -157,7 +158,7 @@ ExchangesKeep = (k : Start) (slots id i slot n old new : ℕ) (file : Identity) 
     → Allows (Agrees k) slots id m i (λ word. either (word == old) new word)
     (Exchanges (step slots i old new none) m)
 
--- an idle pass that didn't get None adds 1 to the draw word
+-- an idle pass that hasn't got `None` adds 1 to the draw word
 abbrev pub DrawsKeep : Type 0
 DrawsKeep = (k : Start) (slots id i : ℕ) (m : Sat) (x : Log) → HasPass k m x
     → m.0.work ≡ Between Idle → x.no_chains_left ≡ false → i ≡ draw_place

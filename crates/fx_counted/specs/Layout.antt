@@ -1,10 +1,10 @@
--- Where the words and the open files of the table without a lock lie.
+-- The places of the lock-free table's words and open files.
 use Rattle.std.specs.Prelude.{◌≡◌, ◌≢◌, ℕ, ◌+◌, ◌-◌, ◌*◌, ◌/◌, ◌<◌, ◌≤◌, ◌⊎◌, nat_lt, if◌then◌else◌}
 use Rattle.fx_table.specs.declared.limits.TheConstants.{FIRST_CHAIN_NUMBER}
 
 -- The control word and the draw word have a cache line of their own, and so has each slot. A slot's
--- word lies next to the node word of the number that the slot has at first.
--- Here is the control word
+-- word is next to the node word of the number that the slot has at first.
+-- The control word
 abbrev pub control_place : ℕ
 control_place = 0
 
@@ -16,24 +16,24 @@ draw_place = 8
 abbrev pub slot_place : ℕ → ℕ
 slot_place slot = 16 + 8 * slot
 
--- the slot whose word lies there
+-- the slot whose word is at the place
 abbrev pub slot_of : ℕ → ℕ
 slot_of place = (place - 16) / 8
 
--- the node word of a number: those of the chains' numbers lie side by side behind the slots
+-- the node word of a number; those of the chains' numbers follow the slots, side by side
 abbrev pub node_place : ℕ → ℕ → ℕ
 node_place size number =
     if nat_lt number size then 17 + 8 * number else 16 + 8 * size + (number - FIRST_CHAIN_NUMBER)
 
--- how many words there are, where the chains have so many numbers together
+-- the number of words, if the chains have `numbers` numbers together
 abbrev pub words_for : ℕ → ℕ → ℕ
 words_for size numbers = 16 + 8 * size + numbers
 
--- where the open file of a number lies
+-- the place of a number's open file
 abbrev pub home_place : ℕ → ℕ → ℕ
 home_place size number = if nat_lt number size then number else size + (number - FIRST_CHAIN_NUMBER)
 
--- how many places for open files there are
+-- the number of places for open files
 abbrev pub homes_for : ℕ → ℕ → ℕ
 homes_for size numbers = size + numbers
 
@@ -42,7 +42,7 @@ abbrev pub HasNode : ℕ → ℕ → ℕ → Type 0
 HasNode size numbers number = (number < size)
     ⊎ ((FIRST_CHAIN_NUMBER ≤ number) × (number < FIRST_CHAIN_NUMBER + numbers))
 
--- the words of the numbers, and where their files lie, are inside
+-- the places of words and files are inside the table's memory
 pub record PlacesAreInside (size numbers : ℕ) : Type 0 where
   pub control : control_place < words_for size numbers
   pub draw : draw_place < words_for size numbers
@@ -52,7 +52,7 @@ pub record PlacesAreInside (size numbers : ℕ) : Type 0 where
   pub home : (number : ℕ) → HasNode size numbers number
       → home_place size number < homes_for size numbers
 
--- different words have different places, and so have the files of different numbers
+-- different words have different places, and the files of different numbers do too
 pub record PlacesAreApart (size numbers : ℕ) : Type 0 where
   pub slots : (slot other : ℕ) → slot_place slot ≡ slot_place other → slot ≡ other
   pub nodes : (number other : ℕ)

@@ -1,4 +1,4 @@
--- Passes as they are dealt out and gathered.
+-- Passes as they are handed out and gathered.
 use Rattle.std.specs.Prelude.{◌≡◌, ℕ, ◌+◌, ◌-◌, true, false, List, [], flat_map, Option}
 use Rattle.atomic_table.specs.declared.shared.Seat.{Seat}
 use mathlib.Core.Option.{some}
@@ -28,7 +28,7 @@ dealt k p = record (first_view k) { logs = new_logs p ((k.passes + 1) - p) }
 abbrev pub logs_in : List CountedPass → List Log
 logs_in ps = flat_map (λ p. p.seat.me.0.logs) ps
 
--- the pass of this seat has done nothing
+-- the pass has this seat and has made no step
 pub record IsNewPass (seat : Seat (Option Identity) View) (p : CountedPass) : Type 0 where
   pub its_seat : p.seat ≡ seat
   pub chain : p.chain ≡ 0
@@ -42,7 +42,7 @@ pub record HasAllPasses (t : CountedTable) (seat : Seat (Option Identity) View) 
   pub table : seat.table_id ≡ t.table.shared.table_id
   pub me : seat.me ≡ (first_view t.table.shared.key, [])
 
--- a seat of the table with some passes, which do nothing
+-- a seat of the table whose passes are idle
 pub record IsIdleSeatOf (t : CountedTable) (seat : Seat (Option Identity) View) : Type 0 where
   pub table : seat.table_id ≡ t.table.shared.table_id
   pub places : seat.me.1 ≡ []
@@ -50,7 +50,7 @@ pub record IsIdleSeatOf (t : CountedTable) (seat : Seat (Option Identity) View) 
   pub work : seat.me.0.work ≡ Between Idle
   pub change : seat.me.0.change ≡ Outside
 
--- whatever the last state is, no pass does anything
+-- in every last state all passes are idle
 abbrev pub AllAreIdle : Start → ℕ → View → Type 0
 AllAreIdle k id v = (s : Shared) → Agrees k s → get_elem? s.views id ≡ some v
     → (seat : ℕ) (u : View) → get_elem? s.views seat ≡ some u → u.work ≡ Between Idle

@@ -8,8 +8,8 @@ use Rattle.fx_counted.specs.declared.view.Start.{Start}
 use Rattle.fx_counted.specs.declared.view.Work.TheVariants.{Between, Placing, Emptying}
 use Rattle.fx_table.specs.declared.values.Doing.TheVariants.{Idle}
 
--- the seat's pass has the place of the number, to install its file or since its file is closed; and
--- this is in the place
+-- the seat's pass has the place of the number, to install its file or because its file is closed;
+-- the place has this content
 pub record HasPlace (k : Start) (number : ℕ) (inside : Option Identity) (m : Sat) : Type 0 where
   pub log : Log
   pub pass : HasPass k m log

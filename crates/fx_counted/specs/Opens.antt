@@ -1,4 +1,4 @@
--- The words and places with which a table without a lock begins.
+-- The first words and places of a lock-free table.
 use Rattle.std.specs.Prelude.{◌≡◌, ℕ, ◌+◌, ◌<◌, ◌≤◌, List, [], length, slice_index, Option, Some}
 use Rattle.std.specs.Prelude.{None}
 use mathlib.Core.Option.{some}
@@ -29,17 +29,17 @@ abbrev pub node_for : Option File → ℕ
 node_for None = 0
 node_for (Some f) = born
 
--- what lies in the number's place
+-- the content of the number's place
 abbrev pub home_for : Option File → Option Identity
 home_for None = None
 home_for (Some f) = Some f.identity
 
--- the file at a slot when no pass has done anything
+-- the file at a slot before any event
 abbrev pub first_file : Start → ℕ → Option File
 first_file k slot = (state_after_all k []).at slot
 
--- Words and places of a table that begins so: each file at a slot has no takes and no releases, no
--- pass is in a change, and no chain is drawn
+-- The first words and places of a table: each file at a slot has no takes and no releases, no pass
+-- is in a change, and no chain is drawn
 pub record OpensWith (k : Start) (words : List ℕ) (homes : List (Option Identity)) : Type 0 where
   pub slots : slots_of k ≤ MOST_SLOTS
   pub range : (range_of (opening_of k)).0 + (range_of (opening_of k)).1 ≤ slots_of k
@@ -63,7 +63,7 @@ pub record OpensWith (k : Start) (words : List ℕ) (homes : List (Option Identi
   pub fresh_places : (n : ℕ) → FIRST_CHAIN_NUMBER ≤ n → n < FIRST_CHAIN_NUMBER + chain_numbers k
       → get_elem? homes (home_place (slots_of k) n) ≡ some None
 
--- a table that begins so keeps the rule, with one seat that has all passes
+-- a table with these words and places keeps the rule, with one seat that has all passes
 abbrev pub OpeningKeeps : Type 0
 OpeningKeeps = (k : Start) (words : List ℕ) (homes : List (Option Identity))
     → OpensWith k words homes → Agrees k (opening words homes (first_view k))

@@ -1,4 +1,4 @@
--- What views say of passes.
+-- Passes, as views show them.
 use Rattle.std.specs.Prelude.{ℕ, ◌-◌, ◌*◌, ◌==◌, false, List, [], ◌∷◌, Option}
 use Rattle.std.specs.Prelude.{Some, None, sum_by, count_by, if◌then◌else◌}
 use Rattle.atomic_table.specs.Table.{State as TableState, Me}
@@ -24,11 +24,11 @@ use Rattle.fx_table.specs.declared.values.Doing.TheVariants.{Idle, Holding}
 abbrev pub Shared : Type 0
 Shared = TableState (Option Identity) View
 
--- a seat's view, and the places that are with it
+-- a seat's view, and the places that it has
 abbrev pub Sat : Type 0
 Sat = Me (Option Identity) View
 
--- how the table was opened, as all shared tables show it
+-- the opening of the table, as the contract of all shared tables shows it
 abbrev pub opening_of : Start → Opening
 opening_of k = record {
   contents = k.plain.value;
@@ -37,11 +37,11 @@ opening_of k = record {
   numbers = k.numbers;
 }
 
--- how many slots it has
+-- the number of slots
 abbrev pub slots_of : Start → ℕ
 slots_of k = size_of (opening_of k)
 
--- how many numbers its chains have together
+-- the number of file numbers of all chains together
 abbrev pub chain_numbers : Start → ℕ
 chain_numbers k = k.numbers * k.chains
 
@@ -53,7 +53,7 @@ IsNumber k number = HasNode (slots_of k) (chain_numbers k) number
 abbrev pub state_after_all : Start → List Event → State
 state_after_all k h = state_at (opening_of k) h
 
--- the head of a list, or this
+-- the head of a list, or `n` for an empty list
 abbrev pub first_or : ℕ → List ℕ → ℕ
 first_or n [] = n
 first_or n (m ∷ ms) = m
@@ -62,7 +62,7 @@ first_or n (m ∷ ms) = m
 abbrev pub chain_in : Log → ℕ
 chain_in x = first_or 0 x.drawn
 
--- the number behind the last one of the chain
+-- the number after the last one of the pass's chain
 abbrev pub end_in : Start → Log → ℕ
 end_in k x = numbers_up_to k.numbers (chain_in x)
 
@@ -70,12 +70,12 @@ end_in k x = numbers_up_to k.numbers (chain_in x)
 abbrev pub next_in : Start → Log → ℕ
 next_in k x = end_in k x - x.numbers_left
 
--- what a pass of a shared table does, between two calls
+-- the activity of a pass between two calls
 abbrev pub doing_in : Work → Doing
 doing_in (Between doing) = doing
 doing_in _ = Idle
 
--- a pass, as all shared tables show it
+-- a pass, as the contract of all shared tables shows it
 abbrev pub shown : Log → Work → PassView
 shown x work = record {
   number = x.number;
@@ -89,7 +89,7 @@ shown x work = record {
   doing = doing_in work;
 }
 
--- a pass that has seen and done nothing
+-- a pass that has seen and made no event
 abbrev pub new_log : ℕ → Log
 new_log p = record {
   number = p;
@@ -101,16 +101,16 @@ new_log p = record {
   steps = 0;
 }
 
--- the one pass of a seat
+-- the only pass of a seat
 abbrev pub first_log : List Log → Log
 first_log [] = new_log 0
 first_log (x ∷ xs) = x
 
--- that pass, as all shared tables show it
+-- that pass, as the contract of all shared tables shows it
 abbrev pub pass_of : View → PassView
 pass_of v = shown (first_log v.logs) v.work
 
--- how many atomic steps it has made
+-- the number of atomic steps that it has made
 abbrev pub steps_of : View → ℕ
 steps_of v = (first_log v.logs).steps
 
@@ -119,32 +119,32 @@ abbrev pub held_in : Work → Option File
 held_in (Between (Holding f)) = Some f
 held_in _ = None
 
--- 1 where the pass is about to install a file, and else 0
+-- 1 if the pass is about to install a file, otherwise 0
 abbrev pub placing : Work → ℕ
 placing (Placing number) = 1
 placing _ = 0
 
--- 1 where the pass holds the file of the number, and else 0
+-- 1 if the pass holds the file of the number, otherwise 0
 abbrev pub holding : ℕ → Work → ℕ
 holding n (Between (Holding f)) = if f.number == n then 1 else 0
 holding n _ = 0
 
--- how many of a view's passes have the number
+-- the number of a view's passes with this number
 abbrev pub logs_of : ℕ → View → ℕ
 logs_of p v = count_by (λ x. x.number == p) v.logs
 
--- how often they drew the chain
+-- the number of times that they drew the chain
 abbrev pub drawn_of : ℕ → View → ℕ
 drawn_of c v = sum_by (λ x. count_by (λ d. d == c) x.drawn) v.logs
 
--- how many of them got None
+-- the number of them that got `None`
 abbrev pub told_of : View → ℕ
 told_of v = count_by (λ x. x.no_chains_left) v.logs
 
--- the look-ups that are left to them
+-- the look-ups that they have left
 abbrev pub looks_of : View → ℕ
 looks_of v = sum_by (λ x. x.looks_left) v.logs
 
--- 1 where a view's pass holds the file of the number, and else 0
+-- 1 if a view's pass holds the file of the number, otherwise 0
 abbrev pub held_of : ℕ → View → ℕ
 held_of n v = holding n v.work

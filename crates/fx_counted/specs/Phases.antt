@@ -1,8 +1,8 @@
--- Where each number of a file stands in its life.
+-- The phases of a file's number.
 use Rattle.std.specs.Prelude.{ℕ, ◌+◌, Option, Some, None}
 use Rattle.fx_base.specs.Identity.{Identity}
 
--- where a number stands
+-- the phase of a number
 pub data Phase : Type 0 where
   -- no file has had it, and no pass may use it
   unborn : Phase
@@ -12,16 +12,16 @@ pub data Phase : Type 0 where
   placed : ℕ → Phase
   -- its file is at the slot
   seated : ℕ → Identity → Phase
-  -- its file was removed by the pass at the seat, which found so many takes
+  -- its file was removed by the pass at the seat, which found these takes
   leaving : ℕ → ℕ → Identity → Phase
-  -- its file was removed and retired, and somebody holds it
+  -- its file was removed and retired, and some pass holds it
   retired : Identity → Phase
   -- its file is closed, and the pass at the seat is about to take it out
   emptied : ℕ → Phase
-  -- its file is closed and gone, or it never had one
+  -- its file is closed and handed out, or it never had one
   closed : Phase
 
--- the seat that alone may go on with it, plus 1, or 0
+-- the only seat that may change the number's phase, plus 1; or 0
 abbrev pub owner : Phase → ℕ
 owner (placed seat) = seat + 1
 owner (leaving seat takes file) = seat + 1

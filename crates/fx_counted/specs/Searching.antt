@@ -1,4 +1,4 @@
--- A pass that looks for a free slot of the allocation range.
+-- A pass that searches the allocation range for an empty slot.
 use Rattle.std.specs.Prelude.{◌≡◌, ℕ, ◌<◌, Bool, true, false, [], ◌∷◌, List, Some}
 use Rattle.fx_base.specs.Identity.{Identity}
 use Rattle.fx_plain.specs.History.{◌▷◌}
@@ -25,7 +25,7 @@ pub record IsPlacing (k : Start) (number : ℕ) (file : Identity) (m : Sat) : Ty
   pub work : m.0.work ≡ Placing number
   pub place : m.1 ≡ (place_of k number, Some file) ∷ []
 
--- some steps, however many
+-- any number of steps
 abbrev pub Proceeds : Sat → List Action → Use → Work → Change → Sat → Type 0
 Proceeds m actions used w c m' = (most : ℕ) × Goes m actions used w c most m'
 
@@ -33,7 +33,7 @@ Proceeds m actions used w c m' = (most : ℕ) × Goes m actions used w c most m'
 abbrev pub StillPlaces : ℕ → Change → Sat → Sat → Type 0
 StillPlaces number c m m' = Proceeds m [] no_use (Placing number) c m' × (m'.1 ≡ m.1)
 
--- the file is at the slot, which was free
+-- the file is at the slot, which was empty before
 abbrev pub HasAllocated : ℕ → Identity → ℕ → Change → Sat → Sat → Type 0
 HasAllocated number file slot c m m' =
     Proceeds m ([] ▷ Allocate slot (numbered number file)) one_number (Between Idle) c m'

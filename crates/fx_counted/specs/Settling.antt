@@ -1,4 +1,4 @@
--- A step that changes nothing, and tells that the rule holds.
+-- A step that changes nothing, and yields that the rule holds.
 use Rattle.std.specs.Prelude.{◌≡◌, ℕ, Option}
 use lib.ListN.{get_elem?}
 use mathlib.Core.Option.{some}

@@ -1,4 +1,4 @@
--- The table of one thread from which a shared table was opened, while its files lie in the shared
+-- The table of one thread that a shared table was opened from, while its files are in the shared
 -- table's places.
 use Rattle.std.specs.Prelude.{◌≡◌, ℕ, List, Option, None, slice_index_or}
 use Rattle.fx_base.specs.Identity.{Identity}
@@ -10,7 +10,7 @@ pub record IsShell (st : State) : Type 0 where
   pub vacant : (slot : ℕ) → st.at slot ≡ None
   pub settled : IsSettled st
 
--- it is as large as the other, with the same range
+-- it has the size and the range of the other
 pub record IsShellOf (st empty : State) : Type 0 where
   pub size : empty.size ≡ st.size
   pub range : empty.range ≡ st.range
@@ -23,6 +23,6 @@ pub record AreBack (shell : State) (file : ℕ → Option Identity) (st : State)
   pub files : (slot : ℕ) → identity_of (st.at slot) ≡ file slot
   pub settled : IsSettled st
 
--- what lies in the place of this number
+-- the content of the place of this number
 abbrev pub file_in_place : List (Option Identity) → ℕ → Option Identity
 file_in_place places place = slice_index_or places place None

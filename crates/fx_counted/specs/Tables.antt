@@ -1,4 +1,4 @@
--- A table without a lock and its passes, as their callers see them.
+-- A lock-free table and its passes, as their callers see them.
 use Rattle.std.specs.Prelude.{◌≡◌, ℕ, ◌*◌, ◌≤◌, Bool, true, false, [], ◌∷◌}
 use Rattle.atomic_table.specs.Seated.{TableId}
 use Rattle.fx_table.specs.declared.limits.TheConstants.{CHAIN_NUMBERS}
@@ -16,11 +16,11 @@ use Rattle.fx_table.specs.declared.values.Doing.TheVariants.{Idle}
 use Rattle.fx_counted.specs.declared.pass.CountedPass.{CountedPass}
 use Rattle.fx_counted.specs.declared.table.CountedTable.{CountedTable}
 
--- the pass, as all shared tables show it
+-- the pass, as the contract of all shared tables shows it
 abbrev pub view_of : CountedPass → PassView
 view_of p = pass_of p.seat.me.0
 
--- how many atomic steps the pass has made
+-- the number of atomic steps that the pass has made
 abbrev pub steps_taken : CountedPass → ℕ
 steps_taken p = steps_of p.seat.me.0
 
@@ -29,12 +29,12 @@ abbrev pub IsBetweenCalls : Work → Type 0
 IsBetweenCalls (Between doing) = Unit {0}
 IsBetweenCalls _ = ⊥
 
--- whether it does nothing
+-- whether the pass is idle
 abbrev pub is_idle : Work → Bool
 is_idle (Between Idle) = true
 is_idle _ = false
 
--- what the pass itself knows of its log, and of what it does
+-- the agreement of the pass's fields with its log and its work
 pub record Knows (p : CountedPass) (x : Log) : Type 0 where
   pub chain : p.chain ≡ chain_in x
   pub no_chains_left : p.no_chains_left ≡ x.no_chains_left
@@ -54,7 +54,7 @@ pub record HasOnePass (k : Start) (v : View) (x : Log) : Type 0 where
   pub few_left : x.numbers_left ≤ CHAIN_NUMBERS
   pub left_inside : x.numbers_left ≤ k.numbers * chain_in x
 
--- a pass of the table that began so
+-- a pass of a table with this start
 pub record IsPassOf (id : TableId) (k : Start) (p : CountedPass) : Type 0 where
   pub table : p.seat.table_id ≡ id
   pub places : p.seat.me.1 ≡ []
@@ -62,7 +62,7 @@ pub record IsPassOf (id : TableId) (k : Start) (p : CountedPass) : Type 0 where
   pub seated : HasOnePass k p.seat.me.0 log
   pub knows : Knows p log
 
--- how the table was opened
+-- the opening of the table
 abbrev pub opening_of_table : CountedTable → Opening
 opening_of_table t = opening_of t.table.shared.key
 

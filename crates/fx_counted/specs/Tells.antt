@@ -1,4 +1,4 @@
--- What each kind of step tells the pass that makes it.
+-- The result of each kind of step for the pass that makes it.
 use Rattle.std.specs.Prelude.{◌≡◌, ◌≢◌, ℕ, zero, suc, ◌+◌, ◌<◌, nat_lt, if◌then◌else◌, List, []}
 use Rattle.std.specs.Prelude.{◌∷◌, Option, Some, None}
 use Rattle.atomic_table.specs.Table.{Step, rest}
@@ -30,7 +30,7 @@ use Rattle.fx_table.specs.declared.values.Doing.TheVariants.{Idle, Holding, Reti
 abbrev pub At : Type 0
 At = Step (Option Identity)
 
--- the number that a pass works with is one of the table
+-- the number that a pass works with is one of the table's
 abbrev pub IsInside : Start → Work → Type 0
 IsInside k (Between Idle) = Unit {0}
 IsInside k (Placing number) = IsNumber k number
@@ -38,8 +38,8 @@ IsInside k (Between (Holding f)) = IsNumber k f.number
 IsInside k (Between (Retiring f takes)) = IsNumber k f.number
 IsInside k (Emptying number) = IsNumber k number
 
--- One step of a seat with one pass: it took these actions and used this up, and now it does this
--- work
+-- One step of a seat with one pass: it took these actions, used these numbers and look-ups, and now
+-- has this work
 pub record Stepped (m : Sat) (actions : List Action) (used : Use) (w : Work) (c : Change)
     (m' : Sat) : Type 0 where
   pub one : (x : Log) × (m'.0.logs ≡ x ∷ [])
@@ -50,26 +50,26 @@ pub record Stepped (m : Sat) (actions : List Action) (used : Use) (w : Work) (c 
   pub start : m'.0.start ≡ m.0.start
   pub steps : steps_of m'.0 ≡ steps_of m.0 + 1
 
--- what a pass does that found this file
+-- the work of a pass that found this file
 abbrev pub holds_now : Option File → Work
 holds_now None = Between Idle
 holds_now (Some f) = Between (Holding f)
 
--- what a pass in a change has to tell when a slot had so many files, and has so many now
+-- the difference that a pass has to report if a slot had `old` files and now has `new`, each 0 or 1
 abbrev pub changed : ℕ → ℕ → Change
 changed zero zero = Same
 changed zero (suc new) = More
 changed (suc old) zero = Less
 changed (suc old) (suc new) = Same
 
--- a pass tells of the range alone
+-- a pass reports changes of slots in the range only
 abbrev pub turned : Change → ℕ → ℕ → Change
 turned Outside old new = Outside
 turned Same old new = changed old new
 turned More old new = More
 turned Less old new = Less
 
--- Birth: the place of the next number is with the pass
+-- Birth: the pass has the place of its next number
 pub record Births (st : At) (m : Sat) (found : ℕ) (m' : Sat) : Type 0 where
   pub stepped : let next = next_number (opening_of m.0.start) (pass_of m.0) in
       Stepped m [] no_use (Placing next) m.0.change m'
@@ -104,30 +104,30 @@ pub record Removes (action : ℕ → Option File → Action)
       (Between (retiring file (takes_in found))) (turned m.0.change (if_full file) 0) m'
   pub carried : m'.1 ≡ m.1
 
--- the file of the pass is closed, and with the pass
+-- the pass's file is closed, and the pass has it
 pub record TakesOut (m : Sat) (actions : List Action) (f : File) (m' : Sat) : Type 0 where
   pub stepped : Stepped m (actions ▷ Close f) no_use (Emptying f.number) m.0.change m'
   pub carried : m'.1 ≡ (home_place (slots_of m.0.start) f.number, Some f.identity) ∷ m.1
 
--- the file of the pass stays open, and the pass has done with it
+-- the pass's file stays open, and the pass is idle
 pub record LetsGo (m : Sat) (actions : List Action) (m' : Sat) : Type 0 where
   pub stepped : Stepped m actions no_use (Between Idle) m.0.change m'
   pub carried : m'.1 ≡ m.1
 
--- Retire: where the word was what was subtracted, nobody holds the file
+-- Retire: if the word equals what was subtracted, the file has no holds
 pub record Retires (st : At) (m : Sat) (found : ℕ) (m' : Sat) : Type 0 where
   pub waits : (f : File) (takes : ℕ) → m.0.work ≡ Between (Retiring f takes) → found ≢ st.first
       → LetsGo m [] m' × (0 < (state_after_all m.0.start (pass_of m'.0).front).holds f.number)
   pub closes : (f : File) (takes : ℕ) → m.0.work ≡ Between (Retiring f takes) → found ≡ st.first
       → TakesOut m [] f m'
 
--- Release: where the word was 1, it was the last hold of a retired file
+-- Release: if the word was 1, it was the last hold of a retired file
 pub record Releases (st : At) (m : Sat) (found : ℕ) (m' : Sat) : Type 0 where
   pub waits : (f : File) → m.0.work ≡ Between (Holding f) → found ≢ 1 → LetsGo m ([] ▷ Release f) m'
   pub closes : (f : File) → m.0.work ≡ Between (Holding f) → found ≡ 1
       → TakesOut m ([] ▷ Release f) f m'
 
--- Rest: the place is home, without a file
+-- Rest: the place is home, and empty
 pub record Rests (st : At) (m : Sat) (found : ℕ) (m' : Sat) : Type 0 where
   pub stepped : Stepped m [] no_use (Between Idle) m.0.change m'
   pub carried : m'.1 ≡ rest m.1
@@ -137,7 +137,7 @@ pub record GoesOn (change : Change) (st : At) (m : Sat) (found : ℕ) (m' : Sat)
   pub stepped : Stepped m [] no_use m.0.work change m'
   pub carried : m'.1 ≡ m.1
 
--- Answer: where the word said so, every slot of the range was full
+-- Answer: if the word says so, every slot of the range was full
 pub record Answers (st : At) (m : Sat) (found : ℕ) (m' : Sat) : Type 0 where
   pub full : found ≡ full_word_of (range_of (opening_of m.0.start)).1
       → Stepped m ([] ▷ Full) no_use m.0.work Outside m'
@@ -154,16 +154,16 @@ pub record Exchanges (st : At) (m : Sat) (found : ℕ) (m' : Sat) : Type 0 where
       × (m'.1 ≡ rest m.1)
   pub loses : found ≢ st.first → Stepped m [] no_use m.0.work m.0.change m' × (m'.1 ≡ m.1)
 
--- the chain that a draw gives which found this word
+-- the chain that a draw which found this word returns
 abbrev pub chain_given : ℕ → ℕ → Option ℕ
 chain_given chains found = if nat_lt found chains then Some (found + 1) else None
 
--- Draw: the pass has the next chain, or gets `None`
+-- Draw: the pass gets the next chain, or `None`
 pub record DrawTells (st : At) (m : Sat) (found : ℕ) (m' : Sat) : Type 0 where
   pub one : (x : Log) × (m'.0.logs ≡ x ∷ [])
   pub draws : Draws (opening_of m.0.start) (pass_of m.0) (chain_given m.0.start.chains found)
       (pass_of m'.0)
-  -- a pass alone found the number of its last chain
+  -- a table's only pass found the number of its last chain
   pub alone : m.0.start.passes ≡ 1 → found ≡ (pass_of m.0).chain
   pub same : (m'.0.work ≡ m.0.work) × (m'.0.change ≡ m.0.change) × (m'.0.start ≡ m.0.start)
       × (m'.1 ≡ m.1)

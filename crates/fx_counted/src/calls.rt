@@ -1,5 +1,4 @@
-//! The calls of a pass that wait for nobody, take no memory and try nothing again: each makes at most as many atomic
-//! steps as its clause says.
+//! The calls of a pass that never wait, allocate or retry: each makes at most as many atomic steps as its clause says.
 ghost use Rattle.std.specs.Prelude.{◌≡◌, ◌+◌, ◌<◌, ◌≤◌, true, Option, option_map};
 ghost use Rattle.fx_plain.specs.declared.event.File.{File};
 ghost use Rattle.fx_table.specs.Settling.{DrawsNext};
@@ -19,9 +18,9 @@ use fx_table::{Empty, FIRST_CHAIN_NUMBER, Hold, LookFault, Retired};
 use fx_words::{entry_of, node_of, retire_amount, slot_word, takes_of};
 
 impl CountedTable {
-    /// Gives an idle pass (`is_idle`) its next chain, by at most one atomic step. No two passes get the same chain, and
-    /// each chain of a pass is greater than the one before. `None` says that all chains are given: from then on the pass
-    /// gets `None`, without a step.
+    /// Draws the next chain for an idle pass (`is_idle`), in at most one atomic step. No two passes get the same chain,
+    /// and the chains of a pass rise. Returns `None` if all chains are drawn; from then on each draw of the pass
+    /// returns `None`, without a step.
     pub fn draw(&self, pass: &mut CountedPass) -> Option<u32>
         requires fits { IsPassOfTable self.now pass.old }
         requires idle { IsIdle (view_of pass.old) }
@@ -48,12 +47,12 @@ impl CountedTable {
         Some(chain)
     }
 
-    /// Looks a slot below `size` up, by an idle pass (`is_idle`), in one atomic step. The file there has one more hold
-    /// until the pass releases it (io_uring_enter(2), "IOSQE_FIXED_FILE").
+    /// Looks up a slot below `size`, for an idle pass (`is_idle`), in at most one atomic step. The file there has one
+    /// more hold until the pass releases it (io_uring_enter(2), "IOSQE_FIXED_FILE").
     ///
     /// # Errors
-    /// `Spent` where the pass has no look-ups left (`looks_left`), and nothing is done. `Empty` where the slot has no
-    /// file. Every look-up but one that answers `Spent` uses one of the pass's look-ups.
+    /// `Spent` if the pass has no look-ups left (`looks_left`); then nothing changes. `Empty` if the slot has no file.
+    /// Each look-up uses one of the pass's look-ups unless it returns `Spent`.
     pub fn look(&self, pass: &mut CountedPass, slot: u32) -> Result<Hold, LookFault>
         requires fits { IsPassOfTable self.now pass.old }
         requires idle { IsIdle (view_of pass.old) }
@@ -83,8 +82,8 @@ impl CountedTable {
         }
     }
 
-    /// Gives up what the pass looked up, by the `Hold` that it got, in at most two atomic steps. The file comes out, to be
-    /// closed, where it was retired and this was its last hold. Then the pass is idle.
+    /// Releases the file that the pass looked up, by the `Hold` that it got, in at most two atomic steps. Returns the
+    /// file, to be closed, if it was retired and this was its last hold. Afterwards the pass is idle.
     pub fn release(&self, pass: &mut CountedPass, hold: Hold) -> Option<OpenFile>
         requires fits { IsPassOfTable self.now pass.old }
         requires held { IsHoldOf (view_of pass.old) hold }
@@ -106,8 +105,8 @@ impl CountedTable {
         Some(self.take_out(&mut pass.seat, node))
     }
 
-    /// Retires the file that the pass removed, by the `Retired` that it got, in at most two atomic steps. The file comes
-    /// out, to be closed, where nobody holds it now; else its last release hands it out. Then the pass is idle.
+    /// Retires the file that the pass removed, by the `Retired` that it got, in at most two atomic steps. Returns the
+    /// file, to be closed, if it has no holds now; otherwise its last release returns it. Afterwards the pass is idle.
     pub fn retire(&self, pass: &mut CountedPass, retired: Retired) -> Option<OpenFile>
         requires fits { IsPassOfTable self.now pass.old }
         requires removed { IsRetiredOf (view_of pass.old) retired }
@@ -134,8 +133,8 @@ impl CountedTable {
         Some(self.take_out(&mut pass.seat, node))
     }
 
-    /// Installs a file at a slot below `size`, under the next number of an idle pass (`is_idle`) that has one
-    /// (`numbers_left`), in at most four atomic steps. The file that it replaced is to be retired
+    /// Installs a file at a slot below `size`, under the next number of an idle pass (`is_idle`) that has one left
+    /// (`numbers_left`), in at most four atomic steps. Returns the file that it replaced, to be retired, or `None`
     /// (io_uring_prep_openat(3), `io_uring_prep_openat_direct`).
     pub fn put(&self, pass: &mut CountedPass, slot: u32, file: OpenFile) -> Option<Retired>
         requires fits { IsPassOfTable self.now pass.old }
@@ -166,8 +165,9 @@ impl CountedTable {
         replaced
     }
 
-    /// Empties a slot below `size` for an update, by an idle pass (`is_idle`), in at most three atomic steps. The file that
-    /// was there is to be retired (io_uring_register(2), "IORING_REGISTER_FILES_UPDATE", an entry of -1).
+    /// Empties a slot below `size` for an update, for an idle pass (`is_idle`), in at most three atomic steps. Returns
+    /// the file that was there, to be retired, or `None` (io_uring_register(2), "IORING_REGISTER_FILES_UPDATE", an
+    /// entry of -1).
     pub fn clear(&self, pass: &mut CountedPass, slot: u32) -> Option<Retired>
         requires fits { IsPassOfTable self.now pass.old }
         requires idle { IsIdle (view_of pass.old) }
@@ -192,11 +192,11 @@ impl CountedTable {
         removed
     }
 
-    /// Empties a slot below `size` for a close, by an idle pass (`is_idle`), in at most three atomic steps. The file that was
-    /// there is to be retired (io_uring_prep_close(3), `io_uring_prep_close_direct`).
+    /// Empties a slot below `size` for a close, for an idle pass (`is_idle`), in at most three atomic steps. Returns
+    /// the file that was there, to be retired (io_uring_prep_close(3), `io_uring_prep_close_direct`).
     ///
     /// # Errors
-    /// `Empty` where the slot has no file.
+    /// `Empty` if the slot has no file.
     pub fn take(&self, pass: &mut CountedPass, slot: u32) -> Result<Retired, Empty>
         requires fits { IsPassOfTable self.now pass.old }
         requires idle { IsIdle (view_of pass.old) }
@@ -221,7 +221,7 @@ impl CountedTable {
         removed.ok_or(Empty)
     }
 
-    // The number that the pass's next installation uses.
+    // Returns the number that the pass's next installation uses.
     pub(crate) fn next_number(&self, pass: &CountedPass) -> u32
         requires fits { IsPassOfTable self.now pass.now }
         ensures number { result ≡ next_number (opening_of_table self.now) (view_of pass.now) }
@@ -230,7 +230,7 @@ impl CountedTable {
     }
 }
 
-// The file that a slot's word names, as it is to be retired.
+// Returns the file that a slot's word names, to be retired, or `None`.
 fn removed_in(word: u64) -> Option<Retired>
     ensures { (file : Option File) → Names word file
         → result ≡ option_map (λ f. retired_of f (takes_in word)) file }

@@ -1,4 +1,4 @@
-//! How a table is closed.
+//! Closing a table.
 ghost use Rattle.std.specs.Prelude.{◌≡◌, ◌<◌, ◌++◌, length, map, reverse, slice_set, All, None};
 ghost use Rattle.std.specs.Mem.Slots.{slots_items, slots_len, IsFull};
 ghost use mathlib.Core.Option.{some};
@@ -21,8 +21,8 @@ use fx_words::node_of;
 use std::alloc::Global;
 
 impl CountedTable {
-    // Makes a table of one thread of it again, when all passes have come back, each of them idle (`is_idle`): as many as
-    // `open` gave, in any order. It takes no memory, and so can't fail for want of it.
+    // Turns the table back into a table of one thread, after all its passes have come back, idle (`is_idle`): as many
+    // as `open` returned, in any order. It allocates nothing, so it can't run out of memory.
     pub(crate) fn close(self, mut passes: Vec<CountedPass>) -> PlainTable
         requires all { length passes.items ≡ (opening_of_table self).passes }
         requires ready { All (λ p. IsPassOfTable self p × IsIdle (view_of p)) passes.items }
@@ -35,7 +35,7 @@ impl CountedTable {
         self.finish(seat)
     }
 
-    // Shows the only pass of a table all that has happened, while it does nothing.
+    // Establishes for the only pass of a table, while it is idle, that its events are the whole history.
     pub(crate) fn settle(&self, pass: &mut CountedPass)
         requires alone { (opening_of_table self.now).passes ≡ 1 }
         requires fits { IsPassOfTable self.now pass.old }
@@ -47,7 +47,7 @@ impl CountedTable {
         self.table.shared.load::<Observe>(&mut pass.seat, CONTROL);
     }
 
-    // All passes in one seat.
+    // Joins all passes in one seat.
     fn gather(
         &self,
         mut seat: Seat<Option<OpenFile>, View>,
@@ -66,7 +66,7 @@ impl CountedTable {
         seat
     }
 
-    // The table that comes back, when all passes are in one seat: its files come out of their places.
+    // Takes the files out of their places and into the table of one thread, when all passes are in one seat.
     fn finish(self, seat: Seat<Option<OpenFile>, View>) -> PlainTable
         requires fits { seat.table_id ≡ self.table.shared.table_id }
         requires idle { AllAreIdle self.table.shared.key seat.id seat.me.0 }
@@ -99,7 +99,7 @@ impl CountedTable {
     }
 }
 
-// What lies in a place comes out, and nothing is left there.
+// Takes the content of a place, and leaves the place empty.
 fn take_home(closed: &mut Closed<Option<OpenFile>, Global>, place: usize) -> Option<OpenFile>
     requires inside { place < slots_len closed.old.slots }
     requires full { IsFull closed.old.slots }

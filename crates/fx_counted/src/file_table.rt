@@ -1,4 +1,4 @@
-//! The table without a lock is a shared table. Of its calls `put_any` alone may wait.
+//! The implementation of `FileTable` for the lock-free table. Of its calls only `put_any` may wait.
 ghost use Rattle.std.specs.Prelude.{◌≡◌, length, map, All};
 ghost use Rattle.fx_table.specs.Closing.{ClosesTable};
 ghost use Rattle.fx_table.specs.Pass.{IsIdle};

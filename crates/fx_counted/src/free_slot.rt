@@ -1,4 +1,4 @@
-//! How a pass finds a free slot of the allocation range, or learns that there is none.
+//! The search for an empty slot of the allocation range.
 ghost use Rattle.std.specs.Prelude.{◌≡◌, ◌<◌, true, IfSome, None};
 ghost use Rattle.fx_table.specs.Calls.{Allocated};
 ghost use Rattle.fx_table.specs.Pass.{IsIdle};
@@ -20,7 +20,7 @@ use std::sync::Wait;
 use std::thread;
 
 impl CountedTable {
-    // Whether the file went to the slot, which was free then.
+    // Tries to install the file at the slot. Returns whether the slot was empty and now has the file.
     fn try_slot(
         &self,
         seat: &mut Seat<Option<OpenFile>, View>,
@@ -45,7 +45,7 @@ impl CountedTable {
         shared.compare_exchange::<Exchange>(seat, place, found, word) == found
     }
 
-    // The first slot of the range that was free when the scan came to it, with the file.
+    // Installs the file at the first slot of the range that is empty when the scan reaches it, and returns that slot.
     fn scan(
         &self,
         seat: &mut Seat<Option<OpenFile>, View>,
@@ -69,7 +69,8 @@ impl CountedTable {
         None
     }
 
-    // One round: a scan in a change, which ends with the slot that was found, or with the question whether all are full.
+    // Makes one round: a scan in a change. The end of the change reports the slot that was found, or checks whether all
+    // slots are full.
     fn round(&self, seat: &mut Seat<Option<OpenFile>, View>, number: u32, file: Closed) -> Round
         requires table { seat.old.table_id ≡ self.now.table.shared.table_id }
         requires placing { IsPlacing self.now.table.shared.key number file seat.old.me }
@@ -96,11 +97,11 @@ impl CountedTable {
         }
     }
 
-    // Installs a file at a free slot of the allocation range, under the next number of an idle pass (`is_idle`) that has
-    // one (`numbers_left`). The answer is the slot (io_uring_prep_openat(3), "IORING_FILE_INDEX_ALLOC").
-    // It goes over the range in rounds until it has found a free slot, or every slot was full at one moment, and yields
-    // its thread between two rounds.
-    // The file comes back where every slot of the range has a file (ENFILE). It costs no number.
+    // Installs a file at an empty slot of the allocation range, under the next number of an idle pass (`is_idle`) that
+    // has one left (`numbers_left`), and returns the slot (io_uring_prep_openat(3), "IORING_FILE_INDEX_ALLOC"). It
+    // scans the range in rounds until it finds an empty slot, or every slot was full at one moment, and yields its
+    // thread between two rounds. Returns the file if every slot of the range has a file (ENFILE). No number is used
+    // then.
     pub(crate) fn put_any<R: Wait>(
         &self,
         rt: &R,
@@ -126,7 +127,7 @@ impl CountedTable {
         }
     }
 
-    // Rounds until one answers.
+    // Makes rounds until one has a result.
     fn rounds<R: Wait>(
         &self,
         rt: &R,

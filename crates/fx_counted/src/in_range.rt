@@ -1,5 +1,5 @@
-// A change of a slot is told in the control word where the slot is in the allocation range: the pass begins before it,
-// and ends behind it.
+//! Changes of slots in the allocation range, which the control word counts: the pass begins a change before it writes
+//! the slot's word, and ends it afterwards.
 ghost use Rattle.std.specs.Prelude.{◌≡◌, []};
 ghost use Rattle.fx_table.specs.Calls.{no_use};
 ghost use Rattle.fx_counted.specs.Changing.{IsAtWork, InRange, begun, HasToTell};
@@ -15,7 +15,7 @@ use fx_base::OpenFile;
 use fx_words::{begin_amount, end_amount};
 
 impl CountedTable {
-    // Begins a change where the slot is in the range. Whether it is.
+    // Begins a change if the slot is in the range, and returns whether it is.
     pub(crate) fn begin(&self, seat: &mut Seat<Option<OpenFile>, View>, slot: u32) -> bool
         requires table { seat.old.table_id ≡ self.now.table.shared.table_id }
         requires seated { IsAtWork self.now.table.shared.key seat.old.me }
@@ -33,7 +33,7 @@ impl CountedTable {
         inside
     }
 
-    // Ends the change that was begun, if one was, and tells by how much the number of full slots has become greater.
+    // Ends the change, if one was begun, and reports the difference in the number of full slots.
     pub(crate) fn end(&self, seat: &mut Seat<Option<OpenFile>, View>, began: bool, delta: i32)
         requires table { seat.old.table_id ≡ self.now.table.shared.table_id }
         requires seated { IsAtWork self.now.table.shared.key seat.old.me }

@@ -1,9 +1,9 @@
-//! The rule of the table without a lock, and its fourteen kinds of step.
+//! The rule of the lock-free table, and its fourteen kinds of step.
 use crate::view::{Start, View};
 use atomic_table::{Join, Play, Split, TableRule};
 use fx_base::OpenFile;
 
-/// The rule: words, places and passes agree with the state that one legal history leads to.
+/// The rule of the shared table: words, places and passes agree with the state that one legal history leads to.
 pub struct OneHistory;
 
 impl TableRule<Option<OpenFile>, View, Start> for OneHistory {
@@ -15,7 +15,7 @@ impl TableRule<Option<OpenFile>, View, Start> for OneHistory {
     ghost first = { first_view };
 }
 
-/// Split: the first pass of a seat goes to a seat of its own.
+/// The split of a seat: its first pass gets a seat of its own.
 pub struct Deal;
 
 impl Split<View> for Deal {
@@ -26,7 +26,7 @@ impl Split<View> for Deal {
     ghost right = { first_alone };
 }
 
-/// Join: a seat takes in the passes of another.
+/// The join of two seats: one takes in the passes of the other.
 pub struct Gather;
 
 impl Join<View> for Gather {
@@ -37,7 +37,8 @@ impl Join<View> for Gather {
     ghost spent = { spent };
 }
 
-/// Birth: the place of the pass's next number goes to the pass, and its word says that no release has been.
+/// The birth of a file's number: the pass takes the place of its next number, whose word then says that there was no
+/// release.
 pub struct Birth;
 
 impl Play<Option<OpenFile>, View> for Birth {
@@ -46,7 +47,7 @@ impl Play<Option<OpenFile>, View> for Birth {
     ghost then = { Births };
 }
 
-/// Look: one take more in the slot's word, and one hold more of its file.
+/// The look-up: one more take in the slot's word, and one more hold of its file.
 pub struct Look;
 
 impl Play<Option<OpenFile>, View> for Look {
@@ -55,7 +56,7 @@ impl Play<Option<OpenFile>, View> for Look {
     ghost then = { Looks };
 }
 
-/// Install: the file that the pass places goes to a slot, in place of what was there.
+/// The installation: the file that the pass places goes to a slot and replaces the one there.
 pub struct Install;
 
 impl Play<Option<OpenFile>, View> for Install {
@@ -64,7 +65,8 @@ impl Play<Option<OpenFile>, View> for Install {
     ghost then = { Installs };
 }
 
-/// Retire: the takes of a removed file turn its node word into the holds that are left. Where none is, the file goes to the pass.
+/// The retirement: the takes of a removed file turn its node word into the number of holds. If there are none, the pass
+/// gets the file.
 pub struct Retire;
 
 impl Play<Option<OpenFile>, View> for Retire {
@@ -73,7 +75,7 @@ impl Play<Option<OpenFile>, View> for Retire {
     ghost then = { Retires };
 }
 
-/// Release: one hold less in the node word. Where none is left of a retired file, the file goes to the pass.
+/// The release: one hold less in the node word. If none is left of a retired file, the pass gets the file.
 pub struct Release;
 
 impl Play<Option<OpenFile>, View> for Release {
@@ -82,7 +84,7 @@ impl Play<Option<OpenFile>, View> for Release {
     ghost then = { Releases };
 }
 
-/// Rest: the place of a number goes home without a file.
+/// The return of a number's place, without a file.
 pub struct Rest;
 
 impl Play<Option<OpenFile>, View> for Rest {
@@ -91,7 +93,7 @@ impl Play<Option<OpenFile>, View> for Rest {
     ghost then = { Rests };
 }
 
-/// Answer: a pass that found no slot free reads whether all of them are full.
+/// The end of a change that installed nothing: the pass reads whether all slots of the range are full.
 pub struct Answer;
 
 impl Play<Option<OpenFile>, View> for Answer {
@@ -100,7 +102,7 @@ impl Play<Option<OpenFile>, View> for Answer {
     ghost then = { Answers };
 }
 
-/// Exchange: the file that the pass places goes to a slot that is still empty.
+/// The exchange: the file that the pass places goes to a slot if that is still empty.
 pub struct Exchange;
 
 impl Play<Option<OpenFile>, View> for Exchange {
@@ -109,7 +111,7 @@ impl Play<Option<OpenFile>, View> for Exchange {
     ghost then = { Exchanges };
 }
 
-/// Draw: the next chain is the pass's, if there is one.
+/// The draw: the pass gets the next chain, if there is one.
 pub struct Draw;
 
 impl Play<Option<OpenFile>, View> for Draw {
@@ -118,7 +120,7 @@ impl Play<Option<OpenFile>, View> for Draw {
     ghost then = { DrawTells };
 }
 
-/// Swap: a slot is emptied for an update.
+/// The swap that empties a slot for an update.
 pub struct Clear;
 
 impl Play<Option<OpenFile>, View> for Clear {
@@ -128,7 +130,7 @@ impl Play<Option<OpenFile>, View> for Clear {
     ghost then = { Removes Clear };
 }
 
-/// Swap: a slot is emptied for a close.
+/// The swap that empties a slot for a close.
 pub struct Take;
 
 impl Play<Option<OpenFile>, View> for Take {
@@ -138,7 +140,7 @@ impl Play<Option<OpenFile>, View> for Take {
     ghost then = { Removes Take };
 }
 
-/// Begin: the pass is about to change a slot of the range.
+/// The beginning of a change of a slot in the range.
 pub struct Begin;
 
 impl Play<Option<OpenFile>, View> for Begin {
@@ -148,7 +150,7 @@ impl Play<Option<OpenFile>, View> for Begin {
     ghost then = { GoesOn Same };
 }
 
-/// End: the pass tells how its change has changed the number of full slots.
+/// The end of a change: the pass reports the difference in the number of full slots.
 pub struct End;
 
 impl Play<Option<OpenFile>, View> for End {
@@ -158,7 +160,7 @@ impl Play<Option<OpenFile>, View> for End {
     ghost then = { GoesOn Outside };
 }
 
-/// Load: a pass in a change reads a slot's word.
+/// The load of a slot's word by a pass in a change.
 pub struct Load;
 
 impl Play<Option<OpenFile>, View> for Load {
@@ -168,7 +170,7 @@ impl Play<Option<OpenFile>, View> for Load {
     ghost then = { GoesOn Same };
 }
 
-/// Observe: nothing changes. It tells that the rule holds, of some state with this seat in it.
+/// A step that changes nothing. It yields that the rule holds in some state with this seat in it.
 pub struct Observe;
 
 impl Play<Option<OpenFile>, View> for Observe {

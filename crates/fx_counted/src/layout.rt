@@ -1,23 +1,23 @@
-//! Where the words and the open files of a table lie. What a pass changes at one call lies on a cache line that no
-//! other slot's calls change: a slot's word has next to it the node word of the number that the slot has at first, and
-//! nothing else (this project's own).
+//! The places of a table's words and open files. The words that a pass changes at one call are on a cache line that no
+//! other slot's calls change: a slot's word is next to the node word of the number that the slot has at first, and
+//! nothing else is on that line (this project's own).
 ghost use Rattle.std.specs.Prelude.{◌≡◌, ◌<◌, ◌≤◌};
 ghost use Rattle.fx_plain.specs.declared.table.TheConstants.{MOST_SLOTS};
 ghost use Rattle.fx_counted.specs.Layout.{control_place, draw_place, slot_place, node_place, words_for, home_place, homes_for, HasNode};
 
 use fx_table::{CHAIN_NUMBERS, FIRST_CHAIN_NUMBER, MAX_CHAINS};
 
-/// How many numbers the chains of a table have together at most.
+/// The greatest number of file numbers of all chains of a table together.
 pub const MOST_NUMBERS: u32 = CHAIN_NUMBERS * MAX_CHAINS;
 
-/// Where the control word lies.
+/// The place of the control word.
 pub const CONTROL: usize = 0;
 
-/// Where the draw word lies.
+/// The place of the draw word.
 pub const DRAW: usize = 8;
 
-/// How many words a table of so many slots, at most [`fx_plain::MOST_SLOTS`], has, whose chains have so many numbers
-/// together.
+/// Returns the number of words of a table of `size` slots, at most [`fx_plain::MOST_SLOTS`], whose chains have
+/// `numbers` numbers together, at most [`MOST_NUMBERS`].
 pub fn words_for(size: u32, numbers: u32) -> usize
     requires size { size ≤ MOST_SLOTS }
     requires numbers { numbers ≤ MOST_NUMBERS }
@@ -26,7 +26,7 @@ pub fn words_for(size: u32, numbers: u32) -> usize
     (16 + 8 * size + numbers) as usize
 }
 
-/// How many places for open files it has.
+/// Returns the number of places for open files of such a table.
 pub fn homes_for(size: u32, numbers: u32) -> usize
     requires size { size ≤ MOST_SLOTS }
     requires numbers { numbers ≤ MOST_NUMBERS }
@@ -35,7 +35,7 @@ pub fn homes_for(size: u32, numbers: u32) -> usize
     (size + numbers) as usize
 }
 
-/// Where the word of a slot lies.
+/// Returns the place of a slot's word.
 pub fn slot_place(slot: u32) -> usize
     requires { slot < MOST_SLOTS }
     ensures { result ≡ slot_place slot }
@@ -43,7 +43,7 @@ pub fn slot_place(slot: u32) -> usize
     16 + 8 * slot as usize
 }
 
-/// Where the node word of a number lies, which is that of a slot or of a chain.
+/// Returns the place of a number's node word. Requires that the number is that of a slot or of a chain.
 pub fn node_place(size: u32, number: u32) -> usize
     requires size { size ≤ MOST_SLOTS }
     requires number { HasNode size MOST_NUMBERS number }
@@ -56,7 +56,7 @@ pub fn node_place(size: u32, number: u32) -> usize
     }
 }
 
-/// Where the open file of a number lies.
+/// Returns the place of a number's open file. Requires that the number is that of a slot or of a chain.
 pub fn home_place(size: u32, number: u32) -> usize
     requires size { size ≤ MOST_SLOTS }
     requires number { HasNode size MOST_NUMBERS number }

@@ -1,4 +1,4 @@
-// An open file goes into the place of its number, or comes out, while the pass of a seat has the place.
+//! Putting an open file into the place of its number, and taking it out, while the seat's pass has the place.
 ghost use Rattle.std.specs.Prelude.{◌≡◌, [], Some};
 ghost use Rattle.fx_base.specs.declared.open_file.Closed.{Closed};
 ghost use Rattle.fx_table.specs.Calls.{no_use};
@@ -14,11 +14,11 @@ use crate::view::View;
 use atomic_table::Seat;
 use fx_base::OpenFile;
 
-// The word of a number whose file was not released yet.
+// The node word of a number before the first release of its file.
 pub(crate) const BORN: u64 = 1 << 32;
 
 impl CountedTable {
-    // The place of the pass's next number comes to the pass, and the file goes into it.
+    // Takes the place of the pass's next number, and puts the file into it.
     pub(crate) fn put_in(
         &self,
         seat: &mut Seat<Option<OpenFile>, View>,
@@ -39,7 +39,7 @@ impl CountedTable {
         let None = before else { unreachable!() };
     }
 
-    // The file comes out of the place of its number, and the place goes home.
+    // Takes the file out of the place of its number, and returns the place.
     pub(crate) fn take_out(&self, seat: &mut Seat<Option<OpenFile>, View>, number: u32) -> OpenFile
         requires table { seat.old.table_id ≡ self.now.table.shared.table_id }
         requires place { let k = self.now.table.shared.key in

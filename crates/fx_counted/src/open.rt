@@ -1,4 +1,4 @@
-//! How a table is opened.
+//! Opening a table.
 ghost use Rattle.std.specs.Prelude.{◌≡◌, ◌+◌, ◌*◌, ◌<◌, ◌≤◌, [], length, map, slice_set, All, IfOk, IfErr, OnOk, OnErr, vec_len, vec_capacity};
 ghost use Rattle.fx_plain.specs.State.{IsSettled};
 ghost use Rattle.fx_plain.specs.Contents.{state_of, IsPrepared};
@@ -29,9 +29,9 @@ use std::alloc::Global;
 use std::snapshot::Snapshot;
 
 impl CountedTable {
-    // Shares a settled table (`PlainTable::is_settled`) between `passes` passes, 1 to `fx_table::MAX_PASSES`, which play
-    // `chains` chains, at most `fx_table::MAX_CHAINS`, each of which has `fx_table::CHAIN_NUMBERS` file numbers.
-    // `NoMemory` where memory is refused. The table comes back settled, with its files, size and range.
+    // Shares a settled table (`PlainTable::is_settled`) between `passes` passes, 1 to `fx_table::MAX_PASSES`, which
+    // play `chains` chains, at most `fx_table::MAX_CHAINS`, each with `fx_table::CHAIN_NUMBERS` file numbers. Returns
+    // `NoMemory` if an allocation fails; the table then comes back settled, with its files, size and range.
     pub(crate) fn open(
         alloc: Global,
         plain: PlainTable,
@@ -52,9 +52,9 @@ impl CountedTable {
         CountedTable::open_for(alloc, plain, chains, CHAIN_NUMBERS, passes)
     }
 
-    // The same, where each chain has so many file numbers, at most `fx_table::CHAIN_NUMBERS`. The file at slot `s` has
-    // number `s`, and chain `c`, from 1, the numbers from `256 + numbers * (c - 1)` on. The passes are numbered from 1, in
-    // the list's order. All memory is taken here.
+    // Does the same for chains with `numbers` file numbers each, at most `fx_table::CHAIN_NUMBERS`. The file at slot
+    // `s` gets number `s`, and chain `c`, from 1, the numbers from `256 + numbers * (c - 1)` on. The passes are
+    // numbered from 1, in the order of the list. All memory is allocated here.
     pub(crate) fn open_for(
         alloc: Global,
         plain: PlainTable,
@@ -89,7 +89,7 @@ impl CountedTable {
         }
     }
 
-    // The shared table, and a seat with all passes.
+    // Creates the shared table, and a seat with all passes.
     fn start(
         alloc: Global,
         mut plain: PlainTable,
@@ -141,7 +141,7 @@ impl CountedTable {
         }
     }
 
-    // Each pass gets a seat of its own.
+    // Gives each pass a seat of its own.
     fn deal(&self, mut seat: Seat<Option<OpenFile>, View>, list: &mut Vec<CountedPass>)
         requires seat { HasAllPasses self.now seat }
         requires list { (list.old.items ≡ []) × (self.now.passes ≤ vec_capacity list.old) }
@@ -159,7 +159,7 @@ impl CountedTable {
     }
 }
 
-// How many slots of the allocation range have a file.
+// Returns the number of slots of the allocation range that have a file.
 fn full_in_range(plain: &PlainTable, size: u32) -> u32
     requires { size ≡ (state_of plain.now).size }
     ensures full { let st = state_of plain.now in
@@ -179,7 +179,7 @@ fn full_in_range(plain: &PlainTable, size: u32) -> u32
     full
 }
 
-// The words of a slot with a file, whose number is the slot's, and of this number.
+// Writes the words of a slot with a file, and of its number, which is the slot's.
 fn write_slot(words: &mut Vec<u64>, slot: u32, entry: u8)
     requires slot { slot < MOST_SLOTS }
     requires inside { 17 + 8 * slot < vec_len words.old }
@@ -192,7 +192,7 @@ fn write_slot(words: &mut Vec<u64>, slot: u32, entry: u8)
     words[place + 1] = BORN;
 }
 
-// The words of a table with the files of this one, whose chains have so many numbers together.
+// Creates the words of a shared table with the files of this table, whose chains have `numbers` numbers together.
 fn first_words(alloc: Global, plain: &PlainTable, numbers: u32) -> Result<Vec<u64>, NoMemory>
     requires { numbers ≤ MOST_NUMBERS }
     ensures { IfOk result (λ words. AreFirstWords (state_of plain.now) numbers words.items) }
@@ -208,7 +208,7 @@ fn first_words(alloc: Global, plain: &PlainTable, numbers: u32) -> Result<Vec<u6
     Ok(words)
 }
 
-// The places of a table, with the files of this one, which loses them.
+// Creates the places of a shared table, and moves the files of this table into them.
 fn first_homes(
     alloc: Global,
     plain: &mut PlainTable,

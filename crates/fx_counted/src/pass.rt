@@ -1,3 +1,4 @@
+//! The passes of the lock-free table.
 ghost use Rattle.std.specs.Prelude.{◌≡◌};
 ghost use Rattle.fx_counted.specs.Lives.{IsNewPass};
 
@@ -6,11 +7,11 @@ use atomic_table::Seat;
 use fx_base::OpenFile;
 use fx_table::PASS_LOOKS;
 
-/// A pass of a [`crate::CountedTable`]. It is no `Drop`: a program that drops one is not accepted. Two passes that lie
-/// side by side in a list are 128 bytes apart, so that threads that use them share no cache line.
+/// A pass of a [`crate::CountedTable`]. It must be consumed: the compiler rejects a program that drops one. Two
+/// neighbouring passes of a list are 128 bytes apart, so that threads that use them share no cache line.
 pub struct CountedPass {
     pub(crate) seat: Seat<Option<OpenFile>, View>,
-    // The chain that was drawn last or 0, and whether there are no more.
+    // The chain that was drawn last, or 0, and whether there are no more.
     pub(crate) chain: u32,
     pub(crate) no_chains_left: bool,
     pub(crate) numbers_left: u32,
@@ -19,14 +20,14 @@ pub struct CountedPass {
     pub(crate) spacing: Spacing,
 }
 
-// What keeps a pass away from the next one: the fields before it take 16 bytes.
+// The distance between a pass and the next one: the fields before it take 16 bytes.
 #[derive(Drop)]
 pub(crate) struct Spacing {
     unused: [u64; 14],
 }
 
 impl CountedPass {
-    // The pass of a seat that has done nothing.
+    // Creates the pass of a seat that has made no step.
     pub(crate) fn new(seat: Seat<Option<OpenFile>, View>) -> CountedPass
         ensures { IsNewPass seat result }
     {
@@ -41,7 +42,7 @@ impl CountedPass {
         }
     }
 
-    // The seat of the pass.
+    // Returns the seat of the pass.
     pub(crate) fn into_seat(self) -> Seat<Option<OpenFile>, View>
         ensures { result ≡ self.seat }
     {

@@ -1,10 +1,11 @@
-// How a round of a pass that looks for a free slot ends.
+//! The result of a round of the search for an empty slot.
+
 #[derive(Clone, Copy)]
 pub(crate) enum Round {
     // The file is at the slot.
     At(u32),
     // Every slot of the range was full.
     AllFull,
-    // Another round is to be made.
+    // Some slot may have been empty: another round is needed.
     Again,
 }

@@ -1,4 +1,4 @@
-// The table of one thread from which a shared table was opened: its files go to the shared table, and come back.
+//! The table of one thread that a shared table was opened from: its files go to the shared table and come back.
 ghost use Rattle.std.specs.Prelude.{◌≡◌, ◌≤◌, None, length, ℕ, OnOk, OnErr};
 ghost use Rattle.fx_plain.specs.State.{IsSettled};
 ghost use Rattle.fx_plain.specs.Contents.{state_of, IsPrepared};
@@ -9,7 +9,7 @@ ghost use Rattle.fx_counted.specs.Shells.{IsShell, AreBack, file_in_place};
 use fx_base::{NoMemory, OpenFile};
 use fx_plain::PlainTable;
 
-// Takes the memory in which the files come back, unless it is there.
+// Allocates the memory that the files come back to, unless it is there.
 pub(crate) fn make_room(plain: &mut PlainTable) -> Result<(), NoMemory>
     requires { IsSettled (state_of plain.old) }
     ensures prepared { OnOk result (IsPrepared plain.new) }
@@ -23,7 +23,7 @@ pub(crate) fn make_room(plain: &mut PlainTable) -> Result<(), NoMemory>
     plain.prepare(size)
 }
 
-// All files come back, from the places where they would have lain.
+// Puts all files back at the slots of their places.
 pub(crate) fn put_all(plain: &mut PlainTable, mut places: Vec<Option<OpenFile>>)
     requires shell { IsShell (state_of plain.old) }
     requires prepared { IsPrepared plain.old }

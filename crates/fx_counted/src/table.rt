@@ -1,3 +1,4 @@
+//! The lock-free table.
 ghost use Rattle.std.specs.Prelude.{◌≡◌, ◌≤◌, ◌+◌, ◌*◌};
 ghost use Rattle.fx_table.specs.declared.limits.TheConstants.{CHAIN_NUMBERS, MAX_CHAINS, MAX_PASSES};
 ghost use Rattle.fx_table.specs.Opening.{size_of, range_of};
@@ -15,15 +16,16 @@ use fx_plain::PlainTable;
 use std::alloc::Global;
 
 /// A file table that threads share without a lock. A look-up is one atomic addition to the slot's word, and a release
-/// one subtraction from the word of the file's number; of all calls only `put_any` may wait. It is no `Drop`: a program
-/// that drops one is not accepted (this project's own).
+/// one subtraction from the word of the file's number; of all calls only `put_any` may wait. It must be consumed: the
+/// compiler rejects a program that drops one (this project's own).
 pub struct CountedTable {
     pub(crate) table: Table<Option<OpenFile>, View, Start, OneHistory, Global>,
-    // The table that was opened, without its files: they go back into it at the close, which so takes no memory.
+    // The table that was opened, without its files. They go back into it at the close, which therefore allocates
+    // nothing.
     pub(crate) shell: PlainTable,
     pub(crate) chains: u32,
     pub(crate) passes: u32,
-    // How many file numbers each chain has.
+    // The number of file numbers of each chain.
     pub(crate) numbers: u32,
     pub(crate) size: u32,
     pub(crate) range_start: u32,

@@ -1,23 +1,24 @@
+//! The values that contracts see of seats and passes.
 use fx_plain::{Event, PlainTable};
 use fx_table::Doing;
 use std::collections::LinkedList;
 use std::snapshot::Snapshot;
 
-/// What a table without a lock begins with, for contracts alone: the table that was opened, how many chains and passes
-/// there are, and how many file numbers each chain has.
+/// The start of a lock-free table, for contracts alone: the table that was opened, the numbers of chains and passes,
+/// and the number of file numbers of each chain.
 #[derive(Drop)]
 pub struct Start {
     /// The table as it was opened.
     pub plain: Snapshot<PlainTable>,
-    /// The chains are 1 to this number.
+    /// The number of chains; they are numbered from 1.
     pub chains: u32,
-    /// The passes are 1 to this number.
+    /// The number of passes; they are numbered from 1.
     pub passes: u32,
-    /// How many file numbers each chain has.
+    /// The number of file numbers of each chain.
     pub numbers: u32,
 }
 
-/// What one pass has seen and what is left to it, as contracts see it. No value of it is made.
+/// The events that one pass has seen, and its counters, as contracts see them. No code creates a value of it.
 pub struct Log {
     /// The number of the pass, from 1.
     pub number: u32,
@@ -25,47 +26,47 @@ pub struct Log {
     pub front: LinkedList<Event>,
     /// The chains that the pass drew, the last one first.
     pub drawn: LinkedList<u32>,
-    /// Whether a draw has answered that there are no more chains.
+    /// Whether a draw has returned `None`.
     pub no_chains_left: bool,
-    /// How many numbers of its last chain are left to the pass: they are the last ones.
+    /// The number of file numbers of its last chain that the pass has left; they are the last ones.
     pub numbers_left: u32,
-    /// How many look-ups are left to the pass.
+    /// The number of look-ups that the pass has left.
     pub looks_left: u32,
-    /// How many atomic steps the pass has made.
+    /// The number of atomic steps that the pass has made.
     pub steps: u64,
 }
 
-/// What the pass of a seat does between two steps, as contracts see it. No value of it is made.
+/// The activity of a seat's pass between two steps, as contracts see it. No code creates a value of it.
 pub enum Work {
-    /// What a pass of any shared table may do.
+    /// The activity of a pass of any shared table.
     Between(Doing),
-    /// It has the place of a number, whose file it is about to install.
+    /// The pass has the place of a number, whose file it is about to install.
     Placing(u32),
-    /// It has the place of a number, whose file is closed.
+    /// The pass has the place of a number, whose file is closed.
     Emptying(u32),
 }
 
-/// Whether a pass is about to change a slot of the allocation range, and by how much the number of full slots has
-/// become greater since it told so last, as contracts see it. No value of it is made.
+/// The change that a pass is in, if it is about to change a slot of the allocation range: the difference in the number
+/// of full slots that it hasn't reported yet, as contracts see it. No code creates a value of it.
 pub enum Change {
-    /// It is not.
+    /// The pass is in no change.
     Outside,
-    /// It is, and the number is the same.
+    /// The pass is in a change, and the number is the same.
     Same,
-    /// One slot more is full.
+    /// One more slot is full.
     More,
-    /// One slot less is full.
+    /// One slot fewer is full.
     Less,
 }
 
-/// What a seat at the table knows, as contracts see it. No value of it is made.
+/// The knowledge of a seat at the table, as contracts see it. No code creates a value of it.
 pub struct View {
-    /// What the table began with.
+    /// The start of the table.
     pub start: Start,
-    /// The passes of the seat: one, but while the table is opened and closed.
+    /// The passes of the seat: exactly one, except while the table is opened or closed.
     pub logs: LinkedList<Log>,
-    /// What the pass of the seat does now.
+    /// The activity of the seat's pass.
     pub work: Work,
-    /// What it has to tell of the full slots.
+    /// The change that the seat's pass is in.
     pub change: Change,
 }
