@@ -1,4 +1,4 @@
--- What holds of a submission without a fault.
+-- The properties of a submission without a fault.
 use Rattle.std.specs.Prelude.{◌≡◌, ◌+◌, ◌<◌, ◌≤◌, false, List, length, take, drop, All, None}
 use Rattle.fx_table.specs.declared.limits.TheConstants.{CHAIN_NUMBERS}
 use Rattle.fx_chain.specs.Operation.{Asked, is_fixed}
@@ -28,7 +28,7 @@ pub record IsShortRun (run : List Asked) : Type 0 where
 abbrev pub members_of : List Asked → Chain → List Asked
 members_of requests chain = take chain.len (drop chain.first requests)
 
--- a chain that stands in the submission, its members within the limits
+-- a chain of the submission, whose members are within the limits
 pub record IsChain (requests : List Asked) (chain : Chain) : Type 0 where
   pub inside : chain.first + chain.len ≤ length requests
   pub not_empty : 0 < chain.len

@@ -1,5 +1,5 @@
--- What a request may answer, by the steps that it made on a table of some size. Of the cases of a
--- request the first one that applies counts (io_uring_enter(2), io_uring_prep_openat(3),
+-- The answers that a request may get, by the steps that it made on a table of the given size. The
+-- first case of a request that applies counts (io_uring_enter(2), io_uring_prep_openat(3),
 -- io_uring_prep_close(3), io_uring_register_files(3); the order of the cases is this project's
 -- own).
 use Rattle.std.specs.Prelude.{◌≡◌, ◌⊎◌, ℕ, zero, suc, ◌+◌, ◌<◌, ℤ, pos, negsuc, ◌==◌, ◌||◌, nat_le}
@@ -25,8 +25,8 @@ use Rattle.fx_chain.specs.declared.completion.Place.{Place}
 use Rattle.fx_chain.specs.declared.request.Target.{Target}
 use Rattle.fx_chain.specs.declared.request.Target.TheVariants.{Slot, Any}
 
--- what a file is that a request installs: the place in the list is that of an update's entry, and 0
--- for an open; it has no tag
+-- the identity of a file that a request installs: the position in the list is that of an update's
+-- entry, and 0 for an open; it has no tag
 abbrev pub installed : Place → ℕ → ℕ → Identity
 installed place in_list entry = record {
   mark = Submitted place.submission place.chain place.member in_list;
@@ -38,7 +38,7 @@ installed place in_list entry = record {
 abbrev pub Refuses : Place → Errno → List Action → Completed → Type 0
 Refuses place errno events c = (events ≡ []) × (c ≡ refusal place errno)
 
--- behind these steps the file that was removed may be closed at once, or it is closed later
+-- after these steps the removed file is closed at once, or is not closed here
 abbrev pub MayClose : List Action → Option File → List Action → Type 0
 MayClose steps None events = events ≡ steps
 MayClose steps (Some removed) events = (events ≡ steps) ⊎ (events ≡ steps ▷ Close removed)
@@ -71,8 +71,8 @@ TakesAt place slot events c =
     ⊎ ((removed : File) × MayClose ([] ▷ Take slot (Some removed)) (Some removed) events
     × (c ≡ completed place (pos 0) []))
 
--- one entry of an update: its place in the list, and its slot. -1 empties the slot, another number
--- of 0 or more installs that catalogue entry, and the others leave the slot
+-- one entry of an update: its position in the list, and its slot. -1 empties the slot, a number of
+-- 0 or more installs that catalogue entry, and any other number leaves the slot
 abbrev pub AppliesEntry : Place → ℕ → ℕ → ℤ → List Action → Type 0
 AppliesEntry place in_list slot (pos entry) events =
     (f : File) × (replaced : Option File) × (f.identity ≡ installed place in_list entry)
@@ -81,7 +81,7 @@ AppliesEntry place in_list slot (negsuc zero) events =
     (removed : Option File) × MayClose ([] ▷ Clear slot removed) removed events
 AppliesEntry place in_list slot (negsuc (suc n)) events = events ≡ []
 
--- the entries of an update from a place in its list on, one after another
+-- the entries of an update from a position of its list on, one after another
 abbrev pub AppliesList : Place → ℕ → ℕ → List ℤ → List Action → Type 0
 AppliesList place in_list slot [] events = events ≡ []
 AppliesList place in_list slot (entry ∷ list) events =
@@ -106,7 +106,7 @@ Empties size place slot events c =
     MatchBool (size == 0) (Refuses place ENXIO events c)
     (MatchBool (nat_le size slot) (Refuses place EINVAL events c) (TakesAt place slot events c))
 
--- an update of the slots from one on
+-- an update of the slots from `off` on
 abbrev pub UpdatesFrom : ℕ → ℕ → Place → ℕ → List ℤ → List Action → Completed → Type 0
 UpdatesFrom entries size place off list events c =
     MatchBool (size == 0) (Refuses place ENXIO events c)
@@ -114,7 +114,7 @@ UpdatesFrom entries size place off list events c =
     (MatchBool (list_any (is_bad_entry entries) list) (Refuses place EBADF events c)
     (AppliesList place 0 off list events × (c ≡ completed place (pos (length list)) []))))
 
--- the request may answer so, having made these steps
+-- the request may get this answer, having made these steps
 abbrev pub Answers : List FileEntry → ℕ → Place → Operation → List Action → Completed → Type 0
 Answers catalogue size place (Opens name target) events c =
     MatchBool (has_name name catalogue)

@@ -1,4 +1,4 @@
--- A run as a chain: where it stands, and how long it is.
+-- Runs as chains: the number of requests before each, and its length.
 use Rattle.std.specs.Prelude.{ℕ, ◌+◌, List, [], ◌∷◌, length}
 use Rattle.fx_chain.specs.Operation.{Asked}
 use Rattle.fx_chain.specs.declared.chain.Chain.{Chain}

@@ -1,4 +1,4 @@
--- A completion, without where it lies in memory (io_uring_enter(2), "CQE").
+-- A completion without its place in memory (io_uring_enter(2), "CQE").
 use Rattle.std.specs.Prelude.{ℕ, ◌+◌, ℤ, pos, neg_ℤ, List, [], map}
 use Rattle.fx_base.specs.declared.errno.Errno.{Errno}
 use Rattle.fx_base.specs.Errno.{code_of}

@@ -1,5 +1,5 @@
--- A player of requests as contracts see it. `V` and `Fits` are its table's view of a pass, and
--- whether a pass is one of that table's.
+-- A player of requests as contracts see it. `V` is the view that its table has of a pass, and
+-- `Fits` says that a pass is one of that table's.
 use Rattle.std.specs.Prelude.{◌≡◌, ℕ, ◌≤◌, List}
 use Rattle.fx_plain.specs.declared.event.Action.{Action}
 use Rattle.fx_table.specs.Opening.{Opening}
@@ -7,12 +7,12 @@ use Rattle.fx_table.specs.Pass.{PassView, IsIdle}
 use Rattle.fx_chain.specs.Performs.{PlayerView, ActsSo, player}
 use Rattle.fx_chain.specs.declared.context.Player.{Player}
 
--- what the player has at a moment
+-- the pass and the list of a player, at a moment
 abbrev pub view_of : {P : Type 0} → (P → PassView) → Player P → PlayerView
 view_of V p = player (V p.pass.now) p.closes.now
 
--- its pass is one of the table's and does nothing now, and so many look-ups, numbers and room for
--- so many files are left
+-- its pass is one of the table's and idle, and has these look-ups and numbers left, and its list
+-- room for this number of files
 abbrev pub IsReady : {P : Type 0} → (P → PassView) → (P → Type 0) → Player P → ℕ → ℕ → ℕ → Type 0
 IsReady V Fits p looks numbers files =
     Fits p.pass.now × IsIdle (V p.pass.now) × (looks ≤ (V p.pass.now).looks_left)
@@ -24,7 +24,7 @@ IsKept Fits p q =
     (q.pass.ghost_name ≡ p.pass.ghost_name) × (q.closes.ghost_name ≡ p.closes.ghost_name)
     × Fits q.pass.now
 
--- it took actions of which this can be said, with no more look-ups, numbers and closes than these
+-- it took actions with this property, with at most these look-ups, numbers and closes
 abbrev pub Does : {P : Type 0} → Opening → (P → PassView) → Player P → ℕ → ℕ → ℕ
     → (List Action → Type 0) → Player P → Type 0
 Does o V p looks numbers files Says q =

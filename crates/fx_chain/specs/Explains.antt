@@ -1,5 +1,6 @@
--- What a chain may answer: its members one after another, up to and with the first one that severs
--- it, and the others canceled (io_uring_enter(2), "IOSQE_IO_LINK", "IOSQE_IO_HARDLINK").
+-- The answers that a chain may get: its members one after another, up to and including the first
+-- one that severs it, and the later ones canceled (io_uring_enter(2), "IOSQE_IO_LINK",
+-- "IOSQE_IO_HARDLINK").
 use Rattle.std.specs.Prelude.{◌≡◌, ℕ, pos, int_lt, ◌&&◌, ◌||◌, not, Bool, false, List, [], ◌∷◌}
 use Rattle.std.specs.Bool.{MatchBool}
 use Rattle.fx_base.specs.declared.errno.Errno.TheVariants.{ECANCELED}
@@ -11,7 +12,7 @@ use Rattle.fx_chain.specs.Completed.{Completed, refusal, next_member}
 use Rattle.fx_chain.specs.Operation.{Operation, Reads, Asked, is_hard_link}
 use Rattle.fx_chain.specs.declared.completion.Place.{Place}
 
--- a read that gave fewer bytes than asked
+-- a read that returned fewer bytes than it asked for
 abbrev pub is_short : Operation → Completed → Bool
 is_short (Reads slot off len) c = int_lt c.res (pos len)
 is_short _ c = false
@@ -19,7 +20,7 @@ is_short _ c = false
 abbrev pub has_failed : Operation → Completed → Bool
 has_failed operation c = int_lt c.res (pos 0) || is_short operation c
 
--- the members behind the request never start: it failed, and is no hard link
+-- the later members never start: the request failed, and isn't a hard link
 abbrev pub severs : Asked → Completed → Bool
 severs request c = has_failed request.operation c && not (is_hard_link request.flags)
 
@@ -29,7 +30,7 @@ canceled place [] = []
 canceled place (request ∷ requests) =
     refusal place ECANCELED ∷ canceled (next_member place) requests
 
--- the members from this place on make these steps, each its own piece, and answer so
+-- the members from this place on make these steps, each its own part of them, and get these answers
 abbrev pub Explains : List FileEntry → ℕ → Place → List Asked → List Action → List Completed
     → Type 0
 Explains catalogue size place [] events completions = (events ≡ []) × (completions ≡ [])
@@ -41,8 +42,8 @@ Explains catalogue size place (request ∷ requests) events completions =
     ((others ≡ []) × (cs ≡ canceled (next_member place) requests))
     (Explains catalogue size (next_member place) requests others cs)
 
--- the next member answers so: canceled where one in front of it severed the chain, and else by its
--- own steps
+-- the next member's answer: canceled if an earlier one severed the chain, otherwise by its own
+-- steps
 abbrev pub AnswersBehind : List FileEntry → ℕ → Place → Bool → Asked → List Action → Completed
     → Type 0
 AnswersBehind catalogue size place severed request events c =

@@ -1,4 +1,4 @@
--- What a submission is refused for (the limits are this project's own).
+-- The reasons why a submission is refused (the limits are this project's own).
 use Rattle.std.specs.Prelude.{◌≡◌, ℕ, ◌+◌, ◌==◌, nat_lt, Bool, false, not, ◌&&◌, List, [], ◌∷◌}
 use Rattle.std.specs.Prelude.{◌++◌, length, Option, Some, None, if◌then◌else◌}
 use Rattle.fx_table.specs.declared.limits.TheConstants.{MAX_CHAINS, CHAIN_NUMBERS}
@@ -13,7 +13,7 @@ use Rattle.fx_chain.specs.declared.fault.CutFault.{CutFault}
 use Rattle.fx_chain.specs.declared.fault.TheConstants.{MOST_MEMBERS}
 use Rattle.fx_chain.specs.declared.request.TheConstants.{LONGEST_READ, LONGEST_UPDATE}
 
--- whether the flags don't fit: a read names its file by a slot, and no other request does
+-- whether the flags are wrong: a read names its file by a slot, and no other request does
 abbrev pub has_bad_flags : Operation → Bool → Bool
 has_bad_flags (Reads slot off len) fixed = not fixed
 has_bad_flags _ fixed = fixed
@@ -26,9 +26,9 @@ abbrev pub is_long_update : Operation → Bool
 is_long_update (Updates off list) = nat_lt LONGEST_UPDATE (length list)
 is_long_update _ = false
 
--- the first fault of a request: `runs` is the number of runs that the requests in front of it make,
--- `members` that of the members of its own run in front of it, and `installs` that of the files
--- which those members install
+-- the first fault of a request: `runs` is the number of runs that the earlier requests make,
+-- `members` the number of earlier members of its own run, and `installs` the number of files that
+-- those members install
 abbrev pub fault_after : ℕ → ℕ → ℕ → Asked → Option CutKind
 fault_after runs members installs request =
     if has_bad_flags request.operation (is_fixed request.flags) then Some BadFlags
@@ -39,36 +39,36 @@ fault_after runs members installs request =
     else if members == 0 && runs == MAX_CHAINS then Some TooManyChains
     else None
 
--- the fault of a request behind those in front of it
+-- the fault of a request after those before it
 abbrev pub fault_behind : List Asked → Asked → Option CutKind
 fault_behind front request =
     fault_after (length (runs_of front)) (length (open_run front))
     (all_installs (open_run front)) request
 
--- a fault at this place, or else what comes later
+-- the fault at this place, or else the later one
 abbrev pub or_later : ℕ → Option CutKind → Option CutFault → Option CutFault
 or_later at None later = later
 or_later at (Some kind) later = Some (record { at = at; kind = kind })
 
--- the first request with a fault, of those behind the ones in front
+-- the first request with a fault, among those after `front`
 abbrev pub first_fault : List Asked → List Asked → Option CutFault
 first_fault front [] = None
 first_fault front (request ∷ behind) =
     or_later (length front + 1) (fault_behind front request)
     (first_fault (front ++ request ∷ []) behind)
 
--- the first request with a fault, its place counted from 1
+-- the first request with a fault, with its number from 1
 abbrev pub fault_of : List Asked → Option CutFault
 fault_of requests = first_fault [] requests
 
--- no request has a fault behind those in front of it
+-- no request has a fault after those before it
 abbrev pub HasNoFault : List Asked → Type 0
 HasNoFault requests =
     (front : List Asked) (request : Asked) (behind : List Asked)
     → requests ≡ front ++ request ∷ behind
     → fault_behind front request ≡ None
 
--- a request with a fault, and no request in front of it has one
+-- a request with a fault, before which no request has one
 pub record IsFirstFault (requests : List Asked) (fault : CutFault) : Type 0 where
   pub front : List Asked
   pub request : Asked

@@ -1,4 +1,4 @@
--- A request, without where it lies in memory.
+-- A request without its place in memory.
 use Rattle.std.specs.Prelude.{ℕ, ℤ, Bool, ◌==◌, ◌||◌, List, map, string_bytes}
 use Rattle.std.specs.Int.RustNames.{bit_and, bit_or}
 use Rattle.fx_chain.specs.declared.flags.SqeFlags.{SqeFlags}
@@ -8,7 +8,7 @@ use Rattle.fx_chain.specs.declared.request.Request.{Request}
 use Rattle.fx_chain.specs.declared.request.Target.{Target}
 
 pub data Operation : Type 0 where
-  -- the name, and where the file goes
+  -- the name, and the target of the file
   Opens : List ℕ → Target → Operation
   -- the slot, the first byte and the number of bytes
   Reads : ℕ → ℕ → ℕ → Operation
@@ -23,7 +23,7 @@ operation_of (Read slot off len) = Reads slot off len
 operation_of (Close slot) = Closes slot
 operation_of (Update off list) = Updates off list.items
 
--- the flags, each by the value of its bit
+-- the flags, each with the value of its bit
 abbrev pub no_flags : SqeFlags
 no_flags = record { 0 = 0 }
 
@@ -43,7 +43,7 @@ both_flags one other = record { 0 = bit_or one.0 other.0 }
 abbrev pub is_fixed : SqeFlags → Bool
 is_fixed flags = bit_and flags.0 1 == 1
 
--- the next request waits for this one, and starts whatever this one comes to
+-- the next request waits for this one, and starts whatever this one's result
 abbrev pub is_hard_link : SqeFlags → Bool
 is_hard_link flags = bit_and flags.0 8 == 8
 
@@ -51,7 +51,7 @@ is_hard_link flags = bit_and flags.0 8 == 8
 abbrev pub is_link : SqeFlags → Bool
 is_link flags = bit_and flags.0 4 == 4 || is_hard_link flags
 
--- what is asked
+-- a request: its operation and its flags
 pub record Asked : Type 0 where
   pub operation : Operation
   pub flags : SqeFlags

@@ -1,4 +1,4 @@
--- What a chain answers doesn't depend on the numbers of the files.
+-- A chain's answers don't depend on the numbers of the files.
 use Rattle.std.specs.Prelude.{ℕ, ◌≤◌, List, length, map}
 use Rattle.fx_base.specs.Catalogue.{FileEntry}
 use Rattle.fx_plain.specs.Reopening.{Renaming, renamed, numbers_given}
@@ -17,7 +17,7 @@ ExplainsByAnyNumbers =
     → Explains catalogue size place requests events completions
     → Explains catalogue size place requests (map (renamed r) events) completions
 
--- the steps give no more numbers than the requests ask for
+-- the steps use no more file numbers than the requests ask for
 abbrev pub GivesNumbersAsAsked : Type 0
 GivesNumbersAsAsked =
     (catalogue : List FileEntry) (size : ℕ) (place : Place) (requests : List Asked)

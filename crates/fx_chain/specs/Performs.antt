@@ -1,4 +1,4 @@
--- What a player of requests does: a pass of a shared table, and a list of closes.
+-- The actions of a player of requests: a pass of a shared table, and a list of closes.
 use Rattle.std.specs.Prelude.{◌≡◌, ℕ, ◌+◌, ◌≤◌, Bool, List, ◌++◌, length}
 use Rattle.fx_base.specs.Catalogue.{FileEntry}
 use Rattle.fx_base.specs.CloseListView.{CloseListView}
@@ -15,7 +15,7 @@ use Rattle.fx_chain.specs.Operation.{Asked}
 use Rattle.fx_chain.specs.Weights.{installs_of, weight_of, all_installs, all_weights}
 use Rattle.fx_chain.specs.declared.completion.Place.{Place}
 
--- what a player has at a moment
+-- the pass and the list of a player, at a moment
 pub record PlayerView : Type 0 where
   pub pass : PassView
   pub closes : CloseListView
@@ -23,16 +23,16 @@ pub record PlayerView : Type 0 where
 abbrev pub player : PassView → CloseListView → PlayerView
 player pass closes = record { pass = pass; closes = closes }
 
--- The pass took these actions, whatever others did between, and does nothing now. The files of
--- their Close events went to the end of the list in order, each into one of its room
+-- The pass took these actions, whatever others did between, and is idle now. The files of their
+-- Close events were appended to the list in order, each using one place of its room
 pub record Acts (o : Opening) (p : PlayerView) (actions : List Action) (used : Use) (q : PlayerView)
     : Type 0 where
   pub adds : Adds o p.pass actions Idle used q.pass
   pub files : q.closes.files ≡ p.closes.files ++ closes_in actions
   pub room : q.closes.room + length (closes_in actions) ≡ p.closes.room
 
--- The player took actions of which this can be said. They used no more look-ups and numbers than
--- these, and closed no more files
+-- The player took actions with this property. They used at most these look-ups and numbers, and
+-- closed at most this number of files
 pub record ActsSo (o : Opening) (p : PlayerView) (looks numbers files : ℕ)
     (Says : List Action → Type 0) (q : PlayerView) : Type 0 where
   pub actions : List Action
@@ -43,28 +43,28 @@ pub record ActsSo (o : Opening) (p : PlayerView) (looks numbers files : ℕ)
   pub few_numbers : used.numbers ≤ numbers
   pub few_files : length (closes_in actions) ≤ files
 
--- the request at its place was performed: by these actions it may answer so
+-- the request at its place was performed: it may get this answer by these actions
 abbrev pub Performs : Opening → List FileEntry → Place → Asked → PlayerView → Completed → PlayerView
     → Type 0
 Performs o catalogue place request p c q =
     ActsSo o p 1 (installs_of request.operation) (weight_of request.operation)
     (λ actions. Answers catalogue (size_of o) place request.operation actions c) q
 
--- the next member of a chain was answered so, behind one that severed the chain or else
+-- the next member of a chain got this answer, after one that severed the chain or not
 abbrev pub AnswersNext : Opening → List FileEntry → Place → Bool → Asked → PlayerView → Completed
     → PlayerView → Type 0
 AnswersNext o catalogue place severed request p c q =
     ActsSo o p 1 (installs_of request.operation) (weight_of request.operation)
     (λ actions. AnswersBehind catalogue (size_of o) place severed request actions c) q
 
--- the members from this place on were played: these actions explain their completions
+-- the members from this place on were played: the actions explain their completions
 abbrev pub PlaysMembers : Opening → List FileEntry → Place → List Asked → PlayerView
     → List Completed → PlayerView → Type 0
 PlaysMembers o catalogue place requests p completions q =
     ActsSo o p (length requests) (all_installs requests) (all_weights requests)
     (λ actions. Explains catalogue (size_of o) place requests actions completions) q
 
--- the chain was played, and its completions went to the end of a list
+-- the chain was played, and its completions were appended to a list
 abbrev pub PlaysChain : Opening → List FileEntry → ℕ → ℕ → List Asked → PlayerView → List Completed
     → PlayerView → List Completed → Type 0
 PlaysChain o catalogue submission chain requests p before q now =

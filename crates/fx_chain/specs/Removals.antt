@@ -1,4 +1,4 @@
--- What becomes of a file that a request removed, or gave up.
+-- Files that a request removed or released.
 use Rattle.std.specs.Prelude.{◌≡◌, ℕ, [], Option, Some, None}
 use Rattle.fx_plain.specs.declared.event.File.{File}
 use Rattle.fx_plain.specs.declared.event.Action.TheVariants.{Release}
@@ -10,19 +10,19 @@ use Rattle.fx_table.specs.declared.values.Retired.{Retired}
 use Rattle.fx_chain.specs.Answers.{MayClose}
 use Rattle.fx_chain.specs.Performs.{PlayerView, ActsSo}
 
--- a call removed this, if anything
+-- a call removed this file, or none
 abbrev pub IsRemovedBy : PassView → Option Retired → Type 0
 IsRemovedBy v None = IsIdle v
 IsRemovedBy v (Some retired) = IsRetiredOf v retired
 
--- what the pass removed, if anything, was retired, and closed or left to its last holder
+-- the file that the pass removed, if any, was retired, and closed or left to its last holder
 abbrev pub IsRetirement : Opening → PlayerView → Option Retired → PlayerView → Type 0
 IsRetirement o p None q = ActsSo o p 0 0 1 (MayClose [] None) q
 IsRetirement o p (Some retired) q =
     (f : File) × (takes : ℕ) × (p.pass.doing ≡ Retiring f takes)
     × ActsSo o p 0 0 1 (MayClose [] (Some f)) q
 
--- what the pass held was released, and closed where it was removed and this was its last hold
+-- the file that the pass held was released, and closed if it was retired and this was its last hold
 abbrev pub IsRelease : Opening → PlayerView → PlayerView → Type 0
 IsRelease o p q =
     (f : File) × (p.pass.doing ≡ Holding f)

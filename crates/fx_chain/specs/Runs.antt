@@ -5,7 +5,7 @@ use Rattle.std.specs.Prelude.{flat_map, if◌then◌else◌}
 use Rattle.std.specs.List.{list_all}
 use Rattle.fx_chain.specs.Operation.{Asked, is_link}
 
--- all but the last
+-- all elements but the last
 abbrev pub but_last : {X : Type 0} → List X → List X
 but_last [] = []
 but_last (x ∷ []) = []
@@ -17,7 +17,7 @@ is_over [] = false
 is_over (request ∷ []) = not (is_link request.flags)
 is_over (request ∷ next ∷ run) = is_over (next ∷ run)
 
--- the list in parts: every request of a part but its last links with the next one, and that last
+-- the list in parts: each request of a part except the last links with the next one, and the last
 -- one doesn't, except perhaps in the last part
 pub record AreRuns (requests : List Asked) (runs : List (List Asked)) : Type 0 where
   pub whole : flat_map (λ run. run) runs ≡ requests
@@ -25,24 +25,24 @@ pub record AreRuns (requests : List Asked) (runs : List (List Asked)) : Type 0 w
   pub linked : All (λ run. All (λ request. is_link request.flags ≡ true) (but_last run)) runs
   pub over : All (λ run. is_over run ≡ true) (but_last runs)
 
--- the one way to part the list so
+-- the only way to split the list into such parts
 pub record AreTheOnlyRuns (requests : List Asked) (runs : List (List Asked)) : Type 0 where
   pub are : AreRuns requests runs
   pub only : (others : List (List Asked)) → AreRuns requests others → others ≡ runs
 
--- a request in front of the first run, or a run alone where there is none
+-- a request before the first run, or a run of its own if there is none
 abbrev pub in_front : Asked → List (List Asked) → List (List Asked)
 in_front request [] = (request ∷ []) ∷ []
 in_front request (run ∷ runs) = (request ∷ run) ∷ runs
 
--- the one way to part the list into runs
+-- the runs of the list
 abbrev pub runs_of : List Asked → List (List Asked)
 runs_of [] = []
 runs_of (request ∷ requests) =
     if is_link request.flags then in_front request (runs_of requests)
     else (request ∷ []) ∷ runs_of requests
 
--- the requests at the end of the list that all link: a request behind the list is a member of their
+-- the requests at the end of the list that all link: a request after the list is a member of their
 -- run
 abbrev pub open_run : List Asked → List Asked
 open_run [] = []
@@ -50,12 +50,12 @@ open_run (request ∷ requests) =
     if list_all (λ r. is_link r.flags) (request ∷ requests) then request ∷ requests
     else open_run requests
 
--- a request stands in its own run behind the open run of the requests in front of it
+-- a request's run begins with the open run of the requests before it
 pub record StandsIn (front : List Asked) (request : Asked) (runs : List (List Asked)) : Type 0 where
-  -- the runs in front of its own, the members behind it, and the runs behind its own
+  -- the runs before its own, its later members, and the runs after its own
   pub earlier : List (List Asked)
   pub rest : List Asked
   pub later : List (List Asked)
   pub parts : runs ≡ earlier ++ (open_run front ++ request ∷ rest) ∷ later
-  -- where it begins its run, the runs of the requests in front are those in front of its own
+  -- if it begins its run, the runs of the requests before it are those before its own
   pub begins : open_run front ≡ [] → earlier ≡ runs_of front

@@ -1,9 +1,10 @@
--- Where an open installs its file, by the number that io_uring_prep_openat(3) takes ("file_index").
+-- The target of an open, by the number that io_uring_prep_openat(3) takes ("file_index").
 use Rattle.std.specs.Prelude.{ℕ, ◌-◌, ◌==◌, Option, Some, None, if◌then◌else◌}
 use Rattle.fx_chain.specs.declared.request.Target.{Target}
 use Rattle.fx_chain.specs.declared.request.Target.TheVariants.{Slot, Any}
 
--- 0 asks for no slot, 4,294,967,295 for any free one, and every other number for the slot below it
+-- 0 asks for no slot, 4,294,967,295 for any free one, and every other number for the slot numbered
+-- one less
 abbrev pub target_of : ℕ → Option Target
 target_of file_index =
     if file_index == 0 then None

@@ -1,3 +1,4 @@
+//! Chains: the parts of a submission whose requests are linked.
 ghost use Rattle.std.specs.Prelude.{◌≡◌, ◌+◌, ◌<◌, ◌≤◌, ◌∷◌, length, map, take, drop, All, IfOk, vec_len};
 ghost use Rattle.fx_chain.specs.Accepted.{IsAccepted, IsChain, members_of};
 ghost use Rattle.fx_chain.specs.Chains.{chains_of};
@@ -9,17 +10,17 @@ use fx_base::NoMemory;
 use fx_table::MAX_CHAINS;
 use std::alloc::Global;
 
-/// The members of a submission that are linked with each other (io_uring_enter(2), "IOSQE_IO_LINK",
+/// A chain: requests of a submission that are linked with each other (io_uring_enter(2), "IOSQE_IO_LINK",
 /// "IOSQE_IO_HARDLINK").
 #[derive(Clone, Copy, Debug, PartialEq, Eq)]
 pub struct Chain {
-    /// How many requests stand before its first member, at most 16,352.
+    /// The number of requests before its first member, at most 16,352.
     pub first: u32,
-    /// How many members it has, from 1 to 16.
+    /// The number of its members, from 1 to 16.
     pub len: u32,
 }
 
-// How many members the first chain of some requests has: those up to the first that doesn't link, or all of them.
+// Returns the number of members of the first chain: the requests up to the first one that doesn't link, or all of them.
 fn first_chain_len(requests: &[Request]) -> usize
     requires { 0 < length requests.now }
     ensures some { 0 < result }
@@ -35,10 +36,10 @@ fn first_chain_len(requests: &[Request]) -> usize
     requests.len()
 }
 
-/// The chains of a submission that [`crate::check`] accepts, in order.
+/// Splits a submission into its chains, in order. Requires that [`crate::check`] accepts the submission.
 ///
 /// # Errors
-/// `NoMemory` where the memory for the list of chains is refused.
+/// `NoMemory` if an allocation for the list of chains fails.
 pub fn cut(alloc: Global, requests: &[Request]) -> Result<Vec<Chain>, NoMemory>
     requires { IsAccepted (all_asked requests.now) }
     ensures chains { IfOk result (λ chains.

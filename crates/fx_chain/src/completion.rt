@@ -1,3 +1,4 @@
+//! Completions: the answers to requests.
 ghost use Rattle.std.specs.Prelude.{◌≡◌, ◌<◌, ◌^◌, ◌↔◌, IfOk, IsTrue, pos, []};
 ghost use Rattle.fx_base.specs.declared.mark.Mark.TheVariants.{Submitted};
 ghost use Rattle.fx_chain.specs.Answers.{installed};
@@ -6,32 +7,32 @@ ghost use Rattle.fx_chain.specs.Completed.{completed, completed_of, refusal};
 use fx_base::{Closed, Errno, Mark, NoMemory};
 use std::alloc::Global;
 
-/// Where a request stands: its submission, its chain in the submission, and its place in the chain, each from 1
-/// (this project's own; a kernel hands the user data back).
+/// The place of a request: its submission, its chain in the submission, and its number in the chain, each from 1 (this
+/// project's own; a kernel returns the user data).
 #[derive(Clone, Copy, Debug, PartialEq, Eq)]
 pub struct Place {
-    /// Which of the ring's accepted submissions, from 1.
+    /// The number of the submission among those that the ring accepted, from 1.
     pub submission: u32,
-    /// Which chain of the submission, from 1.
+    /// The number of the chain in the submission, from 1.
     pub chain: u32,
-    /// Which member of the chain, from 1.
+    /// The number of the request in the chain, from 1.
     pub member: u32,
 }
 
 /// The answer to a request (io_uring_enter(2), "CQE").
 #[derive(Debug, PartialEq, Eq, Drop)]
 pub struct Completion {
-    /// Whose answer it is.
+    /// The place of the request.
     pub place: Place,
     /// The result: 0 or more, or a negated error number.
     pub res: i32,
-    /// The bytes that a read gave.
+    /// The bytes that a read returned.
     pub got: Vec<u8>,
 }
 
 impl Place {
-    /// The mark of a file that the request here installs. `in_list` is the place of the file's entry in the list of an
-    /// update, from 0, and 0 for an open.
+    /// Returns the mark of a file that the request at this place installs. `in_list` is the position of the file's
+    /// entry in the list of an update, from 0, and 0 for an open.
     pub fn mark(self, in_list: u32) -> Mark
         ensures { result ≡ Submitted self.submission self.chain self.member in_list }
     {
@@ -43,8 +44,8 @@ impl Place {
         }
     }
 
-    /// The file of this catalogue entry that the request here installs: with the mark that [`Place::mark`] says, and without
-    /// a tag.
+    /// Returns the identity of the file that the request at this place installs from a catalogue entry: with the mark
+    /// of [`Place::mark`], and without a tag.
     pub fn installed(self, in_list: u32, entry: u8) -> Closed
         ensures { result ≡ installed self in_list entry }
     {
@@ -57,7 +58,7 @@ impl Place {
 }
 
 impl Completion {
-    /// The answer to a request that fails: the error's number, negated, and no bytes (io_uring_enter(2),
+    /// Creates the answer to a request that fails: the negated number of the error, and no bytes (io_uring_enter(2),
     /// "CQE ERRORS").
     pub fn refusal(alloc: Global, place: Place, errno: Errno) -> Completion
         ensures { completed_of result ≡ refusal place errno }
@@ -69,7 +70,8 @@ impl Completion {
         }
     }
 
-    /// The answer to a request that succeeds with this number, below 2^31, and gives no bytes (io_uring_enter(2), "CQE").
+    /// Creates the answer to a request that succeeds with this number, below 2^31, and returns no bytes
+    /// (io_uring_enter(2), "CQE").
     pub fn number(alloc: Global, place: Place, res: u32) -> Completion
         requires { res < 2 ^ 31 }
         ensures { completed_of result ≡ completed place (pos res) [] }
@@ -81,10 +83,10 @@ impl Completion {
         }
     }
 
-    /// The same completion once more.
+    /// Returns a copy of the completion.
     ///
     /// # Errors
-    /// `NoMemory` where the memory of its bytes is refused.
+    /// `NoMemory` if the allocation for its bytes fails.
     pub fn copy(&self, alloc: Global) -> Result<Completion, NoMemory>
         ensures { IfOk result (λ copy. completed_of copy ≡ completed_of self.now) }
     {
@@ -95,14 +97,15 @@ impl Completion {
         })
     }
 
-    /// Whether this is the answer of the request there, with this result and these bytes.
+    /// Checks whether this is the answer to the request at `place`, with this result and these bytes.
     pub fn is_answer(&self, place: Place, res: i32, got: &[u8]) -> bool
         ensures { IsTrue result ↔ (completed_of self.now ≡ completed place res got.now) }
     {
         self.place == place && self.res == res && self.got.as_slice() == got
     }
 
-    /// Whether this is the answer of the request there where it fails so, as [`Completion::refusal`] makes it.
+    /// Checks whether this is the answer to the request at `place` that fails with this error, as
+    /// [`Completion::refusal`] creates it.
     pub fn is_refusal(&self, place: Place, errno: Errno) -> bool
         ensures { IsTrue result ↔ (completed_of self.now ≡ refusal place errno) }
     {

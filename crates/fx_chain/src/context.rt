@@ -1,4 +1,4 @@
-//! What a request is performed with.
+//! The values that a request is performed with.
 ghost use Rattle.std.specs.Prelude.{◌≡◌, ◌<◌, ◌^◌, pos, []};
 ghost use Rattle.fx_chain.specs.Completed.{completed, completed_of, refusal};
 
@@ -7,7 +7,7 @@ use fx_base::{Catalogue, CloseList, Errno};
 use fx_table::FileTable;
 use std::alloc::Global;
 
-/// What stays while a request is performed: the table, the catalogue, and the request's place.
+/// The values that stay the same while a request is performed: the table, the catalogue, and the request's place.
 #[derive(Drop)]
 pub(crate) struct Context<'a, T: FileTable, R> {
     pub(crate) rt: &'a R,
@@ -17,7 +17,7 @@ pub(crate) struct Context<'a, T: FileTable, R> {
     pub(crate) place: Place,
 }
 
-/// Who performs it: a pass of the table, with the list of the files that it closes.
+/// The player of a request: a pass of the table, and the list of the files that it closes.
 #[derive(Drop)]
 pub(crate) struct Player<'a, P> {
     pub(crate) pass: &'a mut P,
@@ -25,14 +25,14 @@ pub(crate) struct Player<'a, P> {
 }
 
 impl<T: FileTable, R> Context<'_, T, R> {
-    // The answer to the request where it fails.
+    // Creates the answer to the request, if it fails.
     pub(crate) fn refusal(&self, errno: Errno) -> Completion
         ensures { completed_of result ≡ refusal self.now.place errno }
     {
         Completion::refusal(self.alloc, self.place, errno)
     }
 
-    // The answer to the request where it gives no bytes.
+    // Creates the answer to the request, if it returns no bytes.
     pub(crate) fn number(&self, res: u32) -> Completion
         requires { res < 2 ^ 31 }
         ensures { completed_of result ≡ completed self.now.place (pos res) [] }

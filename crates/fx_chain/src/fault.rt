@@ -1,3 +1,4 @@
+//! The limits of a submission, and the first request that exceeds one.
 ghost use Rattle.std.specs.Prelude.{◌≡◌, ◌+◌, ◌*◌, ◌<◌, ◌≤◌, length, IfSome, IfNone, IfOk, IfErr, Ok, Err, if◌then◌else◌, ◌==◌};
 ghost use Rattle.fx_chain.specs.Accepted.{IsAccepted};
 ghost use Rattle.fx_chain.specs.Faults.{fault_after, fault_of};
@@ -8,36 +9,38 @@ ghost use Rattle.fx_chain.specs.Weights.{installs_of};
 use crate::request::Request;
 use fx_table::{CHAIN_NUMBERS, MAX_CHAINS};
 
-/// How many members a chain may have. It may install as many files as it has numbers, [`fx_table::CHAIN_NUMBERS`].
+/// The greatest number of members of a chain. A chain may install as many files as it has numbers,
+/// [`fx_table::CHAIN_NUMBERS`].
 pub const MOST_MEMBERS: u32 = 16;
 
-/// Why a submission is refused, in the order in which the faults of one request are looked for (this project's own).
+/// The reason why a submission is refused. The faults of one request are checked in the order of the variants (this
+/// project's own).
 #[derive(Clone, Copy, Debug, PartialEq, Eq)]
 pub enum CutKind {
-    /// A read without FIXED_FILE, or another request with it.
+    /// A read has no FIXED_FILE, or another kind of request has it.
     BadFlags,
-    /// A read of more than 4,096 bytes.
+    /// A read asks for more than 4,096 bytes.
     LongRead,
-    /// An update of more than 16 entries.
+    /// An update has more than 16 entries.
     LongUpdate,
-    /// The seventeenth member of a chain.
+    /// The request is the 17th member of its chain.
     ChainTooLong,
-    /// With this request its chain installs more than 64 files.
+    /// With this request, its chain installs more than 64 files.
     TooManyFiles,
-    /// The first member of the 1,024th chain.
+    /// The request is the first member of the 1,024th chain.
     TooManyChains,
 }
 
 /// The first request of a submission that has a fault.
 #[derive(Clone, Copy, Debug, PartialEq, Eq)]
 pub struct CutFault {
-    /// Its place in the submission, from 1.
+    /// The request's number in the submission, from 1.
     pub at: u32,
     /// Its first fault.
     pub kind: CutKind,
 }
 
-// The chains that have begun, and the members and installs of the one that the next request goes on with.
+// The number of chains that have begun, and the members and installations of the chain that the next request continues.
 #[derive(Clone, Copy, Debug)]
 struct Count {
     chains: u32,
@@ -45,12 +48,13 @@ struct Count {
     installs: u32,
 }
 
-/// The number of chains of a submission, from 0 to 1,023. A request with IO_LINK or IO_HARDLINK is in one chain with the
-/// next one (io_uring_enter(2), "IOSQE_IO_LINK", "IOSQE_IO_HARDLINK").
+/// Checks a submission against the limits, and returns the number of its chains, from 0 to 1,023. A request with
+/// IO_LINK or IO_HARDLINK is in one chain with the next request (io_uring_enter(2), "IOSQE_IO_LINK",
+/// "IOSQE_IO_HARDLINK").
 ///
 /// # Errors
-/// The first request with a fault, and its first fault in the order of [`CutKind`]. The place of that request is at
-/// most 16,369, however long the submission is.
+/// Returns the first request with a fault, and its first fault in the order of [`CutKind`]. The number of that request
+/// is at most 16,369, however long the submission is.
 pub fn check(requests: &[Request]) -> Result<u32, CutFault>
     ensures fault { IfSome (fault_of (all_asked requests.now)) (λ fault. result ≡ Err fault) }
     ensures chains { IfNone (fault_of (all_asked requests.now))
@@ -78,7 +82,7 @@ pub fn check(requests: &[Request]) -> Result<u32, CutFault>
 }
 
 impl Count {
-    // The first fault of the next request.
+    // Returns the first fault of the next request.
     fn fault(&self, request: &Request) -> Option<CutKind>
         requires { self.now.installs ≤ CHAIN_NUMBERS }
         ensures { result ≡ fault_after self.now.chains self.now.members self.now.installs
@@ -105,7 +109,7 @@ impl Count {
         None
     }
 
-    // The next request is counted.
+    // Counts the next request.
     fn add(&mut self, request: &Request)
         requires chains { self.old.chains ≤ MAX_CHAINS }
         requires members { self.old.members ≤ MOST_MEMBERS }

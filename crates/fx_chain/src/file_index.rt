@@ -1,3 +1,4 @@
+//! The file index of an open.
 ghost use Rattle.std.specs.Prelude.{◌≡◌};
 ghost use Rattle.fx_chain.specs.Target.{target_of};
 
@@ -6,9 +7,9 @@ use crate::request::Target;
 /// The file index that asks for any free slot (io_uring_prep_openat(3), "IORING_FILE_INDEX_ALLOC").
 const ANY_FREE: u32 = 4_294_967_295;
 
-/// Where an open with this file index installs its file (io_uring_prep_openat(3), "file_index"): 0 is `None`, since
-/// it asks for a descriptor of the process and no slot, 4,294,967,295 is any free slot, and every other number is the
-/// slot below it.
+/// Returns the target of an open with this file index (io_uring_prep_openat(3), "file_index"): `None` for 0, which asks
+/// for a descriptor of the process and no slot, any free slot for 4,294,967,295, and for every other number the slot
+/// numbered one less.
 pub fn target(file_index: u32) -> Option<Target>
     ensures { result ≡ target_of file_index }
 {

@@ -1,10 +1,12 @@
+//! The flags of a request.
 ghost use Rattle.std.specs.Prelude.{⊤, [], ◌∷◌, codes};
 
 use bitflags::{Flag, Flags, bitflag_items};
 
-/// The flags of a request that this project knows (io_uring_enter(2), "flags"). By `FIXED_FILE` the request names its file
-/// by a slot. By `IO_LINK` the next request starts only after this one has completed, and not where this one failed. By
-/// `IO_HARDLINK`, also with `IO_LINK`, it starts only after this one has completed, whatever this one came to.
+/// The flags of a request that this project knows (io_uring_enter(2), "flags"). `FIXED_FILE`: the request names its
+/// file by a slot. `IO_LINK`: the next request starts only after this one has completed, and not if this one failed.
+/// `IO_HARDLINK`, also together with `IO_LINK`: the next request starts only after this one has completed, whatever its
+/// result.
 #[derive(Clone, Copy, PartialEq, Eq, Debug)]
 pub struct SqeFlags(u8);
 

@@ -1,16 +1,17 @@
+//! The calls that a test can stop a player at.
 use crate::completion::Place;
 
-/// What a player calls in front of each request that it starts and behind its completion, so that a test can hold
-/// threads at chosen points (this project's own). It isn't called for a request that is canceled.
+/// The calls that a player makes before each request that it starts and after that request's completion, so that a test
+/// can stop threads at chosen points (this project's own). A player makes no call for a request that is canceled.
 pub trait Gate: Sync {
-    /// The request at this place is about to start.
+    /// Runs before the request at this place starts.
     fn before(&self, place: Place);
 
-    /// The request at this place has completed.
+    /// Runs after the request at this place has completed.
     fn after(&self, place: Place);
 }
 
-/// A gate that holds nobody.
+/// A gate that stops no thread.
 #[derive(Clone, Copy, Debug)]
 pub struct OpenGate;
 

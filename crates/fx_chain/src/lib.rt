@@ -1,4 +1,8 @@
-//! Requests on a file table, the chains that they are linked to, and what each may answer.
+//! Requests on a file table, the chains that link them, and the answers that each may get.
+//!
+//! The contract that others rely on is that of [`run_chain`]: a chain's actions on the table explain its completions
+//! (`specs/Explains.antt`, and for one request `specs/Answers.antt`). [`check`] refuses a submission past the limits,
+//! and [`cut`] splits it into chains. Begin reading at `request.rt` and `specs/Answers.antt`, then `player.rt`.
 #![tactic(auto)]
 
 mod chain;

@@ -41,7 +41,7 @@ fn open_at<T: FileTable, R: Wait>(
     context.number(0)
 }
 
-// Opens a catalogue entry at any free slot of the allocation range.
+// Opens a catalogue entry at any empty slot of the allocation range.
 fn open_any<T: FileTable, R: Wait>(
     context: &Context<'_, T, R>,
     player: &mut Player<'_, T::Pass>,

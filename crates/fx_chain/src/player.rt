@@ -68,13 +68,13 @@ fn answer<T: FileTable, R: Wait>(
     }
 }
 
-/// Performs a request at its place, and gives its completion. Its file is looked up, installed or removed by the pass,
-/// and each file that it closes goes to the list of closes. The pass is idle again.
+/// Performs a request at its place, and returns its completion. The pass looks its file up, installs it or removes it,
+/// and each file that it closes is appended to the list of closes. Afterwards the pass is idle again.
 ///
-/// The caller has seen that the pass is idle (`is_idle`), has a look-up left (`looks_left`) and as many numbers as the
-/// request has [`Request::installs`] (`numbers_left`), and that the list has room for its [`Request::weight`] (`room`).
+/// Requires that the pass is idle (`is_idle`), has a look-up left (`looks_left`) and as many numbers as the request has
+/// [`Request::installs`] (`numbers_left`), and that the list has room for its [`Request::weight`] (`room`).
 ///
-/// It takes memory for the bytes of a read alone. Where that is refused the read completes with ENOMEM.
+/// It allocates only the buffer of a read. If that allocation fails, the read completes with ENOMEM.
 pub fn perform<T: FileTable>(
     rt: &impl Wait,
     alloc: Global,
@@ -105,7 +105,7 @@ pub fn perform<T: FileTable>(
     answer(&context, &mut Player { pass, closes }, request)
 }
 
-// The answer of a chain's next member: it is performed, or it is canceled behind one that severed the chain.
+// Performs a chain's next member, or cancels it after one that severed the chain.
 fn next_answer<T: FileTable, R: Wait, G: Gate>(
     context: &Context<'_, T, R>,
     player: &mut Player<'_, T::Pass>,
@@ -129,7 +129,7 @@ fn next_answer<T: FileTable, R: Wait, G: Gate>(
     completion
 }
 
-// How many members a chain has. The pass has a look-up for each, and counts its look-ups in a u32.
+// Returns the number of members of a chain. The pass has a look-up for each, and counts its look-ups in a u32.
 fn members<T: FileTable>(table: &T, pass: &T::Pass, requests: &[Request]) -> u32
     requires fits { T.fits table.now pass.now }
     requires looks { length requests.now ≤ (T.view pass.now).looks_left }
@@ -138,16 +138,16 @@ fn members<T: FileTable>(table: &T, pass: &T::Pass, requests: &[Request]) -> u32
     requests.len().min(table.looks_left(pass) as usize) as u32
 }
 
-/// Plays the members of a chain, one after another, and adds a completion for each, at its place, to `out`. Behind a
-/// member that severs the chain ([`Request::severs`]) the others complete with ECANCELED and never start
-/// (io_uring_enter(2), "IOSQE_IO_LINK", "IOSQE_IO_HARDLINK"). A chain without members makes no step. The gate's `before`
-/// is called in front of each member that starts, and its `after` behind that member's completion.
+/// Plays the members of a chain, one after another, and appends a completion for each, at its place, to `out`. After a
+/// member that severs the chain ([`Request::severs`]) the later ones never start and complete with ECANCELED
+/// (io_uring_enter(2), "IOSQE_IO_LINK", "IOSQE_IO_HARDLINK"). A chain without members makes no step. The gate's
+/// `before` is called before each member that starts, and its `after` after that member's completion.
 ///
-/// The caller has seen that the pass is idle (`is_idle`), has a look-up for each member (`looks_left`) and a number for
-/// each file that they install ([`Request::installs`], `numbers_left`), that the list has room for all that they may
-/// close ([`Request::weight`], `room`), and that `out` has reserved room for a completion of each.
+/// Requires that the pass is idle (`is_idle`), has a look-up for each member (`looks_left`) and a number for each file
+/// that they install ([`Request::installs`], `numbers_left`), that the list has room for all files that they may close
+/// ([`Request::weight`], `room`), and that `out` has reserved room for a completion of each.
 ///
-/// It takes memory for the bytes of reads alone.
+/// It allocates only the buffers of reads.
 pub fn run_chain<T: FileTable, G: Gate>(
     rt: &impl Wait,
     alloc: Global,

@@ -11,7 +11,8 @@ use fx_base::Errno;
 use fx_table::{FileTable, LookFault};
 use std::sync::Wait;
 
-// Reads a part of the file at a slot. The buffer is reserved before the look-up, so that no hold waits for memory.
+// Reads a part of the file at a slot. The buffer is allocated before the look-up, so that no file is held during the
+// allocation.
 pub(crate) fn read<T: FileTable, R: Wait>(
     context: &Context<'_, T, R>,
     player: &mut Player<'_, T::Pass>,

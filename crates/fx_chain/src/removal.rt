@@ -1,4 +1,4 @@
-//! Files that a request removes or gives up, each with its close.
+//! Files that a request removes or releases, and their closes.
 ghost use Rattle.std.specs.Prelude.{◌≡◌, ◌<◌, [], Option, is_some};
 ghost use Rattle.fx_plain.specs.declared.event.Action.TheVariants.{Put, Clear, Take};
 ghost use Rattle.fx_plain.specs.declared.event.File.{File};
@@ -15,8 +15,8 @@ use fx_base::OpenFile;
 use fx_table::{FileTable, Hold, Retired};
 use std::sync::Wait;
 
-// Retires the file that the pass removed, if there was one, and closes it where nobody holds it now. Else its last holder
-// will.
+// Retires the file that the pass removed, if there was one, and closes it if it has no holds now. Otherwise its last
+// release does.
 fn retire<T: FileTable, R: Wait>(
     context: &Context<'_, T, R>,
     player: &mut Player<'_, T::Pass>,
@@ -37,7 +37,7 @@ fn retire<T: FileTable, R: Wait>(
     }
 }
 
-// Gives up what the pass holds, and closes it where it was retired and this was its last hold.
+// Releases the file that the pass holds, and closes it if it was retired and this was its last hold.
 pub(crate) fn release<T: FileTable, R: Wait>(
     context: &Context<'_, T, R>,
     player: &mut Player<'_, T::Pass>,
@@ -55,7 +55,7 @@ pub(crate) fn release<T: FileTable, R: Wait>(
     }
 }
 
-// Empties a slot for a close. Whether there was a file.
+// Empties a slot for a close, and returns whether there was a file.
 pub(crate) fn take<T: FileTable, R: Wait>(
     context: &Context<'_, T, R>,
     player: &mut Player<'_, T::Pass>,
@@ -91,7 +91,7 @@ pub(crate) fn clear<T: FileTable, R: Wait>(
     retire(context, player, removed);
 }
 
-// Installs a file at a slot, in place of the one that was there.
+// Installs a file at a slot, and removes the file that was there.
 pub(crate) fn put<T: FileTable, R: Wait>(
     context: &Context<'_, T, R>,
     player: &mut Player<'_, T::Pass>,

@@ -1,3 +1,4 @@
+//! Requests, as io_uring_enter(2) describes them.
 ghost use Rattle.std.specs.Prelude.{◌≡◌, length, filter, pos, int_le};
 ghost use Rattle.fx_chain.specs.Completed.{completed_of};
 ghost use Rattle.fx_chain.specs.Explains.{has_failed, severs};
@@ -9,29 +10,29 @@ use crate::completion::Completion;
 use crate::flags::SqeFlags;
 use bitflags::Flags;
 
-/// How many bytes a read may ask for.
+/// The greatest number of bytes of a read.
 pub const LONGEST_READ: u32 = 4096;
 
-/// How many entries an update may have.
+/// The greatest number of entries of an update.
 pub const LONGEST_UPDATE: usize = 16;
 
-/// Where an open installs its file (io_uring_prep_openat(3), "file_index").
+/// The target of an open's file (io_uring_prep_openat(3), "file_index").
 #[derive(Clone, Copy, Debug, PartialEq, Eq)]
 pub enum Target {
-    /// At this slot, from 0.
+    /// The slot with this number, from 0.
     Slot(u32),
-    /// At any free slot of the allocation range.
+    /// Any empty slot of the allocation range.
     Any,
 }
 
-/// What a request does.
+/// The operation of a request.
 #[derive(Debug, Drop)]
 pub enum Op {
     /// Opens the catalogue entry of this name (io_uring_prep_openat(3)).
     Open {
         /// The name.
         name: String,
-        /// Where the file goes.
+        /// The target of the file.
         target: Target,
     },
     /// Reads from the file at a slot (io_uring_enter(2), "IORING_OP_READ").
@@ -40,7 +41,7 @@ pub enum Op {
         slot: u32,
         /// The first byte, from 0.
         off: u32,
-        /// How many bytes, at most 4,096.
+        /// The number of bytes, at most 4,096.
         len: u32,
     },
     /// Empties a slot (io_uring_prep_close(3)).
@@ -48,8 +49,8 @@ pub enum Op {
         /// The slot, from 0.
         slot: u32,
     },
-    /// Changes the slots from one on, each by its number of a list (io_uring_prep_files_update(3)): -1 empties the slot,
-    /// -2 leaves it as it is, and any other number installs the catalogue entry of that number.
+    /// Changes the slots from `off` on, each by its number in the list (io_uring_prep_files_update(3)): -1 empties the
+    /// slot, -2 leaves it as it is, and any other number installs the catalogue entry of that number.
     Update {
         /// The slot of the first entry, from 0.
         off: u32,
@@ -61,15 +62,15 @@ pub enum Op {
 /// A request of a submission.
 #[derive(Debug, Drop)]
 pub struct Request {
-    /// What it does.
+    /// The operation.
     pub op: Op,
-    /// Its flags.
+    /// The flags.
     pub flags: SqeFlags,
 }
 
 impl Request {
-    /// How many files the request installs: 1 for an open, the number of entries that are 0 or more for an update,
-    /// and else 0. Each takes a number of the table (this project's own).
+    /// Returns the number of files that the request installs: 1 for an open, the number of entries that are 0 or more
+    /// for an update, otherwise 0. Each uses a file number of the table (this project's own).
     pub fn installs(&self) -> usize
         ensures { result ≡ installs_of (operation_of self.now.op) }
     {
@@ -80,8 +81,8 @@ impl Request {
         }
     }
 
-    /// How many files the request may close: the length of the list for an update, and else 1. Each takes one of the
-    /// room in a list of closes.
+    /// Returns the greatest number of files that the request may close: the length of the list for an update, otherwise
+    /// 1. Each uses one place of the room in a list of closes.
     pub fn weight(&self) -> usize
         ensures { result ≡ weight_of (operation_of self.now.op) }
     {
@@ -91,7 +92,7 @@ impl Request {
         }
     }
 
-    /// Whether the next request starts only after this one has completed (io_uring_enter(2), "IOSQE_IO_LINK",
+    /// Checks whether the next request starts only after this one has completed (io_uring_enter(2), "IOSQE_IO_LINK",
     /// "IOSQE_IO_HARDLINK").
     pub fn links(&self) -> bool
         ensures { result ≡ is_link self.now.flags }
@@ -99,15 +100,15 @@ impl Request {
         self.flags.contains(SqeFlags::IO_LINK) || self.flags.contains(SqeFlags::IO_HARDLINK)
     }
 
-    /// Whether the request's chain is severed by its completion: the request failed, or is a read that gave fewer bytes
-    /// than asked, and it has no IO_HARDLINK (io_uring_enter(2), "IOSQE_IO_LINK", "IOSQE_IO_HARDLINK").
+    /// Checks whether the completion severs the request's chain: the request failed, or is a read that returned fewer
+    /// bytes than it asked for, and it has no IO_HARDLINK (io_uring_enter(2), "IOSQE_IO_LINK", "IOSQE_IO_HARDLINK").
     pub fn severs(&self, completion: &Completion) -> bool
         ensures { result ≡ severs (asked_of self.now) (completed_of completion.now) }
     {
         !self.flags.contains(SqeFlags::IO_HARDLINK) && self.has_failed(completion)
     }
 
-    // Whether the completion is a failure: an error, or fewer bytes than a read asked for.
+    // Checks whether the completion is a failure: an error, or fewer bytes than a read asked for.
     fn has_failed(&self, completion: &Completion) -> bool
         ensures { result ≡ has_failed (operation_of self.now.op) (completed_of completion.now) }
     {
@@ -124,7 +125,7 @@ impl Request {
         }
     }
 
-    // A read without FIXED_FILE, or another request with it.
+    // Checks whether it is a read without FIXED_FILE, or another request with it.
     pub(crate) fn has_bad_flags(&self) -> bool
         ensures { result ≡ has_bad_flags (operation_of self.now.op) (is_fixed self.now.flags) }
     {
@@ -139,7 +140,7 @@ impl Request {
         }
     }
 
-    // A read of more than 4,096 bytes.
+    // Checks whether it is a read of more than 4,096 bytes.
     pub(crate) fn is_long_read(&self) -> bool
         ensures { result ≡ is_long_read (operation_of self.now.op) }
     {
@@ -153,7 +154,7 @@ impl Request {
         }
     }
 
-    // An update of more than 16 entries.
+    // Checks whether it is an update of more than 16 entries.
     pub(crate) fn is_long_update(&self) -> bool
         ensures { result ≡ is_long_update (operation_of self.now.op) }
     {
@@ -164,7 +165,7 @@ impl Request {
     }
 }
 
-// How many entries install a file.
+// Returns the number of entries that install a file.
 fn installing(list: &[i32]) -> usize
     ensures { result ≡ length (filter (λ entry. int_le (pos 0) entry) list.now) }
 {

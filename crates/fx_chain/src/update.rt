@@ -14,7 +14,7 @@ use fx_base::{Errno, MOST_ENTRIES};
 use fx_table::FileTable;
 use std::sync::Wait;
 
-// Whether an entry of an update is below -2 or past a catalogue of so many entries.
+// Checks whether an entry of an update is below -2, or past a catalogue of `entries` entries.
 fn is_bad_entry(entries: u32, entry: i32) -> bool
     ensures { result ≡ is_bad_entry entries entry }
 {
@@ -24,15 +24,15 @@ fn is_bad_entry(entries: u32, entry: i32) -> bool
     entry as u32 >= entries
 }
 
-/// Whether the list of an update has an entry that is below -2 or past a catalogue of so many entries (io_uring_register(2),
-/// "IORING_REGISTER_FILES_UPDATE").
+/// Checks whether the list of an update has an entry that is below -2, or past a catalogue of `entries` entries
+/// (io_uring_register(2), "IORING_REGISTER_FILES_UPDATE").
 pub fn has_bad_entry(entries: u32, list: &[i32]) -> bool
     ensures { result ≡ list_any (is_bad_entry entries) list.now }
 {
     list.iter().any(|entry| is_bad_entry(entries, *entry))
 }
 
-// Applies one entry: -1 empties its slot, -2 leaves it, and every other one installs that catalogue entry.
+// Applies one entry: -1 empties its slot, -2 leaves it as it is, and any other number installs that catalogue entry.
 fn apply_entry<T: FileTable, R: Wait>(
     context: &Context<'_, T, R>,
     player: &mut Player<'_, T::Pass>,
@@ -85,9 +85,9 @@ fn apply_list<T: FileTable, R: Wait>(
     }
 }
 
-// Updates the slots from `off` on by a list (io_uring_register_files(3), `io_uring_register_files_update`): ENXIO where
-// there is no table, EINVAL where the list is empty or passes the end of the table, EBADF where an entry is bad, and
-// then no entry is applied. Else the result is the length of the list.
+// Updates the slots from `off` on by a list (io_uring_register_files(3), `io_uring_register_files_update`). Fails with
+// ENXIO if there is no table, EINVAL if the list is empty or passes the end of the table, and EBADF if an entry is bad;
+// then no entry is applied. Otherwise the result is the length of the list.
 pub(crate) fn update<T: FileTable, R: Wait>(
     context: &Context<'_, T, R>,
     player: &mut Player<'_, T::Pass>,
