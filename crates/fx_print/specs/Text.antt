@@ -22,7 +22,7 @@ use Rattle.fx_chain.specs.Completed.{Completed}
 abbrev pub result_line : List ℕ → ℤ → List ℕ
 result_line word res = word ++ (codes " " ++ (signed_decimal res ++ codes "\n"))
 
--- a space and the bytes, in lower case hexadecimal, where a read gave some
+-- a space and the bytes in lower case hexadecimal, unless there are none
 abbrev pub got_text : List ℕ → List ℕ
 got_text got = if length got == 0 then [] else codes " " ++ encode_lower got
 
@@ -86,7 +86,7 @@ tag_line completion = codes "tag " ++ (decimal completion.user_data ++ codes "\n
 abbrev pub tag_lines : List TagCompletion → List ℕ
 tag_lines completions = flat_map tag_line completions
 
--- the lines of the files that were closed, and behind them those of their tags
+-- the lines of the files that were closed, and then those of their tags
 abbrev pub closes_text : List FileEntry → List Closed → List ℕ
 closes_text catalogue files = closed_lines catalogue files ++ tag_lines (tags_of files)
 
@@ -95,7 +95,7 @@ abbrev pub submission_text : List FileEntry → List Completed → List Closed �
 submission_text catalogue completions files =
     completion_lines completions ++ closes_text catalogue files
 
--- `teardown` and the lines of the files that were left, where files were left
+-- `teardown` and the lines of the files that were left, or nothing if none was left
 abbrev pub teardown_text : List FileEntry → List Closed → List ℕ
 teardown_text catalogue files =
     if length files == 0 then [] else codes "teardown\n" ++ closes_text catalogue files

@@ -1,4 +1,4 @@
-//! Digits behind a text: those of a number, and those of bytes in lower case hexadecimal.
+//! Appending digits to a text: those of a number, and those of bytes in lower case hexadecimal.
 ghost use Rattle.std.specs.Prelude.{◌≡◌, ◌++◌, OnOk, decimal, string_bytes};
 ghost use Rattle.std.specs.Fmt.{signed_decimal};
 ghost use Rattle.hex.specs.Hex.{encode_lower};
@@ -7,10 +7,10 @@ use itoa::Buffer;
 use std::alloc::AllocError;
 use std::str;
 
-/// How many bytes are written as digits before these go behind the text.
+/// The number of bytes whose digits are appended at once.
 const STRETCH: usize = 64;
 
-// Puts the digits of a number behind a text. Most numbers of a line have one.
+// Appends the digits of a number. Most numbers of a line have one digit.
 pub fn push_number(text: &mut String, number: u64) -> Result<(), AllocError>
     ensures { OnOk result (string_bytes text.new ≡ string_bytes text.old ++ decimal number) }
 {
@@ -22,7 +22,7 @@ pub fn push_number(text: &mut String, number: u64) -> Result<(), AllocError>
     text.push_str(digits.format(number))
 }
 
-// The same of a number that may be below 0, with its sign.
+// Appends the digits of a number that may be negative, with its sign.
 pub fn push_signed(text: &mut String, number: i64) -> Result<(), AllocError>
     ensures { OnOk result (string_bytes text.new ≡ string_bytes text.old ++ signed_decimal number) }
 {
@@ -32,7 +32,7 @@ pub fn push_signed(text: &mut String, number: i64) -> Result<(), AllocError>
     push_number(text, number.unsigned_abs())
 }
 
-// Puts bytes behind a text, in lower case hexadecimal.
+// Appends bytes in lower case hexadecimal.
 pub fn push_hex(text: &mut String, bytes: &[u8]) -> Result<(), AllocError>
     ensures { OnOk result
         (string_bytes text.new ≡ string_bytes text.old ++ encode_lower bytes.now) }

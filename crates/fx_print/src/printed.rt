@@ -1,4 +1,4 @@
-//! The text of a large submission, which several threads make.
+//! The text of a large submission, which several threads produce.
 ghost use Rattle.std.specs.Prelude.{◌≡◌, ◌<◌, All, IfOk, Ok, flat_map, length, map, string_bytes};
 ghost use Rattle.fx_chain.specs.Completed.{all_completed};
 ghost use Rattle.fx_print.specs.Text.{completion_lines, submission_text};
@@ -10,10 +10,11 @@ use std::alloc::Global;
 use std::thread;
 use std::thread::Threads;
 
-/// From how many bytes of lines on several threads make them. Fewer are made before a thread has started.
+/// The number of bytes of lines from which several threads produce them. One thread produces fewer before another has
+/// started.
 const LARGE: usize = 262_144;
 
-// All texts, where each was made.
+// Returns all texts, or the first failure.
 fn all_made(alloc: Global, made: Vec<Result<String, NoMemory>>) -> Result<Vec<String>, NoMemory>
     ensures { IfOk result (λ texts. made.items ≡ map Ok texts.items) }
 {
@@ -24,7 +25,7 @@ fn all_made(alloc: Global, made: Vec<Result<String, NoMemory>>) -> Result<Vec<St
     Ok(texts)
 }
 
-// The lines of completions, so many in each text, made in threads where these can be started.
+// Returns the lines of completions, `size` completions in each text, produced in threads if these can be started.
 fn texts_of(
     rt: &(impl Threads + Sync),
     alloc: Global,
@@ -48,7 +49,7 @@ fn texts_of(
     all_made(alloc, made)
 }
 
-// The texts one after another, in one text that is reserved for them. Each is given up once it stands there.
+// Joins the texts into one text that is reserved for them. Each is freed once it is copied.
 fn joined(alloc: Global, texts: Vec<String>) -> Result<String, NoMemory>
     ensures { IfOk result (λ text. string_bytes text ≡ flat_map string_bytes texts.items) }
 {
@@ -63,11 +64,12 @@ fn joined(alloc: Global, texts: Vec<String>) -> Result<String, NoMemory>
     Ok(all)
 }
 
-/// The text of a submission, as [`submission_text`] makes it. Where it is large, its lines are made by as many threads as the
-/// submission has workers, and joined.
+/// Returns the text of a submission, as [`submission_text`] does. If the text is large, as many threads as the
+/// submission has workers produce its lines, which are then joined. Requires that the entry of each closed file is
+/// below [`Catalogue::len`].
 ///
 /// # Errors
-/// `NoMemory` where the memory of the text or of the tags is refused.
+/// `NoMemory` if an allocation for the text or the tags fails.
 pub fn printed_submission(
     rt: &(impl Threads + Sync),
     alloc: Global,

@@ -1,4 +1,4 @@
-//! The printed lines, each put behind a text whose room was made before.
+//! The printed lines, each appended to a text whose room was reserved before.
 ghost use Rattle.std.specs.Prelude.{◌≡◌, ◌<◌, ◌++◌, IfOk, OnOk, All, codes, length, slice_index, string_bytes};
 ghost use Rattle.hex.specs.Hex.{encode_lower};
 ghost use Rattle.std.specs.Fmt.{signed_decimal};
@@ -11,26 +11,27 @@ use fx_base::{Catalogue, CloseList, Closed, Mark, NoMemory, TagCompletion};
 use fx_chain::{Completion, CutFault, CutKind, Place};
 use std::alloc::{AllocError, Global};
 
-/// How many bytes the line of a completion has besides the bytes of a read: four numbers of at most eleven bytes.
+/// The greatest number of bytes of a completion's line besides the bytes of a read: four numbers of at most eleven
+/// bytes.
 const COMPLETION_ROOM: usize = 50;
 
-/// How many bytes the line of a closed file has: four numbers and a name.
+/// The greatest number of bytes of a closed file's line: four numbers and a name.
 const CLOSED_ROOM: usize = 90;
 
-/// How many bytes the line of a tag has: a number of at most twenty digits.
+/// The greatest number of bytes of a tag's line: a number of at most twenty digits.
 const TAG_ROOM: usize = 25;
 
-/// The line of a command: its word and its result, 0 or more, or a negated error.
+/// Returns the line of a command: its word and its result, which is 0 or more, or a negated error.
 ///
 /// # Errors
-/// `NoMemory` where the memory of the text is refused.
+/// `NoMemory` if an allocation for the text fails.
 pub fn result_line(alloc: Global, word: &str, res: i64) -> Result<String, NoMemory>
     ensures { IfOk result (λ text. string_bytes text ≡ result_line word.now res) }
 {
     Ok(format!(in alloc; "{word} {res}\n")?)
 }
 
-// Puts a space and the bytes of a read behind a text, where it gave some.
+// Appends a space and the bytes of a read, if there are any.
 fn push_got(text: &mut String, got: &[u8]) -> Result<(), AllocError>
     ensures { OnOk result (string_bytes text.new ≡ string_bytes text.old ++ got_text got.now) }
 {
@@ -41,7 +42,7 @@ fn push_got(text: &mut String, got: &[u8]) -> Result<(), AllocError>
     push_hex(text, got)
 }
 
-// Puts a place behind a text: its submission, chain and member.
+// Appends a place: its submission, chain and member.
 fn push_place(text: &mut String, place: Place) -> Result<(), AllocError>
     ensures { OnOk result (string_bytes text.new ≡ string_bytes text.old ++ place_text place) }
 {
@@ -52,7 +53,7 @@ fn push_place(text: &mut String, place: Place) -> Result<(), AllocError>
     push_number(text, u64::from(place.member))
 }
 
-// Puts a result behind a text, with the bytes of a read.
+// Appends a result, and the bytes of a read.
 fn push_result(text: &mut String, res: i32, got: &[u8]) -> Result<(), AllocError>
     ensures { OnOk result (string_bytes text.new
         ≡ string_bytes text.old ++ (codes " " ++ (signed_decimal res ++ got_text got.now))) }
@@ -62,7 +63,7 @@ fn push_result(text: &mut String, res: i32, got: &[u8]) -> Result<(), AllocError
     push_got(text, got)
 }
 
-// Puts the line of a completion behind a text: its place, its result, and the bytes of a read.
+// Appends the line of a completion: its place, its result, and the bytes of a read.
 fn push_completion(text: &mut String, completion: &Completion) -> Result<(), AllocError>
     ensures { OnOk result (string_bytes text.new
         ≡ string_bytes text.old ++ completion_line (completed_of completion.now)) }
@@ -72,7 +73,7 @@ fn push_completion(text: &mut String, completion: &Completion) -> Result<(), All
     text.push('\n')
 }
 
-// Puts a line for each completion behind a text, in their order.
+// Appends a line for each completion, in their order.
 fn push_completions(text: &mut String, completions: &[Completion]) -> Result<(), AllocError>
     ensures { OnOk result (string_bytes text.new
         ≡ string_bytes text.old ++ completion_lines (all_completed completions.now)) }
@@ -83,7 +84,7 @@ fn push_completions(text: &mut String, completions: &[Completion]) -> Result<(),
     Ok(())
 }
 
-// Puts a mark behind a text: `rK.I` or `S.C.M.E`.
+// Appends a mark: `rK.I` or `S.C.M.E`.
 fn push_mark(text: &mut String, mark: Mark) -> Result<(), AllocError>
     ensures { OnOk result (string_bytes text.new ≡ string_bytes text.old ++ mark_text mark) }
 {
@@ -112,7 +113,7 @@ fn push_mark(text: &mut String, mark: Mark) -> Result<(), AllocError>
     }
 }
 
-// Puts the line of a closed file behind a text: its mark and its name.
+// Appends the line of a closed file: its mark and its name.
 fn push_closed_line(text: &mut String, mark: Mark, name: &str) -> Result<(), AllocError>
     ensures { OnOk result
         (string_bytes text.new ≡ string_bytes text.old ++ closed_line mark name.now) }
@@ -124,7 +125,7 @@ fn push_closed_line(text: &mut String, mark: Mark, name: &str) -> Result<(), All
     text.push('\n')
 }
 
-// Puts a line for each closed file behind a text, in their order. Each entry is in the catalogue.
+// Appends a line for each closed file, in their order. Each entry is in the catalogue.
 fn push_closed_lines(
     text: &mut String,
     catalogue: &Catalogue,
@@ -141,7 +142,7 @@ fn push_closed_lines(
     Ok(())
 }
 
-// Puts the line of a tag behind a text.
+// Appends the line of a tag.
 fn push_tag(text: &mut String, completion: &TagCompletion) -> Result<(), AllocError>
     ensures { OnOk result
         (string_bytes text.new ≡ string_bytes text.old ++ tag_line completion.now) }
@@ -151,7 +152,7 @@ fn push_tag(text: &mut String, completion: &TagCompletion) -> Result<(), AllocEr
     text.push('\n')
 }
 
-// Puts a line for each completion of a tag behind a text, in their order.
+// Appends a line for each completion of a tag, in their order.
 fn push_tags(text: &mut String, completions: &[TagCompletion]) -> Result<(), AllocError>
     ensures { OnOk result
         (string_bytes text.new ≡ string_bytes text.old ++ tag_lines completions.now) }
@@ -162,7 +163,7 @@ fn push_tags(text: &mut String, completions: &[TagCompletion]) -> Result<(), All
     Ok(())
 }
 
-// Puts the lines of closed files behind a text, and behind them those of their tags. Each entry is in the catalogue.
+// Appends the lines of closed files, and then those of their tags. Each entry is in the catalogue.
 fn push_closes(
     text: &mut String,
     catalogue: &Catalogue,
@@ -178,7 +179,7 @@ fn push_closes(
     push_tags(text, tags)
 }
 
-// The name of a fault of a submission.
+// Returns the name of a fault of a submission.
 fn kind_name(kind: CutKind) -> &'static str
     ensures { result.now ≡ kind_name kind }
 {
@@ -192,10 +193,10 @@ fn kind_name(kind: CutKind) -> &'static str
     }
 }
 
-/// The line of a refused submission: the name of the fault, and the place of its request, from 1.
+/// Returns the line of a refused submission: the name of the fault, and the number of its request, from 1.
 ///
 /// # Errors
-/// `NoMemory` where the memory of the text is refused.
+/// `NoMemory` if an allocation for the text fails.
 pub fn refused_line(alloc: Global, fault: CutFault) -> Result<String, NoMemory>
     ensures { IfOk result (λ text. string_bytes text ≡ refused_line fault) }
 {
@@ -204,10 +205,10 @@ pub fn refused_line(alloc: Global, fault: CutFault) -> Result<String, NoMemory>
     Ok(format!(in alloc; "submit refused {name} {at}\n")?)
 }
 
-/// The line of a submission past the last that a ring accepts.
+/// Returns the line of a submission after the last one that a ring accepts.
 ///
 /// # Errors
-/// `NoMemory` where the memory of the text is refused.
+/// `NoMemory` if an allocation for the text fails.
 pub fn too_many_line(alloc: Global) -> Result<String, NoMemory>
     ensures { IfOk result (λ text. string_bytes text ≡ too_many_line) }
 {
@@ -215,7 +216,7 @@ pub fn too_many_line(alloc: Global) -> Result<String, NoMemory>
     Ok(String::from_str(alloc, line)?)
 }
 
-/// The room for a line for each completion.
+/// Returns the room for a line for each completion.
 pub(crate) fn room_of(completions: &[Completion]) -> usize {
     let mut room = 0usize;
     for completion in completions {
@@ -230,13 +231,13 @@ pub(crate) fn room_of(completions: &[Completion]) -> usize {
     room
 }
 
-// The room for a line for each closed file and for each tag.
+// Returns the room for a line for each closed file and for each tag.
 fn room_of_closes(files: &[Closed], tags: &[TagCompletion]) -> usize {
     let lines = files.len().saturating_mul(CLOSED_ROOM);
     lines.saturating_add(tags.len().saturating_mul(TAG_ROOM))
 }
 
-/// The lines of some completions, in their order.
+/// Returns the lines of completions, in their order.
 pub(crate) fn completions_text(
     alloc: Global,
     completions: &[Completion],
@@ -249,11 +250,11 @@ pub(crate) fn completions_text(
     Ok(text)
 }
 
-/// The text of a submission: a line for each completion, one for each file that was closed, and one for each of their
-/// tags. The caller has seen that each closed entry is below [`Catalogue::len`].
+/// Returns the text of a submission: a line for each completion, then one for each file that was closed, then one for
+/// each of their tags. Requires that the entry of each closed file is below [`Catalogue::len`].
 ///
 /// # Errors
-/// `NoMemory` where the memory of the text or of the tags is refused.
+/// `NoMemory` if an allocation for the text or the tags fails.
 pub fn submission_text(
     alloc: Global,
     catalogue: &Catalogue,
@@ -273,11 +274,11 @@ pub fn submission_text(
     Ok(text)
 }
 
-/// A first line, and the lines of closed files and of their tags. The caller has seen that each closed entry is below
-/// [`Catalogue::len`].
+/// Returns a first line, and the lines of closed files and of their tags. Requires that the entry of each closed file
+/// is below [`Catalogue::len`].
 ///
 /// # Errors
-/// `NoMemory` where the memory of the text or of the tags is refused.
+/// `NoMemory` if an allocation for the text or the tags fails.
 pub fn with_closes(
     alloc: Global,
     first: &str,
@@ -297,11 +298,11 @@ pub fn with_closes(
     Ok(text)
 }
 
-/// The lines of the end of a script: `teardown` and the lines of the files that were left in the table, or no line where
-/// none was left. The caller has seen that each closed entry is below [`Catalogue::len`].
+/// Returns the lines at the end of a script: `teardown` and the lines of the files that were left in the table, or no
+/// line if none was left. Requires that the entry of each closed file is below [`Catalogue::len`].
 ///
 /// # Errors
-/// `NoMemory` where the memory of the text or of the tags is refused.
+/// `NoMemory` if an allocation for the text or the tags fails.
 pub fn teardown_text(
     alloc: Global,
     catalogue: &Catalogue,
