@@ -1,21 +1,21 @@
--- How a line is read word by word: what is taken of the words that are left (this project's own).
+-- Reading a line word by word (this project's own).
 use Rattle.std.specs.Prelude.{◌≡◌, ℕ, List, [], ◌∷◌, Result, Ok, Err}
 use Rattle.std.specs.Borrow.{Bor}
 use Rattle.fx_language.specs.declared.fault.ScriptFault.{ScriptFault}
 use Rattle.fx_language.specs.declared.fault.ScriptFault.TheVariants.{WordCount}
 
--- the first word was taken, or there was none
+-- the first word was taken, or there is none
 abbrev pub TakesWord : List (List ℕ) → Result (Bor (List ℕ)) ScriptFault → List (List ℕ) → Type 0
 TakesWord old (Ok word) new = old ≡ word.now ∷ new
 TakesWord old (Err fault) new = (old ≡ []) × (fault ≡ WordCount)
 
--- there was no word, or there was one
+-- success if there is no word, otherwise a fault
 abbrev pub IsEnd : {A : Type 0} → List (List ℕ) → Result A ScriptFault → Type 0
 IsEnd old (Ok _) = old ≡ []
 IsEnd old (Err fault) =
     (word : List ℕ) × (others : List (List ℕ)) × (old ≡ word ∷ others) × (fault ≡ WordCount)
 
--- the answer is the one that is expected, where `view` shows what the code gave
+-- the result is the expected one; `view` is what contracts see of the code's value
 abbrev pub Gives : {A B : Type 0} → (A → B) → Result A ScriptFault → Result B ScriptFault → Type 0
 Gives view (Ok x) expected = expected ≡ Ok (view x)
 Gives view (Err fault) expected = expected ≡ Err fault

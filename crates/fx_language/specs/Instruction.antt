@@ -1,4 +1,4 @@
--- A command of a script, without where it lies in memory.
+-- A command of a script without its place in memory.
 use Rattle.std.specs.Prelude.{ℕ, ℤ, List, map, Option, option_map}
 use Rattle.fx_chain.specs.Operation.{Asked, all_asked}
 use Rattle.fx_language.specs.declared.command.Command.{Command}
@@ -8,14 +8,14 @@ use Rattle.fx_language.specs.declared.command.Command.TheVariants.{Range, Update
 pub data Instruction : Type 0 where
   -- the number of slots
   MakesSparse : ℕ → Instruction
-  -- the list, and perhaps its tags
+  -- the list, and its tags, if it has any
   RegistersList : List ℤ → Option (List ℕ) → Instruction
   Unregisters : Instruction
   -- the first slot, and the number of slots
   SetsRange : ℕ → ℕ → Instruction
-  -- the first slot, the list, and perhaps its tags
+  -- the first slot, the list, and its tags, if it has any
   UpdatesRing : ℕ → List ℤ → Option (List ℕ) → Instruction
-  -- the requests since the submission before, or since the start
+  -- the requests since the last submission, or since the start
   SubmitsAll : List Asked → Instruction
 
 abbrev pub instruction_of : Command → Instruction

@@ -1,16 +1,16 @@
--- What holds of every byte string (this project's own).
+-- Laws of every byte string (this project's own).
 use Rattle.std.specs.Prelude.{◌≡◌, ◌⊎◌, ℕ, List}
 use Rattle.fx_language.specs.declared.fault.ScriptFault.{ScriptFault}
 use Rattle.fx_language.specs.Script.{AreFiles, Meaning, IsScript, HasFault}
 
--- the bytes are a script, it says one thing, and they have no fault
+-- the bytes are a script, which says one thing, and have no fault
 pub record IsOneScript (bytes : List ℕ) : Type 0 where
   pub meaning : Meaning
   pub is_script : IsScript bytes meaning
   pub only : (other : Meaning) → IsScript bytes other → other ≡ meaning
   pub no_fault : (line : ℕ) (kind : ScriptFault) → HasFault bytes line kind → ⊥
 
--- the bytes have one fault, on one line, and are no script
+-- the bytes have one fault, on one line, and aren't a script
 pub record HasOneFault (bytes : List ℕ) : Type 0 where
   pub line : ℕ
   pub kind : ScriptFault
@@ -22,7 +22,7 @@ pub record HasOneFault (bytes : List ℕ) : Type 0 where
 abbrev pub IsScriptOrFaulty : List ℕ → Type 0
 IsScriptOrFaulty bytes = IsOneScript bytes ⊎ HasOneFault bytes
 
--- the files of each script are a catalogue, of bytes alone
+-- the files of each script are a catalogue and consist of bytes
 abbrev pub EachScriptHasFiles : Type 0
 EachScriptHasFiles =
     (bytes : List ℕ) (meaning : Meaning) → IsScript bytes meaning → AreFiles meaning.catalogue

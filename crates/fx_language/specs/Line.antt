@@ -1,5 +1,4 @@
--- What a line of a script says that isn't skipped, or its fault, the first that applies (this
--- project's own).
+-- The meaning of a script's line that isn't skipped, or its first fault (this project's own).
 use Rattle.std.specs.Prelude.{ℕ, ℤ, Bool, true, false, List, [], ◌∷◌, codes, Option, Some, None}
 use Rattle.std.specs.Prelude.{option_map, Result, Ok, Err, ok_or, if◌then◌else◌}
 use Rattle.std.specs.Str.{bytes_eq}
@@ -17,14 +16,14 @@ use Rattle.fx_language.specs.Instruction.{SetsRange, UpdatesRing}
 use Rattle.fx_language.specs.Words.{number_of, list_of, tag_list_of}
 
 pub data Line : Type 0 where
-  -- the name, and the word that tells the bytes
+  -- the name, and the word for the bytes
   FileLine : List ℕ → List ℕ → Line
   -- a command other than `submit`
   CommandLine : Instruction → Line
   RequestLine : Asked → Line
   SubmitLine : Line
 
--- the second step, where the first has no fault
+-- the second step, if the first has no fault
 infixl 10 ◌>>=◌
 abbrev pub ◌>>=◌ : {A B : Type 0} → Result A ScriptFault → (A → Result B ScriptFault)
     → Result B ScriptFault
@@ -37,7 +36,7 @@ number_in word = ok_or (number_of word) BadNumber
 abbrev pub list_in : List ℕ → Result (List ℤ) ScriptFault
 list_in word = ok_or (list_of word) BadEntry
 
--- the tags that a last word writes, where there is one
+-- the tags of the last word, if there is one
 abbrev pub tags_in : Option (List ℕ) → Result (Option (List ℕ)) ScriptFault
 tags_in None = Ok None
 tags_in (Some word) = ok_or (option_map Some (tag_list_of word)) BadTag
@@ -45,13 +44,13 @@ tags_in (Some word) = ok_or (option_map Some (tag_list_of word)) BadTag
 abbrev pub name_in : List ℕ → Result (List ℕ) ScriptFault
 name_in word = if is_name word then Ok word else Err BadName
 
--- the word behind those that must be there: at most one
+-- the word after the required ones, if there is one
 abbrev pub last_of : List (List ℕ) → Result (Option (List ℕ)) ScriptFault
 last_of [] = Ok None
 last_of (word ∷ []) = Ok (Some word)
 last_of (word ∷ more ∷ others) = Err WordCount
 
--- what links the next request: the last word `link` or `hardlink`
+-- the flag that links the next request, by the last word: `link` or `hardlink`
 abbrev pub link_in : Option (List ℕ) → Result SqeFlags ScriptFault
 link_in None = Ok no_flags
 link_in (Some word) =
@@ -59,7 +58,7 @@ link_in (Some word) =
     else if bytes_eq word (codes "hardlink") then Ok io_hardlink
     else Err BadWord
 
--- a read names its file by a slot, and no other request does
+-- the flags of a request: a read names its file by a slot, and no other request does
 abbrev pub flags_of : SqeFlags → Operation → SqeFlags
 flags_of link (Opens name target) = link
 flags_of link (Reads slot off len) = both_flags fixed_file link
@@ -70,8 +69,7 @@ abbrev pub request_line : SqeFlags → Operation → Line
 request_line link operation =
     RequestLine (record { operation = operation; flags = flags_of link operation })
 
--- The words behind the command, by the command. First their number is tried, and then each of them,
--- from the left.
+-- The words after the command. First their number is checked, and then each of them, from the left.
 
 abbrev pub file_of : Bool → List (List ℕ) → Result Line ScriptFault
 file_of true words = Err LateFile
@@ -174,8 +172,8 @@ request_of command words =
     else if bytes_eq command (codes "update") then update_of words
     else Err UnknownCommand
 
--- what the words of a line say, by the first of them; whether it stands behind a line that isn't a
--- `file` line
+-- the meaning of a line's words, by the first of them; the first argument is whether an earlier
+-- line isn't a `file` line
 abbrev pub line_of : Bool → List (List ℕ) → Result Line ScriptFault
 line_of late [] = Err UnknownCommand
 line_of late (command ∷ words) =

@@ -1,4 +1,4 @@
--- A line that was read, without where it lies in memory.
+-- A line that was read, without its place in memory.
 use Rattle.std.specs.Prelude.{ℤ, List, [], option_map, unwrap_or}
 use Rattle.fx_chain.specs.Operation.{Operation, Opens, Reads, Closes, Updates}
 use Rattle.fx_language.specs.declared.line.Line.{Line}
@@ -13,7 +13,7 @@ use Rattle.fx_language.specs.Line.{FileLine, CommandLine, RequestLine, SubmitLin
 use Rattle.fx_language.specs.Line as line
 use Rattle.fx_language.specs.Words.{list_of}
 
--- the entries of a list that was looked through
+-- the entries of a list that was checked
 abbrev pub entries_in : list.List → List ℤ
 entries_in l = unwrap_or (list_of l.text.now) []
 

@@ -2,7 +2,8 @@
 use Rattle.std.specs.Prelude.{ℕ, ◌==◌, nat_le, Bool, ◌&&◌, ◌||◌, List, length, slice_index}
 use Rattle.std.specs.List.{slice_split, list_all}
 
--- each line ends with the byte 10; behind the last of these is one more line, which may be empty
+-- each line ends with the byte 10; after the last such byte there is one more line, which may be
+-- empty
 abbrev pub lines : List ℕ → List (List ℕ)
 lines bytes = slice_split (λ b. b == 10) bytes
 

@@ -1,4 +1,4 @@
--- What an iterator over the parts of a text has left.
+-- The parts of a text that an iterator has left.
 use Rattle.std.specs.Prelude.{ℕ, ◌==◌, List, [], Option}
 use Rattle.std.specs.Borrow.{Bor}
 use Rattle.std.specs.Iterator.{YieldsFirstRef}
@@ -10,6 +10,6 @@ use Rattle.fx_language.specs.declared.parts.Parts.{Parts}
 abbrev pub parts_left : Parts → List (List ℕ)
 parts_left it = option_map_or (λ rest. slice_split (λ b. b == it.at) rest.now) it.rest []
 
--- a call gave the first part that was left, or `None` where none was left, and then none is
+-- a call returned the first part that was left, or `None` if none was left, and then none is left
 abbrev pub GivesFirstPart : Parts → Option (Bor (List ℕ)) → Parts → Type 0
 GivesFirstPart = YieldsFirstRef parts_left

@@ -1,4 +1,4 @@
--- The scripts: which bytes are one and what it says, and which fault stands on which line (this
+-- Scripts: which bytes are a script, what it says, and on which line its first fault is (this
 -- project's own).
 use Rattle.std.specs.Prelude.{◌≡◌, ℕ, ◌+◌, ◌==◌, nat_lt, Bool, ◌&&◌, not, List, [], ◌∷◌, ◌++◌}
 use Rattle.std.specs.Prelude.{length, All}
@@ -23,7 +23,7 @@ use Rattle.fx_language.specs.Line.{◌>>=◌}
 use Rattle.fx_language.specs.Lines.{lines, words, is_printable, is_skipped}
 use Rattle.fx_language.specs.Words.{hex_of}
 
--- what a script says: the files that can be opened, and the commands
+-- the meaning of a script: the files that can be opened, and the commands
 pub record Meaning : Type 0 where
   pub catalogue : List FileEntry
   pub commands : List Instruction
@@ -33,8 +33,8 @@ pub record LineFault : Type 0 where
   pub line : ℕ
   pub kind : ScriptFault
 
--- what the lines so far say; the requests that wait for their submission, and the line of the first
--- of them
+-- the meaning of the lines so far: the requests that wait for their submission, and the line of the
+-- first of them
 pub record Progress : Type 0 where
   pub catalogue : List FileEntry
   pub commands : List Instruction
@@ -44,11 +44,11 @@ pub record Progress : Type 0 where
 abbrev pub nothing : Progress
 nothing = record { catalogue = []; commands = []; waiting = []; first_waiting = 0 }
 
--- a line that isn't a `file` line was there
+-- some line so far isn't a `file` line
 abbrev pub is_late : Progress → Bool
 is_late p = not (length p.commands == 0 && length p.waiting == 0)
 
--- the fault of a line whose file may not be added; "out of memory" is none
+-- the fault of a line whose file isn't added; an allocation failure isn't a fault
 abbrev pub line_fault_of : AddFault → Option ScriptFault
 line_fault_of TooMany = Some CatalogueFull
 line_fault_of EmptyName = Some kind.BadName
@@ -61,7 +61,7 @@ abbrev pub unless : {A : Type 0} → Option ScriptFault → A → Result A Scrip
 unless None x = Ok x
 unless (Some fault) x = Err fault
 
--- with one more file, where it may be added
+-- with one more file, if it may be added
 abbrev pub with_file : Progress → List ℕ → List ℕ → Result Progress ScriptFault
 with_file p name bytes =
     unless (option_and_then line_fault_of (add_fault_of p.catalogue name bytes))
@@ -102,25 +102,25 @@ at_end p =
     if length p.waiting == 0 then Ok (record { catalogue = p.catalogue; commands = p.commands })
     else Err (record { line = p.first_waiting; kind = Unsubmitted })
 
--- a fault, on the n-th line, or what follows it
+-- a fault on the `n`-th line, or else the continuation
 abbrev pub on_line : {A B : Type 0} → ℕ → Result A ScriptFault → (A → Result B LineFault)
     → Result B LineFault
 on_line n (Ok x) next = next x
 on_line n (Err kind) next = Err (record { line = n; kind = kind })
 
--- the lines from the n-th on, to the end; the first fault ends it
+-- the lines from the `n`-th on, up to the first fault
 abbrev pub after_texts : ℕ → Progress → List (List ℕ) → Result Meaning LineFault
 after_texts n p [] = at_end p
 after_texts n p (text ∷ texts) =
     on_line n (after_text n p text) (λ next. after_texts (n + 1) next texts)
 
--- what the bytes say as a script, or the fault that they have
+-- the meaning of the bytes as a script, or their fault
 abbrev pub reading_of : List ℕ → Result Meaning LineFault
 reading_of bytes =
     if nat_lt LONGEST_SCRIPT (length bytes) then Err (record { line = 0; kind = LongScript })
     else after_texts 1 nothing (lines bytes)
 
--- the bytes are a script that says this
+-- the bytes are a script with this meaning
 abbrev pub IsScript : List ℕ → Meaning → Type 0
 IsScript bytes meaning = reading_of bytes ≡ Ok meaning
 
@@ -128,11 +128,11 @@ IsScript bytes meaning = reading_of bytes ≡ Ok meaning
 abbrev pub HasFault : List ℕ → ℕ → ScriptFault → Type 0
 HasFault bytes line kind = reading_of bytes ≡ Err (record { line = line; kind = kind })
 
--- what some bytes say as a script
+-- the meaning of some script
 abbrev pub IsRead : Meaning → Type 0
 IsRead meaning = (bytes : List ℕ) × IsScript bytes meaning
 
--- the files of each script that was read: a catalogue, of bytes alone
+-- the files of a script that was read: a catalogue that consists of bytes
 pub record AreFiles (files : List FileEntry) : Type 0 where
   pub catalogue : IsCatalogue files
   pub bytes : All (λ file. IsBytes file.bytes) files

@@ -1,15 +1,15 @@
--- What an answer of the reader says of the bytes (this project's own).
+-- The meaning of the reader's errors (this project's own).
 use Rattle.std.specs.Prelude.{◌≡◌, ℕ, List, Result, Ok, Err}
 use Rattle.fx_language.specs.declared.fault.ScriptError.{ScriptError}
 use Rattle.fx_language.specs.declared.fault.ScriptError.TheVariants.{Fault, NoMemory}
 use Rattle.fx_language.specs.Script.{LineFault, Meaning, HasFault}
 
--- the bytes have this fault; "out of memory" says nothing of them
+-- the bytes have this fault; an allocation failure says nothing of them
 abbrev pub IsFaultOf : List ℕ → ScriptError → Type 0
 IsFaultOf bytes (Fault line kind) = HasFault bytes line kind
 IsFaultOf bytes NoMemory = Unit {0}
 
--- the answer is the one that is expected, except when out of memory
+-- the result is the expected one, unless an allocation failed
 abbrev pub Reads : Result Meaning LineFault → Result Meaning ScriptError → Type 0
 Reads expected (Ok meaning) = expected ≡ Ok meaning
 Reads expected (Err (Fault line kind)) = expected ≡ Err (record { line = line; kind = kind })

@@ -1,4 +1,4 @@
--- What was read of a script, without where it lies in memory.
+-- The result of the lines so far, without its place in memory.
 use Rattle.std.specs.Prelude.{◌≡◌, Result, Ok, Err}
 use Rattle.fx_chain.specs.Operation.{all_asked}
 use Rattle.fx_language.specs.declared.fault.LineError.{LineError}
@@ -8,7 +8,7 @@ use Rattle.fx_language.specs.declared.reader.Reader.{Reader}
 use Rattle.fx_language.specs.Instruction.{instructions_of}
 use Rattle.fx_language.specs.Script.{Progress}
 
--- what the lines so far say
+-- the meaning of the lines so far
 abbrev pub progress_of : Reader → Progress
 progress_of r = record {
   catalogue = r.catalogue;
@@ -17,19 +17,19 @@ progress_of r = record {
   first_waiting = r.first_waiting;
 }
 
--- the fault that is expected, or "out of memory"
+-- the expected fault, or an allocation failure
 abbrev pub IsExpected : {A : Type 0} → LineError → Result A ScriptFault → Type 0
 IsExpected (Fault fault) expected = expected ≡ Err fault
 IsExpected NoMemory expected = Unit {0}
 
--- the answer is the one that is expected, where `view` shows what the code gave, except when out of
--- memory
+-- the result is the expected one, unless an allocation failed; `view` is what contracts see of the
+-- code's value
 abbrev pub GivesOrFails : {A B : Type 0} → (A → B) → Result A LineError → Result B ScriptFault
     → Type 0
 GivesOrFails view (Ok x) expected = expected ≡ Ok (view x)
 GivesOrFails view (Err error) expected = IsExpected error expected
 
--- the answer and what was read then are those that are expected, except when out of memory
+-- the result and the state afterwards are the expected ones, unless an allocation failed
 abbrev pub Takes : {A : Type 0} → Result A ScriptFault → Result (Unit {0}) LineError → A → Type 0
 Takes expected (Ok _) new = expected ≡ Ok new
 Takes expected (Err error) new = IsExpected error expected

@@ -1,4 +1,4 @@
--- What the words of a script say (this project's own).
+-- The meaning of a script's words (this project's own).
 use Rattle.std.specs.Prelude.{ℕ, suc, zero, ◌==◌, nat_le, Bool, ◌&&◌, ◌||◌, not, ℤ, pos, negsuc}
 use Rattle.std.specs.Prelude.{List, [], ◌∷◌, length}
 use Rattle.std.specs.Prelude.{drop, slice_index, codes, Option, Some, None, option_map}
@@ -20,7 +20,7 @@ is_decimal word =
     list_all is_digit word
     && (length word == 1 || (nat_le 2 (length word) && not (slice_index word 0 == 48)))
 
--- a number, at most so large
+-- a number, at most the given one
 abbrev pub number_up_to : ℕ → List ℕ → Option ℕ
 number_up_to largest word =
     if is_decimal word && nat_le (digits_value 10 word) largest then Some (digits_value 10 word)
@@ -30,7 +30,7 @@ number_up_to largest word =
 abbrev pub number_of : List ℕ → Option ℕ
 number_of word = number_up_to LARGEST_NUMBER word
 
--- the number below zero, where there is one
+-- the negated number, unless it is 0
 abbrev pub negated : ℕ → Option ℤ
 negated zero = None
 negated (suc n) = Some (negsuc n)
@@ -41,25 +41,25 @@ entry_of part =
     if slice_index part 0 == 45 then option_and_then negated (number_of (drop 1 part))
     else option_map pos (number_of part)
 
--- the entries of the parts, where each of them is one
+-- the entries of the parts, if each of them is one
 abbrev pub entries_of : List (List ℕ) → Option (List ℤ)
 entries_of [] = Some []
 entries_of (part ∷ more) =
     option_and_then (λ entry. option_map (λ entries. entry ∷ entries) (entries_of more))
     (entry_of part)
 
--- a list: entries, at least one, parted by single commas
+-- a list: entries, at least one, separated by single commas
 abbrev pub list_of : List ℕ → Option (List ℤ)
 list_of word = entries_of (parts word)
 
--- the tags of the parts, where each of them is one: a number up to the largest tag
+-- the tags of the parts, if each of them is a number up to the largest tag
 abbrev pub tags_of_parts : List (List ℕ) → Option (List ℕ)
 tags_of_parts [] = Some []
 tags_of_parts (part ∷ more) =
     option_and_then (λ tag. option_map (λ tags. tag ∷ tags) (tags_of_parts more))
     (number_up_to LARGEST_TAG part)
 
--- tags, at least one, parted by single commas
+-- tags, at least one, separated by single commas
 abbrev pub tag_list_of : List ℕ → Option (List ℕ)
 tag_list_of word = tags_of_parts (parts word)
 

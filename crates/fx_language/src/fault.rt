@@ -1,14 +1,15 @@
+//! The faults of a script.
 ghost use Rattle.std.specs.Prelude.{◌≡◌};
 ghost use Rattle.fx_language.specs.declared.fault.LineError.TheVariants.{Fault, NoMemory};
 
 use std::alloc::{AllocError, AllocFailed};
 use thiserror::Error;
 
-/// What is wrong with a line of a script, in the order in which it is looked for (this project's own). Its text is
-/// what the program prints of it.
+/// A fault of a script's line. The faults of a line are checked in the order of the variants (this project's own). Its
+/// text is the name that the program prints.
 #[derive(Clone, Copy, Debug, PartialEq, Eq, Error)]
 pub enum ScriptFault {
-    /// The script has more than 4,194,304 bytes. It stands on line 0.
+    /// The script has more than 4,194,304 bytes. The fault is on line 0.
     #[error("long-script")]
     LongScript,
     /// The line has more than 10,000 bytes.
@@ -17,19 +18,19 @@ pub enum ScriptFault {
     /// The line has a byte outside 32 to 126.
     #[error("not-text")]
     NotText,
-    /// The first word is no command.
+    /// The first word isn't a command.
     #[error("unknown-command")]
     UnknownCommand,
-    /// A `file` line stands behind another command.
+    /// A `file` line follows another command.
     #[error("late-file")]
     LateFile,
-    /// The command has another number of words.
+    /// The command has the wrong number of words.
     #[error("word-count")]
     WordCount,
     /// The third word of an `open` is neither `at` nor `any`, or the last word of a request neither `link` nor `hardlink`.
     #[error("bad-word")]
     BadWord,
-    /// The bytes of a file are not an even number of hexadecimal digits, at least two, nor `-`.
+    /// The bytes of a file are neither `-` nor an even number of hexadecimal digits, at least two.
     #[error("bad-hex")]
     BadHex,
     /// The file would be the 257th of the catalogue.
@@ -38,46 +39,47 @@ pub enum ScriptFault {
     /// The name isn't 1 to 32 letters, digits, `.`, `_` or `-`.
     #[error("bad-name")]
     BadName,
-    /// A file of this name is there already.
+    /// The catalogue has a file with this name already.
     #[error("same-name")]
     SameName,
     /// The file has more than 4,096 bytes.
     #[error("long-file")]
     LongFile,
-    /// The word is no number up to 2,147,483,647, written in decimal without a leading zero.
+    /// The word isn't a number up to 2,147,483,647 in decimal without a leading zero.
     #[error("bad-number")]
     BadNumber,
-    /// An entry of the list is neither a number nor `-` and a number other than 0.
+    /// An entry of the list is neither a number, nor `-` and a number other than 0.
     #[error("bad-entry")]
     BadEntry,
-    /// A tag of the list is no number up to 18,446,744,073,709,551,615, written in decimal without a leading zero.
+    /// A tag of the list isn't a number up to 18,446,744,073,709,551,615 in decimal without a leading zero.
     #[error("bad-tag")]
     BadTag,
-    /// Requests follow the last `submit`. It stands on the line of the first of them, and behind all other faults.
+    /// Requests follow the last `submit`. The fault is on the line of the first of them, and comes after all other
+    /// faults.
     #[error("unsubmitted")]
     Unsubmitted,
 }
 
-/// Why bytes were not read as a script.
+/// The reason why bytes were not read as a script.
 #[derive(Clone, Copy, Debug, PartialEq, Eq)]
 pub enum ScriptError {
-    /// They are no script.
+    /// The bytes aren't a script.
     Fault {
-        /// The line with the first fault, from 1, or 0 where the script is too long.
+        /// The line with the first fault, from 1, or 0 if the script is too long.
         line: u32,
-        /// Its fault.
+        /// The fault.
         kind: ScriptFault,
     },
-    /// The memory for the script was refused, which may come at any line.
+    /// An allocation for the script failed, at any line.
     NoMemory,
 }
 
-// Why a line was not taken.
+// The reason why a line was not accepted.
 #[derive(Drop)]
 pub enum LineError {
-    // It has a fault.
+    // The line has a fault.
     Fault(ScriptFault),
-    // Memory was refused.
+    // An allocation failed.
     NoMemory,
 }
 

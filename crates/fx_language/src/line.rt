@@ -1,3 +1,4 @@
+//! One line of a script.
 ghost use Rattle.std.specs.Prelude.{◌≡◌, true};
 ghost use Rattle.std.specs.List.{list_all};
 ghost use Rattle.fx_language.specs.Cursor.{Gives};
@@ -16,22 +17,22 @@ use crate::words::{end, last, number, text, word};
 use fx_chain::SqeFlags;
 use std::alloc::Global;
 
-// What a line says that isn't skipped. Words stay where they are, and tags alone are kept as numbers.
+// A line that isn't skipped. Words refer to the bytes of the line, and only tags are kept as numbers.
 #[derive(Drop)]
 pub enum Line<'a> {
-    // Adds a file to the catalogue, whose name and bytes are still to be looked at.
+    // Adds a file to the catalogue; its name and bytes are still to be checked.
     File { name: &'a str, hex: &'a [u8] },
     // Registers empty slots.
     Sparse(u32),
     // Registers the files of a list, perhaps with tags.
     Register(List<'a>, Option<Vec<u64>>),
-    // Takes the table away.
+    // Unregisters the table.
     Unregister,
     // Sets the allocation range.
     Range(u32, u32),
     // Updates the table, perhaps with tags.
     Update(u32, List<'a>, Option<Vec<u64>>),
-    // Asks for something at the next submission, by a request with these flags.
+    // Adds a request with these flags to the next submission.
     Request(Ask<'a>, SqeFlags),
     // Submits.
     Submit,
@@ -118,8 +119,8 @@ fn request_line<'a>(command: &[u8], words: &mut Parts<'a>) -> Result<Line<'a>, S
     }
 }
 
-// What a line says that isn't skipped, or its fault; tags take memory. `late` tells whether a line other than a `file` line
-// stands in front of it.
+// Parses a line that isn't skipped, or returns its fault. Tags are allocated. `late` says whether an earlier line isn't
+// a `file` line.
 pub fn parse(alloc: Global, line: &[u8], late: bool) -> Result<Line<'_>, LineError>
     requires { is_printable line.now ≡ true }
     ensures { GivesOrFails line_in result (line_of late (words line.now)) }

@@ -1,3 +1,4 @@
+//! Lists of entries.
 ghost use Rattle.std.specs.Prelude.{◌≡◌, IfOk, IsSome, Some, true, is_some};
 ghost use Rattle.fx_language.specs.Cursor.{Gives};
 ghost use Rattle.fx_language.specs.Line.{list_in};
@@ -8,7 +9,7 @@ use crate::number::entry;
 use crate::parts::Parts;
 use std::alloc::{AllocError, Global};
 
-// A word that is a list: entries, at least one, parted by single commas.
+// A word that is a list: entries, at least one, separated by single commas.
 #[derive(Clone, Copy)]
 pub struct List<'a> {
     text: &'a [u8],
@@ -29,7 +30,7 @@ fn is_list(word: &[u8]) -> bool
 impl<'a> List<'a> {
     ghost use Rattle.fx_language.specs.LineView.{entries_in};
 
-    // The list that a word is.
+    // Parses a word as a list.
     pub fn new(word: &'a [u8]) -> Result<List<'a>, ScriptFault>
         ensures { Gives entries_in result (list_in word.now) }
     {
@@ -40,7 +41,7 @@ impl<'a> List<'a> {
         }
     }
 
-    // Its entries.
+    // Returns its entries.
     pub fn entries(self, alloc: Global) -> Result<Vec<i32>, AllocError>
         ensures { IfOk result (λ list. list.items ≡ entries_in self.entry) }
     {

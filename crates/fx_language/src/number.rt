@@ -1,3 +1,4 @@
+//! Numbers, tags and entries, as words write them.
 ghost use Rattle.std.specs.Prelude.{◌≡◌};
 ghost use Rattle.fx_language.specs.declared.limits.TheConstants.{LARGEST_TAG};
 ghost use Rattle.fx_language.specs.Words.{is_digit, number_of, number_up_to, entry_of};
@@ -10,8 +11,7 @@ fn is_digit(b: u8) -> bool
     matches!(b, b'0'..=b'9')
 }
 
-/// The number that a word writes, where it is at most so large: decimal digits without a leading zero (this project's
-/// own).
+/// Parses a word as a number, at most `largest`: decimal digits without a leading zero (this project's own).
 pub fn number_up_to(largest: u64, word: &[u8]) -> Option<u64>
     ensures { result ≡ number_up_to largest word.now }
 {
@@ -31,21 +31,21 @@ pub fn number_up_to(largest: u64, word: &[u8]) -> Option<u64>
     Some(n as u64)
 }
 
-// The number that a word writes: at most 2,147,483,647.
+// Parses a word as a number, at most 2,147,483,647.
 pub fn number(word: &[u8]) -> Option<u32>
     ensures { result ≡ number_of word.now }
 {
     Some(number_up_to(u64::from(LARGEST_NUMBER), word)? as u32)
 }
 
-// The tag that a part of a word writes: a number, at most 18,446,744,073,709,551,615.
+// Parses a part of a word as a tag: a number, at most 18,446,744,073,709,551,615.
 pub fn tag(part: &[u8]) -> Option<u64>
     ensures { result ≡ number_up_to LARGEST_TAG part.now }
 {
     number_up_to(LARGEST_TAG, part)
 }
 
-// The entry of a list that a part of it writes: a number, or `-` and a number other than 0.
+// Parses a part of a word as an entry of a list: a number, or `-` and a number other than 0.
 pub fn entry(part: &[u8]) -> Option<i32>
     ensures { result ≡ entry_of part.now }
 {

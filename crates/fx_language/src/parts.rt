@@ -1,11 +1,11 @@
+//! The parts of a text between separators.
 ghost use Rattle.std.specs.Prelude.{◌≡◌, ◌==◌, [], ◌∷◌};
 ghost use Rattle.std.specs.Option.{option_map_or};
 ghost use Rattle.std.specs.List.{slice_split};
 ghost use Rattle.std.specs.Iterator.{item_count};
 
-/// The parts of a text between the bytes at which it is cut, one after another: the lines of a script, the words of a
-/// line, the entries of a list (this project's own). A text has one part more than it has such bytes, and a part may be
-/// empty.
+/// The parts of a text between its separators, one after another: the lines of a script, the words of a line, the
+/// entries of a list (this project's own). A text has one part more than it has separators, and a part may be empty.
 #[derive(Drop)]
 pub struct Parts<'a> {
     rest: Option<&'a [u8]>,
@@ -15,7 +15,7 @@ pub struct Parts<'a> {
 impl<'a> Parts<'a> {
     ghost use Rattle.fx_language.specs.Parts.{parts_left};
 
-    /// The parts of a text that is cut at a byte.
+    /// Creates the parts of a text, separated by the byte `at`.
     pub fn new(text: &'a [u8], at: u8) -> Parts<'a>
         ensures { parts_left result ≡ slice_split (λ b. b == at) text.now }
     {
@@ -43,7 +43,7 @@ impl<'a> Iterator for Parts<'a> {
     }
 }
 
-// The first part of a text that is cut at a byte, and the rest behind that byte, if there is one.
+// Returns the first part of a text, and the rest after the separator, if there is one.
 fn first_part(text: &[u8], at: u8) -> (&[u8], Option<&[u8]>)
     ensures { slice_split (λ b. b == at) text.now
         ≡ result.0.now ∷ option_map_or (λ rest. slice_split (λ b. b == at) rest.now) result.1 [] }

@@ -1,3 +1,4 @@
+//! The reader of a script, line by line.
 ghost use Rattle.std.specs.Prelude.{◌≡◌, ◌∷◌, ◌++◌, [], IfOk, MatchResult, Ok, Some, ok_or};
 ghost use Rattle.fx_chain.specs.Operation.{asked_of, operation_of};
 ghost use Rattle.fx_language.specs.Line.{RequestLine};
@@ -18,12 +19,12 @@ use fx_chain::{Op, Request};
 use hex::FromHexError;
 use std::alloc::{AllocError, Global};
 
-// What was read of a script so far.
+// The result of the lines that were read so far.
 #[derive(Drop)]
 pub struct Reader {
     pub catalogue: Catalogue,
     pub commands: Vec<Command>,
-    // The requests that wait for their submission.
+    // The requests that wait for the next submission.
     pub waiting: Vec<Request>,
     // The line of the first of them.
     pub first_waiting: u32,
@@ -41,7 +42,7 @@ fn is_skipped(line: &[u8]) -> bool
     line.is_empty() || line[0] == b'#'
 }
 
-// The bytes of a file: hexadecimal digits, or `-` for none.
+// Parses the bytes of a file: hexadecimal digits, or `-` for none.
 fn file_bytes(alloc: Global, hex: &[u8]) -> Result<Vec<u8>, LineError>
     ensures { MatchResult result (λ bytes. hex_of hex.now ≡ Some bytes.items)
         (λ e. IsExpected e (ok_or (hex_of hex.now) ScriptFault.BadHex)) }
@@ -59,7 +60,7 @@ fn file_bytes(alloc: Global, hex: &[u8]) -> Result<Vec<u8>, LineError>
     }
 }
 
-// What a request line asks for, with memory of its own.
+// Returns the operation that a request line asks for, with memory of its own.
 fn op_of(alloc: Global, ask: Ask<'_>) -> Result<Op, AllocError>
     ensures { IfOk result (λ op. operation_of op ≡ operation_in ask.entry) }
 {
@@ -78,7 +79,7 @@ fn op_of(alloc: Global, ask: Ask<'_>) -> Result<Op, AllocError>
 }
 
 impl Reader {
-    // Before the first line.
+    // Creates a reader before the first line.
     pub fn new(alloc: Global) -> Reader
         ensures { progress_of result ≡ nothing }
     {
@@ -117,7 +118,7 @@ impl Reader {
         Ok(())
     }
 
-    // Adds a request of the n-th line to those that wait.
+    // Adds a request of the `n`-th line to those that wait.
     fn take_request(&mut self, n: u32, request: Request) -> Result<(), LineError>
         ensures { Takes (after_line n (progress_of self.old) (RequestLine (asked_of request)))
             result (progress_of self.new) }
@@ -130,7 +131,7 @@ impl Reader {
         Ok(())
     }
 
-    // Takes what the n-th line says.
+    // Adds the content of the `n`-th line.
     fn take_line(&mut self, alloc: Global, n: u32, line: Line<'_>) -> Result<(), LineError>
         ensures { Takes (after_line n (progress_of self.old) (line_in line.entry))
             result (progress_of self.new) }
@@ -160,7 +161,7 @@ impl Reader {
         }
     }
 
-    // Takes the n-th line, skipped or not.
+    // Reads the `n`-th line, which may be skipped.
     pub fn take_text(&mut self, alloc: Global, n: u32, text: &[u8]) -> Result<(), LineError>
         ensures { Takes (after_text n (progress_of self.old) text.now)
             result (progress_of self.new) }

@@ -1,3 +1,4 @@
+//! The lines of requests.
 ghost use Rattle.std.specs.Prelude.{◌≡◌, true};
 ghost use Rattle.std.specs.List.{list_all};
 ghost use Rattle.fx_language.specs.Cursor.{Gives};
@@ -14,20 +15,20 @@ use crate::words::{last, link, name, number, text, word};
 use bitflags::Flags;
 use fx_chain::{SqeFlags, Target};
 
-// What a request line asks for.
+// The operation that a request line asks for.
 #[derive(Clone, Copy)]
 pub enum Ask<'a> {
-    // To open the entry of this name.
+    // Opens the entry of this name.
     Open { name: &'a str, target: Target },
-    // To read from the file at a slot.
+    // Reads from the file at a slot.
     Read { slot: u32, off: u32, len: u32 },
-    // To empty a slot.
+    // Empties a slot.
     Close { slot: u32 },
-    // To change the slots from one on by a list.
+    // Changes the slots from `off` on by a list.
     Update { off: u32, list: List<'a> },
 }
 
-// The words behind `open NAME at`: the slot, and a link or no more.
+// Parses the words after `open NAME at`: the slot, and perhaps a link.
 fn open_at<'a>(file: &'a str, words: &mut Parts<'a>) -> Result<Line<'a>, ScriptFault>
     ensures { Gives line_in result (open_at file.now (parts_left words.old)) }
 {
@@ -38,7 +39,7 @@ fn open_at<'a>(file: &'a str, words: &mut Parts<'a>) -> Result<Line<'a>, ScriptF
     Ok(Line::Request(Ask::Open { name, target }, link(last)?))
 }
 
-// The words behind `open NAME any`: a link or no more.
+// Parses the words after `open NAME any`: perhaps a link.
 fn open_any<'a>(file: &'a str, words: &mut Parts<'a>) -> Result<Line<'a>, ScriptFault>
     ensures { Gives line_in result (open_any file.now (parts_left words.old)) }
 {
@@ -48,7 +49,8 @@ fn open_any<'a>(file: &'a str, words: &mut Parts<'a>) -> Result<Line<'a>, Script
     Ok(Line::Request(Ask::Open { name, target }, link(last)?))
 }
 
-// The open that the words behind `open` ask for, or their first fault. They are printable, as those of a line are.
+// Parses the words after `open`, or returns their first fault. Requires that they are printable, as those of a line
+// are.
 pub fn open<'a>(words: &mut Parts<'a>) -> Result<Line<'a>, ScriptFault>
     requires { list_all is_printable (parts_left words.old) ≡ true }
     ensures { Gives line_in result (open_of (parts_left words.old)) }
@@ -64,8 +66,7 @@ pub fn open<'a>(words: &mut Parts<'a>) -> Result<Line<'a>, ScriptFault>
     }
 }
 
-// The read that the words behind `read` ask for, or their first fault. It names its file by a slot, and no other request
-// does.
+// Parses the words after `read`, or returns their first fault. A read names its file by a slot; no other request does.
 pub fn read<'a>(words: &mut Parts<'a>) -> Result<Line<'a>, ScriptFault>
     ensures { Gives line_in result (read_of (parts_left words.old)) }
 {
@@ -80,7 +81,7 @@ pub fn read<'a>(words: &mut Parts<'a>) -> Result<Line<'a>, ScriptFault>
     Ok(Line::Request(Ask::Read { slot, off, len }, flags))
 }
 
-// The close that the words behind `close` ask for, or their first fault.
+// Parses the words after `close`, or returns their first fault.
 pub fn close<'a>(words: &mut Parts<'a>) -> Result<Line<'a>, ScriptFault>
     ensures { Gives line_in result (close_of (parts_left words.old)) }
 {
@@ -90,7 +91,7 @@ pub fn close<'a>(words: &mut Parts<'a>) -> Result<Line<'a>, ScriptFault>
     Ok(Line::Request(Ask::Close { slot }, link(last)?))
 }
 
-// The update that the words behind `update` ask for, or their first fault.
+// Parses the words after `update`, or returns their first fault.
 pub fn update<'a>(words: &mut Parts<'a>) -> Result<Line<'a>, ScriptFault>
     ensures { Gives line_in result (update_of (parts_left words.old)) }
 {

@@ -1,3 +1,4 @@
+//! Scripts, and reading them.
 ghost use Rattle.std.specs.Prelude.{◌≡◌, ℕ, IfOk, IfErr, List};
 ghost use Rattle.fx_language.specs.Script.{AreFiles, IsScript, at_end, reading_of};
 
@@ -10,7 +11,7 @@ use fx_base::Catalogue;
 use std::alloc::Global;
 use std::marker::Model;
 
-/// A script that was read: the files that its requests can open, and its commands in their order (this project's own).
+/// A script that was read: the files that its requests can open, and its commands in order (this project's own).
 #[derive(Drop)]
 pub struct Script {
     catalogue: Catalogue,
@@ -39,7 +40,7 @@ impl Script {
     ghost use Rattle.fx_language.specs.ScriptError.{IsFaultOf, Reads};
     ghost use Rattle.fx_language.specs.ScriptView.{progress_of};
 
-    /// The files that its requests can open, in the order of their lines.
+    /// Returns the files that its requests can open, in the order of their lines.
     pub fn catalogue(&self) -> &Catalogue
         ensures value { result.now ≡ self.now.catalogue }
         ensures files { AreFiles result.now }
@@ -47,14 +48,14 @@ impl Script {
         &self.catalogue
     }
 
-    /// Its commands, in their order.
+    /// Returns its commands, in order.
     pub fn commands(&self) -> &[Command]
         ensures { instructions_of result.now ≡ self.now.commands }
     {
         self.commands.as_slice()
     }
 
-    /// Its files and its commands, apart.
+    /// Splits the script into its files and its commands.
     pub fn into_parts(self) -> (Catalogue, Vec<Command>)
         ensures catalogue { result.0 ≡ self.catalogue }
         ensures commands { instructions_of result.1.items ≡ self.commands }
@@ -62,7 +63,7 @@ impl Script {
         (self.catalogue, self.commands)
     }
 
-    // The script, where no request waits for its submission.
+    // Returns the script, if no request waits for a submission.
     fn of(reader: Reader) -> Result<Script, ScriptError>
         requires { (bytes : List ℕ) × (reading_of bytes ≡ at_end (progress_of reader)) }
         ensures { Reads (at_end (progress_of reader)) result }
@@ -78,13 +79,12 @@ impl Script {
         })
     }
 
-    /// Reads bytes as a script, all of them. It takes the memory for what the script says and no more.
+    /// Reads bytes as a script, all of them. It allocates only what the script says.
     ///
     /// # Errors
-    /// `Fault` where the bytes are no script, with the first fault and its line: the lines are looked through from the
-    /// first on, and of a line's faults the first in the order of [`ScriptFault`] counts. A script that is too long is
-    /// refused before its lines are looked at, and `Unsubmitted` comes where no line has a fault. `NoMemory` where
-    /// memory is refused, which may come at any line.
+    /// `Fault` if the bytes aren't a script: the first line with a fault, and that line's first fault in the order of
+    /// [`ScriptFault`]. A script that is too long is refused before its lines are read, and `Unsubmitted` is returned
+    /// only if no line has a fault. `NoMemory` if an allocation fails, at any line.
     pub fn read(alloc: Global, bytes: &[u8]) -> Result<Script, ScriptError>
         ensures script { IfOk result (λ script. IsScript bytes.now script) }
         ensures fault { IfErr result (IsFaultOf bytes.now) }

@@ -1,3 +1,4 @@
+//! Lists of tags.
 ghost use Rattle.std.specs.Prelude.{option_map, ok_or};
 ghost use Rattle.fx_language.specs.declared.fault.ScriptFault.TheVariants.{BadTag};
 ghost use Rattle.fx_language.specs.Line.{tags_in};
@@ -9,8 +10,8 @@ use crate::number::tag;
 use crate::parts::Parts;
 use std::alloc::Global;
 
-// The tags that a word writes: numbers, at least one, parted by single commas. They are read once, part by part, so want of
-// memory may come in front of a fault.
+// Parses a word as tags: numbers, at least one, separated by single commas. They are read once, part by part, so an
+// allocation may fail before a fault is found.
 fn tag_list(alloc: Global, word: &[u8]) -> Result<Vec<u64>, LineError>
     ensures { GivesOrFails (λ tags. tags.items) result (ok_or (tag_list_of word.now) BadTag) }
 {
@@ -24,7 +25,7 @@ fn tag_list(alloc: Global, word: &[u8]) -> Result<Vec<u64>, LineError>
     Ok(tags)
 }
 
-// The tags that a last word writes, where there is one.
+// Parses the last word as tags, if there is one.
 pub fn tags(alloc: Global, last: Option<&[u8]>) -> Result<Option<Vec<u64>>, LineError>
     ensures { GivesOrFails (option_map (λ given. given.items)) result
         (tags_in (option_map (λ word. word.now) last.entry)) }

@@ -1,3 +1,4 @@
+//! The words of a line, one after another.
 ghost use Rattle.std.specs.Prelude.{◌≡◌, true, option_map};
 ghost use Rattle.fx_language.specs.Cursor.{TakesWord, IsEnd, Gives};
 ghost use Rattle.fx_language.specs.Line.{number_in, name_in, last_of, link_in};
@@ -11,14 +12,14 @@ use bitflags::Flags;
 use fx_base::is_name;
 use fx_chain::SqeFlags;
 
-// The next word, where there is one.
+// Returns the next word; a missing one is a fault.
 pub fn word<'a>(words: &mut Parts<'a>) -> Result<&'a [u8], ScriptFault>
     ensures { TakesWord (parts_left words.old) result (parts_left words.new) }
 {
     words.next().ok_or(ScriptFault::WordCount)
 }
 
-// The end of the words, where no word is left.
+// Checks that no word is left.
 pub fn end(words: &mut Parts<'_>) -> Result<(), ScriptFault>
     ensures { IsEnd (parts_left words.old) result }
 {
@@ -28,7 +29,7 @@ pub fn end(words: &mut Parts<'_>) -> Result<(), ScriptFault>
     }
 }
 
-// The last word behind those of a request, where there is one, and no more.
+// Returns the last word of a request, if there is one; a further word is a fault.
 pub fn last<'a>(words: &mut Parts<'a>) -> Result<Option<&'a [u8]>, ScriptFault>
     ensures { Gives (option_map (λ word. word.now)) result (last_of (parts_left words.old)) }
 {
@@ -39,7 +40,7 @@ pub fn last<'a>(words: &mut Parts<'a>) -> Result<Option<&'a [u8]>, ScriptFault>
     Ok(Some(word))
 }
 
-// What links the next request to one, by its last word.
+// Returns the flags of a request by its last word, which may link the next request.
 pub fn link(last: Option<&[u8]>) -> Result<SqeFlags, ScriptFault>
     ensures { result ≡ link_in (option_map (λ word. word.now) last.entry) }
 {
@@ -51,14 +52,14 @@ pub fn link(last: Option<&[u8]>) -> Result<SqeFlags, ScriptFault>
     }
 }
 
-// The number that a word writes.
+// Parses a word as a number.
 pub fn number(word: &[u8]) -> Result<u32, ScriptFault>
     ensures { result ≡ number_in word.now }
 {
     number::number(word).ok_or(ScriptFault::BadNumber)
 }
 
-// The text of a word.
+// Returns a word as text.
 pub fn text(word: &[u8]) -> &str
     requires { is_printable word.now ≡ true }
     ensures { result.now ≡ word.now }
@@ -66,7 +67,7 @@ pub fn text(word: &[u8]) -> &str
     std::str::from_utf8(word).unwrap()
 }
 
-// The name that a text is.
+// Returns a text as a name, or its fault.
 pub fn name(text: &str) -> Result<&str, ScriptFault>
     ensures { Gives (λ name. name.now) result (name_in text.now) }
 {
