@@ -49,8 +49,9 @@ impl PlainTable {
 
     /// Closes all files of a settled table ([`PlainTable::is_settled`]), in order of slot. Requires room for them in
     /// the list ([`CloseList::room`] is at least [`PlainTable::full`]), so that it can't run out of memory. Afterwards
-    /// the table has no slots and an empty allocation range. The number of prepared numbers stays the same
-    /// (io_uring_register(2), "IORING_UNREGISTER_FILES").
+    /// the table has no slots and an empty allocation range. The number of prepared numbers stays the same. The table
+    /// stays settled and has no file, so [`PlainTable::dismiss`] may follow (io_uring_register(2),
+    /// "IORING_UNREGISTER_FILES").
     pub fn empty_into(&mut self, closes: &mut CloseList)
         requires settled { IsSettled (state_of self.old) }
         requires room { length (files_of (state_of self.old)) ≤ closes.old.room }
@@ -58,6 +59,8 @@ impl PlainTable {
         ensures room { closes.new.room + length (files_of (state_of self.old)) ≡ closes.old.room }
         ensures empty { state_of self.new
             ≡ record (vacant 0) { fresh = (state_of self.old).fresh } }
+        ensures settled { IsSettled (state_of self.new) }
+        ensures no_files { files_of (state_of self.new) ≡ [] }
         ensures numbers { numbers_of self.new ≡ numbers_of self.old }
     {
         close_all(&self.slots, &mut self.nodes, closes);
