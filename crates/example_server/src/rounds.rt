@@ -75,7 +75,7 @@ fn end(alloc: Global, desk: &Desk<'_>, plain: PlainTable) -> Result<(), NoMemory
     match CloseList::with_room(alloc, plain.full()) {
         Ok(mut closes) => {
             plain.empty_into(&mut closes);
-            plain.abandon();
+            plain.dismiss();
             desk.tell(&closes);
             Ok(())
         }
