@@ -1,6 +1,6 @@
-# Plays and tests fixfiles. `make` alone says what there is.
+# Runs and tests fixfiles. `make` alone lists the commands.
 
-# The path of a script goes to the commands by the environment alone, so that it may have any characters.
+# A script's path is passed in the environment alone, so that it may have any characters.
 SCRIPT ?= examples/open_read_close.script
 PREFIX ?= /usr/local
 export SCRIPT TEXT N PREFIX DESTDIR
@@ -15,45 +15,55 @@ $(error There is no variable $(filter-out $(VARIABLES),$(given)). There are $(VA
 endif
 
 .DEFAULT_GOAL := help
-.PHONY: help run try check litmus pictures texts kernel conform prove test examples limits compare agree workers
+.PHONY: help help-all run try check litmus pictures texts kernel conform prove test examples limits compare agree workers
 .PHONY: dist install uninstall meetings refused-growths steps mistakes checks break
 .PHONY: must-spend growths wrong-bodies layout bench bench-rust gate clean
 .NOTPARALLEL:
 
 help:
-	@echo 'make run          builds the program at bin/fixfiles and plays examples/open_read_close.script'
-	@echo 'make run SCRIPT=path    plays another script'
-	@echo 'make check SCRIPT=name.script    says whether the rules allow name.text for the script, or TEXT=path'
-	@echo 'make litmus SCRIPT=path   lists the texts that the rules allow, and how often the kernel and fixfiles gave each in 1,000 plays, or N=number'
-	@echo 'make try          plays a script in about a minute, and proves nothing'
-	@echo 'make kernel       plays a script on the io_uring of this machine'
-	@echo 'make conform      says which rules of docs/MODEL.md the kernel of this machine keeps, in KTAP, on N random scripts, by default 500'
-	@echo 'make dist         makes the archive build/yachtbanyan-VERSION-x86_64.tar.gz, for who has no toolchain'
-	@echo 'make install      copies programs, manual pages, completions and examples to PREFIX, by default /usr/local, below DESTDIR'
-	@echo 'make uninstall    removes these from there'
-	@echo 'make prove CRATE=name   checks one crate, and says in a few lines what of it is not proved'
-	@echo 'make test         runs everything that must hold'
-	@echo 'make examples     plays every example and the samples of the pages on the built program'
-	@echo 'make limits       plays scripts at the limits of the language and the table, and measures the memory that they take'
-	@echo 'make compare      compares the built program with a second, unproved one, on random scripts and the largest submissions'
-	@echo 'make texts        asks fixcheck of the texts of examples and random scripts, and of wrong ones, and compares what it prints'
-	@echo 'make pictures     draws the histories of docs/MODEL.md again'
-	@echo 'make agree        compares the io_uring of this machine with the model, on examples, random and contending scripts'
-	@echo 'make workers      counts the threads and the writes of the program on 1 to 16 workers, and tells its tables apart'
-	@echo 'make meetings     plays random scripts and crowds by threads that go in turns of a few instructions, and judges the texts'
-	@echo 'make refused-growths    plays scripts and makes calls with each allocation refused in its turn'
-	@echo 'make steps        takes the steps of the table without a lock in every order, for small programs'
-	@echo 'make mistakes     makes the mistakes that a user may make, and wants each answered'
-	@echo 'make checks       shows that the scripts that compare notice a program that is wrong'
-	@echo 'make break        makes the wrong change of README.md, and wants its line'
-	@echo 'make must-spend   shows that a program which loses a file is refused'
-	@echo 'make growths      counts allocations in the calls that must make none'
-	@echo 'make wrong-bodies tries the wrong bodies for which the gate has no time'
-	@echo 'make layout       looks at the files of the repository'
-	@echo 'make bench        times scripts against a plain program that does the same, and the tables against each other'
-	@echo 'make bench-rust   times the proved table against plain Rust, arc-swap and others, in one process'
-	@echo 'make gate         proves and tests all crates from nothing'
-	@echo 'make clean        removes what was built; what was proved is kept'
+	@echo 'Use:'
+	@echo '  make run SCRIPT=path          proves and builds fixfiles, then runs a script (default: examples/open_read_close.script)'
+	@echo '  make try SCRIPT=path          runs a script in about two minutes without proving anything'
+	@echo '  make kernel SCRIPT=path       runs a script on the io_uring of this machine; needs no toolchain'
+	@echo '  make check SCRIPT=a.script    says whether the rules allow a.text for the script, or TEXT=path'
+	@echo '  make conform                  says in KTAP which rules of docs/MODEL.md the kernel of this machine follows'
+	@echo '  make litmus SCRIPT=path       lists the texts that the rules allow, and how often the kernel and fixfiles print each'
+	@echo 'Prove:'
+	@echo '  make prove CRATE=name         proves one crate, and prints what is not proved'
+	@echo 'Test:'
+	@echo '  make test                     proves and tests everything'
+	@echo 'Measure:'
+	@echo '  make bench                    times scripts and tables against plain Rust'
+	@echo '  make help-all                 lists all commands'
+
+help-all: help
+	@echo 'Use, further:'
+	@echo '  make dist                     makes the archive build/yachtbanyan-VERSION-x86_64.tar.gz, for users without the toolchain'
+	@echo '  make install                  copies programs, manual pages, completions and examples to PREFIX (/usr/local), below DESTDIR'
+	@echo '  make uninstall                removes the installed files'
+	@echo '  make pictures                 draws the histories of docs/MODEL.md again'
+	@echo '  make clean                    removes what was built; proofs are kept'
+	@echo 'Prove, further:'
+	@echo '  make gate                     proves and tests all crates from nothing'
+	@echo '  make break                    applies the bug from README.md and expects the prover to reject it'
+	@echo '  make wrong-bodies             applies the wrong bodies for which the gate has no time, and expects the prover to reject each'
+	@echo '  make must-spend               checks that the compiler rejects a program that loses a file'
+	@echo 'Test, further (each is part of make test):'
+	@echo '  make layout                   checks the files of the repository'
+	@echo '  make examples                 runs every example and the samples of the pages on the built program'
+	@echo '  make limits                   runs scripts at the limits of the language and the table, and measures their memory'
+	@echo '  make compare                  compares the program with an independent model, on random scripts and the largest submissions'
+	@echo '  make texts                    runs fixcheck on texts of examples and random scripts, right and wrong ones'
+	@echo '  make agree                    compares the io_uring of this machine with the model'
+	@echo '  make workers                  counts threads and writes of the program on 1 to 16 workers, and compares its tables'
+	@echo '  make meetings                 runs random scripts on threads that take turns of a few instructions, and judges the texts'
+	@echo '  make refused-growths          runs scripts and makes calls, failing each allocation in turn'
+	@echo '  make growths                  counts allocations in the calls that must make none'
+	@echo '  make steps                    takes the steps of the lock-free table in every order, for small programs'
+	@echo '  make mistakes                 makes the mistakes that a user may make, and expects an answer to each'
+	@echo '  make checks                   tests the test scripts: each must catch a deliberately broken program'
+	@echo 'Measure, further:'
+	@echo '  make bench-rust               times the proved table against plain Rust, arc-swap and others, in one process'
 
 run:
 	@scripts/run-script
