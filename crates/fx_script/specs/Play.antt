@@ -1,5 +1,5 @@
--- What a script may print: the answers of a ring to its commands, one after another (this project's
--- own).
+-- The texts that a script may print: the answers of a ring to its commands, one after another (this
+-- project's own).
 use Rattle.std.specs.Prelude.{◌≡◌, ◌⊎◌, ℕ, pos, nat_le, List, [], ◌∷◌, ◌++◌, codes, length, Option}
 use Rattle.std.specs.Prelude.{Some, None}
 use Rattle.std.specs.Bool.{MatchBool}
@@ -27,30 +27,31 @@ use Rattle.fx_print.specs.Text.{result_line, closes_text, refused_line, teardown
 use Rattle.fx_print.specs.Text.{too_many_line}
 use Rattle.fx_script.specs.Text.{report_text}
 
--- what a call answers that takes memory: its refusal, if there is one, and else that it was
--- accepted or found no memory
+-- the answer of a call that allocates: its refusal, if there is one, otherwise success or an
+-- allocation failure
 abbrev pub Answers : Option Errno → Type 0 → (Errno → Type 0) → Type 0
 Answers (Some errno) accepted refused = refused errno
 Answers None accepted refused = accepted ⊎ refused ENOMEM
 
--- a refused call: the ring is as before, and the line has the negated error
+-- a refused call: the ring stays, and the line has the negated error
 abbrev pub IsRefused : RingState → RingState → List ℕ → List ℕ → Errno → Type 0
 IsRefused old new word text errno = (new ≡ old) × (text ≡ result_line word (negated errno))
 
--- an accepted call that closed these files: its line, and those of the files, in order of mark
+-- an accepted call that closed these files: its line, and the files' lines, in order of mark
 abbrev pub PrintsClosed : RingState → List Closed → List ℕ → List ℕ → Type 0
 PrintsClosed ring files line text =
     (closes : CloseListView) × HasClosed files closes
     × (text ≡ line ++ closes_text ring.catalogue closes.files)
 
--- an accepted submission: its completions come from one legal history, and so do the files that it
--- closed
+-- an accepted submission: its completions, and the files that it closed, come from one legal
+-- history
 abbrev pub PrintsReport : RingContents → List Asked → RingContents → List ℕ → Type 0
 PrintsReport old asked new text =
     (report : Reported) × IsOneHistory old asked report new
     × (text ≡ report_text old.catalogue report)
 
--- a command leads from one ring to another, and prints this. The first case that applies
+-- a command leads from one ring to another, and prints this text. The first case that applies
+-- counts
 abbrev pub Prints : RingContents → Instruction → RingContents → List ℕ → Type 0
 Prints old (MakesSparse n) new text =
     Answers (sparse_refusal (ring_of old) n)
@@ -92,22 +93,22 @@ PrintsEnd ring text =
     (closes : CloseListView) × HasClosed (files_of ring) closes
     × (text ≡ teardown_text ring.catalogue closes.files)
 
--- the commands may print this, one after another, and the end of the script behind them
+-- the commands may print this, one after another, and then the end of the script
 abbrev pub PrintsAll : RingContents → List Instruction → List ℕ → Type 0
 PrintsAll ring [] text = PrintsEnd (ring_of ring) text
 PrintsAll ring (command ∷ commands) text =
     (next : RingContents) × (line : List ℕ) × (others : List ℕ)
     × Prints ring command next line × (text ≡ line ++ others) × PrintsAll next commands others
 
--- the first so many of the commands, perhaps none of them, may print this
+-- some first commands, perhaps none, may print this
 abbrev pub PrintsFirst : RingContents → List Instruction → List ℕ → Type 0
 PrintsFirst ring [] text = text ≡ []
 PrintsFirst ring (command ∷ commands) text =
     (text ≡ []) ⊎ ((next : RingContents) × (line : List ℕ) × (others : List ℕ)
     × Prints ring command next line × (text ≡ line ++ others) × PrintsFirst next commands others)
 
--- the commands lead from one ring to another, the numbers of its files aside, and print this, one
--- after another
+-- the commands lead from one ring to another, whatever the numbers of its files, and print this,
+-- one after another
 abbrev pub PrintsUpTo : RingContents → List Instruction → RingContents → List ℕ → Type 0
 PrintsUpTo ring [] last text = (ring_of last ≡ ring_of ring) × (text ≡ [])
 PrintsUpTo ring (command ∷ commands) last text =
@@ -115,7 +116,7 @@ PrintsUpTo ring (command ∷ commands) last text =
     × Prints ring command next line × (text ≡ line ++ others)
     × PrintsUpTo next commands last others
 
--- a ring of the script's files, without a table
+-- a ring with the script's files and without a table
 abbrev pub IsStart : Meaning → RingContents → Type 0
 IsStart meaning ring = ring_of ring ≡ new_ring meaning.catalogue
 

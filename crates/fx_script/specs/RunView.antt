@@ -1,4 +1,4 @@
--- How the reader's fault is told by the player.
+-- The reader's fault, as the player returns it.
 use Rattle.fx_language.specs.declared.fault.ScriptError.{ScriptError}
 use Rattle.fx_language.specs.declared.fault.ScriptError.TheVariants as error
 use Rattle.fx_script.specs.declared.play_fault.PlayFault.{PlayFault}

@@ -8,13 +8,13 @@ use fx_language::LONGEST_SCRIPT;
 use std::alloc::Global;
 use std::io::Read;
 
-/// How often a reader is asked for more.
+/// The greatest number of reads of a run.
 const MOST_TURNS: u32 = 8_388_608;
 
-/// How many bytes are kept: one more than a script may have.
+/// The greatest number of bytes that are kept: one more than a script may have.
 const MOST_BYTES: usize = LONGEST_SCRIPT + 1;
 
-// The first bytes, at most so many.
+// Returns the first bytes, at most `most`.
 fn front(bytes: &[u8], most: usize) -> &[u8]
     ensures { result.now ≡ take most bytes.now }
 {
@@ -25,8 +25,8 @@ fn front(bytes: &[u8], most: usize) -> &[u8]
     }
 }
 
-// Reads to the end, and keeps so many bytes that a script which is too long is known to be. A read that is interrupted is
-// a failed one.
+// Reads to the end, and keeps only as many bytes as show that a script is too long. An interrupted read is a failed
+// read.
 pub fn read_all<I: Read>(alloc: Global, reader: &mut I) -> Result<Vec<u8>, PlayFault>
     ensures kept { IfOk result (λ input. IfSome (I.remaining reader.old)
         (λ bytes. input.items ≡ take (LONGEST_SCRIPT + 1) bytes)) }

@@ -1,4 +1,4 @@
-//! For how much a table is opened that plays submissions together.
+//! The size of a table that submissions are played on together.
 ghost use Rattle.std.specs.Prelude.{◌≤◌};
 ghost use Rattle.fx_table.specs.declared.limits.TheConstants.{CHAIN_NUMBERS, MAX_CHAINS};
 
@@ -6,7 +6,7 @@ use fx_chain::{Request, check};
 use fx_language::Command;
 use fx_table::{CHAIN_NUMBERS, MAX_CHAINS};
 
-/// For how many chains a table is opened, and how many files each of them may install.
+/// The number of chains that a table is opened for, and the greatest number of files that each may install.
 #[derive(Clone, Copy, Drop)]
 pub struct Needs {
     pub chains: u32,
@@ -16,7 +16,7 @@ pub struct Needs {
 }
 
 impl Needs {
-    // What these and others need together. More chains than a table has are none at all.
+    // Returns the needs of both together, or `None` if they are more chains than a table has.
     fn with(self, other: Needs) -> Option<Needs> {
         let chains = self.chains + other.chains;
         if chains > MAX_CHAINS {
@@ -28,14 +28,14 @@ impl Needs {
         })
     }
 
-    // How many numbers a table of so many slots has that is opened for them.
+    // Returns the number of file numbers of a table with `slots` slots that is opened for them.
     fn numbers(self, slots: u32) -> u64 {
         u64::from(slots) + u64::from(self.chains) * u64::from(self.most)
     }
 }
 
-// What the chains of a submission need; a refused one has none. Each counts as a chain at least, so that no more submissions are
-// looked at together than a table has chains.
+// Returns the needs of a submission's chains; a refused submission has none. Each counts as at least one chain, so that
+// at most as many submissions are considered together as a table has chains.
 fn needs_of_submission(requests: &[Request]) -> Needs {
     let mut chains = 1;
     let mut most = 0;
@@ -54,8 +54,8 @@ fn needs_of_submission(requests: &[Request]) -> Needs {
     Needs { chains, most }
 }
 
-/// What the submissions that some commands begin with need together: as many of them as need no more numbers together, on a
-/// table of so many slots, than each by itself.
+/// Returns the joint needs of the submissions that `commands` begins with: of as many as need no more numbers together,
+/// on a table of `slots` slots, than each on its own.
 pub fn needs_together(commands: &[Command], slots: u32) -> Needs {
     let mut needs = Needs { chains: 0, most: 0 };
     let mut apart: u64 = 0;

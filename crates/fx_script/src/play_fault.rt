@@ -1,3 +1,4 @@
+//! The reasons why a run ends early.
 ghost use Rattle.std.specs.Prelude.{◌≡◌};
 ghost use Rattle.fx_script.specs.RunView.{fault_told};
 ghost use Rattle.fx_script.specs.declared.play_fault.PlayFault.TheVariants.{NoMemory};
@@ -7,24 +8,24 @@ use fx_language::{ScriptError, ScriptFault};
 use std::alloc::{AllocError, AllocFailed};
 use thiserror::Error;
 
-/// Why a run did not come to its end (this project's own). Its text is what the program prints of it.
+/// The reason why a run ended early (this project's own). Its text is what the program prints.
 #[derive(Clone, Copy, Debug, PartialEq, Eq, Error)]
 pub enum PlayFault {
-    /// The input could not be read to its end: a read failed, or there were too many of them. Nothing was written.
+    /// The input was not read to its end: a read failed, or there were too many reads. Nothing was written.
     #[error("read failed")]
     Read,
-    /// The input is no script. Nothing was written.
+    /// The input isn't a script. Nothing was written.
     #[error("line {line}: {kind}")]
     Script {
-        /// The line with the first fault, from 1, or 0 where the script is too long.
+        /// The line with the first fault, from 1, or 0 if the script is too long.
         line: u32,
-        /// Its fault.
+        /// The fault.
         kind: ScriptFault,
     },
-    /// The output could not be written. How much of the last text went out is not known.
+    /// A write failed. How much of the last text was written is unknown.
     #[error("write failed")]
     Write,
-    /// Memory was refused. What was written is the text of the first commands.
+    /// An allocation failed. The text of the first commands was written.
     #[error("out of memory")]
     NoMemory,
 }

@@ -1,4 +1,4 @@
-//! A play: the commands of a script are given to a ring, one after another, and what each prints is written.
+//! Playing a script: the ring executes its commands, one after another, and the text of each is written.
 ghost use Rattle.std.specs.Prelude.{◌≡◌, ◌≤◌, IfErr, IfOk, OnOk, length, take};
 ghost use Rattle.fx_table.specs.declared.limits.TheConstants.{MAX_PASSES};
 ghost use Rattle.fx_ring.specs.Ring.{ring_of};
@@ -20,7 +20,7 @@ use std::io::Write;
 use std::sync::Wait;
 use std::thread::Threads;
 
-// Plays a command, and writes what it prints.
+// Plays a command, and writes its text.
 fn play_command<T: FileTable, R: Threads + Wait + Sync, G: Gate, W: Write>(
     setting: &Setting<'_, R, G>,
     ring: &mut Ring,
@@ -36,8 +36,8 @@ fn play_command<T: FileTable, R: Threads + Wait + Sync, G: Gate, W: Write>(
     write_text(writer, printed.as_str())
 }
 
-// Plays the submissions that some commands begin with, where one worker plays them together, and the command behind them, and
-// gives how many commands these are.
+// Plays the submissions that `commands` begins with, if one worker plays them together, and the command after them.
+// Returns the number of commands that were played.
 fn play_some<T: FileTable, R: Threads + Wait + Sync, G: Gate, W: Write>(
     setting: &Setting<'_, R, G>,
     ring: Ring,
@@ -67,7 +67,7 @@ fn play_some<T: FileTable, R: Threads + Wait + Sync, G: Gate, W: Write>(
     }
 }
 
-// Closes the files that are left, and writes what the end prints.
+// Closes the files that are left, and writes the text of the end.
 fn play_end<W: Write>(alloc: Global, ring: &mut Ring, writer: &mut W) -> Result<(), PlayFault>
     ensures ok { OnOk result (Writes (PrintsEnd (ring_of ring.old))
         (W.contents writer.old) (W.contents writer.new)) }
@@ -79,7 +79,7 @@ fn play_end<W: Write>(alloc: Global, ring: &mut Ring, writer: &mut W) -> Result<
     write_text(writer, text.as_str())
 }
 
-// Plays the commands, writes what each prints, and closes the files that are left at the end.
+// Plays the commands, writes the text of each, and closes the files that are left at the end.
 fn play_commands<T: FileTable, R: Threads + Wait + Sync, G: Gate, W: Write>(
     setting: &Setting<'_, R, G>,
     ring: Ring,
@@ -108,13 +108,12 @@ fn play_commands<T: FileTable, R: Threads + Wait + Sync, G: Gate, W: Write>(
     (ring, ended)
 }
 
-/// Plays a script on a ring without a table, each of its submissions by so many workers, and writes what each command
-/// prints when it is done; the files that are left are closed at the end. The caller has seen that there are 1 to
-/// [`fx_table::MAX_PASSES`] workers.
+/// Plays a script on a ring without a table, each submission on `workers` workers, and writes the text of each command
+/// when it is done. The files that are left are closed at the end. Requires 1 to [`fx_table::MAX_PASSES`] workers.
 ///
 /// # Errors
-/// `Write` where a write fails: how much of its text went out is not known. `NoMemory` where memory is refused: what was
-/// written is then what the commands before print. The files that are open are dropped.
+/// `Write` if a write fails; how much of its text was written is unknown. `NoMemory` if an allocation fails; then the
+/// text of the earlier commands was written. Open files are discarded.
 pub fn play<T: FileTable, G: Gate, W: Write>(
     rt: &(impl Threads + Wait + Sync),
     alloc: Global,
@@ -138,7 +137,7 @@ pub fn play<T: FileTable, G: Gate, W: Write>(
     };
     let ring = Ring::new(alloc, catalogue);
     let (ring, result) = play_commands::<T, _, G, W>(&setting, ring, commands.as_slice(), writer);
-    // Where the play came to its end, no file is left in it.
+    // After a complete play, no file is left in the ring.
     ring.abandon();
     result
 }

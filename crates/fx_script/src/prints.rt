@@ -1,4 +1,4 @@
-//! What each command prints: the answer of the ring to it.
+//! The text of each command: the ring's answer to it.
 ghost use Rattle.std.specs.Prelude.{◌≡◌, ◌≤◌, IfOk, OnOk, Some, None, pos, string_bytes};
 ghost use Rattle.fx_chain.specs.Completed.{negated};
 ghost use Rattle.fx_chain.specs.Operation.{all_asked};
@@ -19,7 +19,7 @@ use std::alloc::Global;
 use std::sync::Wait;
 use std::thread::Threads;
 
-// The line of a refused call: its word, and its error, negated.
+// Returns the line of a refused call: its word, and its error, negated.
 fn refusal(alloc: Global, word: &str, errno: Errno) -> Result<String, NoMemory>
     ensures { IfOk result (λ text. string_bytes text ≡ result_line word.now (negated errno)) }
 {
@@ -132,8 +132,8 @@ fn submit<T: FileTable, R: Threads + Wait + Sync, G: Gate>(
     }
 }
 
-// Gives a command to the ring, and gives what it prints. Want of memory in a call between submissions is printed; it is an
-// answer here where it is that of a submission or of a text.
+// Executes a command on the ring, and returns its text. An allocation failure of a call between submissions is printed;
+// here `NoMemory` means that one of a submission or of a text failed.
 pub fn command_text<T: FileTable, R: Threads + Wait + Sync, G: Gate>(
     setting: &Setting<'_, R, G>,
     ring: &mut Ring,
@@ -159,7 +159,7 @@ pub fn command_text<T: FileTable, R: Threads + Wait + Sync, G: Gate>(
     }
 }
 
-// Closes the files that are left at the end of a script, and gives what the end prints.
+// Closes the files that are left at the end of a script, and returns the text of the end.
 pub fn end_text(alloc: Global, ring: &mut Ring) -> Result<String, NoMemory>
     ensures end { IfOk result (λ text. PrintsEnd (ring_of ring.old) (string_bytes text)) }
     ensures closed { OnOk result ((ring_of ring.new).size ≡ 0) }

@@ -9,12 +9,12 @@ use fx_ring::Report;
 use std::alloc::Global;
 use std::thread::Threads;
 
-/// The text of a submission: a line for each completion, one for each file that was closed, and one for each of their
-/// tags. The caller has seen that each closed entry is below [`Catalogue::len`], as it is with the catalogue of the ring that
-/// gave the report.
+/// Returns the text of a submission: a line for each completion, then one for each file that was closed, then one for
+/// each of their tags. Requires that the entry of each closed file is below [`Catalogue::len`], as with the catalogue
+/// of the ring that returned the report.
 ///
 /// # Errors
-/// `NoMemory` where the memory of the text or of the tags is refused.
+/// `NoMemory` if an allocation for the text or the tags fails.
 pub fn report_text(
     alloc: Global,
     report: &Report,
@@ -32,7 +32,11 @@ pub fn report_text(
     )
 }
 
-/// The text of a submission, as [`report_text`] makes it, by as many threads as the submission has workers where it is large.
+/// Returns the text of a submission, as [`report_text`] does. If the text is large, as many threads as the submission
+/// has workers produce it.
+///
+/// # Errors
+/// `NoMemory` if an allocation for the text or the tags fails.
 pub fn printed_report(
     rt: &(impl Threads + Sync),
     alloc: Global,

@@ -1,4 +1,4 @@
-//! A run: a script is read and played.
+//! A run: reading a script and playing it.
 ghost use Rattle.std.specs.Prelude.{◌≤◌, IfErr, IfOk, OnOk};
 ghost use Rattle.fx_table.specs.declared.limits.TheConstants.{MAX_PASSES};
 ghost use Rattle.fx_script.specs.Run.{IsInput, IsInputFault, IsRun, IsRunFault};
@@ -14,7 +14,7 @@ use std::io::{Read, Write};
 use std::sync::Wait;
 use std::thread::Threads;
 
-// Reads a script. Its bytes are given up, and what they say is kept.
+// Reads a script. Its bytes are freed, and its meaning is kept.
 fn read_script<I: Read>(alloc: Global, reader: &mut I) -> Result<Script, PlayFault>
     ensures script { IfOk result (IsInput (I.remaining reader.old)) }
     ensures fault { IfErr result (IsInputFault (I.remaining reader.old)) }
@@ -24,12 +24,11 @@ fn read_script<I: Read>(alloc: Global, reader: &mut I) -> Result<Script, PlayFau
     Ok(script)
 }
 
-/// Reads a script to its end and plays it as [`play`] does. The caller has seen that there are 1 to
-/// [`fx_table::MAX_PASSES`] workers.
+/// Reads a script to its end and plays it as [`play`] does. Requires 1 to [`fx_table::MAX_PASSES`] workers.
 ///
 /// # Errors
-/// `Read` where a read fails, an interrupted one too, or where the end has not come after 8,388,608 reads, and `Script`
-/// where the input is no script, with its fault: nothing is written then. `Write` and `NoMemory` as [`play`].
+/// `Read` if a read fails or is interrupted, or if the end isn't reached after 8,388,608 reads. `Script` if the input
+/// isn't a script, with its fault. In both cases nothing is written. `Write` and `NoMemory` as in [`play`].
 pub fn run<T: FileTable, G: Gate, R: Read, W: Write>(
     rt: &(impl Threads + Wait + Sync),
     alloc: Global,

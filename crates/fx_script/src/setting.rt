@@ -1,10 +1,11 @@
+//! The setting of a play.
 ghost use Rattle.std.specs.Prelude.{◌≤◌};
 ghost use Rattle.fx_table.specs.declared.limits.TheConstants.{MAX_PASSES};
 
 use std::alloc::Global;
 
-/// What stays while a script is played: what threads and waits are made with, its memory, how many workers play each submission,
-/// and the gate.
+/// The values that stay the same while a script is played: the means to start threads and to wait, the allocator, the
+/// number of workers of each submission, and the gate.
 #[derive(Drop)]
 pub struct Setting<'a, R, G> {
     pub rt: &'a R,

@@ -21,7 +21,7 @@ use std::io::Write;
 use std::sync::Wait;
 use std::thread::Threads;
 
-// Plays a submission on an open table, and gives what it prints, or none where the table has no room for it.
+// Plays a submission on an open table, and returns its text, or `None` if the table has no room for it.
 fn submission_text<T: FileTable, R: Threads + Wait + Sync, G: Gate>(
     setting: &Setting<'_, R, G>,
     opened: &mut OpenRing<T>,
@@ -42,7 +42,7 @@ fn submission_text<T: FileTable, R: Threads + Wait + Sync, G: Gate>(
     }
 }
 
-// Plays the submissions that some commands begin with, as long as the open table has room, and gives how many they were.
+// Plays the submissions that `commands` begins with, as long as the open table has room, and returns their number.
 fn play_open<T: FileTable, R: Threads + Wait + Sync, G: Gate, W: Write>(
     setting: &Setting<'_, R, G>,
     opened: &mut OpenRing<T>,
@@ -70,9 +70,12 @@ fn play_open<T: FileTable, R: Threads + Wait + Sync, G: Gate, W: Write>(
     Ok(commands.len())
 }
 
-/// Plays the submissions that some commands begin with on a table that stays open between them, and gives the ring and how many
-/// they were. None is played by more workers than one, and none where no memory is left to open the table for all of them: then
-/// each may be played by itself.
+/// Plays the submissions that `commands` begins with on a table that stays open between them, and returns the ring and
+/// their number. It plays none if the setting has more than one worker, or if an allocation for opening the table
+/// fails; each submission may then be played on its own.
+///
+/// # Errors
+/// `Write` if a write fails, and `NoMemory` if an allocation of a submission or of a text fails.
 pub fn play_together<T: FileTable, R: Threads + Wait + Sync, G: Gate, W: Write>(
     setting: &Setting<'_, R, G>,
     ring: Ring,

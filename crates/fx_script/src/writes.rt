@@ -1,4 +1,4 @@
-//! What a play writes.
+//! Writing the texts of a play.
 ghost use Rattle.std.specs.Prelude.{◌≡◌, IfErr, OnOk};
 ghost use Rattle.std.specs.Io.KnownBytes.{Appends};
 ghost use Rattle.fx_script.specs.declared.play_fault.PlayFault.TheVariants.{Write};
@@ -6,7 +6,7 @@ ghost use Rattle.fx_script.specs.declared.play_fault.PlayFault.TheVariants.{Writ
 use crate::play_fault::PlayFault;
 use std::io::Write;
 
-// Writes what a command prints, by one call: a reader of the output that gets a write at a time gets a command at a time.
+// Writes the text of a command in one call, so that a reader that gets one write at a time gets one command at a time.
 pub fn write_text<W: Write>(writer: &mut W, text: &str) -> Result<(), PlayFault>
     ensures written { OnOk result
         (Appends (W.contents writer.old) (W.contents writer.new) text.now) }
