@@ -1,6 +1,5 @@
--- What a request does to a table that is only its size, its allocation range and the file at each
--- slot. A request that comes to the table does so once, and an update once for each entry of its
--- list.
+-- Accesses of a table that is only its size, its allocation range and the file at each slot. A
+-- request that reaches the table makes one access, and an update one for each entry of its list.
 use Rattle.std.specs.Prelude.{◌≡◌, ℕ, ◌+◌, ◌<◌, ◌≤◌, ◌==◌, List, [], ◌∷◌, ◌++◌, map, filter, Option}
 use Rattle.std.specs.Prelude.{Some, None, IsSome}
 use Rattle.std.specs.Option.{option_to_list}
@@ -13,9 +12,9 @@ pub use Rattle.fx_order.specs.declared.access.Access.TheVariants.{Allocates, Fin
 use Rattle.fx_order.specs.declared.access.ChainAccess.{ChainAccess}
 
 pub record Table : Type 0 where
-  -- how many slots there are, from 0
+  -- the number of slots, which are numbered from 0
   pub size : ℕ
-  -- where the allocation range begins, and how long it is
+  -- the first slot of the allocation range, and its length
   pub range : ℕ × ℕ
   -- the file at each slot
   pub at : ℕ → Option Identity
@@ -24,11 +23,11 @@ pub record Table : Type 0 where
 abbrev pub IsInRange : Table → ℕ → Type 0
 IsInRange table slot = (table.range.0 ≤ slot) × (slot < table.range.0 + table.range.1)
 
--- the slot is one of the table, and this is what is there
+-- the slot is one of the table, and has this file or none
 abbrev pub IsAt : Table → ℕ → Option Identity → Type 0
 IsAt table slot found = (slot < table.size) × (found ≡ table.at slot)
 
--- what an access asks of the table before it
+-- the condition of an access, in the table before it
 abbrev pub Permits : Table → Access → Type 0
 Permits table (Looks slot found) = IsAt table slot found
 Permits table (Puts slot file removed) = IsAt table slot removed
@@ -57,7 +56,7 @@ removed_by (Clears slot removed) = removed
 removed_by (Takes slot removed) = removed
 removed_by _ = None
 
--- the accesses may be made one after another, the first one first
+-- the accesses are permitted one after another, in order
 abbrev pub PermitsAll : Table → List Access → Type 0
 PermitsAll table [] = Unit {0}
 PermitsAll table (access ∷ accesses) =
@@ -68,7 +67,7 @@ abbrev pub table_after : Table → List Access → Table
 table_after table [] = table
 table_after table (access ∷ accesses) = table_after (table_with table access) accesses
 
--- the files that they took from their slots, one after another
+-- the files that the accesses took from their slots, in order
 abbrev pub removed_in : List Access → List Closed
 removed_in [] = []
 removed_in (access ∷ accesses) = option_to_list (removed_by access) ++ removed_in accesses

@@ -1,4 +1,4 @@
--- What orders have to do with histories, and what a report tells of a ring.
+-- Laws that relate orders to histories, and reports to rings.
 use Rattle.std.specs.Prelude.{◌≡◌, ◌⊎◌, ℕ, ◌+◌, ◌<◌, ◌≤◌, List, length, slice_get, Some, Contains}
 use Rattle.fx_base.specs.Catalogue.{IsCatalogue}
 use Rattle.fx_base.specs.declared.mark.Mark.TheVariants.{Submitted}
@@ -14,14 +14,14 @@ use Rattle.fx_ring.specs.Ring.{RingContents, RingState, IsRing, ring_of}
 use Rattle.fx_ring.specs.Submission.{IsOneHistory, Reported}
 use Rattle.fx_order.specs.Order.{IsOneOrder}
 
--- what one history leads to, one order leads to
+-- what one history leads to, one order leads to as well
 abbrev pub EachHistoryIsAnOrder : Type 0
 EachHistoryIsAnOrder =
     (old new : RingContents) (requests : List Asked) (report : Reported)
     → IsOneHistory old requests report new
     → IsOneOrder (ring_of old) requests report (ring_of new)
 
--- what one order of an accepted submission leads to, one history leads to
+-- what one order of an accepted submission leads to, one history leads to as well
 abbrev pub EachOrderIsAHistory : Type 0
 EachOrderIsAHistory =
     (old : RingContents) (requests : List Asked) (report : Reported) (left : RingState)
@@ -30,8 +30,8 @@ EachOrderIsAHistory =
     → IsOneOrder (ring_of old) requests report left
     → (new : RingContents) × (ring_of new ≡ left) × IsOneHistory old requests report new
 
--- one report of a submission leads to one ring: to the same file at each slot, and nothing else can
--- differ
+-- all orders that lead to one report lead to one ring: the same file is at each slot, and nothing
+-- else can differ
 abbrev pub EachReportLeadsToOneRing : Type 0
 EachReportLeadsToOneRing =
     (old : RingState) (requests : List Asked) (report : Reported) (left other : RingState)
@@ -45,8 +45,8 @@ EachReportLeadsToOneRing =
 abbrev pub IsThere : RingState → Identity → Type 0
 IsThere ring file = (slot : ℕ) × (slot < ring.size) × (ring.at slot ≡ Some file)
 
--- the file is one that the next submission installs, of these requests: of the catalogue, without a
--- tag, and with the mark of a member and a place in its list
+-- the file is one that the next submission installs, with these requests: of the catalogue, without
+-- a tag, and with the mark of a member and a position in its list
 pub record IsOfNext (ring : RingState) (requests : List Asked) (file : Identity) : Type 0 where
   pub place : Place
   pub entry : ℕ
@@ -58,7 +58,7 @@ pub record IsOfNext (ring : RingState) (requests : List Asked) (file : Identity)
   pub inside : file.entry < length ring.catalogue
   pub untagged : file.tag ≡ 0
 
--- each file was at a slot or is of the next submission, and no two have one mark
+-- each file was at a slot or is of the next submission, and no two have the same mark
 pub record AreKnown (ring : RingState) (requests : List Asked)
     (files : List Identity) : Type 0 where
   pub from : (file : Identity) → Contains files file
@@ -66,8 +66,8 @@ pub record AreKnown (ring : RingState) (requests : List Asked)
   pub distinct : (i j : ℕ) (one other : Identity) → slice_get files i ≡ Some one
       → slice_get files j ≡ Some other → one.mark ≡ other.mark → i ≡ j
 
--- what an accepted submission closes was in the table, or the submission installed it, and it is
--- closed once
+-- each file that an accepted submission closes was in the table, or the submission installed it; it
+-- is closed once
 abbrev pub EachClosedFileIsKnown : Type 0
 EachClosedFileIsKnown =
     (old : RingState) (requests : List Asked) (report : Reported) (left : RingState)

@@ -1,5 +1,5 @@
--- A submission: its requests are done one at a time, in an order that keeps each chain's (an update
--- entry by entry).
+-- A submission as an order: its requests are done one at a time, in an order that keeps each
+-- chain's (an update entry by entry).
 use Rattle.std.specs.Prelude.{◌≡◌, ◌+◌, ◌≤◌, List, length, All}
 use Rattle.fx_chain.specs.Operation.{Asked}
 use Rattle.fx_chain.specs.Runs.{runs_of}
@@ -13,12 +13,12 @@ use Rattle.fx_order.specs.Requests.{AreChainsDone}
 abbrev pub table_of : RingState → Table
 table_of ring = record { size = ring.size; range = ring.range; at = ring.at }
 
--- the accesses of a submission's requests, in this order, come to this report
+-- the accesses of a submission's requests, in this order, lead to this report
 pub record IsOrderOf (order : List ChainAccess) (old : RingState) (requests : List Asked)
     (report : Reported) : Type 0 where
-  -- the first one stands first, and each may be made at the table that those before it left
+  -- each is permitted at the table that those before it left
   pub permitted : PermitsAll (table_of old) (accesses_of order)
-  -- they are all of the submission's chains
+  -- each is of one of the submission's chains
   pub chains : All (λ x. (1 ≤ x.chain) × (x.chain ≤ length (runs_of requests))) order
   -- each chain's members make their accesses in the chain's order, and the report has all their
   -- completions
@@ -28,8 +28,8 @@ pub record IsOrderOf (order : List ChainAccess) (old : RingState) (requests : Li
   pub closed : HasClosed (removed_in (accesses_of order)) report.closes
   pub submission : report.submission ≡ old.submissions + 1
 
--- the ring that an order leaves: the files at the slots are those that it left, the submission is
--- counted, and all else stays
+-- the ring that an order leaves: it has the files that the order left at the slots, the submission
+-- is counted, and all else stays
 abbrev pub ring_left : List ChainAccess → RingState → RingState
 ring_left order old = record old {
   at = (table_after (table_of old) (accesses_of order)).at;

@@ -1,5 +1,5 @@
--- What a request may answer that is done at once, by its accesses of a table of some size: for each
--- request its cases, of which the first one that applies counts. And what a chain may answer.
+-- The answers that a request may get when it is done at once, by its accesses of a table of the
+-- given size. The first case of a request that applies counts. And the answers of a chain.
 use Rattle.std.specs.Prelude.{◌≡◌, ◌⊎◌, ℕ, zero, suc, ◌+◌, ◌<◌, ℤ, pos, negsuc, ◌==◌, ◌||◌, nat_le}
 use Rattle.std.specs.Prelude.{nat_lt, List, [], ◌∷◌, ◌++◌, length, Option, Some, None}
 use Rattle.std.specs.Bool.{MatchBool}
@@ -22,11 +22,11 @@ use Rattle.fx_order.specs.Access.{accesses_of_chain}
 use Rattle.fx_order.specs.declared.access.Access.{Access}
 use Rattle.fx_order.specs.declared.access.ChainAccess.{ChainAccess}
 
--- the request made this one access, and answers so
+-- the request made only this access, and has this completion
 abbrev pub Makes : Access → Completed → List Access → Completed → Type 0
 Makes access answer accesses c = (accesses ≡ access ∷ []) × (c ≡ answer)
 
--- the request didn't come to the table, and fails
+-- the request didn't reach the table, and fails
 abbrev pub IsRefused : Place → Errno → List Access → Completed → Type 0
 IsRefused place errno accesses c = (accesses ≡ []) × (c ≡ refusal place errno)
 
@@ -43,7 +43,7 @@ IsOpenDone size place entry Any accesses c =
     × Makes (Allocates slot (installed place 0 entry)) (completed place (pos slot) []) accesses c)
     ⊎ Makes FindsFull (refusal place ENFILE) accesses c)
 
--- what a read of a file gives
+-- the completion of a read of a file
 abbrev pub gives : List FileEntry → Place → Identity → ℕ → ℕ → Completed
 gives catalogue place file off len =
     completed place (pos (length (bytes_at catalogue file.entry off len)))
@@ -67,8 +67,8 @@ IsCloseDone size place slot accesses c =
     ⊎ ((removed : Identity)
     × Makes (Takes slot (Some removed)) (completed place (pos 0) []) accesses c)))
 
--- one entry of an update: its place in the list, and its slot. -1 empties the slot, another number
--- of 0 or more installs that catalogue entry, and the others leave the slot
+-- one entry of an update: its position in the list, and its slot. -1 empties the slot, a number of
+-- 0 or more installs that catalogue entry, and any other number leaves the slot
 abbrev pub IsEntryDone : Place → ℕ → ℕ → ℤ → List Access → Type 0
 IsEntryDone place in_list slot (pos entry) accesses =
     (removed : Option Identity)
@@ -77,7 +77,7 @@ IsEntryDone place in_list slot (negsuc zero) accesses =
     (removed : Option Identity) × (accesses ≡ Clears slot removed ∷ [])
 IsEntryDone place in_list slot (negsuc (suc n)) accesses = accesses ≡ []
 
--- the entries of an update from a place in its list on, one after another
+-- the entries of an update from a position of its list on, one after another
 abbrev pub AreEntriesDone : Place → ℕ → ℕ → List ℤ → List Access → Type 0
 AreEntriesDone place in_list slot [] accesses = accesses ≡ []
 AreEntriesDone place in_list slot (entry ∷ list) accesses =
@@ -85,7 +85,7 @@ AreEntriesDone place in_list slot (entry ∷ list) accesses =
     × IsEntryDone place in_list slot entry own
     × AreEntriesDone place (in_list + 1) (slot + 1) list others
 
--- an update of the slots from one on
+-- an update of the slots from `off` on
 abbrev pub IsUpdateDone : ℕ → ℕ → Place → ℕ → List ℤ → List Access → Completed → Type 0
 IsUpdateDone entries size place off list accesses c =
     MatchBool (size == 0) (IsRefused place ENXIO accesses c)
@@ -94,7 +94,7 @@ IsUpdateDone entries size place off list accesses c =
     (MatchBool (list_any (is_bad_entry entries) list) (IsRefused place EBADF accesses c)
     (AreEntriesDone place 0 off list accesses × (c ≡ completed place (pos (length list)) []))))
 
--- the request may answer so, having made these accesses
+-- the request may have this completion, having made these accesses
 abbrev pub IsRequestDone : List FileEntry → ℕ → Place → Operation → List Access → Completed → Type 0
 IsRequestDone catalogue size place (Opens name target) accesses c =
     MatchBool (has_name name catalogue)
@@ -107,8 +107,8 @@ IsRequestDone catalogue size place (Closes slot) accesses c = IsCloseDone size p
 IsRequestDone catalogue size place (Updates off list) accesses c =
     IsUpdateDone (length catalogue) size place off list accesses c
 
--- the members of a chain from this place on make these accesses, one after another, and answer so:
--- up to and with the first one that severs the chain; the others are canceled
+-- the members of a chain from this place on make these accesses, one after another, and have these
+-- completions, up to and including the first one that severs the chain; the later ones are canceled
 abbrev pub IsChainDone :
     List FileEntry → ℕ → Place → List Asked → List Access → List Completed → Type 0
 IsChainDone catalogue size place [] accesses completions = (accesses ≡ []) × (completions ≡ [])

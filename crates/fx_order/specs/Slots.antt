@@ -1,4 +1,4 @@
--- What contracts see of a table's slots.
+-- A table's slots, as contracts see them.
 use Rattle.std.specs.Prelude.{◌≡◌, ℕ, ◌<◌, List, length, slice_index_or, Option, None}
 use Rattle.fx_base.specs.Identity.{Identity}
 use Rattle.fx_base.specs.Catalogue.{FileEntry}
@@ -14,7 +14,7 @@ table_of_slots slots = record {
   at = λ slot. slice_index_or slots.at.items slot None;
 }
 
--- the slot is one of the list, and this is what is there
+-- the slot is one of the list, and has this file or none
 abbrev pub IsFoundAt : List (Option Identity) → ℕ → Option Identity → Type 0
 IsFoundAt at slot found = (slot < length at) × (found ≡ slice_index_or at slot None)
 

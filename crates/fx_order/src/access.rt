@@ -1,10 +1,11 @@
+//! Accesses: what requests do to a table when they are done one at a time.
 ghost use Rattle.std.specs.Prelude.{◌≡◌};
 ghost use Rattle.fx_order.specs.Access.{removed_by};
 
 use fx_base::Closed;
 
-/// What a request does to a table, where its requests are done one at a time. A request that comes to the table does so
-/// once, and an update once for each entry of its list that isn't a skip. Slots come first, then the file that is
+/// An access of a table by a request, when requests are done one at a time. A request that reaches the table makes one
+/// access, and an update one for each entry of its list that isn't a skip. Slots come first, then the file that is
 /// installed, then the file that was found there (this project's own).
 #[derive(Clone, Copy, Debug, PartialEq, Eq)]
 pub enum Access {
@@ -16,14 +17,14 @@ pub enum Access {
     Clears(u32, Option<Closed>),
     /// A close empties a slot.
     Takes(u32, Option<Closed>),
-    /// An open installs a file at a free slot of the allocation range.
+    /// An open installs a file at an empty slot of the allocation range.
     Allocates(u32, Closed),
-    /// An open finds no free slot in the allocation range.
+    /// An open finds no empty slot in the allocation range.
     FindsFull,
 }
 
 impl Access {
-    /// The file that the access takes from its slot, or `None` where it takes none.
+    /// Returns the file that the access takes from its slot, or `None` if it takes none.
     pub fn removed(&self) -> Option<Closed>
         ensures { result ≡ removed_by self.now }
     {
@@ -39,7 +40,7 @@ impl Access {
 /// An access, and the chain whose request makes it.
 #[derive(Clone, Copy, Debug, PartialEq, Eq)]
 pub struct ChainAccess {
-    /// Which chain of the submission, from 1.
+    /// The number of the chain in the submission, from 1.
     pub chain: u32,
     /// The access.
     pub access: Access,

@@ -1,4 +1,4 @@
-//! What a completion says, and what an access installs, compared with what they should.
+//! Comparing completions and installations with the expected ones.
 ghost use Rattle.std.specs.Prelude.{◌≡◌, ◌↔◌, IsTrue, Option};
 ghost use Rattle.fx_base.specs.declared.open_file.Closed.{Closed as File};
 ghost use Rattle.fx_chain.specs.Answers.{installed};
@@ -10,7 +10,7 @@ use crate::access::Access;
 use fx_base::Errno;
 use fx_chain::{Completion, Place};
 
-/// What a request is told to have done: the accesses that it made, and its completion.
+/// The accesses and the completion that a request is said to have made.
 #[derive(Drop)]
 pub(crate) struct Answer<'a> {
     pub(crate) place: Place,
@@ -19,7 +19,7 @@ pub(crate) struct Answer<'a> {
 }
 
 impl Answer<'_> {
-    /// Whether the completion says this.
+    /// Checks whether the completion has this result and these bytes.
     pub(crate) fn says(&self, res: i32, got: &[u8]) -> bool
         ensures { IsTrue result
             ↔ (completed_of self.now.c.now ≡ completed self.now.place res got.now) }
@@ -27,7 +27,7 @@ impl Answer<'_> {
         self.c.is_answer(self.place, res, got)
     }
 
-    /// Whether the request made no access and failed.
+    /// Checks whether the request made no access and failed with this error.
     pub(crate) fn is_refusal(&self, errno: Errno) -> bool
         ensures { IsTrue result
             ↔ IsRefused self.now.place errno self.now.own.now (completed_of self.now.c.now) }
@@ -36,7 +36,7 @@ impl Answer<'_> {
     }
 }
 
-/// Whether an access installed this entry at a slot.
+/// Checks whether an access installed this entry at a slot.
 pub(crate) fn puts(place: Place, in_list: u32, slot: u32, entry: u8, access: &Access) -> bool
     ensures { IsTrue result ↔ ((removed : Option File)
         × (access.now ≡ Puts slot (installed place in_list entry) removed)) }

@@ -1,4 +1,4 @@
-//! What the members of a chain made and answered, looked through one after another.
+//! Checking the accesses and completions of a chain's members, one after another.
 ghost use Rattle.std.specs.Prelude.{◌≡◌, ◌<◌, ◌+◌, ◌^◌, ◌↔◌, IfOk, IsTrue, List, filter, int_le, length, negsuc};
 ghost use Rattle.fx_base.specs.Catalogue.{FileEntry};
 ghost use Rattle.fx_chain.specs.Completed.{all_completed, completed_of};
@@ -14,14 +14,14 @@ use crate::setting::Setting;
 use fx_base::{Errno, NoMemory};
 use fx_chain::{Completion, Op, Place, Request};
 
-// How many entries of a list aren't skips.
+// Returns the number of entries of a list that aren't skips.
 fn entries_done(list: &[i32]) -> usize
     ensures { result ≡ length (filter (λ entry. int_le (negsuc 0) entry) list.now) }
 {
     list.iter().filter(|entry| **entry >= -1).count()
 }
 
-/// How many accesses a request made, if it completed so, at a table of so many slots.
+/// Returns the number of accesses that a request made, if it has this completion, at a table of `size` slots.
 pub fn accesses_made(size: u32, request: &Request, c: &Completion) -> usize
     ensures { (catalogue : List FileEntry) (place : Place) (own : List Made)
         → IsRequestDone catalogue size place (operation_of request.now.op) own (completed_of c.now)
@@ -47,7 +47,7 @@ pub fn accesses_made(size: u32, request: &Request, c: &Completion) -> usize
     }
 }
 
-// Whether the members of a chain from this place on were canceled.
+// Checks whether the members of a chain from this place on were canceled.
 fn are_canceled(place: Place, requests: &[Request], completions: &[Completion]) -> bool
     requires { place.member + length requests.now < 2 ^ 32 }
     ensures { IsTrue result
@@ -66,9 +66,9 @@ fn are_canceled(place: Place, requests: &[Request], completions: &[Completion]) 
     c.is_refusal(place, Errno::ECANCELED) && are_canceled(next, requests, completions)
 }
 
-/// Whether the members of a chain from this place on made these accesses, one after another, and answered so, at a table
-/// of so many slots: up to and with the first one that severs the chain, and the others canceled. `NoMemory` where there
-/// is no memory for the bytes of a read.
+/// Checks whether the members of a chain from this place on made these accesses, one after another, and have these
+/// completions: up to and including the first one that severs the chain, and the later ones canceled. Returns
+/// `NoMemory` if the allocation for the bytes of a read fails.
 pub(crate) fn is_chain_done(
     setting: &Setting<'_>,
     place: Place,

@@ -1,23 +1,24 @@
+//! Orders of a submission's requests, as lists.
 use crate::access::ChainAccess;
 
-/// Which request makes an access of an order (this project's own).
+/// The place of the request that makes an access of an order (this project's own).
 #[derive(Clone, Copy, Debug, PartialEq, Eq)]
 pub struct AccessPlace {
-    /// Which chain of the submission, from 1.
+    /// The number of the chain in the submission, from 1.
     pub chain: u32,
-    /// Which member of the chain, from 1.
+    /// The number of the request in the chain, from 1.
     pub member: u32,
-    /// For an update the place in its list, from 0.
+    /// The position in the list of an update, from 0; `None` for another request.
     pub entry: Option<usize>,
 }
 
 /// An order of an accepted submission's requests, done one at a time (this project's own).
 #[derive(Debug, Drop)]
 pub struct Order {
-    /// Which of the accepted submissions, from 1.
+    /// The number of the submission among the accepted ones, from 1.
     pub submission: u32,
-    /// The accesses that the requests make, the first one first. A request that doesn't come to the table makes none.
+    /// The accesses that the requests make, in order. A request that doesn't reach the table makes none.
     pub accesses: Vec<ChainAccess>,
-    /// Whose they are, in the same order.
+    /// The places of their requests, in the same order.
     pub places: Vec<AccessPlace>,
 }

@@ -1,4 +1,4 @@
-//! What an open made and answered, looked through by the cases of its target.
+//! Checking an open's accesses and completion, by the cases of its target.
 ghost use Rattle.std.specs.Prelude.{◌≡◌, ◌↔◌, ℕ, IfSome, IsTrue, Option, [], ◌∷◌, is_some};
 ghost use Rattle.fx_base.specs.AddFault.{has_name};
 ghost use Rattle.fx_base.specs.Catalogue.{name_at};
@@ -15,7 +15,7 @@ use crate::setting::Setting;
 use fx_base::{Catalogue, Errno};
 use fx_chain::Target;
 
-// The entry of the file that a request installed by one access.
+// Returns the entry of the file that a request installed by one access.
 fn entry_installed(own: &[Access]) -> Option<u8>
     ensures at_a_slot { (slot : ℕ) (file : File) (removed : Option File)
         → own.now ≡ Puts slot file removed ∷ [] → result ≡ Some file.entry }
@@ -29,14 +29,14 @@ fn entry_installed(own: &[Access]) -> Option<u8>
     }
 }
 
-// Whether there is such an entry, and it has this name.
+// Checks whether the entry exists and has this name.
 fn is_named(catalogue: &Catalogue, entry: u8, name: &str) -> bool
     ensures { IsTrue result ↔ (name_at catalogue.now entry ≡ Some name.now) }
 {
     u32::from(entry) < catalogue.len() && catalogue.name_of(entry) == name
 }
 
-// An entry with this name: that of the file that the request installed, if it has the name.
+// Returns an entry with this name: that of the file that the request installed, if it has the name.
 fn entry_of(catalogue: &Catalogue, name: &str, own: &[Access]) -> Option<u8>
     ensures named { IfSome result (λ entry. name_at catalogue.now entry ≡ Some name.now) }
     ensures variant { is_some result ≡ has_name name.now catalogue.now }
@@ -58,7 +58,7 @@ fn entry_of(catalogue: &Catalogue, name: &str, own: &[Access]) -> Option<u8>
     }
 }
 
-// Whether an open at a slot was done so.
+// Checks an open at a slot.
 fn is_open_at_done(size: u32, entry: u8, slot: u32, answer: &Answer<'_>) -> bool
     ensures { IsTrue result ↔ IsOpenDone size answer.now.place entry (Slot slot) answer.now.own.now
         (completed_of answer.now.c.now) }
@@ -75,7 +75,7 @@ fn is_open_at_done(size: u32, entry: u8, slot: u32, answer: &Answer<'_>) -> bool
     }
 }
 
-// Whether an open at any slot was done so.
+// Checks an open at any slot.
 fn is_open_any_done(size: u32, entry: u8, answer: &Answer<'_>) -> bool
     ensures { IsTrue result ↔ IsOpenDone size answer.now.place entry Any answer.now.own.now
         (completed_of answer.now.c.now) }
@@ -94,7 +94,7 @@ fn is_open_any_done(size: u32, entry: u8, answer: &Answer<'_>) -> bool
     }
 }
 
-/// Whether an open was done so.
+/// Checks whether an open made these accesses and has this completion.
 pub(crate) fn is_open_done(
     setting: &Setting<'_>,
     name: &str,

@@ -1,4 +1,4 @@
-//! Whether a report came of an order of a submission's requests: the order is made again, access by access.
+//! Replaying an order of a submission's requests, access by access.
 ghost use Rattle.std.specs.Prelude.{◌≡◌, ℕ, ◌<◌, ◌↔◌, ◌≢◌, IfNone, IfOk, IfSome, IsTrue, IsPermutation, length, slice_index_or};
 ghost use Rattle.fx_base.specs.CloseList.{IsInOrderOfMark};
 ghost use Rattle.fx_base.specs.declared.open_file.Closed.{Closed as File};
@@ -10,8 +10,8 @@ use crate::slots::Slots;
 use fx_base::{Closed, NoMemory};
 use std::alloc::Global;
 
-/// Makes the accesses of an order, one after another, and tells whether each could be made. Where one may not be made,
-/// those before it have been made and none behind it.
+/// Makes the accesses of an order, one after another, and returns whether each was permitted. If one isn't, those
+/// before it are made and no later one is.
 pub fn make_all(slots: &mut Slots, order: &[ChainAccess]) -> bool
     ensures permitted { IsTrue result
         ↔ PermitsAll (table_of_slots slots.old) (accesses_of order.now) }
@@ -27,7 +27,10 @@ pub fn make_all(slots: &mut Slots, order: &[ChainAccess]) -> bool
     true
 }
 
-/// The accesses of one chain, in their order.
+/// Returns the accesses of one chain, in order.
+///
+/// # Errors
+/// `NoMemory` if an allocation for the list fails.
 pub(crate) fn accesses_of_chain(
     alloc: Global,
     chain: u32,
@@ -44,7 +47,7 @@ pub(crate) fn accesses_of_chain(
     Ok(accesses)
 }
 
-// The files that the accesses took from their slots, one after another.
+// Returns the files that the accesses took from their slots, in order.
 fn removed_in(alloc: Global, order: &[ChainAccess]) -> Result<Vec<Closed>, NoMemory>
     ensures { IfOk result (λ files. files.items ≡ removed_in (accesses_of order.now)) }
 {
@@ -57,7 +60,7 @@ fn removed_in(alloc: Global, order: &[ChainAccess]) -> Result<Vec<Closed>, NoMem
     Ok(files)
 }
 
-// The first place of a file in a list.
+// Returns the first position of a file in a list.
 fn first_place_of(files: &[Closed], file: Closed) -> Option<usize>
     ensures some { IfSome result (λ i. (i < length files.now)
         × (slice_index_or files.now i file ≡ file)) }
@@ -72,7 +75,7 @@ fn first_place_of(files: &[Closed], file: Closed) -> Option<usize>
     None
 }
 
-// A place of a file in a list: the last one, if the file is there.
+// Returns a position of a file in a list, the last one that it has, or `None`.
 fn place_of(files: &[Closed], file: Closed) -> Option<usize>
     ensures some { IfSome result (λ i. (i < length files.now)
         × (slice_index_or files.now i file ≡ file)) }
@@ -86,7 +89,7 @@ fn place_of(files: &[Closed], file: Closed) -> Option<usize>
     first_place_of(files, file)
 }
 
-// The same files, the one of the last mark first.
+// Returns the same files, the one with the last mark first.
 fn last_first(alloc: Global, files: &[Closed]) -> Result<Vec<Closed>, NoMemory>
     ensures { IfOk result (λ left. IsPermutation files.now left.items) }
 {
@@ -95,8 +98,8 @@ fn last_first(alloc: Global, files: &[Closed]) -> Result<Vec<Closed>, NoMemory>
     Ok(left)
 }
 
-// Whether both lists have the same files, each as many times. Where the others are in order of mark, each is the last one of
-// those that are left.
+// Checks whether both lists have the same files, each the same number of times. If the others are in order of mark,
+// each is the last one of those that are left.
 fn has_same_files(alloc: Global, files: &[Closed], others: &[Closed]) -> Result<bool, NoMemory>
     ensures { IfOk result (λ yes. IsTrue yes ↔ IsPermutation files.now others.now) }
 {
@@ -110,7 +113,7 @@ fn has_same_files(alloc: Global, files: &[Closed], others: &[Closed]) -> Result<
     Ok(left.is_empty())
 }
 
-// Whether no file's mark comes before that of the file in front of it.
+// Checks whether the files are in order of mark.
 fn is_in_order(files: &[Closed]) -> bool
     ensures { IsTrue result ↔ IsInOrderOfMark files.now }
 {
@@ -122,10 +125,10 @@ fn is_in_order(files: &[Closed]) -> bool
     true
 }
 
-/// Whether these closes are the files that the accesses took from their slots, in order of mark.
+/// Checks whether these closes are the files that the accesses took from their slots, in order of mark.
 ///
 /// # Errors
-/// `NoMemory` where there is no memory for a list of the files.
+/// `NoMemory` if an allocation for a list of the files fails.
 pub fn are_closed(alloc: Global, order: &[ChainAccess], closes: &[Closed]) -> Result<bool, NoMemory>
     ensures { IfOk result (λ yes. IsTrue yes
         ↔ (IsPermutation (removed_in (accesses_of order.now)) closes.now

@@ -1,4 +1,4 @@
-//! Whether what is told of a submission is what an order of its requests gives.
+//! Checking whether an order of a submission's requests leads to its report.
 ghost use Rattle.std.specs.Prelude.{◌≡◌, ℕ, ◌<◌, ◌≤◌, ◌+◌, ◌^◌, ◌↔◌, All, IfOk, IfSome, IsSome, IsTrue, OnErr, false, length};
 ghost use Rattle.fx_chain.specs.Accepted.{IsAccepted};
 ghost use Rattle.fx_chain.specs.Operation.{all_asked};
@@ -18,7 +18,7 @@ use fx_chain::{Request, cut};
 use fx_ring::Report;
 use std::alloc::Global;
 
-// Whether each access is of one of so many chains.
+// Checks whether each access is of one of `chains` chains.
 fn are_within(order: &[ChainAccess], chains: usize) -> bool
     ensures { IsTrue result
         ↔ All (λ x. (1 ≤ x.chain) × (x.chain ≤ chains)) order.now }
@@ -31,13 +31,13 @@ fn are_within(order: &[ChainAccess], chains: usize) -> bool
     true
 }
 
-/// The slots that an order of a submission's requests leaves, which are done one at a time at a table with these files, if
-/// it gives what is told of the submission. The caller has seen that no request has a fault ([`fx_chain::check`]), and that
-/// the submission's number and the number of slots have 32 bits.
+/// Returns the slots that an order of a submission's requests leaves, done one at a time at a table with these slots,
+/// or `None` if the order doesn't lead to the submission's report. Requires that no request has a fault
+/// ([`fx_chain::check`]), and that the submission's number and the number of slots fit 32 bits.
 ///
 /// # Errors
-/// `NoMemory` where there is no memory for lists as long as the submission, the order and the table, or the bytes of a
-/// read.
+/// `NoMemory` if an allocation fails: for lists as long as the submission, the order or the table, or for the bytes of
+/// a read.
 pub fn slots_left(
     alloc: Global,
     submitted: &SubmissionReport<'_>,
@@ -80,13 +80,13 @@ pub fn slots_left(
     Ok(Some(left))
 }
 
-/// Whether a report came of this order of a submission's requests, done one at a time, at a ring with this catalogue. Where it
-/// did, the ring is afterwards the one that the order left, and else it stays. The caller has seen that no request has a
-/// fault ([`fx_chain::check`]).
+/// Checks whether this order of a submission's requests, done one at a time, leads to the report, at a ring with this
+/// catalogue. If it does, the ring becomes the one that the order leaves; otherwise it stays. Requires that no request
+/// has a fault ([`fx_chain::check`]), and that the number of slots fits 32 bits.
 ///
 /// # Errors
-/// `NoMemory` where there is no memory for lists as long as the submission, the order and the table, or the bytes of a
-/// read. The ring stays.
+/// `NoMemory` if an allocation fails: for lists as long as the submission, the order or the table, or for the bytes of
+/// a read. The ring stays.
 pub fn is_one_order(
     alloc: Global,
     catalogue: &Catalogue,

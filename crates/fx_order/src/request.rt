@@ -1,4 +1,4 @@
-//! What a request made and answered, looked through by the cases of its operation.
+//! Checking a request's accesses and completion, by the cases of its operation.
 ghost use Rattle.std.specs.Prelude.{◌≡◌, ◌≢◌, ◌↔◌, IfNone, IfOk, IfSome, IsTrue, Option, [], ◌∷◌};
 ghost use Rattle.fx_base.specs.declared.open_file.Closed.{Closed as File};
 ghost use Rattle.fx_chain.specs.Completed.{completed_of};
@@ -14,7 +14,7 @@ use crate::update::is_update_done;
 use fx_base::{Closed, Errno, NoMemory};
 use fx_chain::{Op, Request};
 
-// Whether a read of a file gave this.
+// Checks whether a read of a file has this completion.
 fn is_given(
     setting: &Setting<'_>,
     file: &Closed,
@@ -31,7 +31,7 @@ fn is_given(
     Ok(answer.says(res as i32, &got))
 }
 
-// What a request found that looked at a slot and did no more.
+// Returns what a request found that made one look-up at the slot and no other access.
 fn found_at(slot: u32, own: &[Access]) -> Option<Option<Closed>>
     ensures some { IfSome result (λ found. own.now ≡ Looks slot found ∷ []) }
     ensures none { IfNone result ((found : Option File) → own.now ≢ Looks slot found ∷ []) }
@@ -42,7 +42,7 @@ fn found_at(slot: u32, own: &[Access]) -> Option<Option<Closed>>
     }
 }
 
-// Whether a read was done so.
+// Checks whether a read made these accesses and has this completion.
 fn is_read_done(
     setting: &Setting<'_>,
     slot: u32,
@@ -66,7 +66,7 @@ fn is_read_done(
     }
 }
 
-// Whether a close was done so.
+// Checks whether a close made these accesses and has this completion.
 fn is_close_done(size: u32, slot: u32, answer: &Answer<'_>) -> bool
     ensures { IsTrue result ↔ IsCloseDone size answer.now.place slot answer.now.own.now
         (completed_of answer.now.c.now) }
@@ -84,7 +84,7 @@ fn is_close_done(size: u32, slot: u32, answer: &Answer<'_>) -> bool
     }
 }
 
-/// Whether a request was done so.
+/// Checks whether a request made these accesses and has this completion.
 pub(crate) fn is_request_done(
     setting: &Setting<'_>,
     request: &Request,

@@ -1,12 +1,13 @@
+//! The slots and counts of a ring.
 use crate::slots::Slots;
 
-/// What is known of a ring between two calls (this project's own).
+/// The slots of a ring between two calls, and its counts (this project's own).
 #[derive(Debug, Drop)]
 pub struct RingSlots {
     /// The files at the slots of its table, and its allocation range. Without a table there are no slots.
     pub slots: Slots,
-    /// How many submissions were accepted.
+    /// The number of accepted submissions.
     pub submissions: u32,
-    /// How many registrations and updates were accepted.
+    /// The number of accepted registrations and updates.
     pub registrations: u32,
 }

@@ -1,8 +1,9 @@
+//! The setting of a check.
 use fx_base::Catalogue;
 use std::alloc::Global;
 
-/// What stays while it is looked through what a submission's requests made and answered: the catalogue, and how many slots
-/// the table has.
+/// The values that stay the same while a submission's requests are checked: the catalogue, and the number of slots of
+/// the table.
 #[derive(Drop)]
 pub(crate) struct Setting<'a> {
     pub(crate) alloc: Global,

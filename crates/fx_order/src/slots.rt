@@ -1,4 +1,4 @@
-//! A table as an order of accesses sees it.
+//! A table, as an order of accesses sees it.
 ghost use Rattle.std.specs.Prelude.{◌≡◌, ℕ, ◌+◌, ◌<◌, ◌≤◌, ◌↔◌, IfOk, IsTrue, IsSome, None, length, slice_index_or};
 ghost use Rattle.fx_order.specs.Access.{Permits, table_with, with_file};
 ghost use Rattle.fx_order.specs.Slots.{IsFoundAt, table_of_slots};
@@ -10,13 +10,13 @@ use std::alloc::Global;
 /// The files of a table by slot, and its allocation range.
 #[derive(Debug, Drop)]
 pub struct Slots {
-    /// The first slot of the allocation range, and how many slots it has.
+    /// The first slot of the allocation range, and its number of slots.
     pub range: (u32, u32),
-    /// The file at each slot, or none.
+    /// The file at each slot, or `None`.
     pub at: Vec<Option<Closed>>,
 }
 
-// Whether this is what is at a slot.
+// Checks whether this is the file at a slot, or `None` for an empty slot.
 fn is_at(at: &[Option<Closed>], slot: u32, found: Option<Closed>) -> bool
     ensures { IsTrue result ↔ IsFoundAt at.now slot found }
 {
@@ -26,7 +26,7 @@ fn is_at(at: &[Option<Closed>], slot: u32, found: Option<Closed>) -> bool
     }
 }
 
-// Whether each slot of a range has a file.
+// Checks whether each slot of a range has a file.
 fn is_full(at: &[Option<Closed>], range: (u32, u32)) -> bool
     ensures { IsTrue result ↔ ((slot : ℕ) → slot < length at.now
         → (range.0 ≤ slot) × (slot < range.0 + range.1) → IsSome (slice_index_or at.now slot None)) }
@@ -41,10 +41,10 @@ fn is_full(at: &[Option<Closed>], range: (u32, u32)) -> bool
 }
 
 impl Slots {
-    /// A table of its own with the same files, in the same allocation range.
+    /// Returns a copy of the table, with the same files and the same allocation range.
     ///
     /// # Errors
-    /// `NoMemory` where the memory of the list is refused.
+    /// `NoMemory` if the allocation for the list fails.
     pub fn copy(&self, alloc: Global) -> Result<Slots, NoMemory>
         ensures { IfOk result (λ copy. table_of_slots copy ≡ table_of_slots self.now) }
     {
@@ -55,7 +55,7 @@ impl Slots {
         })
     }
 
-    /// Whether both tables have the same files at the same slots, and the same allocation range.
+    /// Checks whether both tables have the same files at the same slots, and the same allocation range.
     pub fn is_same(&self, other: &Slots) -> bool
         ensures same { IsTrue result → table_of_slots self.now ≡ table_of_slots other.now }
         ensures all { self.now.range ≡ other.now.range → self.now.at.items ≡ other.now.at.items
@@ -64,7 +64,7 @@ impl Slots {
         self.range == other.range && self.at == other.at
     }
 
-    /// Whether an access may be made here.
+    /// Checks whether an access is permitted here.
     pub fn permits(&self, access: &Access) -> bool
         ensures { IsTrue result ↔ Permits (table_of_slots self.now) access.now }
     {
@@ -83,7 +83,7 @@ impl Slots {
         }
     }
 
-    // Writes what is at a slot.
+    // Writes the file at a slot, or `None`.
     fn write(&mut self, slot: u32, file: Option<Closed>)
         requires { slot < length self.old.at.items }
         ensures { table_of_slots self.new ≡ with_file (table_of_slots self.old) slot file }
@@ -91,7 +91,7 @@ impl Slots {
         self.at[slot as usize] = file;
     }
 
-    /// Makes an access that may be made here.
+    /// Makes an access. Requires that it is permitted here ([`Slots::permits`]).
     pub fn make(&mut self, access: &Access)
         requires { Permits (table_of_slots self.old) access.now }
         ensures { table_of_slots self.new ≡ table_with (table_of_slots self.old) access.now }

@@ -1,4 +1,4 @@
-//! What all chains of a submission made and answered, looked through chain by chain.
+//! Checking the accesses and completions of a submission, chain by chain.
 ghost use Rattle.std.specs.Prelude.{◌≡◌, ◌<◌, ◌≤◌, ◌+◌, ◌^◌, ◌↔◌, All, IfOk, IsTrue, length, map};
 ghost use Rattle.fx_chain.specs.Accepted.{IsChain, IsWithinLimits, members_of};
 ghost use Rattle.fx_chain.specs.Completed.{all_completed};
@@ -13,7 +13,7 @@ use fx_base::{Catalogue, NoMemory};
 use fx_chain::{Chain, Completion, MOST_MEMBERS, Place, Request};
 use std::alloc::Global;
 
-/// The members of a chain, into which the requests were cut ([`fx_chain::cut`]).
+/// Returns the members of a chain of the requests ([`fx_chain::cut`]).
 pub fn members<'a>(requests: &'a [Request], chain: Chain) -> &'a [Request]
     requires within { IsChain (all_asked requests.now) chain }
     ensures members { all_asked result.now ≡ members_of (all_asked requests.now) chain }
@@ -24,27 +24,26 @@ pub fn members<'a>(requests: &'a [Request], chain: Chain) -> &'a [Request]
     &requests[first..first + chain.len as usize]
 }
 
-/// A submission's requests, and an order of their accesses at a table of so many slots (this project's own).
+/// A submission's requests, and an order of their accesses at a table of `size` slots (this project's own).
 #[derive(Drop)]
 pub struct OrderedRequests<'a> {
     /// The files that may be opened.
     pub catalogue: &'a Catalogue,
-    /// How many slots the table has.
+    /// The number of slots of the table.
     pub size: u32,
-    /// Which submission it is, from 1.
+    /// The number of the submission, from 1.
     pub submission: u32,
-    /// Its requests.
+    /// The requests.
     pub requests: &'a [Request],
-    /// The accesses, the first one's first.
+    /// The accesses, in order.
     pub order: &'a [ChainAccess],
 }
 
-/// Whether the chains from this one on made their accesses of an order, and answered so. The completions are those of these
-/// chains, in order of place. The caller has seen that the chains are those into which the requests were cut
-/// ([`fx_chain::cut`]).
+/// Checks whether the chains from number `chain` on made their accesses of an order and have these completions, which
+/// are in order of place. Requires that the chains are those of the requests ([`fx_chain::cut`]).
 ///
 /// # Errors
-/// `NoMemory` where there is no memory for the accesses of a chain, or the bytes of a read.
+/// `NoMemory` if an allocation fails: for the accesses of a chain, or for the bytes of a read.
 pub fn are_chains_done(
     alloc: Global,
     ordered: &OrderedRequests<'_>,

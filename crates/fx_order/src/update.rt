@@ -1,4 +1,4 @@
-//! What an update made and answered, looked through entry by entry.
+//! Checking an update's accesses and completion, entry by entry.
 ghost use Rattle.std.specs.Prelude.{◌≡◌, ◌<◌, ◌+◌, ◌^◌, ◌↔◌, IsTrue, [], ◌∷◌, length};
 ghost use Rattle.fx_chain.specs.Completed.{completed_of};
 ghost use Rattle.fx_order.specs.Requests.{IsEntryDone, AreEntriesDone, IsUpdateDone};
@@ -9,7 +9,7 @@ use crate::setting::Setting;
 use fx_base::Errno;
 use fx_chain::{Place, has_bad_entry};
 
-// Whether one entry, which isn't a skip, was done by this access.
+// Checks whether this access is that of one entry, which isn't a skip.
 fn is_entry_done(place: Place, in_list: u32, slot: u32, entry: i32, access: &Access) -> bool
     ensures { IsTrue result ↔ IsEntryDone place in_list slot entry (access.now ∷ []) }
 {
@@ -24,7 +24,7 @@ fn is_entry_done(place: Place, in_list: u32, slot: u32, entry: i32, access: &Acc
     }
 }
 
-// Whether the entries of a list were done so, one after another.
+// Checks whether the entries of a list made these accesses, one after another.
 fn are_entries_done(
     place: Place,
     in_list: u32,
@@ -49,7 +49,7 @@ fn are_entries_done(
         && are_entries_done(place, in_list + 1, slot + 1, entries, others)
 }
 
-/// Whether an update was done so.
+/// Checks whether an update made these accesses and has this completion.
 pub(crate) fn is_update_done(
     setting: &Setting<'_>,
     off: u32,
