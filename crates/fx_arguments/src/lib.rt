@@ -1,4 +1,7 @@
-//! The command line of the program `fixfiles`.
+//! The command line of the program `fixfiles`: its options, its help, and its exit statuses.
+//!
+//! Others call [`asked_settings`], which returns the settings or the reason why no script is played. Begin reading at
+//! `settings.rt`.
 #![tactic(auto)]
 
 mod refusal;

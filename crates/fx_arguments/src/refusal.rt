@@ -1,16 +1,17 @@
+//! The reasons why a command line asks for no run.
 use clap::Error;
 use clap::error::ErrorKind;
 use std::alloc::AllocError;
 use std::io;
 
-/// Why no script is played for the words of a command line (this project's own).
+/// The reason why no script is played for a command line (this project's own).
 #[derive(Drop)]
 pub enum Refusal {
-    /// Help was asked for, or the arguments are none that the program has.
+    /// The arguments ask for help, or aren't the program's.
     Arguments(Error),
-    /// An argument is no text.
+    /// An argument isn't UTF-8 text.
     NoText,
-    /// There was no memory for them.
+    /// An allocation for the arguments failed.
     NoMemory,
 }
 
@@ -30,7 +31,7 @@ impl From<AllocError> for Refusal {
 }
 
 impl Refusal {
-    /// The status of the program: 0 behind help, 2 for wrong arguments, 5 where there was no memory.
+    /// Returns the program's exit status: 0 after help, 2 for wrong arguments, 5 if an allocation failed.
     pub fn status(&self) -> u8 {
         match self {
             Refusal::Arguments(error) => { if error.use_stderr() { 2 } else { 0 } }
@@ -39,10 +40,10 @@ impl Refusal {
         }
     }
 
-    /// Tells it: help on standard output, and the others on standard error.
+    /// Prints the reason: help on standard output, and errors on standard error.
     ///
     /// # Errors
-    /// Where that can't be written.
+    /// Returns the error of a write that fails.
     pub fn tell(&self, rt: &HostRuntime) -> io::Result<()> {
         match self {
             Refusal::Arguments(error) => error.print(rt),

@@ -1,4 +1,4 @@
-//! How the words of a command line ask for a script to be played.
+//! Parsing the words of a command line.
 ghost use Rattle.std.specs.Prelude.{◌≤◌, IfOk};
 ghost use Rattle.fx_table.specs.declared.limits.TheConstants.{MAX_PASSES};
 
@@ -37,16 +37,16 @@ Exit status:
   4  the script couldn't be read, or the text couldn't be written
   5  memory was refused";
 
-/// Which table the workers share.
+/// The table that the workers share.
 #[derive(Clone, Copy)]
 pub enum Table {
-    /// The one without a lock, of packed words.
+    /// The lock-free table, of packed words.
     Words,
-    /// The one guarded by one word.
+    /// The table guarded by one word.
     Baton,
 }
 
-/// There is no table of this name.
+/// The error that no table has this name.
 #[derive(Clone, Copy)]
 pub struct NoTable;
 
@@ -62,16 +62,16 @@ impl FromStr for Table {
     }
 }
 
-/// How a script is played.
+/// The settings of a run.
 #[derive(Clone, Copy)]
 pub struct Settings {
-    /// How many workers play a submission, 1 to 16.
+    /// The number of workers that play a submission, 1 to 16.
     pub workers: u32,
-    /// Which table they share.
+    /// The table that they share.
     pub table: Table,
 }
 
-// The words of the command line, the program's name first.
+// Returns the words of the command line, the program's name first.
 fn words(rt: &HostRuntime) -> Result<Vec<String>, Refusal> {
     match env::args(rt) {
         Ok(args) => Ok(args.collect(rt.alloc())?),
@@ -107,7 +107,7 @@ fn command<'a>(alloc: Global) -> Result<Command<'a>, AllocError> {
         .arg(table_argument(alloc))
 }
 
-// The number of workers, which has a default and was seen to be in its range.
+// Returns the number of workers, which has a default and was checked to be in its range.
 fn workers_of(matches: &ArgMatches<'_>) -> u32
     ensures { (1 ≤ result) × (result ≤ MAX_PASSES) }
 {
@@ -117,10 +117,10 @@ fn workers_of(matches: &ArgMatches<'_>) -> u32
     }
 }
 
-/// How the words of a command line ask for a script to be played.
+/// Parses the words of a command line.
 ///
 /// # Errors
-/// Clap's, where help is asked for, the words ask for something else, or there is no memory.
+/// Returns clap's error if the words ask for help or aren't the program's, or if an allocation fails.
 pub fn settings_in<S: AsStr>(alloc: Global, words: &[S]) -> Result<Settings, Error>
     ensures { IfOk result (λ asked. (1 ≤ asked.workers) × (asked.workers ≤ MAX_PASSES)) }
 {
@@ -131,10 +131,10 @@ pub fn settings_in<S: AsStr>(alloc: Global, words: &[S]) -> Result<Settings, Err
     })
 }
 
-/// How the arguments of the program ask for a script to be played.
+/// Parses the arguments of the program.
 ///
 /// # Errors
-/// Why no script is played, help included.
+/// Returns the reason why no script is played; a request for help is one.
 pub fn asked_settings(rt: &HostRuntime) -> Result<Settings, Refusal>
     ensures { IfOk result (λ asked. (1 ≤ asked.workers) × (asked.workers ≤ MAX_PASSES)) }
 {
