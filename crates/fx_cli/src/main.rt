@@ -9,8 +9,8 @@ use fx_script::{PlayFault, run};
 use std::io;
 use std::process::ExitCode;
 
-// The status behind a run that did not come to its end: 3 for what is no script, 4 for a failed read or write, 5 where there was no
-// memory.
+// Returns the exit status of a run that ended early: 3 if the input isn't a script, 4 for a failed read or write, 5 if
+// an allocation failed.
 fn status_of(fault: PlayFault) -> u8 {
     match fault {
         PlayFault::Script { .. } => 3,
@@ -23,7 +23,7 @@ fn main(rt: HostRuntime) -> ExitCode {
     let Settings { workers, table } = match asked_settings(&rt) {
         Ok(settings) => settings,
         Err(refusal) => {
-            // What can't be told changes nothing.
+            // Nothing can be done if this write fails.
             let _ = refusal.tell(&rt);
             return ExitCode::from(refusal.status());
         }
@@ -37,7 +37,7 @@ fn main(rt: HostRuntime) -> ExitCode {
     match played {
         Ok(()) => ExitCode::SUCCESS,
         Err(fault) => {
-            // What can't be told changes nothing.
+            // Nothing can be done if standard error fails.
             let _ = eprintln!(&rt; "fixfiles: {fault}");
             ExitCode::from(status_of(fault))
         }
