@@ -1,5 +1,5 @@
-//! Threads that really run at the same time: a gate holds chains until others have come as far. No clause says that two
-//! threads ran, so that a player of all chains on one thread would be proved as well.
+//! Threads that really run at the same time: a gate stops chains until others have reached the same point. No clause
+//! says that two threads ran, so a player of all chains on one thread would be proved as well.
 use crate::setting::{Players, TABLES, Table, play, wait_for};
 use fx_chain::{Gate, Place};
 use std::alloc::Global;
@@ -9,7 +9,7 @@ use std::sync::atomic::{AtomicBool, AtomicU32, Ordering};
 use std::test::Fail;
 use std::thread::Threads;
 
-// A gate in front of the only members of chains, at which the first so many of them wait until all have come.
+// A gate before the only members of chains; the first `held` chains wait at it until all have reached it.
 #[derive(Drop)]
 struct Meeting {
     held: u32,
@@ -32,8 +32,8 @@ impl Gate for Meeting {
     }
 }
 
-// Whether the chains of a script meet, of which the first so many wait, and the gate is called once in front of each and once
-// behind it.
+// Checks whether the first `held` chains of a script meet, and whether the gate is called once before each member and
+// once after it.
 fn meet<R: Threads + Wait + Abort + Sync>(
     rt: &R,
     alloc: Global,
@@ -56,7 +56,7 @@ fn meet<R: Threads + Wait + Abort + Sync>(
         && !meeting.is_late.load(Ordering::SeqCst)
 }
 
-// As many chains as there are workers meet.
+// As many chains meet as there are workers.
 #[test]
 fn each_number_of_workers_play_beside_each_other(rt: HostRuntime) -> Result<(), Fail> {
     let mut requests = String::new(rt.alloc());
@@ -74,8 +74,8 @@ fn each_number_of_workers_play_beside_each_other(rt: HostRuntime) -> Result<(), 
     Ok(())
 }
 
-// Of two workers one holds the first of three chains. Over words the other plays the next ones. Guarded by one word the passes
-// take turns, and the third chain is of the pass that waits.
+// Of two workers, one is held at the first of three chains. On the lock-free table the other one plays the next chains.
+// On the table guarded by one word the passes take turns, and the third chain belongs to the pass that waits.
 #[test]
 fn submit_shares_out_chains_itself(rt: HostRuntime) {
     let script = "close 0\nclose 0\nclose 0\nsubmit\n";
@@ -84,8 +84,8 @@ fn submit_shares_out_chains_itself(rt: HostRuntime) {
     }
 }
 
-// A gate that holds the second chain until the first one's first member has completed, and the first chain's second member until
-// the second chain has.
+// A gate that holds the second chain until the first one's first member has completed, and the first chain's second
+// member until the second chain has completed.
 #[derive(Drop)]
 struct Between {
     done: AtomicU32,

@@ -1,5 +1,5 @@
-//! The gate stands where it says: in front of each request that starts, and behind its completion. What a request did to the
-//! table is seen from another chain while the gate holds it.
+//! The gate is called where its contract says: before each request that starts, and after its completion. Another chain
+//! sees a request's effect on the table while the gate holds it.
 use crate::setting::{
     Calls, TABLES, end, in_chain, open_at, ring_of_one_file, submit, update, wait_for,
 };
@@ -8,14 +8,14 @@ use std::alloc::{AllocError, Global};
 use std::sync::atomic::{AtomicBool, AtomicU32, Ordering};
 use std::test::Fail;
 
-// A submission has 20 chains of 16 members, in pairs. The first chain of a pair opens files at slots of its own, and the
-// second one removes them, all but the last.
+// A submission has 20 chains of 16 members, in pairs. The first chain of a pair opens files at slots of its own, and
+// the second one removes all of them but the last.
 const PAIRS: u32 = 10;
 
 const MEMBERS: u32 = 16;
 
-// A gate that notes its calls. It holds each removal until it was called behind the open of that file, and there it holds
-// the first chain until the second one has come past the removal. So that finds the file, and no other removal does.
+// A gate that records its calls. It holds each removal until it was called after the open of that file, and holds the
+// first chain there until the second one has passed the removal. So that removal finds the file, and no other one does.
 #[derive(Drop)]
 struct Watch {
     calls: Calls,
@@ -24,7 +24,7 @@ struct Watch {
     is_late: AtomicBool,
 }
 
-// How many pairs of chains stand in front of that of this place.
+// Returns the number of pairs of chains before the pair of this place.
 fn pairs_before(place: Place) -> u32 {
     place.chain.wrapping_sub(1) / 2
 }
@@ -59,7 +59,7 @@ impl Gate for Watch {
     }
 }
 
-// The pairs of chains. The last member of a second one leaves its slot as it is.
+// Creates the pairs of chains. The last member of a second chain leaves its slot as it is.
 fn pairs_of_chains(alloc: Global) -> Result<Vec<Request>, AllocError> {
     let mut requests = Vec::new(alloc);
     for pair in 0..PAIRS {
@@ -76,8 +76,8 @@ fn pairs_of_chains(alloc: Global) -> Result<Vec<Request>, AllocError> {
     Ok(requests)
 }
 
-// Each removal finds the file of its open, so that the file is closed: all but the last of each pair. An earlier submission has
-// no requests.
+// Each removal finds the file of its open, so that the file is closed, except for the last of each pair. An earlier
+// submission has no requests.
 #[test]
 fn gate_stands_behind_each_effect(rt: HostRuntime) -> Result<(), Fail> {
     let alloc = rt.alloc();

@@ -1,13 +1,13 @@
-//! Which members of a chain the gate is called for: each that is started, once in front and once behind, in their order, and
-//! no other. What is started was worked out by hand.
+//! The members of a chain that the gate is called for: each that is started, once before and once after, in order, and
+//! no other. Which members are started was worked out by hand.
 use crate::setting::{Calls, PLAYERS, play};
 use std::test::Fail;
 
-// A script with one submission, or none that is accepted.
+// A script with one submission, or with none that is accepted.
 struct Row<'a> {
     name: &'a str,
     script: &'a str,
-    // how many members of each chain are started
+    // the number of started members of each chain
     started: &'a [u32],
 }
 

@@ -1,6 +1,6 @@
-//! What no contract says of tables, rings and scripts: that threads run at the same time and come to their end, where the gate
-//! stands, and what memory a read takes. Some worked values stand here too. What a call answers is its contract, and what a
-//! script prints stands in examples/.
+//! Tests of what no contract says of tables, rings and scripts: that threads run at the same time and finish, when the
+//! gate is called, and how much memory a read allocates. Some values worked out by hand are tested here too. What a
+//! call returns is in its contract, and what a script prints is in examples/. Begin reading at `setting.rt`.
 #![tactic(auto)]
 
 #[cfg(test)]

@@ -1,4 +1,4 @@
-//! Orders of a submission's report. No program here asks for them, so that memory suffices to answer is seen here alone.
+//! Orders of a submission's report. No program here computes them, so only this test sees that memory suffices for it.
 use crate::setting::{Table, end, in_chain, one_file, open_at, read, ring_of_one_file, submit};
 use bitflags::Flags;
 use fx_base::{Closed, Mark};
@@ -17,7 +17,7 @@ const FILE: Closed = Closed {
     tag: 0,
 };
 
-// Of a chain that opens a file at slot 0 and reads it, and one that closes the slot.
+// The order of a chain that opens a file at slot 0 and reads it, and of one that closes the slot.
 const ORDER: [ChainAccess; 3] = [
     ChainAccess {
         chain: 1,
@@ -33,7 +33,7 @@ const ORDER: [ChainAccess; 3] = [
     },
 ];
 
-// One worker plays the chains in their order. Without the close it is none.
+// One worker plays the chains in order. Without the close, it isn't an order of the report.
 #[test]
 fn order_of_a_report(rt: HostRuntime) -> Result<(), Fail> {
     let alloc = rt.alloc();

@@ -1,4 +1,4 @@
-//! Submissions that are refused, and that no script can make: none of their requests is started.
+//! Submissions that are refused, and that no script can express: none of their requests is started.
 use crate::setting::{Calls, TABLES, end, read, registered_ring, try_submit};
 use bitflags::Flags;
 use fx_chain::{CutFault, CutKind, Request, SqeFlags};

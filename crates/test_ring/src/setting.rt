@@ -1,5 +1,5 @@
-//! What the tests share: requests, rings, who plays them, and gates that wait or note their calls. Memory is ample: where a call
-//! is refused for want of it, the test fails.
+//! The values that the tests share: requests, rings, players, and gates that wait or record their calls. Memory is
+//! ample: a test fails if an allocation fails.
 mod calls;
 mod requests;
 mod rings;

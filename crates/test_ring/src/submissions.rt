@@ -1,10 +1,10 @@
-//! Memory for the bytes of reads. A read may answer that there is none, by its contract; here none does. Scripts of every size
-//! are played by the built program (scripts/check-limits).
+//! Memory for the bytes of reads. By its contract a read may fail for lack of memory; here none does. The built program
+//! plays scripts of every size (scripts/check-limits).
 use crate::setting::{TABLES, end, in_chain, read, registered_ring, submit};
 use fx_chain::{LONGEST_READ, OpenGate};
 use std::test::Fail;
 
-// A read takes memory for the bytes that it asked for, and no more.
+// A read allocates exactly the bytes that it asks for.
 #[test]
 fn reads_of_each_length(rt: HostRuntime) -> Result<(), Fail> {
     let alloc = rt.alloc();

@@ -1,6 +1,6 @@
-//! One slot of each shared table, a pass that uses it and one that replaces the file there, in every order in which the one can
-//! come between the calls of the other. Each call comes to its end, whatever the other pass holds or has yet to retire: no clause
-//! says that a call which may wait does. What it answers is its contract.
+//! One slot of each shared table, a pass that uses it, and a pass that replaces the file there, in every interleaving
+//! of their calls. Each call returns, whatever the other pass holds or has yet to retire: no clause says that a call
+//! which may wait returns. What it returns is in its contract.
 ghost use Rattle.std.specs.Prelude.{◌≡◌, ◌+◌, length, All, IfSome};
 ghost use Rattle.fx_table.specs.Pass.{IsHoldOf, IsIdle, IsRetiredOf};
 
@@ -14,7 +14,7 @@ use std::process::Abort;
 use std::sync::Wait;
 use std::test::Fail;
 
-// A table of one slot that two passes share, and the passes.
+// Opens a table of one slot that two passes share.
 fn open_table<T: FileTable, R: Abort>(rt: &R, alloc: Global) -> (T, Vec<T::Pass>)
     ensures passes { (T.opening result.0).passes ≡ 2 }
     ensures ready { All (λ p. T.fits result.0 p × IsIdle (T.view p)) result.1.items }
@@ -31,7 +31,7 @@ fn open_table<T: FileTable, R: Abort>(rt: &R, alloc: Global) -> (T, Vec<T::Pass>
     }
 }
 
-// The pass that is the last of the list.
+// Takes the last pass of the list.
 fn last_pass<T: FileTable, R: Abort>(rt: &R, table: &T, passes: &mut Vec<T::Pass>) -> T::Pass
     requires { All (λ p. T.fits table.now p × IsIdle (T.view p)) passes.old.items }
     ensures pass { T.fits table.now result × IsIdle (T.view result) }
@@ -43,7 +43,7 @@ fn last_pass<T: FileTable, R: Abort>(rt: &R, table: &T, passes: &mut Vec<T::Pass
     pass
 }
 
-// Puts a pass back into the list. It is idle.
+// Returns a pass to the list. It is idle.
 fn give_back<T: FileTable, R: Abort>(rt: &R, table: &T, passes: &mut Vec<T::Pass>, pass: T::Pass)
     requires list { All (λ p. T.fits table.now p × IsIdle (T.view p)) passes.old.items }
     requires pass { T.fits table.now pass }
@@ -57,7 +57,7 @@ fn give_back<T: FileTable, R: Abort>(rt: &R, table: &T, passes: &mut Vec<T::Pass
     }
 }
 
-// A hold of the file at the slot.
+// Looks the slot up, and returns the hold of its file.
 fn hold_of<T: FileTable, R: Wait + Abort>(rt: &R, table: &T, pass: &mut T::Pass) -> Hold
     requires { T.fits table.now pass.old }
     ensures fits { T.fits table.now pass.new }
@@ -70,7 +70,7 @@ fn hold_of<T: FileTable, R: Wait + Abort>(rt: &R, table: &T, pass: &mut T::Pass)
     hold
 }
 
-// Puts a file into the slot. What it replaces is to be retired.
+// Installs a file at the slot, and returns the file that it replaces, to be retired.
 fn put<T: FileTable, R: Wait + Abort>(
     rt: &R,
     table: &T,
@@ -87,7 +87,7 @@ fn put<T: FileTable, R: Wait + Abort>(
     table.put(rt, pass, 0, file)
 }
 
-// The second file is put into the slot, and the first one comes out of it.
+// Installs the second file at the slot, and returns the first one, to be retired.
 fn replace<T: FileTable, R: Wait + Abort>(
     rt: &R,
     table: &T,
@@ -104,14 +104,14 @@ fn replace<T: FileTable, R: Wait + Abort>(
     retired
 }
 
-// Closes a file that comes out.
+// Closes a file that a call returned.
 fn close(out: Option<OpenFile>) {
     if let Some(file) = out {
         file.discard();
     }
 }
 
-// When the other pass looks the slot up and releases what it found.
+// The time at which the other pass looks the slot up and releases what it found.
 #[derive(Clone, Copy)]
 enum Use {
     BeforeReplacement,
@@ -121,7 +121,7 @@ enum Use {
     OverRetirement,
 }
 
-// B replaces the first file and retires it, and A uses the slot.
+// Pass `b` replaces the first file and retires it, and pass `a` uses the slot.
 fn play_both<T: FileTable, R: Wait + Abort>(
     rt: &R,
     table: &T,
@@ -169,7 +169,7 @@ fn play_both<T: FileTable, R: Wait + Abort>(
     }
 }
 
-// The same from the table's opening to its end.
+// Does the same, from the table's opening to its close.
 fn play_on<T: FileTable, R: Wait + Abort>(rt: &R, alloc: Global, used: Use) -> Result<(), Fail> {
     let mut catalogue = Catalogue::new(alloc);
     catalogue.add(String::from_str(alloc, "a.txt")?, Vec::new(alloc))?;

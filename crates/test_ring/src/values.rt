@@ -1,4 +1,4 @@
-//! Values that were worked out by hand, of calls that no script shows.
+//! Values worked out by hand, of calls that no script shows.
 use bitflags::Flags;
 use fx_chain::{Completion, Op, Place, Request, SqeFlags, Target, target};
 use fx_words::{
@@ -41,7 +41,7 @@ fn words_of_the_table_without_a_lock(rt: HostRuntime) {
     assert!(rt; !says_full(8_590_000_130, 2));
 }
 
-// Where it fails it severs its chain as little as a hard link alone.
+// If it fails, it severs its chain no more than a hard link alone.
 #[test]
 fn request_with_both_flags_is_a_hard_link(rt: HostRuntime) {
     let failed = Completion {

@@ -1,10 +1,10 @@
-//! A gate that notes its calls.
+//! A gate that records its calls.
 use fx_chain::{Gate, Place};
 use std::alloc::{AllocError, Global};
 use std::sync::atomic::{AtomicBool, AtomicU32, Ordering};
 
-/// A gate of one submission that counts its calls for each chain, and notes one that isn't the next of its chain: in front of the
-/// first member, behind it, in front of the second one, and so on.
+/// A gate of one submission that counts its calls for each chain, and records a call that isn't the next one of its
+/// chain: before the first member, after it, before the second one, and so on.
 #[derive(Drop)]
 pub struct Calls {
     submission: u32,
@@ -13,7 +13,7 @@ pub struct Calls {
 }
 
 impl Calls {
-    /// A gate of a submission of so many chains.
+    /// Creates a gate of a submission of `chains` chains.
     pub fn new(alloc: Global, submission: u32, chains: usize) -> Result<Calls, AllocError> {
         let mut list = Vec::new(alloc);
         for _ in 0..chains {
@@ -26,7 +26,7 @@ impl Calls {
         })
     }
 
-    // A call for a chain, behind so many others.
+    // Records a call for a chain that was called for `others` times before.
     fn note(&self, place: Place, others: u32) {
         let count = match self.chains.get(place.chain.wrapping_sub(1) as usize) {
             Some(chain) => chain.fetch_add(1, Ordering::SeqCst),
@@ -37,8 +37,8 @@ impl Calls {
         }
     }
 
-    /// Whether the first so many members of each chain were started, and no others: the gate was called once in front of
-    /// each of them and once behind it, in their order.
+    /// Checks whether exactly the first `started` members of each chain were started: the gate was called once before
+    /// each of them and once after it, in order.
     pub fn were_started(&self, started: &[u32]) -> bool {
         for (chain, count) in self.chains.iter().zip(started) {
             if chain.load(Ordering::SeqCst) != count.wrapping_mul(2) {

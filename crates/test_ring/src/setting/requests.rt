@@ -3,7 +3,7 @@ use bitflags::Flags;
 use fx_chain::{Op, Request, SqeFlags, Target};
 use std::alloc::{AllocError, Global};
 
-/// An open at a slot.
+/// Creates an open at a slot.
 pub fn open_at(alloc: Global, name: &str, slot: u32) -> Result<Request, AllocError> {
     let name = String::from_str(alloc, name)?;
     let target = Target::Slot(slot);
@@ -13,7 +13,7 @@ pub fn open_at(alloc: Global, name: &str, slot: u32) -> Result<Request, AllocErr
     })
 }
 
-/// A read of so many bytes from this one on.
+/// Creates a read of `len` bytes from byte `off` on.
 pub fn read(slot: u32, off: u32, len: u32) -> Request {
     Request {
         op: Op::Read { slot, off, len },
@@ -21,7 +21,7 @@ pub fn read(slot: u32, off: u32, len: u32) -> Request {
     }
 }
 
-/// An update of the slots from this one on.
+/// Creates an update of the slots from `off` on.
 pub fn update(alloc: Global, off: u32, list: &[i32]) -> Result<Request, AllocError> {
     let list = list.to_vec(alloc)?;
     Ok(Request {
@@ -30,7 +30,8 @@ pub fn update(alloc: Global, off: u32, list: &[i32]) -> Result<Request, AllocErr
     })
 }
 
-/// The request at this place of a submission, from 0, in chains of 16: all but the last of a chain are linked with the next one.
+/// Links the request at position `at` of a submission, from 0, into chains of 16: each but the last of a chain is
+/// linked with the next one.
 pub fn in_chain(mut request: Request, at: u32) -> Request {
     if at % 16 < 15 {
         request.flags = request.flags.union(SqeFlags::IO_LINK);

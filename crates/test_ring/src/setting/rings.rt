@@ -1,4 +1,4 @@
-//! Rings, and who plays their submissions.
+//! Rings, and the players of their submissions.
 use fx_base::Catalogue;
 use fx_baton::BatonTable;
 use fx_chain::{Gate, Request};
@@ -10,22 +10,22 @@ use std::sync::Wait;
 use std::test::Fail;
 use std::thread::Threads;
 
-/// Which table the workers share.
+/// The table that the workers share.
 #[derive(Clone, Copy)]
 pub enum Table {
-    /// The one without a lock, of packed words.
+    /// The lock-free table, of packed words.
     Words,
-    /// The one guarded by one word.
+    /// The table guarded by one word.
     Baton,
 }
 
 /// Both of them.
 pub const TABLES: [Table; 2] = [Table::Words, Table::Baton];
 
-/// Who plays a submission: so many workers, over a table.
+/// The players of a submission: a table, and a number of workers.
 pub type Players = (Table, u32);
 
-/// Who plays one whose report doesn't depend on the order of its chains.
+/// The players of a submission whose report doesn't depend on the order of its chains.
 pub const PLAYERS: [Players; 8] = [
     (Table::Words, 1),
     (Table::Words, 2),
@@ -37,19 +37,19 @@ pub const PLAYERS: [Players; 8] = [
     (Table::Baton, 16),
 ];
 
-/// A catalogue that has `a.txt` alone, a file of 4,096 bytes.
+/// Creates a catalogue with only `a.txt`, a file of 4,096 bytes.
 pub fn one_file(alloc: Global) -> Result<Catalogue, Fail> {
     let mut catalogue = Catalogue::new(alloc);
     catalogue.add(String::from_str(alloc, "a.txt")?, vec![in alloc; 7; 4096]?)?;
     Ok(catalogue)
 }
 
-/// A ring without a table, with this catalogue.
+/// Creates a ring with this catalogue and without a table.
 pub fn ring_of_one_file(alloc: Global) -> Result<Ring, Fail> {
     Ok(Ring::new(alloc, one_file(alloc)?))
 }
 
-/// The same with a table that has this file at its only slot.
+/// Creates the same with a table that has this file at its only slot.
 pub fn registered_ring<R: Abort>(rt: &R, alloc: Global) -> Result<Ring, Fail> {
     let mut ring = ring_of_one_file(alloc)?;
     assert!(rt; ring.register(alloc, &[0]).is_ok());
@@ -72,7 +72,7 @@ pub fn try_submit<R: Threads + Wait + Sync, G: Gate>(
     }
 }
 
-/// Submits requests, which are accepted.
+/// Submits requests that are accepted.
 pub fn submit<R: Threads + Wait + Abort + Sync, G: Gate>(
     rt: &R,
     alloc: Global,
@@ -87,7 +87,7 @@ pub fn submit<R: Threads + Wait + Abort + Sync, G: Gate>(
     }
 }
 
-/// Ends a ring, for whose list there is memory.
+/// Tears a ring down; memory for its list suffices.
 pub fn end<R: Abort>(rt: &R, alloc: Global, ring: Ring) {
     match ring.tear_down(alloc) {
         Ok(closes) => assert!(rt; closes.tags(alloc).is_ok()),

@@ -1,4 +1,4 @@
-//! Scripts that are played.
+//! Playing scripts.
 use crate::setting::{Players, Table};
 use fx_baton::BatonTable;
 use fx_chain::Gate;
@@ -9,7 +9,7 @@ use std::process::Abort;
 use std::sync::Wait;
 use std::thread::Threads;
 
-/// What a script prints, which is played to its end.
+/// Plays a script to its end, and returns what it prints.
 pub fn play<R: Threads + Wait + Abort + Sync, G: Gate>(
     rt: &R,
     alloc: Global,
