@@ -1,11 +1,11 @@
-//! A file is added to a catalogue.
+//! Adding a file to a catalogue.
 use crate::{ATTEMPTS, tell};
 use fx_base::Catalogue;
 use std::alloc::Global;
 
 const NAME: &str = "new.txt";
 
-// A catalogue of so many entries: the n-th, from 0, is `n.txt` and has no bytes.
+// Creates a catalogue of `entries` entries: the n-th, from 0, is `n.txt` and has no bytes.
 fn catalogue_of(alloc: Global, entries: u32) -> Option<Catalogue> {
     let mut catalogue = Catalogue::new(alloc);
     for n in 0..entries {
@@ -15,7 +15,7 @@ fn catalogue_of(alloc: Global, entries: u32) -> Option<Catalogue> {
     Some(catalogue)
 }
 
-/// Adds a file of two bytes to a catalogue of so many entries.
+/// Adds a file of two bytes to a catalogue of `entries` entries.
 pub(crate) fn add<R: Print>(rt: &R, alloc: Global, entries: u32) -> Option<()> {
     let mut catalogue = catalogue_of(alloc, entries)?;
     for _ in 0..ATTEMPTS {

@@ -1,6 +1,6 @@
-//! The program `test_refusals`: makes one call, whose allocations somebody refuses from outside, and tells what it
-//! answers. Where memory was refused it tells what is left, and makes the call again. Then it tells what there is at the
-//! end. scripts/check-refused-calls runs it and judges what it tells.
+//! The program `test_refusals`: makes one call, whose allocations are refused from outside, and prints its result.
+//! After an allocation failure it prints what is left, and makes the call again. Then it prints what there is at the
+//! end. scripts/check-refused-calls runs it and judges what it prints. Begin reading at `rings.rt`.
 #![tactic(auto)]
 
 mod asked;
@@ -22,10 +22,10 @@ use std::thread::Threads;
 const USAGE: &str = "\
 test_refusals reads a line CALL TABLE COUNT, and makes the call";
 
-// How often a call is made: once more where memory was refused.
+// The number of attempts of a call: a second one after an allocation failure.
 const ATTEMPTS: u32 = 2;
 
-// Makes the call. `None` where memory is refused before it, or where there is no such call.
+// Makes the call. Returns `None` if an allocation before it fails, or if there is no such call.
 fn make<R: Threads + Wait + Print + Sync>(rt: &R, alloc: Global, asked: Asked<'_>) -> Option<()> {
     let count = asked.count;
     match (asked.call, asked.table) {

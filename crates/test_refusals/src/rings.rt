@@ -1,4 +1,4 @@
-//! The calls of a ring that take memory.
+//! The calls of a ring that allocate.
 use crate::setting::{new_ring, requests, ring_with, tagged_ring};
 use crate::{ATTEMPTS, tell};
 use fx_base::NoMemory;
@@ -25,13 +25,13 @@ impl Gate for Calls {
     }
 }
 
-// Memory was refused: tells what is left.
+// Prints what is left after an allocation failure.
 fn refused<R: Print, F: Debug + Drop>(rt: &R, call: &str, fault: F, ring: &Ring) {
     tell::refused(rt, call, fault);
     tell::ring(rt, ring);
 }
 
-// Tells what there is, and tears the ring down, once more where memory was refused.
+// Prints what there is and tears the ring down, with a second attempt after an allocation failure.
 fn end<R: Print>(rt: &R, alloc: Global, ring: Ring) {
     tell::ring(rt, &ring);
     let ring = match ring.tear_down(alloc) {
@@ -130,7 +130,7 @@ pub(crate) fn update_tagged<R: Print>(rt: &R, alloc: Global) -> Option<()> {
     Some(())
 }
 
-/// The completions of the tags of two closed files.
+/// Lists the completions of the tags of two closed files.
 pub(crate) fn tags<R: Print>(rt: &R, alloc: Global) -> Option<()> {
     let closes = match tagged_ring(alloc)?.tear_down(alloc) {
         Ok(closes) => closes,
@@ -179,8 +179,8 @@ pub(crate) fn tear_down<R: Print>(rt: &R, alloc: Global) -> Option<()> {
     Some(())
 }
 
-/// Submits a chain that reads and closes a file, and one that opens another file, to so many workers. Where that is refused no
-/// request has started.
+/// Submits a chain that reads and closes a file, and one that opens another file, to `workers` workers. If the
+/// submission is refused, no request has started.
 pub(crate) fn submit<T: FileTable, R: Threads + Wait + Print + Sync>(
     rt: &R,
     alloc: Global,
@@ -206,7 +206,7 @@ pub(crate) fn submit<T: FileTable, R: Threads + Wait + Print + Sync>(
     Some(())
 }
 
-// Opens the ring's table for the two chains of [`requests`], once more where memory was refused.
+// Opens the ring's table for the two chains of [`requests`], with a second attempt after an allocation failure.
 fn opened<T: FileTable, R: Print>(rt: &R, alloc: Global, ring: Ring) -> Result<OpenRing<T>, Ring> {
     match ring.open::<T>(alloc, 2, 1) {
         Ok(opened) => Ok(opened),

@@ -1,4 +1,4 @@
-//! Scripts are read and run, and a report is made a text.
+//! Reading and running scripts, and producing the text of a report.
 ghost use Rattle.std.specs.Prelude.{◌<◌, All, length};
 
 use crate::setting::{requests, ring_with};
@@ -56,7 +56,7 @@ pub(crate) fn read<R: Print>(rt: &R, alloc: Global) -> Option<()> {
     Some(())
 }
 
-// Makes the text of a report whose files are of the catalogue.
+// Produces the text of a report whose files are of the catalogue.
 fn make_text<R: Print>(rt: &R, alloc: Global, report: &Report, catalogue: &Catalogue)
     requires { All (λ file. file.entry < length catalogue.now) report.now.closes.files }
 {
@@ -72,7 +72,7 @@ fn make_text<R: Print>(rt: &R, alloc: Global, report: &Report, catalogue: &Catal
     }
 }
 
-/// Makes the text of a submission that read, closed and opened a file.
+/// Produces the text of a submission that read, closed and opened a file.
 pub(crate) fn text_of_report<R: Threads + Wait + Print + Sync>(
     rt: &R,
     alloc: Global,
@@ -100,7 +100,7 @@ pub(crate) fn text_of_report<R: Threads + Wait + Print + Sync>(
     made
 }
 
-/// Runs a script on so many workers, into a writer that has room for 128 bytes: more than any of its texts has.
+/// Runs a script on `workers` workers, with a writer that has room for 128 bytes, more than any of its texts needs.
 pub(crate) fn run_script<T: FileTable, R: Threads + Wait + Print + Sync>(
     rt: &R,
     alloc: Global,

@@ -1,4 +1,4 @@
-//! What the calls are made on. Each is `None` where memory is refused.
+//! The values that the calls are made on. Each is `None` if an allocation fails.
 ghost use Rattle.std.specs.Prelude.{IfSome};
 ghost use Rattle.fx_plain.specs.State.{IsSettled};
 ghost use Rattle.fx_plain.specs.Contents.{state_of};
@@ -10,7 +10,7 @@ use fx_plain::PlainTable;
 use fx_ring::Ring;
 use std::alloc::Global;
 
-/// Entry 0 is `a.txt`, with the bytes `hello`, and entry 1 is `b.txt`, with `hi`.
+/// Creates a catalogue: entry 0 is `a.txt`, with the bytes `hello`, and entry 1 is `b.txt`, with `hi`.
 pub(crate) fn two_files(alloc: Global) -> Option<Catalogue> {
     let mut catalogue = Catalogue::new(alloc);
     let first = String::from_str(alloc, "a.txt").ok()?;
@@ -20,12 +20,12 @@ pub(crate) fn two_files(alloc: Global) -> Option<Catalogue> {
     Some(catalogue)
 }
 
-/// A ring without a table, with these files.
+/// Creates a ring with these files and without a table.
 pub(crate) fn new_ring(alloc: Global) -> Option<Ring> {
     Some(Ring::new(alloc, two_files(alloc)?))
 }
 
-/// The same with a table of a list, and with this allocation range.
+/// Creates the same with a table of a list and this allocation range.
 pub(crate) fn ring_with(alloc: Global, list: &[i32], off: u32, len: u32) -> Option<Ring> {
     let mut ring = new_ring(alloc)?;
     if ring.register(alloc, list).is_err() || ring.alloc_range(off, len).is_err() {
@@ -35,7 +35,7 @@ pub(crate) fn ring_with(alloc: Global, list: &[i32], off: u32, len: u32) -> Opti
     Some(ring)
 }
 
-/// A ring with a table of a file with tag 7, an empty slot, and a file with tag 9.
+/// Creates a ring with a table of a file with tag 7, an empty slot, and a file with tag 9.
 pub(crate) fn tagged_ring(alloc: Global) -> Option<Ring> {
     let mut ring = new_ring(alloc)?;
     if ring
@@ -48,7 +48,7 @@ pub(crate) fn tagged_ring(alloc: Global) -> Option<Ring> {
     Some(ring)
 }
 
-// Puts an entry at a slot, under a fresh number.
+// Installs an entry at a slot, under a fresh number.
 fn put(plain: &mut PlainTable, catalogue: &Catalogue, slot: u32, number: u32, entry: u8) {
     if slot < plain.size() && plain.is_fresh(number) && u32::from(entry) < catalogue.len() {
         let file = catalogue.open(entry, Mark::Registered { k: 1, i: slot }, 0);
@@ -56,8 +56,8 @@ fn put(plain: &mut PlainTable, catalogue: &Catalogue, slot: u32, number: u32, en
     }
 }
 
-/// A settled table of four slots with the range 1 2: `a.txt` is at slot 0 and `b.txt` at slot 2. It was prepared for eight
-/// numbers, of which the last two are fresh.
+/// Creates a settled table of four slots with the range 1 2: `a.txt` is at slot 0 and `b.txt` at slot 2. It was
+/// prepared for eight numbers, of which the last two are fresh.
 pub(crate) fn table_of_two_files(alloc: Global) -> Option<PlainTable>
     ensures { IfSome result (λ plain. IsSettled (state_of plain)) }
 {
@@ -82,7 +82,7 @@ fn request(op: Op, flags: &[SqeFlags]) -> Request {
     Request { op, flags: all }
 }
 
-/// A chain that reads five bytes of slot 0 and closes it, and a chain that opens `b.txt` at any slot.
+/// Creates a chain that reads five bytes of slot 0 and closes it, and a chain that opens `b.txt` at any slot.
 pub(crate) fn requests(alloc: Global) -> Option<Vec<Request>> {
     let name = String::from_str(alloc, "b.txt").ok()?;
     let mut requests = Vec::with_capacity(alloc, 3).ok()?;

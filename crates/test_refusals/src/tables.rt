@@ -1,4 +1,4 @@
-//! Tables of one thread: they are prepared, and shared between passes.
+//! Preparing tables of one thread, and sharing them between passes.
 ghost use Rattle.std.specs.Prelude.{◌≤◌, IfErr};
 ghost use Rattle.fx_plain.specs.State.{IsSettled};
 ghost use Rattle.fx_plain.specs.Contents.{state_of};
@@ -11,13 +11,13 @@ use fx_plain::PlainTable;
 use fx_table::{FileTable, MAX_PASSES};
 use std::alloc::Global;
 
-/// How many chains a shared table is opened for.
+/// The number of chains that a shared table is opened for.
 const CHAINS: u32 = 2;
 
-/// A number past those that a table is prepared for here.
+/// A number greater than all that a table is prepared for here.
 const PAST_ALL: u32 = 400;
 
-/// Prepares a table of two files for so many numbers.
+/// Prepares a table of two files for `numbers` numbers.
 pub(crate) fn prepare<R: Print>(rt: &R, alloc: Global, numbers: u32) -> Option<()> {
     let mut plain = table_of_two_files(alloc)?;
     for _ in 0..ATTEMPTS {
@@ -42,7 +42,7 @@ pub(crate) fn prepare<R: Print>(rt: &R, alloc: Global, numbers: u32) -> Option<(
     Some(())
 }
 
-// Opens a table and closes it. `Err` where memory is refused, with the table that comes back.
+// Opens a table and closes it. Returns `Err` with the table if an allocation fails.
 fn open_and_close<T: FileTable, R: Print>(
     rt: &R,
     alloc: Global,
@@ -67,7 +67,7 @@ fn open_and_close<T: FileTable, R: Print>(
     }
 }
 
-/// Shares a table of two files between so many passes, and closes it again.
+/// Shares a table of two files between `passes` passes, and closes it again.
 pub(crate) fn open<T: FileTable, R: Print>(rt: &R, alloc: Global, passes: u32) -> Option<()> {
     if passes == 0 || passes > MAX_PASSES {
         return None;

@@ -1,4 +1,4 @@
-//! What the program tells. Nothing of it takes memory but its end, and what can't be written changes nothing.
+//! The program's output. Only its end allocates, and nothing can be done if a write fails.
 use fx_base::{Catalogue, CloseList, Mark, TagCompletion};
 use fx_plain::PlainTable;
 use fx_ring::{Report, Ring};
@@ -7,27 +7,27 @@ use fx_table::FileTable;
 use std::alloc::Global;
 use std::fmt::Debug;
 
-/// The call did what it was asked for.
+/// Prints that the call succeeded.
 pub(crate) fn done<R: Print>(rt: &R, call: &str) {
     let _ = println!(rt; "{call}: done");
 }
 
-/// The call was refused.
+/// Prints that the call was refused, and why.
 pub(crate) fn refused<R: Print, F: Debug + Drop>(rt: &R, call: &str, fault: F) {
     let _ = println!(rt; "{call}: {fault:?}");
 }
 
-/// The call did what it was asked for, and its answer is a count.
+/// Prints that the call succeeded, and the count that it returned.
 pub(crate) fn counted<R: Print>(rt: &R, call: &str, count: u32) {
     let _ = println!(rt; "{call}: {count}");
 }
 
-/// A text, as it is.
+/// Prints a text.
 pub(crate) fn text<R: Print>(rt: &R, text: &[u8]) {
     let _ = print!(rt; "{}", std::str::from_utf8(text).unwrap_or("no text"));
 }
 
-/// A file of a list or at a slot, by its mark and its entry.
+/// Prints a file of a list or at a slot, by its mark and its entry.
 fn file<R: Print>(rt: &R, word: &str, mark: Mark, entry: u8) {
     let _ = match mark {
         Mark::Registered { k, i } => println!(rt; "{word} r{k}.{i} {entry}"),
@@ -40,7 +40,7 @@ fn file<R: Print>(rt: &R, word: &str, mark: Mark, entry: u8) {
     };
 }
 
-/// The files that were closed, each with its tag, where it has one.
+/// Prints the files that were closed, each with its tag if it has one.
 pub(crate) fn closes<R: Print>(rt: &R, closes: &CloseList) {
     for closed in closes.files() {
         file(rt, "closed", closed.mark, closed.entry);
@@ -50,14 +50,14 @@ pub(crate) fn closes<R: Print>(rt: &R, closes: &CloseList) {
     }
 }
 
-/// The completions of tags.
+/// Prints completions of tags.
 pub(crate) fn tags<R: Print>(rt: &R, tags: &Vec<TagCompletion>) {
     for tag in tags {
         let _ = println!(rt; "tag {} {} {}", tag.user_data, tag.res, tag.flags);
     }
 }
 
-/// What a ring says of its table and its counts.
+/// Prints a ring's table and counts.
 pub(crate) fn ring<R: Print>(rt: &R, ring: &Ring) {
     let (start, len) = ring.range();
     let (size, s, r) = (ring.size(), ring.submissions(), ring.registrations());
@@ -66,7 +66,7 @@ pub(crate) fn ring<R: Print>(rt: &R, ring: &Ring) {
     );
 }
 
-/// What a submission came to.
+/// Prints the report of a submission.
 pub(crate) fn report<R: Print>(rt: &R, report: &Report) {
     let _ = println!(rt; "submission {}", report.submission);
     for completion in &report.completions {
@@ -80,7 +80,7 @@ pub(crate) fn report<R: Print>(rt: &R, report: &Report) {
     closes(rt, &report.closes);
 }
 
-/// What a table of one thread says of its size, its range and its files.
+/// Prints the size, the range and the files of a table of one thread.
 pub(crate) fn table<R: Print>(rt: &R, table: &PlainTable) {
     let (start, len) = table.range();
     let (size, full, settled) = (table.size(), table.full(), table.is_settled());
@@ -95,7 +95,7 @@ pub(crate) fn table<R: Print>(rt: &R, table: &PlainTable) {
     }
 }
 
-/// How many file numbers a table was prepared for, and which of the numbers below `most` are fresh.
+/// Prints the number of file numbers that a table was prepared for, and which of those below `most` are fresh.
 pub(crate) fn numbers<R: Print>(rt: &R, table: &PlainTable, most: u32) {
     let _ = println!(rt; "numbers {}", table.numbers());
     let (mut fresh, mut last) = (0u32, 0);
@@ -111,7 +111,7 @@ pub(crate) fn numbers<R: Print>(rt: &R, table: &PlainTable, most: u32) {
     let _ = println!(rt; "fresh {fresh}, the last one {last}");
 }
 
-/// The entries of a catalogue, and where a name is found.
+/// Prints the entries of a catalogue, and the place where a name is found.
 pub(crate) fn catalogue<R: Print>(rt: &R, catalogue: &Catalogue, name: &str) {
     for entry in 0..catalogue.len() {
         let entry = entry as u8;
@@ -127,14 +127,14 @@ pub(crate) fn catalogue<R: Print>(rt: &R, catalogue: &Catalogue, name: &str) {
     };
 }
 
-/// What a shared table says of its size, its range and its passes.
+/// Prints the size, the range and the number of passes of a shared table.
 pub(crate) fn shared<T: FileTable, R: Print>(rt: &R, table: &T, passes: &Vec<T::Pass>) {
     let (start, len) = table.range();
     let (size, passes) = (table.size(), passes.len());
     let _ = println!(rt; "shared: {size} slots, range {start} {len}, {passes} passes");
 }
 
-/// The catalogue and the commands of a script.
+/// Prints the catalogue and the commands of a script.
 pub(crate) fn script<R: Print>(rt: &R, script: &Script) {
     catalogue(rt, script.catalogue(), "a.txt");
     for command in script.commands() {
@@ -142,7 +142,7 @@ pub(crate) fn script<R: Print>(rt: &R, script: &Script) {
     }
 }
 
-// A command of a script.
+// Prints a command of a script.
 fn tell_command<R: Print>(rt: &R, command: &Command) {
     let _ = match command {
         Command::Sparse(slots) => println!(rt; "Sparse({slots})"),
@@ -154,7 +154,7 @@ fn tell_command<R: Print>(rt: &R, command: &Command) {
     };
 }
 
-/// The end, and whether memory is refused there.
+/// Prints the end, and whether an allocation fails there.
 pub(crate) fn end<R: Print>(rt: &R, alloc: Global) {
     let _ = match String::from_str(alloc, "end") {
         Ok(text) => println!(rt; "{text}"),
