@@ -1,4 +1,4 @@
--- A look-up adds a hold at most, and no other call adds any.
+-- A look-up adds at most one hold, and no other call adds any.
 use Rattle.std.proofs.Common.{◌≡◌, ℕ, ◌+◌, ◌-◌, ◌≤◌, [], Option, Some, None, subst, sym, arith}
 use Rattle.fx_plain.specs.State.{State}
 use Rattle.fx_plain.specs.Step.{Steps, changed_at}

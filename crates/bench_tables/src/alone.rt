@@ -1,4 +1,4 @@
-//! A table of one thread, used by that thread alone, is measured: it is what the one pass has.
+//! Measuring a table of one thread that one thread uses alone: the table is in its only pass.
 ghost use Rattle.std.specs.Prelude.{◌≡◌, length};
 ghost use Rattle.fx_plain.specs.State.{IsSettled};
 ghost use Rattle.fx_plain.specs.Contents.{state_of};
@@ -10,7 +10,7 @@ use fx_plain::PlainTable;
 use std::alloc::Global;
 use std::sync::Wait;
 
-/// The table of the one pass, which has it.
+/// The subject of the measurement: its only pass has the table.
 pub(crate) struct Alone {
     alloc: Global,
 }

@@ -1,27 +1,27 @@
-//! What the benchmark measures, each with the name of its row.
+//! The cases of the benchmark, each with the name of its row.
 use crate::measure::Shape;
 use crate::work::{Job, Work};
 
-/// What is timed.
+/// The work that is timed.
 #[derive(Clone, Copy)]
 pub(crate) enum Timed {
     /// A job that each thread does on a table of this shape.
     Job(Job, Shape),
-    /// The opening and closing of a full table of so many slots for so many chains, so many times.
+    /// The opening and closing, `times` times, of a full table of `slots` slots for `chains` chains.
     Life { slots: u32, chains: u32, times: u32 },
 }
 
-/// What is timed, by name.
+/// The timed work, with the name of its row.
 #[derive(Clone, Copy)]
 pub(crate) struct Case {
     pub(crate) name: &'static str,
     pub(crate) timed: Timed,
 }
 
-// How many look-ups a thread makes: a pass has 1,048,576.
+// The number of look-ups of a thread; a pass has 1,048,576.
 const LOOKS: u32 = 200_000;
 
-// How many files a thread installs: the passes share 1,023 chains of 64 numbers.
+// The number of files that a thread installs; the passes share 1,023 chains of 64 numbers.
 const INSTALLS: u32 = 15_000;
 
 fn job(name: &'static str, work: Work, times: u32, shape: Shape) -> Case {
@@ -60,7 +60,7 @@ fn with(slots: u32, full: u32, range: u32) -> Shape {
     Shape { slots, full, range }
 }
 
-/// The rows, in their order.
+/// Returns the rows, in order.
 pub(crate) fn cases() -> [Case; 15] {
     [
         job("look and release, 256 slots", Work::Look, LOOKS, full(256)),

@@ -1,4 +1,4 @@
-//! A table of one thread whose calls test what they ask of their caller: under a lock nothing else is known.
+//! A table of one thread whose calls check their own requirements: a lock guarantees nothing else.
 ghost use Rattle.std.specs.Prelude.{◌≡◌, ◌≤◌, IfOk, IfErr};
 ghost use Rattle.fx_plain.specs.State.{IsSettled};
 ghost use Rattle.fx_plain.specs.Contents.{state_of};
@@ -10,18 +10,18 @@ use fx_plain::PlainTable;
 use fx_table::numbers_for;
 use std::alloc::Global;
 
-/// A table of one thread, which tests what its calls ask for.
+/// A table of one thread that checks the requirements of its calls.
 pub(crate) struct Guarded {
     plain: PlainTable,
-    // how many look-ups there were
+    // the number of look-ups so far
     looks: u32,
-    // the file number that comes next
+    // the next file number
     next: u32,
     ghost few_holds: { HasHoldsUpTo looks (state_of plain) },
 }
 
 impl Guarded {
-    /// A table that has the file numbers of so many chains, made of a settled one, which else comes back.
+    /// Creates a table with the file numbers of `chains` chains from a settled table, or returns that table.
     pub(crate) fn new(mut plain: PlainTable, chains: u32) -> Result<Guarded, PlainTable>
         requires settled { IsSettled (state_of plain) }
         requires chains { chains ≤ MAX_CHAINS }
@@ -38,7 +38,7 @@ impl Guarded {
         })
     }
 
-    /// The settled table that is left.
+    /// Returns the settled table that is left.
     pub(crate) fn into_plain(self, alloc: Global) -> PlainTable
         ensures { IsSettled (state_of result) }
     {
@@ -54,7 +54,7 @@ impl Guarded {
         PlainTable::none(alloc)
     }
 
-    /// Looks a slot up: the number and the entry of the file there.
+    /// Looks a slot up, and returns the number and the entry of the file there.
     pub(crate) fn look(&mut self, slot: u32) -> Option<(u32, u8)> {
         if slot >= self.plain.size() || self.looks >= u32::MAX - 1 {
             return None;
@@ -71,7 +71,7 @@ impl Guarded {
         self.plain.release(number)
     }
 
-    /// Installs a file at a slot, and answers the number of the one that was there.
+    /// Installs a file at a slot, and returns the number of the file that was there.
     pub(crate) fn put(&mut self, slot: u32, file: OpenFile) -> Option<u32> {
         let number = self.next;
         if slot >= self.plain.size() || !self.plain.is_fresh(number) {
@@ -82,7 +82,7 @@ impl Guarded {
         self.plain.put(slot, number, file)
     }
 
-    /// Installs a file at a free slot, which is the answer.
+    /// Installs a file at an empty slot, and returns the slot.
     pub(crate) fn put_any(&mut self, file: OpenFile) -> Option<u32> {
         let number = self.next;
         if !self.plain.is_fresh(number) {
@@ -101,7 +101,7 @@ impl Guarded {
         }
     }
 
-    /// Empties a slot, and answers the number of the file that was there.
+    /// Empties a slot, and returns the number of the file that was there.
     pub(crate) fn take(&mut self, slot: u32) -> Option<u32> {
         if slot >= self.plain.size() {
             return None;

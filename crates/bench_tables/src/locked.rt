@@ -1,4 +1,4 @@
-//! A table of one thread behind the kit's lock is measured. Each call takes the lock for itself.
+//! Measuring a table of one thread with the kit's lock. Each call takes the lock on its own.
 ghost use Rattle.fx_plain.specs.State.{IsSettled};
 ghost use Rattle.fx_plain.specs.Contents.{state_of};
 
@@ -9,7 +9,7 @@ use fx_plain::PlainTable;
 use std::alloc::Global;
 use std::sync::{Mutex, Wait};
 
-/// A table of one thread behind a lock.
+/// A table of one thread with a lock.
 pub(crate) struct Locked {
     table: Mutex<Guarded>,
     alloc: Global,

@@ -1,4 +1,5 @@
-//! The program `bench_tables`: compares the times of the file tables.
+//! The program `bench_tables`: compares the times of the file tables. Begin reading at `cases.rt` (the rows) and
+//! `subject.rt` (the tables that are measured).
 #![tactic(auto)]
 
 mod alone;
@@ -22,7 +23,7 @@ use std::env;
 use std::process::ExitCode;
 use trial::try_tables;
 
-// What the program's one argument asks for.
+// Returns the task that the program's argument asks for.
 fn task_of(rt: &HostRuntime) -> Option<Task> {
     let words: Vec<String> = env::args(rt).ok()?.collect(rt.alloc()).ok()?;
     match words.get(1)?.as_str() {
@@ -31,7 +32,7 @@ fn task_of(rt: &HostRuntime) -> Option<Task> {
     }
 }
 
-// A catalogue of one entry of 64 bytes.
+// Creates a catalogue of one entry of 64 bytes.
 fn one_entry(alloc: Global) -> Option<Catalogue> {
     let mut catalogue = Catalogue::new(alloc);
     let name = String::from_str(alloc, "a.txt").ok()?;
@@ -40,17 +41,17 @@ fn one_entry(alloc: Global) -> Option<Catalogue> {
     Some(catalogue)
 }
 
-// What the program is called for.
+// The task of the program.
 enum Task {
-    // what the measured calls answer
+    // the results of the measured calls
     Calls,
-    // every row, so many rounds
+    // every row, in this number of rounds
     All(u32),
-    // one row on so many threads
+    // one row, on this number of threads
     One(String, u32),
 }
 
-// One row where the environment names it, and else what the argument asks for.
+// Returns the row that the environment names, or else the task of the argument.
 fn read_task(rt: &HostRuntime) -> Option<Task> {
     match env::var(rt, "TABLE_BENCH_ROW") {
         Err(_) => task_of(rt),

@@ -1,4 +1,4 @@
-//! How long a job takes on a table, and how long a table's opening and closing.
+//! The time of a job on a table, and the time of a table's opening and closing.
 ghost use Rattle.std.specs.Prelude.{◌≡◌, ◌<◌, ◌≤◌, length, IfSome};
 ghost use Rattle.fx_plain.specs.State.{IsSettled};
 ghost use Rattle.fx_plain.specs.Contents.{state_of};
@@ -16,8 +16,8 @@ use std::sync::Wait;
 use std::thread::Threads;
 use std::time::CpuClock;
 
-/// A table as a measurement begins with it: how many slots it has, with files at the first so many, and so many of its
-/// slots, from the first one on, are its allocation range.
+/// A table at the beginning of a measurement: its number of slots, the number of first slots that have files, and the
+/// number of first slots that are its allocation range.
 #[derive(Clone, Copy)]
 pub(crate) struct Shape {
     pub(crate) slots: u32,
@@ -25,7 +25,7 @@ pub(crate) struct Shape {
     pub(crate) range: u32,
 }
 
-/// A table of this shape, where there is one and memory for it.
+/// Creates a table of this shape, or returns `None` if an allocation fails or there is no such table.
 pub(crate) fn shaped(alloc: Global, catalogue: &Catalogue, shape: Shape) -> Option<PlainTable>
     requires { 0 < length catalogue.now }
     ensures { IfSome result (λ plain. IsSettled (state_of plain)) }
@@ -46,7 +46,7 @@ pub(crate) fn shaped(alloc: Global, catalogue: &Catalogue, shape: Shape) -> Opti
     None
 }
 
-// Puts files at the first so many slots.
+// Installs files at the first `full` slots.
 fn fill(plain: &mut PlainTable, catalogue: &Catalogue, full: u32)
     requires { 0 < length catalogue.now }
 {
@@ -59,8 +59,8 @@ fn fill(plain: &mut PlainTable, catalogue: &Catalogue, full: u32)
     }
 }
 
-/// The nanoseconds that so many threads need for a job each, on a new table of this shape. `None` where memory or the
-/// clock is refused.
+/// Returns the nanoseconds that `threads` threads need for a job each, on a new table of this shape, or `None` if an
+/// allocation or a clock fails.
 pub(crate) fn time_of_work<S: Subject, R: Threads + Wait + Clock + CpuClock + Sync>(
     rt: &R,
     alloc: Global,
@@ -87,7 +87,7 @@ pub(crate) fn time_of_work<S: Subject, R: Threads + Wait + Clock + CpuClock + Sy
     }
 }
 
-// Opens and closes a table so often.
+// Opens and closes a table `times` times.
 fn open_and_close<S: Subject>(
     alloc: Global,
     plain: PlainTable,
@@ -110,7 +110,8 @@ fn open_and_close<S: Subject>(
     plain
 }
 
-/// The processor's nanoseconds of opening and closing a full table so often. `None` where memory or the clock is refused.
+/// Returns the CPU time, in nanoseconds, of opening and closing a full table `times` times, or `None` if an allocation
+/// or the clock fails.
 pub(crate) fn time_of_life<S: Subject, R: CpuClock>(
     rt: &R,
     alloc: Global,

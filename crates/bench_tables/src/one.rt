@@ -1,4 +1,4 @@
-//! One time alone, for a program that has this one linked in and times other tables next to it.
+//! A single time, for a program that links this one in and times other tables as well.
 ghost use Rattle.std.specs.Prelude.{◌<◌, length};
 
 use crate::cases::{Case, cases};
@@ -13,7 +13,7 @@ use std::sync::Wait;
 use std::thread::Threads;
 use std::time::CpuClock;
 
-// The row of this name.
+// Returns the row with this name.
 fn case_of(name: &str) -> Option<Case> {
     for case in &cases() {
         if case.name == name {
@@ -23,8 +23,9 @@ fn case_of(name: &str) -> Option<Case> {
     None
 }
 
-/// Times the table without a lock at the row of this name, on 1 to [`MAX_PASSES`] threads, and prints the nanoseconds.
-/// `None` where there is no such row, the threads are none or too many, or memory, a clock or standard output is refused.
+/// Times the lock-free table at the row with this name, on 1 to [`MAX_PASSES`] threads, and prints the nanoseconds.
+/// Returns `None` if there is no such row, the number of threads is out of range, or an allocation, a clock or a write
+/// fails.
 pub(crate) fn report_one<R: Threads + Wait + Clock + CpuClock + Print + Sync>(
     rt: &R,
     alloc: Global,

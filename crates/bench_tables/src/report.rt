@@ -1,4 +1,4 @@
-//! The rows of the benchmark: each is the ratio of two times of one run, the median over its rounds.
+//! The rows of the benchmark: each is the ratio of two times of one run, as the median over its rounds.
 ghost use Rattle.std.specs.Prelude.{◌≡◌, ◌<◌, ◌≤◌, length};
 ghost use Rattle.fx_table.specs.declared.limits.TheConstants.{MAX_PASSES};
 
@@ -38,7 +38,7 @@ impl Ratios {
         self.hundredths.push(ratio).ok()
     }
 
-    // Prints the median, where there are any.
+    // Prints the median, if there are any ratios.
     fn print<R: Print>(&mut self, rt: &R, case: &str, threads: u32) -> Option<()> {
         self.hundredths.sort().ok()?;
         let middle = self.hundredths.len() / 2;
@@ -51,7 +51,7 @@ impl Ratios {
     }
 }
 
-/// The nanoseconds that a table needs, on so many threads. `None` where memory or a clock is refused.
+/// Returns the nanoseconds that a table needs, on `threads` threads, or `None` if an allocation or a clock fails.
 pub(crate) fn time<S: Subject, R: Threads + Wait + Clock + CpuClock + Sync>(
     rt: &R,
     alloc: Global,
@@ -77,7 +77,7 @@ pub(crate) fn time<S: Subject, R: Threads + Wait + Clock + CpuClock + Sync>(
     }
 }
 
-// The times of one round, in nanoseconds. A table is alone on one thread only.
+// The times of one round, in nanoseconds. A table is used without sharing on one thread only.
 #[derive(Clone, Copy)]
 struct Round {
     counted: u64,
@@ -86,7 +86,7 @@ struct Round {
     alone: Option<u64>,
 }
 
-// Times the tables by turns.
+// Times the tables in turn.
 fn time_all<R: Threads + Wait + Clock + CpuClock + Sync>(
     rt: &R,
     alloc: Global,
@@ -113,7 +113,7 @@ fn time_all<R: Threads + Wait + Clock + CpuClock + Sync>(
     })
 }
 
-// The lines of a case on so many threads.
+// The lines of a case on a number of threads.
 #[derive(Drop)]
 struct Lines {
     counted_to_baton: Ratios,
@@ -177,8 +177,8 @@ fn report<R: Threads + Wait + Clock + CpuClock + Print + Sync>(
     lines.print(rt, case.name, threads)
 }
 
-/// Measures every case on 1, 2 and 4 threads, so many rounds, and prints a line for each two tables that are measured
-/// by turns. `None` where memory, a clock or standard output is refused.
+/// Measures every case on 1, 2 and 4 threads, in `rounds` rounds, and prints a line for each two tables that are
+/// measured in turn. Returns `None` if an allocation, a clock or a write fails.
 pub(crate) fn report_all<R: Threads + Wait + Clock + CpuClock + Print + Sync>(
     rt: &R,
     alloc: Global,

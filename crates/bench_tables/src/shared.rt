@@ -1,4 +1,4 @@
-//! Every shared table is measured.
+//! Measuring every shared table.
 ghost use Rattle.std.specs.Prelude.{◌≡◌, ◌<◌, All, length};
 ghost use Rattle.fx_plain.specs.State.{IsSettled};
 ghost use Rattle.fx_plain.specs.Contents.{state_of};
@@ -11,7 +11,7 @@ use fx_table::{Empty, FileTable, LookFault};
 use std::alloc::Global;
 use std::sync::Wait;
 
-/// A shared table. Each draw that gives a chain gives numbers.
+/// A shared table. Each draw that returns a chain yields numbers.
 pub(crate) struct Shared<T: FileTable> {
     table: T,
     pub ghost numbers: { 0 < (T.opening table).numbers },

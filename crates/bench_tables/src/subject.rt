@@ -1,4 +1,5 @@
-//! What is measured: a table, with the calls as its users make them, a call that opens beside the one that ends it.
+//! The subject of a measurement: a table, with calls as its users make them: one that opens together with the one that
+//! ends it.
 ghost use Rattle.std.specs.Prelude.{◌≡◌, ℕ, ◌≤◌, length, All, IfOk, IfErr, vec_capacity};
 ghost use Rattle.fx_plain.specs.State.{IsSettled};
 ghost use Rattle.fx_plain.specs.Contents.{state_of};
@@ -9,22 +10,22 @@ use fx_plain::PlainTable;
 use std::alloc::Global;
 use std::sync::Wait;
 
-/// How many bytes a read reads.
+/// The number of bytes of a read.
 pub(crate) const READ_LEN: u32 = 64;
 
-/// A table that is measured. A call at a slot that the table hasn't does nothing, nor does one that installs where the
-/// pass has no file numbers left: what a measurement does is chosen so that neither happens.
+/// A table that is measured. A call does nothing at a slot that the table doesn't have, and neither does an
+/// installation if the pass has no file numbers left; measurements are chosen so that neither happens.
 pub(crate) trait Subject: Sync {
-    /// What a thread uses the table with.
+    /// The type of a thread's access to the table.
     type Pass: Send;
 
     // The pass is one of the table's, and can begin a call.
     ghost ready: { Self → Self.Pass → Type 0 };
 
-    // The table takes so many passes back.
+    // The table requires this number of passes at its close.
     ghost gave: { Self → ℕ → Type 0 };
 
-    /// A table for so many passes and chains, made of a settled one, which else comes back.
+    /// Creates a table for `passes` passes and `chains` chains from a settled table, or returns that table.
     fn open(
         alloc: Global,
         plain: PlainTable,
@@ -38,7 +39,7 @@ pub(crate) trait Subject: Sync {
         ensures gave { IfOk result (λ (table, list). gave table (length list.items)) }
         ensures refused { IfErr result (λ back. IsSettled (state_of back)) };
 
-    /// The settled table of one thread that is left.
+    /// Closes the table, and returns the settled table of one thread that is left.
     fn close(self, passes: Vec<Self::Pass>) -> PlainTable
         requires all { gave self (length passes.items) }
         requires ready { All (ready self) passes.items }
@@ -68,7 +69,7 @@ pub(crate) trait Subject: Sync {
         requires { ready self.now pass.old }
         ensures { ready self.now pass.new };
 
-    /// Installs a file at a free slot of the allocation range.
+    /// Installs a file at an empty slot of the allocation range, and returns the slot.
     fn put_any<R: Wait>(&self, rt: &R, pass: &mut Self::Pass, file: OpenFile) -> Option<u32>
         requires { ready self.now pass.old }
         ensures { ready self.now pass.new };

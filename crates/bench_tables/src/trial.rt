@@ -1,4 +1,5 @@
-//! What no clause says of the calls that are measured: that they do what their names say. Each table's answers are a line.
+//! A test of what no clause says of the measured calls: that they do what their names say. The results of each table
+//! are one line.
 ghost use Rattle.std.specs.Prelude.{◌≡◌, ◌<◌, ◌≤◌, length, vec_capacity};
 
 use crate::alone::Alone;
@@ -14,8 +15,8 @@ use std::sync::Wait;
 
 const MARK: Mark = Mark::Registered { k: 0, i: 0 };
 
-// What was read at slot 2 when it was empty and when it had a file, in bytes, and where a file was put at any free slot:
-// in front, behind that file's removal, and when no slot was free.
+// The bytes that were read at slot 2 while it was empty and while it had a file, and the slots at which a file was
+// installed at any empty slot: first, after that file's removal, and when no slot was empty.
 #[derive(Clone, Copy)]
 struct Answers {
     empty: usize,
@@ -25,7 +26,7 @@ struct Answers {
     last: Option<u32>,
 }
 
-// Uses a table of four slots whose first two are full. It has three files after that.
+// Uses a table of four slots whose first two are full. It has three files afterwards.
 fn use_table<S: Subject, R: Wait>(
     rt: &R,
     subject: &S,
@@ -59,7 +60,7 @@ fn use_table<S: Subject, R: Wait>(
     }
 }
 
-// Opens a table, uses it, closes it, and prints what came of that.
+// Opens a table, uses it, closes it, and prints the results.
 fn try_table<S: Subject, R: Wait + Print>(
     rt: &R,
     alloc: Global,
@@ -103,8 +104,8 @@ fn try_table<S: Subject, R: Wait + Print>(
     }
 }
 
-/// Tries the calls of each table that is measured, and prints what they answer, a line a table. `None` where memory or
-/// standard output is refused.
+/// Tests the calls of each table that is measured, and prints their results, one line for each table. Returns `None` if
+/// an allocation or a write fails.
 pub(crate) fn try_tables<R: Wait + Print>(
     rt: &R,
     alloc: Global,

@@ -1,19 +1,21 @@
-//! How long threads work at the same time, from where all of them have been started.
+//! The time for which threads work, from the moment when all of them have started.
 use std::rt::Clock;
 use std::sync::atomic::{AtomicU32, AtomicU64, Ordering};
 use std::time::{CpuClock, Instant};
 use std::{io, thread};
 
-// How often a thread looks whether the others have been started: where one can't be, the rest begin without it.
+// The number of times that a thread checks whether the others have started: if one can't be started, the others begin
+// without it.
 const MOST_LOOKS: u32 = 1_000_000;
 
-/// The nanoseconds of the processor that this thread has used: other work on the machine disturbs them less than a clock.
+/// Returns the CPU time of this thread, in nanoseconds: other work on the machine disturbs it less than the wall-clock
+/// time.
 pub(crate) fn used<R: CpuClock>(rt: &R) -> Option<u64> {
     u64::try_from(rt.thread_cpu_time().ok()?.as_nanos()).ok()
 }
 
-/// When the first of some threads began and when the last one ended, in nanoseconds from one moment on. A thread that is
-/// alone is measured by the processor's time, and several by the clock.
+/// The times at which the first of several threads began and the last one ended, in nanoseconds since a common start. A
+/// single thread is measured by CPU time, several threads by wall-clock time.
 #[derive(Drop)]
 pub(crate) struct Watch {
     base: Instant,
@@ -24,7 +26,7 @@ pub(crate) struct Watch {
 }
 
 impl Watch {
-    /// A watch for so many threads.
+    /// Creates a watch for `threads` threads.
     pub(crate) fn new<R: Clock>(rt: &R, threads: u32) -> io::Result<Watch> {
         Ok(Watch {
             base: Instant::now(rt)?,
@@ -35,7 +37,7 @@ impl Watch {
         })
     }
 
-    // The nanoseconds up to now, or 0 where the clock can't be read.
+    // Returns the nanoseconds until now, or 0 if the clock fails.
     fn now<R: Clock + CpuClock>(&self, rt: &R) -> u64 {
         if self.threads == 1 {
             return used(rt).unwrap_or(0);
@@ -46,7 +48,7 @@ impl Watch {
         }
     }
 
-    /// A thread begins, when all are there.
+    /// Waits until all threads are there, and records that this thread begins.
     pub(crate) fn begin<R: Clock + CpuClock>(&self, rt: &R) {
         self.started.fetch_add(1, Ordering::SeqCst);
         for _ in 0..MOST_LOOKS {
@@ -58,12 +60,12 @@ impl Watch {
         self.first.fetch_min(self.now(rt), Ordering::SeqCst);
     }
 
-    /// A thread has ended.
+    /// Records that this thread has ended.
     pub(crate) fn end<R: Clock + CpuClock>(&self, rt: &R) {
         self.last.fetch_max(self.now(rt), Ordering::SeqCst);
     }
 
-    /// The nanoseconds from the first beginning to the last end.
+    /// Returns the nanoseconds from the first beginning to the last end.
     pub(crate) fn took(&self) -> Option<u64> {
         let first = self.first.load(Ordering::SeqCst);
         self.last.load(Ordering::SeqCst).checked_sub(first)

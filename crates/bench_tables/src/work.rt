@@ -1,4 +1,4 @@
-//! What a thread does with a table while it is measured.
+//! The work of a thread on a table while it is measured.
 ghost use Rattle.std.specs.Prelude.{◌≡◌, ◌<◌, ◌≤◌, length, All, vec_capacity, vec_len};
 
 use crate::subject::{READ_LEN, Subject};
@@ -11,20 +11,22 @@ use std::thread;
 use std::thread::Threads;
 use std::time::CpuClock;
 
-/// What is done again and again.
+/// The operation that is repeated.
 #[derive(Clone, Copy)]
 pub(crate) enum Work {
-    /// A slot at random is looked up and released.
+    /// Looks up a random slot and releases its file.
     Look,
-    /// The same nine times of ten; the tenth time the file there is replaced and retired.
+    /// Does the same nine times out of ten; the tenth time replaces the file there and retires the old one.
     Mixed,
-    /// A file is put at a slot that only this thread uses, looked up, read and released; it is taken and retired.
+    /// Installs a file at a slot that only this thread uses, looks it up, reads and releases it, and takes and retires
+    /// it.
     Chain,
-    /// A file is put at a free slot, taken and retired.
+    /// Installs a file at an empty slot, and takes and retires it.
     Allocate,
 }
 
-/// What a thread does, and how often. The slots are a power of 2, of which this is the last.
+/// The operation of a thread, and its number of repetitions. The number of slots is a power of 2, and `last_slot` is
+/// the last one.
 #[derive(Clone, Copy)]
 pub(crate) struct Job {
     pub(crate) work: Work,
@@ -32,12 +34,12 @@ pub(crate) struct Job {
     pub(crate) times: u32,
 }
 
-// The next of a row of numbers whose upper half looks random.
+// Returns the next number of a sequence whose upper half looks random.
 fn next(number: u32) -> u32 {
     number.wrapping_mul(1_664_525).wrapping_add(1_013_904_223)
 }
 
-// Which installation a file is of says nothing here.
+// The mark of every file; it has no meaning here.
 const MARK: Mark = Mark::Registered { k: 0, i: 0 };
 
 fn look<S: Subject, R: Wait>(rt: &R, subject: &S, pass: &mut S::Pass, job: Job, start: u32)
@@ -115,7 +117,7 @@ fn allocate<S: Subject, R: Wait>(
     }
 }
 
-// What the i-th thread does.
+// Does the job of the i-th thread.
 fn do_job<S: Subject, R: Wait>(
     rt: &R,
     alloc: Global,
@@ -143,7 +145,7 @@ fn do_job<S: Subject, R: Wait>(
     }
 }
 
-// The i-th thread works when all are there.
+// Starts the i-th thread's job when all threads are there.
 fn work_together<S: Subject, R: Wait + Clock + CpuClock>(
     rt: &R,
     alloc: Global,
@@ -163,7 +165,7 @@ fn work_together<S: Subject, R: Wait + Clock + CpuClock>(
     watch.end(rt);
 }
 
-// Each pass in a thread of its own.
+// Runs each pass in a thread of its own.
 fn do_jobs<S: Subject, R: Threads + Wait + Clock + CpuClock + Sync>(
     rt: &R,
     alloc: Global,
@@ -191,7 +193,7 @@ fn do_jobs<S: Subject, R: Threads + Wait + Clock + CpuClock + Sync>(
     );
 }
 
-/// Each of the passes works in a thread of its own, at the same job, while the watch runs.
+/// Runs each of the passes in a thread of its own, at the same job, while the watch runs.
 pub(crate) fn work_all<S: Subject, R: Threads + Wait + Clock + CpuClock + Sync>(
     rt: &R,
     alloc: Global,
