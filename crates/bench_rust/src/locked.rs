@@ -1,4 +1,4 @@
-//! The same table behind a lock of std. Each call takes the lock for itself.
+//! The same table with a lock of std. Each call takes the lock on its own.
 use crate::table::{read_entry, File, Shape, Table};
 use std::hint::black_box;
 use std::sync::Mutex;

@@ -1,5 +1,5 @@
-//! Times the proved table without a lock beside a plain, unproved Rust table of the same words, and both beside arc-swap,
-//! crossbeam-epoch and a lock of std, by turns in one process. Each number is the median of the ratios of so many rounds.
+//! Times the proved lock-free table next to a plain, unproved Rust table of the same words, and both next to arc-swap,
+//! crossbeam-epoch and a lock of std, in turn in one process. Each number is the median of the ratios over its rounds.
 mod locked;
 mod others;
 mod proved;
@@ -23,7 +23,7 @@ const TABLES: [&str; 6] = [
     "std's Mutex",
 ];
 
-/// The seconds of each of the tables, in their order.
+/// Returns the seconds of each of the tables, in order.
 fn round(name: &str, what: Work, slots: usize, threads: usize) -> [f64; 6] {
     [
         proved::time(name, threads),
@@ -40,7 +40,7 @@ fn median(mut ratios: Vec<f64>) -> f64 {
     ratios[ratios.len() / 2]
 }
 
-/// A line of one of the tables: the ratios of its times to those of the tables behind it.
+/// Returns the line of one of the tables: the ratios of its times to those of the tables after it.
 fn line(rounds: &[[f64; 6]], own: usize) -> String {
     let ratio = |other: usize| {
         let median = median(rounds.iter().map(|it| it[own] / it[other]).collect());
@@ -84,7 +84,7 @@ fn main() {
         ),
         ("allocation and take, 240 of 256 full", Work::Allocate, 256),
     ];
-    // arc-swap looks at every thread that it has met, so the rows of few threads come first
+    // arc-swap visits every thread that it has seen, so the rows with few threads come first
     for threads in [1, 2, 4] {
         for (name, what, slots) in cases.iter().filter(|it| it.0.contains(&wanted)) {
             report(name, *what, *slots, threads, rounds);

@@ -1,20 +1,21 @@
-//! The same table on arc-swap, which is looked up in two ways, and on crossbeam-epoch.
+//! The same table on arc-swap, with two kinds of look-up, and on crossbeam-epoch.
 use crate::table::{read_entry, File, Shape, Table};
 use arc_swap::ArcSwapOption;
 use crossbeam_epoch::{self as epoch, Atomic, Owned};
 use std::sync::atomic::Ordering::SeqCst;
 use std::sync::Arc;
 
-/// A cache line of its own, as the words of a slot have.
+/// A cache line of its own, as a slot's words have.
 #[repr(align(64))]
 pub struct Line<T>(T);
 
 const FILE: File = File { entry: 0, mark: 0 };
 
-/// A look-up is `load`: a guard, of which a thread has eight at once, beyond which it is as dear as `load_full`.
+/// A table whose look-up is `load`: a guard. A thread has eight of them at once; a further one costs as much as
+/// `load_full`.
 pub struct Guards(Vec<Line<ArcSwapOption<File>>>);
 
-/// A look-up is `load_full`: an `Arc` of its own, which lives as long as its user wants, as a hold does.
+/// A table whose look-up is `load_full`: an `Arc` of its own, which lives as long as its user needs it, as a hold does.
 pub struct Arcs(Guards);
 
 impl Table for Guards {

@@ -1,6 +1,6 @@
-//! The proved table, in this process: the program of crates/bench_tables is linked in, its `main` under another name. What
-//! is measured is the code that was proved. The program ends by `_exit`, which stands for `pthread_exit` here
-//! (`scripts/bench-rust`), so that it ends the thread that it runs on, with its status.
+//! The proved table, in this process: the program of crates/bench_tables is linked in, with its `main` under another
+//! name, so that the code that was proved is measured. That program ends by `_exit`, which is replaced by
+//! `pthread_exit` here (`scripts/bench-rust`), so that it ends the thread that it runs on, with its status.
 use std::env;
 use std::ffi::c_void;
 use std::fs::File;
@@ -25,7 +25,7 @@ extern "C" {
     fn close(descriptor: i32) -> i32;
 }
 
-/// Runs the program, and gives its status.
+/// Runs the program, and returns its status.
 fn run() -> usize {
     let (mut thread, mut status) = (0, null_mut());
     unsafe {
@@ -36,7 +36,7 @@ fn run() -> usize {
     status as usize
 }
 
-/// What the program prints. It is less than a pipe holds.
+/// Returns what the program prints. It fits in a pipe.
 fn printed() -> String {
     let mut ends = [0; 2];
     let mut reader = unsafe {
@@ -55,8 +55,8 @@ fn printed() -> String {
     text
 }
 
-/// The seconds that the proved table needs for the row of this name, on so many threads. Nobody else uses the environment
-/// or standard output meanwhile.
+/// Returns the seconds that the proved table needs for the row with this name, on `threads` threads. Nothing else uses
+/// the environment or standard output meanwhile.
 pub fn time(row: &str, threads: usize) -> f64 {
     env::set_var("TABLE_BENCH_ROW", row);
     env::set_var("TABLE_BENCH_THREADS", threads.to_string());

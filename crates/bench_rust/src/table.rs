@@ -1,30 +1,30 @@
-//! What is measured beside the proved table.
+//! The interface of the tables that are measured next to the proved one.
 
-/// How many bytes a read reads.
+/// The number of bytes of a read.
 pub const READ_LEN: usize = 64;
 
-/// An open file: what is installed.
+/// An open file, as it is installed.
 pub struct File {
     pub entry: u8,
-    /// Nobody reads it here; an open file has it.
+    /// Unused here; an open file has it.
     #[allow(dead_code)]
     pub mark: u64,
 }
 
-/// What a table is opened for.
+/// The shape that a table is opened with.
 #[derive(Clone, Copy)]
 pub struct Shape {
     pub slots: usize,
-    /// So many of the slots, from the first one on, have a file.
+    /// The number of slots, from the first one on, that have a file.
     pub full: usize,
-    /// Whether the slots are the allocation range, or none is in it.
+    /// Whether the slots are the allocation range; otherwise the range is empty.
     pub in_range: bool,
     pub threads: usize,
-    /// How many files each thread installs at most.
+    /// The greatest number of files that each thread installs.
     pub installs: usize,
 }
 
-/// A table as it is measured: a call that opens beside the one that ends it.
+/// A table as it is measured: a call that opens together with the one that ends it.
 pub trait Table: Sync + Sized {
     fn open(shape: Shape) -> Self;
 
@@ -34,10 +34,11 @@ pub trait Table: Sync + Sized {
     /// Looks a slot up, reads from its file and releases it. Each entry of the catalogue is the bytes of a file.
     fn read(&self, slot: usize, catalogue: &[Vec<u8>], into: &mut Vec<u8>);
 
-    /// Puts a file at a slot, and retires the one that was there. `next` is what the table knows of the thread, 0 at first.
+    /// Installs a file at a slot, and retires the file that was there. `next` is the table's state for the thread, 0 at
+    /// first.
     fn put(&self, next: &mut usize, slot: usize, file: File);
 
-    /// Puts a file at a free slot, which is the answer.
+    /// Installs a file at an empty slot, and returns the slot.
     fn put_any(&self, next: &mut usize, file: File) -> Option<usize>;
 
     /// Empties a slot and retires the file that was there.

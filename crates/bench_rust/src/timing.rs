@@ -1,4 +1,4 @@
-//! How long threads work on a table.
+//! The time for which threads work on a table.
 use crate::table::{Shape, Table};
 use crate::work::{work, Work, INSTALLS};
 use std::sync::Barrier;
@@ -13,8 +13,8 @@ extern "C" {
     fn clock_gettime(clock: i32, time: *mut Timespec) -> i32;
 }
 
-/// The seconds on the clock, or for a thread that works alone those of the processor that it has used: other work on the
-/// machine disturbs them less.
+/// Returns the seconds of wall-clock time, or, for a thread that works alone, of CPU time: other work on the machine
+/// disturbs that less.
 fn now(threads: usize) -> f64 {
     const CLOCK_MONOTONIC: i32 = 1;
     const CLOCK_THREAD_CPUTIME_ID: i32 = 3;
@@ -46,7 +46,7 @@ fn shape(what: Work, slots: usize, threads: usize) -> Shape {
     }
 }
 
-/// The seconds from where all threads are there to where the last one ends.
+/// Returns the seconds from the moment when all threads are there to the end of the last one.
 pub fn time<T: Table>(what: Work, slots: usize, threads: usize) -> f64 {
     let table = T::open(shape(what, slots, threads));
     let barrier = Barrier::new(threads);

@@ -1,20 +1,21 @@
-//! The words of the table without a lock, in plain Rust and unproved: what the proved table is measured against. A slot's
-//! word has the number of its file and its takes, a file's word its releases; whoever brings it to 0 has the file.
+//! The words of the lock-free table, in plain, unproved Rust: the proved table is measured against it. A slot's word
+//! has the number of its file and its takes, and a file's word its releases; the thread that brings it to 0 gets the
+//! file.
 use crate::table::{read_entry, File, Shape, Table};
 use std::cell::UnsafeCell;
 use std::sync::atomic::{AtomicU64, Ordering::SeqCst};
 
 const BORN: u64 = 1 << 32;
 
-// One pass more in a change of the range, in the control word, and what stands there beside the full slots.
+// One more pass in a change of the range, in the control word, and the bias that is added there to the full slots.
 const ONE_CHANGE: u64 = 1 << 32;
 const BIAS: u64 = 65_536;
 
-// A thread draws the numbers of a chain at once.
+// A thread draws all numbers of a chain at once.
 const CHAINS: usize = 1_023;
 const CHAIN_NUMBERS: usize = 64;
 
-/// The word of a slot and that of the file with the slot's number lie side by side, each pair on a cache line of its own.
+/// The word of a slot and that of the file with the slot's number, side by side; each pair has a cache line of its own.
 #[repr(align(64))]
 struct Pair {
     slot: AtomicU64,
@@ -30,12 +31,12 @@ pub struct Words {
     nodes: Vec<AtomicU64>,
     places: Vec<UnsafeCell<Option<File>>>,
     control: Line,
-    /// How many chains were drawn.
+    /// The number of chains that were drawn.
     draw: Line,
     in_range: bool,
 }
 
-// A place is written by the thread that installs its number, and taken by the one that brings its word to 0.
+// A place is written by the thread that installs its number, and emptied by the one that brings its word to 0.
 unsafe impl Sync for Words {}
 
 impl Words {
@@ -97,7 +98,7 @@ impl Words {
         found
     }
 
-    // Rounds over the range, until a free slot was found or all of them were full at one moment.
+    // Scans the range in rounds until it finds an empty slot, or all slots were full at one moment.
     fn find_free(&self, word: u64) -> Option<usize> {
         loop {
             self.control.0.fetch_add(ONE_CHANGE, SeqCst);

@@ -1,16 +1,17 @@
-//! What a thread does with a table while it is measured: the same as the proved program does, slot by slot.
+//! The work of a thread on a table while it is measured: the same as the proved program does, slot by slot.
 use crate::table::{File, Table, READ_LEN};
 use std::hint::black_box;
 
 #[derive(Clone, Copy)]
 pub enum Work {
-    /// A slot at random is looked up and released.
+    /// Looks up a random slot and releases its file.
     Look,
-    /// The same nine times of ten; the tenth time the file there is replaced and retired.
+    /// Does the same nine times out of ten; the tenth time replaces the file there and retires the old one.
     Mixed,
-    /// A file is put at a slot that only this thread uses, looked up, read and released; it is taken and retired.
+    /// Installs a file at a slot that only this thread uses, looks it up, reads and releases it, and takes and retires
+    /// it.
     Chain { in_range: bool },
-    /// A file is put at a free slot of a range with 240 of 256 full, taken and retired.
+    /// Installs a file at an empty slot of a range with 240 of 256 slots full, and takes and retires it.
     Allocate,
 }
 
@@ -70,7 +71,7 @@ fn allocate<T: Table>(table: &T) {
     }
 }
 
-/// What the thread of this number does.
+/// Does the work of the thread with this number.
 pub fn work<T: Table>(table: &T, work: Work, slots: usize, thread: usize) {
     let random = (thread as u32).wrapping_mul(40_503).wrapping_add(1);
     match work {
