@@ -17,7 +17,7 @@ pub struct Shape {
     pub slots: usize,
     /// The number of slots, from the first one on, that have a file.
     pub full: usize,
-    /// Whether the slots are the allocation range; otherwise the range is empty.
+    /// The flag that the slots are the allocation range; otherwise the range is empty.
     pub in_range: bool,
     pub threads: usize,
     /// The greatest number of files that each thread installs.

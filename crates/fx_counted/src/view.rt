@@ -26,7 +26,7 @@ pub struct Log {
     pub front: LinkedList<Event>,
     /// The chains that the pass drew, the last one first.
     pub drawn: LinkedList<u32>,
-    /// Whether a draw has returned `None`.
+    /// The flag that a draw has returned `None`.
     pub no_chains_left: bool,
     /// The number of file numbers of its last chain that the pass has left; they are the last ones.
     pub numbers_left: u32,

@@ -9,7 +9,7 @@ pub struct SubmissionReport<'a> {
     pub catalogue: &'a Catalogue,
     /// The number of submissions that were accepted before it.
     pub submissions: u32,
-    /// The requests, none of which has a fault ([`fx_chain::check`]).
+    /// The requests. No request has a fault ([`fx_chain::check`]).
     pub requests: &'a [Request],
     /// The completions, in order of place.
     pub completions: &'a [Completion],

@@ -10,7 +10,7 @@ use std::alloc::Global;
 use std::thread;
 use std::thread::Threads;
 
-/// The number of bytes of lines from which several threads produce them. One thread produces fewer before another has
+/// The least number of bytes of lines that several threads produce. One thread produces fewer before another has
 /// started.
 const LARGE: usize = 262_144;
 

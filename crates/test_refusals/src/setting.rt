@@ -57,7 +57,7 @@ fn put(plain: &mut PlainTable, catalogue: &Catalogue, slot: u32, number: u32, en
 }
 
 /// Creates a settled table of four slots with the range 1 2: `a.txt` is at slot 0 and `b.txt` at slot 2. It was
-/// prepared for eight numbers, of which the last two are fresh.
+/// prepared for eight numbers; the last two are fresh.
 pub(crate) fn table_of_two_files(alloc: Global) -> Option<PlainTable>
     ensures { IfSome result (λ plain. IsSettled (state_of plain)) }
 {
