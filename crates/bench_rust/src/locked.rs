@@ -20,11 +20,13 @@ impl Node {
     }
 }
 
+/// A table without a lock of its own.
 pub struct Plain {
     slots: Vec<Option<usize>>,
     nodes: Vec<Node>,
 }
 
+/// A table with a lock of std.
 pub struct Locked(Mutex<Plain>);
 
 impl Plain {

@@ -92,6 +92,7 @@ impl Table for Arcs {
     }
 }
 
+/// A table whose look-up is a load under a pinned epoch.
 pub struct Epochs(Vec<Line<Atomic<File>>>);
 
 impl Table for Epochs {

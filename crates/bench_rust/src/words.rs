@@ -26,6 +26,7 @@ struct Pair {
 #[repr(align(64))]
 struct Line(AtomicU64);
 
+/// The lock-free table, unproved.
 pub struct Words {
     pairs: Vec<Pair>,
     nodes: Vec<AtomicU64>,

@@ -2,6 +2,7 @@
 use crate::table::{File, Table, READ_LEN};
 use std::hint::black_box;
 
+/// The operation that is repeated.
 #[derive(Clone, Copy)]
 pub enum Work {
     /// Looks up a random slot and releases its file.
@@ -15,6 +16,7 @@ pub enum Work {
     Allocate,
 }
 
+/// The number of files that a thread installs.
 pub const INSTALLS: usize = 15_000;
 
 const LOOKS: usize = 200_000;
