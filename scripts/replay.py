@@ -1,6 +1,10 @@
 """Plays a script on scripts/model.py with the requests of each submission done in a given order, one at a time."""
+import re
+
 from model import ECANCELED, Player, completion_line, severs
 from illegal import want
+
+ORDER = re.compile(r"order (\d+):((?: \d+\.\d+\.\d+(?:\.\d+)?)*)")
 
 
 def orders_of(lines):
@@ -8,11 +12,11 @@ def orders_of(lines):
     update's list, or None."""
     orders = {}
     for line in lines:
-        word, submission, *steps = line.replace(":", "").split(" ")
-        want(word == "order" and int(submission) not in orders, line)
-        parts = [[int(it) for it in step.split(".")] for step in steps]
-        want(all(it[0] == int(submission) and len(it) in (3, 4) for it in parts), line)
-        orders[int(submission)] = [(*it[1:], None)[:3] for it in parts]
+        order = ORDER.fullmatch(line)
+        want(order and int(order[1]) not in orders, line)
+        parts = [[int(it) for it in step.split(".")] for step in order[2].split()]
+        want(all(it[0] == int(order[1]) for it in parts), line)
+        orders[int(order[1])] = [(*it[1:], None)[:3] for it in parts]
     return orders
 
 
@@ -77,7 +81,7 @@ class Chain:
         want(not self.is_done() and not self.is_severed and len(self.answers) + 1 == member, f"{self.place} has no member {member} there")
         place, request, _ = self.now()
         want(player.comes_to_the_table(request), f"{place} never came to the table")
-        want(not self.entries or entry > self.entries[-1], f"the entries of {place} aren't in order")
+        want(not self.entries or entry is not None and entry > self.entries[-1], f"the entries of {place} aren't in order")
         res, got = player.step(place, request, entry)
         if entry is None:
             return self.answer(res, got)

@@ -8,12 +8,13 @@ import re
 import contradictions
 from illegal import Illegal
 import kernels
+import listing
 from kernels import AGREES
 from model import Script, play
 from programs import LEGAL, NOT_LEGAL, UNDECIDED, run, verdict
 from refused_growths import NO_MEMORY, Outcomes
 from replay import replayed
-from repository import ROOT, module, read, read_bytes, text_beside
+from repository import ROOT, module, read, read_bytes, scripts_of, text_beside
 from spoiled_lines import Spoiled
 from told_history import complaint_of
 
@@ -23,6 +24,17 @@ TOLD = ("open_read_close", "tagged_files_leave_in_each_way", "replaced_between_t
 # how many lines their histories have, and how many pairs of steps of one chain stand beside each other in their orders; and how
 # many rows there are of outcomes, growths, verdicts and what they name
 LINES, PAIRS, OUTCOMES, GROWTHS, VERDICTS, NAMES = 110, 3, 15, 6, 7, 9
+# of examples/questions with n texts each, the sum of n * (n - 1)
+OTHER_ORDERS = 72
+# an example whose second submission has updates of two and three entries, its orders, and lines that are wrong in place of the last one
+UPDATES, FIRST_ORDER, LAST_ORDER = "updates_clear_skip_and_replace", "order 1: 1.1.1", "order 2: 2.1.1.0 2.1.2.0 2.1.2.1 2.1.2.2"
+NO_ORDERS = (
+    "", "order 2", "order 2:", "order 2 2.1.1.0 2.1.2.0 2.1.2.1 2.1.2.2", "orders 2: 2.1.1.0 2.1.2.0 2.1.2.1 2.1.2.2", "order 1: 1.1.1",
+    "order x: 2.1.1.0", "order 2: 2.1", "order 2: 2.1.x", "order 2: 2.1.1.0.0", "order 2: 1.1.1.0 2.1.2.0 2.1.2.1 2.1.2.2",
+    "order 2: 2.1.1 2.1.2.0 2.1.2.1 2.1.2.2", "order 2: 2.1.1.0 2.1.2.0 2.1.2 2.1.2.2", "order 2: 2.1.1.0 2.1.2.0 2.1.2.1 2.1.2",
+    "order 2: 2.1.1.0 2.1.2.1 2.1.2.0 2.1.2.2", "order 2: 2.1.1.0 2.1.1.1 2.1.2.0 2.1.2.1 2.1.2.2", "order 2: 2.1.1.0 2.1.2.0 2.1.2.1",
+    "order 2: 2.1.1.0 2.1.2.0 2.1.2.1 2.1.2.2 2.1.2.3", "order 2: 2.1.1.0 2.2.1", "order 2: 2.1.0",
+)
 # kept texts with lines that have no order, each of which is needed for that; and how many lines these texts have
 UNORDERED, UNORDERED_LINES = "examples/judged/submissions.judged", 44
 
@@ -31,6 +43,8 @@ def kinds(fixcheck):
     """What each kind of wrong answer is called, how many there are, and what tells them."""
     yield "lines of histories", LINES, lambda: histories(fixcheck)
     yield "exchanged steps of orders", PAIRS, lambda: orders(fixcheck)
+    yield "orders of another text", OTHER_ORDERS, other_orders
+    yield "lines that are no order", len(NO_ORDERS), no_orders
     yield "outcomes of a refused growth", OUTCOMES, outcomes
     yield "growths between marks", GROWTHS, growths
     yield "verdicts", VERDICTS, verdicts
@@ -97,6 +111,27 @@ def orders(fixcheck):
             those = [[*lines[:at], " ".join([f"{word}:", *it]), *lines[at + 1 :]] for it in wrong] + [lines[:at] + lines[at + 1 :]]
             missed += [f"{name}: {it}" for it in those if is_taken(script, text, it)]
     return seen, missed
+
+
+def other_orders():
+    """Each text of a question with the orders of each other one: steps of different chains are exchanged, and another text is given."""
+    seen, missed = 0, []
+    for name, script in scripts_of("examples/questions"):
+        texts = listing.kept(name.removesuffix("script") + "texts").texts
+        for text, own in texts:
+            if not is_taken(script, text, own):
+                missed.append(f"{name}: {own}, which give the text")
+            others = [it for _, it in texts if it != own]
+            seen += len(others)
+            missed += [f"{name}: {it} for {text!r}" for it in others if is_taken(script, text, it)]
+    return seen, missed
+
+
+def no_orders():
+    """Lines that are no order of a submission with updates, or none of its steps, are complained of and nothing else comes."""
+    script, text = (read_bytes(f"examples/{UPDATES}.script"), text_beside(f"examples/{UPDATES}.script"))
+    missed = [] if is_taken(script, text, [FIRST_ORDER, LAST_ORDER]) else ["the right orders, which aren't taken"]
+    return len(NO_ORDERS), missed + [it for it in NO_ORDERS if is_taken(script, text, [FIRST_ORDER, it])]
 
 
 def outcomes():
