@@ -3,8 +3,8 @@
 # A script's path is passed in the environment alone, so that it may have any characters.
 SCRIPT ?= examples/open_read_close.script
 PREFIX ?= /usr/local
-export SCRIPT TEXT N PREFIX DESTDIR
-VARIABLES := SCRIPT TEXT N CRATE CRATES PREFIX DESTDIR
+export SCRIPT TEXT N ASK PREFIX DESTDIR
+VARIABLES := SCRIPT TEXT N ASK CRATE CRATES PREFIX DESTDIR
 
 ifeq ($(wildcard scripts/need),)
 $(error Call make in the folder of this Makefile: make -C '$(patsubst %/,%,$(dir $(abspath $(lastword $(MAKEFILE_LIST)))))')
@@ -12,6 +12,11 @@ endif
 given := $(foreach it,$(.VARIABLES),$(if $(filter command,$(origin $(it))),$(it)))
 ifneq ($(filter-out $(VARIABLES),$(given)),)
 $(error There is no variable $(filter-out $(VARIABLES),$(given)). There are $(VARIABLES), as in: make run SCRIPT=path)
+endif
+# a path is no goal: as one it would be there already, and nothing would be said
+paths := $(strip $(foreach it,$(MAKECMDGOALS),$(if $(findstring /,$(it))$(filter %.script %.text,$(it)),$(it))))
+ifneq ($(paths),)
+$(error A path is given by a variable. Type: make $(firstword $(filter-out $(paths),$(MAKECMDGOALS)) run) SCRIPT=$(firstword $(paths)))
 endif
 
 .DEFAULT_GOAL := help
@@ -170,6 +175,7 @@ kernel:
 	@scripts/play-on-kernel
 
 conform:
+	@scripts/need number
 	@scripts/build-program fx_check_cli fixcheck
 	@scripts/conform --scripts "$${N:-500}"
 

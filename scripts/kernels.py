@@ -1,8 +1,8 @@
-"""What a kernel gives for scripts (linux/play.c), and how that stands to the rules. scripts/agree and scripts/conform ask it.
+"""Plays scripts on a kernel (linux/play.c) and compares the texts with the rules, for scripts/agree and scripts/conform.
 
-A text is right where fixcheck calls it legal. Where it says no, the text may be what linux/rules.py makes of the model in some
-order (scripts/orders.py), by rules that docs/LINUX.md lists by their names. Where fixcheck gives no verdict, scripts/orders.py has
-the word."""
+A text is right if fixcheck calls it legal. If fixcheck refuses it, the differences of docs/LINUX.md may explain it: linux/rules.py
+changes the model by them, and scripts/orders.py searches for an order in which the changed model prints the text. If fixcheck is
+undecided, scripts/orders.py decides."""
 import functools
 import os
 import re
@@ -12,42 +12,42 @@ from typing import NamedTuple
 from model import REGISTRATIONS, SUBMISSIONS, Script, play
 from orders import TooManyOrders, ending_of
 from programs import LEGAL, NOT_LEGAL, UNDECIDED, run, verdict
-from repository import HERE, ROOT, read, write
+from repository import BUILD, HERE, ROOT, read, write
 
 sys.path.append(os.path.join(ROOT, "linux"))
 from rules import Linux
 
-PLAYER = os.path.join(ROOT, "build/play-on-kernel")
+PLAYER = os.path.join(BUILD, "play-on-kernel")
 FIXCHECK = os.path.join(ROOT, "bin/fixcheck")
-# the player's status where a line can't be said to a kernel, and scripts/play-on-kernel's where there is none to play on
+# the player's exit status if a line has no system call, and that of scripts/play-on-kernel if there is no io_uring
 CANT_SAY, NO_KERNEL = 78, 77
-# how many states fixcheck looks at of most texts, and where these don't suffice
+# the limit of states for most texts, and for those that need more
 STATES, MOST_STATES = 1_000, 1_000_000
 AGREES, LEFT_OUT, UNSAID = "agrees", "left out", "unsaid"
 
 
 def listed():
-    """The names of the differences that docs/LINUX.md lists, since the rows of its first table begin with them; and the version
-    of the kernel that they were found on, as 6.18."""
+    """Returns the names of the differences, which are the first cells of docs/LINUX.md's first table, and the version of the kernel
+    that has them, such as 6.18."""
     table = read("docs/LINUX.md").split("\n## ")[1]
     names = frozenset(re.findall(r"^\| `([a-z_]+)` \|", table, re.MULTILINE))
     return names, re.search(r"^Found on kernel (\d+\.\d+)", table, re.MULTILINE)[1]
 
 
 def large_differences():
-    """Scripts of two differences that are too large to be kept as files, and take long."""
+    """Yields the scripts of two differences that are too large to be kept as files."""
     yield "too_many_submissions", b"submit\n" * (SUBMISSIONS + 1)
     yield "too_many_registrations", b"register -1\nunregister\n" * (REGISTRATIONS + 1)
 
 
 def built_player():
-    """Builds the player of this machine's kernel. The status, and the line that says what is missing."""
+    """Builds the player of this machine's kernel. Returns the exit status and the line that says what is missing."""
     status, text, message = run([os.path.join(HERE, "play-on-kernel"), "--build"])
     return status, (text + message).strip().removeprefix("kernel: skipped: ")
 
 
 def verdict_of(fixcheck, text, written):
-    """LEGAL, NOT_LEGAL or UNDECIDED, and what fixcheck says."""
+    """Returns LEGAL, NOT_LEGAL or UNDECIDED, and what fixcheck prints."""
     for states in (STATES, MOST_STATES):
         status, said, complaint = verdict(fixcheck, text, written, "--states", str(states))
         if complaint or status not in (LEGAL, NOT_LEGAL, UNDECIDED):
@@ -58,8 +58,8 @@ def verdict_of(fixcheck, text, written):
 
 
 class Found(NamedTuple):
-    """What a player gave for a script: how its text stands to the rules (AGREES, LEFT_OUT or UNSAID, the names of the
-    differences that explain it, or None), what it wrote, what it complained of, and what fixcheck says of the text."""
+    """A player's text of a script. `standing` is AGREES, LEFT_OUT, UNSAID, the names of the differences that explain the text, or None
+    if nothing does. Then come the text, what the player printed on standard error, and what fixcheck prints of the text."""
 
     standing: object
     written: str
@@ -68,15 +68,15 @@ class Found(NamedTuple):
 
 
 def ending_by_linux(text, written, shown):
-    """The player at the end of a play, by the rules and these differences, that writes the text in some order, or None."""
+    """Returns the model, changed by the differences `shown`, after a play that prints the text in some order, or None."""
     return ending_of(Script(text), written, functools.partial(Linux, shown=shown))
 
 
 def found(status, said, text, written, shown):
-    """How a text stands to what the rules allow, where fixcheck ended with that status and said so."""
+    """Compares a text with the rules, given the exit status of fixcheck and what it printed."""
     if status == LEGAL:
         return Found(AGREES, written)
-    # without a difference the text is legal, and fixcheck must not say that there is no order
+    # a text that the unchanged model prints is legal: then fixcheck must not refuse it
     legal = None if status == NOT_LEGAL else AGREES
     if written == play(text)[0]:
         return Found(legal, written, said=said)
@@ -87,10 +87,10 @@ def found(status, said, text, written, shown):
     return Found(ending and (ending.met or legal), written, said=said)
 
 
-def found_of_kernel(player, fixcheck, text, shown):
-    """What the player gives for a script, where the kernel has shown these differences."""
+def found_of_kernel(player, fixcheck, text, shown, seconds=120):
+    """Plays a script for at most `seconds`, and compares its text with the rules and the differences `shown`."""
     fault = play(text)[2]
-    status, written, complaint = run([player], text)
+    status, written, complaint = run([player], text, seconds)
     if status == CANT_SAY:
         return Found(UNSAID, written, complaint)
     if fault:
@@ -100,15 +100,16 @@ def found_of_kernel(player, fixcheck, text, shown):
     return found(*verdict_of(fixcheck, text, written), text, written, shown)._replace(complaint=complaint)
 
 
-def text_of_kernel(player, text, nth):
-    """Every second time chains run beside each other, each request started by a thread of the kernel."""
-    status, written, complaint = run([player, *(["--async"] if nth % 2 else [])], text)
+def text_of_kernel(player, text, nth, seconds=120):
+    """Returns the text of the nth play of a script, or None if it failed. In every second play each request is started by a thread of
+    the kernel, so that chains run beside each other."""
+    status, written, complaint = run([player, *(["--async"] if nth % 2 else [])], text, seconds)
     return None if status or complaint else written
 
 
 def keep(name, text, written):
-    """Keeps a script and the text that is wrong in build/: their paths."""
-    paths = [os.path.join("build", f"{os.path.basename(name)}.{ending}") for ending in ("script", "text")]
+    """Keeps a failed script and its text. Returns their paths, which are relative below this folder."""
+    paths = [os.path.join(BUILD, f"{os.path.basename(name)}.{ending}") for ending in ("script", "text")]
     for path, content in zip(paths, (text, written)):
         write(path, content)
-    return paths
+    return [os.path.relpath(it, ROOT) if it.startswith(ROOT) else it for it in paths]

@@ -1,17 +1,17 @@
-"""The list of a script's texts, as `fixcheck --all` prints it, and as examples/questions keeps it."""
+"""Reads the list of a script's texts, as `fixcheck --all` prints it and examples/questions keeps it."""
 import re
 from typing import NamedTuple
 
 from programs import kept_script, run
 from repository import read
 
-# so many texts are listed where no number is given
+# the number of texts that are listed if none is given
 MOST = 100
 HEAD = re.compile(r"(at least )?(\d+) texts?, where memory is found(?:: more than (\d+) states, or than (\d+) MiB hold)?(?:; the first (\d+):)?")
 
 
 class Listing(NamedTuple):
-    """How many texts there are, whether these are all that the rules allow, and those that are listed, each with its orders."""
+    """A list of texts: how many there are, whether these are all that the rules allow, and the listed ones, each with its orders."""
 
     count: int
     are_all: bool
@@ -22,7 +22,7 @@ class Listing(NamedTuple):
 
 
 def parsed(lines):
-    """The list that lines are, of which those with a `#` in front are left out."""
+    """Parses the lines of a list. Lines that begin with `#` are skipped."""
     head, texts = None, []
     for line in lines:
         if re.fullmatch(r"text \d+", line):
@@ -34,14 +34,14 @@ def parsed(lines):
         elif head is None and HEAD.fullmatch(line):
             head = HEAD.fullmatch(line)
         elif line and not line.startswith("#"):
-            raise ValueError(f"{line!r} has no place in a list")
+            raise ValueError(f"{line!r} is no line of a list")
     if head is None:
-        raise ValueError("the list has no line that says how many there are")
+        raise ValueError("the list doesn't begin with the number of texts")
     return Listing(int(head[2]), head[1] is None, texts)
 
 
 def kept(path):
-    """The list that a file keeps."""
+    """Reads the list in a file."""
     return parsed(read(path).split("\n"))
 
 
@@ -50,7 +50,7 @@ class Failed(Exception):
 
 
 def asked(fixcheck, script, most=MOST, *options):
-    """What `fixcheck --all` lists for a script. Its status is 0 exactly where these are all."""
+    """Runs `fixcheck --all` on a script. Its exit status must be 0 if the list is complete, and 6 otherwise."""
     with kept_script(script) as path:
         status, said, message = run([fixcheck, f"--all={most}", *options, "--", path], seconds=300)
     if status not in (0, 6) or message:

@@ -4,9 +4,8 @@ import os
 import subprocess
 import tempfile
 
-from repository import HERE, ROOT
+from repository import BUILD, HERE
 
-BUILD = os.path.join(ROOT, "build")
 # how fixcheck ends
 LEGAL, NOT_LEGAL, UNDECIDED = 0, 1, 6
 # what each library that is preloaded is compiled with beside the flags of all

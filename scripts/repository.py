@@ -6,6 +6,9 @@ import os
 
 HERE = os.path.dirname(os.path.abspath(__file__))
 ROOT = os.path.dirname(HERE)
+# for what is built and kept: build/, or a folder of the user if this one is read-only, as scripts/play-on-kernel has it
+CACHE = os.environ.get("XDG_CACHE_HOME") or os.path.expanduser("~/.cache")
+BUILD = os.path.join(ROOT, "build") if os.access(ROOT, os.W_OK) else os.path.join(CACHE, "yachtbanyan")
 # where a crate has its sources, definitions and proofs
 SOURCES = "src", "specs", "proofs"
 
