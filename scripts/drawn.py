@@ -1,16 +1,17 @@
-"""What is to be drawn of a history: the lines that `fixcheck --history` prints, by rows, for scripts/draw-history."""
+"""Reads the lines that `fixcheck --history` prints, for scripts/draw-history: files, events, calls and requests, by rows."""
+import collections
 import re
 from dataclasses import dataclass, field
 
 EVENT = re.compile(r"(Look|Release|Put|Clear|Take|Allocate|Full|Close)(?:\((.*)\))?(?: tag (\d+))?")
 ANSWER = re.compile(r"(?:(.*) )?answers (.*)")
 REQUEST = re.compile(r"(\d+)\.(\d+)\.(\d+)")
-# behind so many rows the heads of chains are drawn again
+# after so many rows the heads of chains are repeated
 ROWS_OF_A_HEAD = 40
 
 
 class NoHistory(Exception):
-    """What is to be drawn is none."""
+    """The lines are not a history, or the text is not that of the history."""
 
 
 @dataclass
@@ -30,7 +31,7 @@ class File:
 
 @dataclass
 class Box:
-    """What a request or a call did, by its first and last row; a request has a place."""
+    """A request or a call, by its first and last row. A request has a place."""
 
     who: str
     words: str
@@ -39,14 +40,14 @@ class Box:
     last: int
 
     def place(self):
-        """The submission, the chain and the member of a request, or None for a call."""
+        """Returns the submission, the chain and the member of a request, or None for a call."""
         found = REQUEST.fullmatch(self.who)
         return found and tuple(map(int, found.groups()))
 
 
 @dataclass
 class Row:
-    """An event, with its slot and its file where it has them."""
+    """An event, with its slot and its file if it has them."""
 
     row: int
     who: str
@@ -57,7 +58,7 @@ class Row:
 
 @dataclass
 class Span:
-    """The rows from one on to another, or to the end, in which there is a table of so many slots with this allocation range."""
+    """The rows, from `begin` to `end` or the last one, in which there is a table of `size` slots with an allocation range."""
 
     size: int
     range: tuple
@@ -65,8 +66,21 @@ class Span:
     end: int = None
 
 
+@dataclass
+class Part:
+    """Slots, and the chains at them, each by its submission and its number in it."""
+
+    slots: set
+    chains: set
+
+    def has(self, who):
+        """Checks whether it has the chain of a request."""
+        found = REQUEST.fullmatch(who)
+        return found is not None and (int(found[1]), int(found[2])) in self.chains
+
+
 class History:
-    """What the lines of a history say, by rows."""
+    """The lines of a history, by rows."""
 
     def __init__(self, lines):
         self.files, self.boxes, self.events, self.heads, self.spans = {}, [], [], {}, []
@@ -78,15 +92,15 @@ class History:
         for nth, line in enumerate(lines[1:], 2):
             told, _, state = line.rpartition(" | ")
             if not self.take(told.rstrip()):
-                raise NoHistory(f"line {nth} is none of a history")
+                raise NoHistory(f"line {nth} is not a line of a history")
             if state != self.state():
-                raise NoHistory(f"behind line {nth} the state is {self.state()}, and not {state}")
+                raise NoHistory(f"after line {nth} the state is {self.state()}, not {state}")
         for who, first in self.begun.items():
             # the end of the script answers nothing
             self.boxes.append(Box(who, who, "", first, self.rows - 1))
 
     def table(self):
-        """The span of the table that there is, or None."""
+        """Returns the span of the current table, or None."""
         return self.spans[-1] if self.spans and self.spans[-1].end is None else None
 
     def take(self, line):
@@ -103,14 +117,14 @@ class History:
         return event or answer
 
     def state(self):
-        """The state behind the last line, as a history tells it."""
+        """Returns the state after the last line, as a history prints it."""
         if not self.table():
             return "no table"
         files = [f"{slot} {mark}{' held' if mark == self.held else ''}" for slot, mark in sorted(self.at.items())]
         return (", ".join(files) or "empty") + (f", removed {self.removed}" if self.removed else "")
 
     def follow(self, word, slot, file, found):
-        """What an event changes."""
+        """Applies the changes of an event."""
         if word == "Look":
             self.held = file
         elif word in ("Put", "Allocate"):
@@ -130,7 +144,7 @@ class History:
         if not self.table():
             # a registered list puts its files before it answers
             self.spans.append(Span(0, None, row))
-        slot, file, found = self.parts(word, (words or "").split(", "))
+        slot, file, found = self.words_of_event(word, (words or "").split(", "))
         self.follow(word, slot, file, found)
         if found:
             self.files[found].removed = row
@@ -148,8 +162,8 @@ class History:
         self.events.append(Row(row, who, word + (f", tag {tag}" if tag else ""), it.slot if it else slot, it))
 
     @staticmethod
-    def parts(word, words):
-        """The slot, the file that an event is about, and the one that it removes."""
+    def words_of_event(word, words):
+        """Returns the slot of an event, its file, and the file that it removes."""
         some = [None if it == "none" else it for it in words]
         if word == "Full":
             return None, None, None
@@ -169,7 +183,7 @@ class History:
             self.follow_call(who, words, first)
 
     def follow_call(self, who, words, first):
-        """What an accepted call changes of the table and its range."""
+        """Applies the changes of an accepted call to the table and its range."""
         table = self.table()
         if who in ("sparse", "register"):
             size = int(words) if who == "sparse" else words.split(" ")[0].count(",") + 1
@@ -188,11 +202,67 @@ class History:
         return max((it.size for it in self.spans), default=0)
 
     def slots(self):
-        """The slots that something happens to, and all of a small table's allocation range where an allocation found it full."""
+        """Returns the slots that an event concerns, and all of a small allocation range that an allocation found full."""
         some = {it.slot for it in self.events if it.slot is not None}
         if any(it.word == "Full" for it in self.events):
             some |= {slot for span in self.spans if span.range and span.range[1] - span.range[0] <= 8 for slot in range(*span.range)}
         return sorted(some)
 
+    def places(self):
+        """Returns the places of all requests."""
+        return [it.place() for it in self.boxes if it.place()]
+
     def chains(self):
-        return max((it.place()[1] for it in self.boxes if it.place()), default=1)
+        return max((chain for _, chain, _ in self.places()), default=1)
+
+    def slots_of_event(self, event):
+        """Returns the slots on which an event depends: for an open at any slot those of the allocation range."""
+        if event.word not in ("Allocate", "Full"):
+            return {event.slot} - {None}
+        spans = [it for it in self.spans if it.range and it.begin <= event.row]
+        return set(range(*spans[-1].range)) if spans else set()
+
+    def parts(self, some):
+        """Returns the parts of `some`, of which no two share a slot, in the order of their first chains."""
+        slots_of = {chain: set() for chain in sorted(some.chains)}
+        for event in self.events:
+            place = REQUEST.fullmatch(event.who)
+            chain = place and (int(place[1]), int(place[2]))
+            if chain in slots_of:
+                slots_of[chain] |= self.slots_of_event(event) & some.slots
+        parts = []
+        for chain, slots in slots_of.items():
+            joined = Part(set(slots), {chain})
+            for it in [it for it in parts if it.slots & joined.slots]:
+                parts.remove(it)
+                joined = Part(it.slots | joined.slots, it.chains | joined.chains)
+            parts.append(joined)
+        # slots that no chain uses, and chains that use no slot, go with the first part
+        others = [it for it in parts if not it.slots]
+        parts = sorted((it for it in parts if it.slots), key=lambda it: min(it.chains)) or [Part(set(), set())]
+        parts[0].chains |= {chain for it in others for chain in it.chains}
+        parts[0].slots |= some.slots - {slot for it in parts for slot in it.slots}
+        return parts
+
+    def text_lines(self):
+        """Returns the lines of the text, without the bytes of reads and `teardown`."""
+        lines = [f"{it.who if it.place() else it.who.split(' ')[0]} {it.answer}" for it in self.boxes if it.answer]
+        for it in self.events:
+            if it.word.startswith("Close"):
+                lines.append(f"closed {it.file.mark} {it.file.name}")
+                lines += [f"tag {it.word.split(' ')[-1]}"] if "tag" in it.word else []
+        return lines
+
+    def want_text(self, text):
+        """Raises NoHistory unless the lines of a text are those of the history, and each read has as many bytes as it says."""
+        found = collections.Counter()
+        for line in text.splitlines():
+            words = line.split(" ")
+            has_bytes = len(words) == 3 and REQUEST.fullmatch(words[0]) and words[1].isdigit()
+            if has_bytes and len(words[2]) != 2 * int(words[1]):
+                raise NoHistory(f"the text is not that of the history: {line[:60]!r} has another number of bytes")
+            found[" ".join(words[:2]) if has_bytes else line] += line != "teardown"
+        wanted = collections.Counter(self.text_lines())
+        for differs, what in ((found - wanted, "the text has"), (wanted - found, "the text lacks")):
+            if differs:
+                raise NoHistory(f"the text is not that of the history: {what} {next(iter(differs))!r}")
