@@ -1,0 +1,119 @@
+"""archive_pages.py FOLDER: writes the pages of the archive (scripts/dist) into a folder. They name the archive's commands in place of those
+of make, and links to files that the archive doesn't have become plain words.
+archive_pages.py --check FOLDER: prints the dead links of an unpacked archive, and the commands of make that it doesn't have."""
+import glob
+import os
+import re
+import sys
+
+from pages import anchor_of
+from repository import ROOT, read, write
+
+PAGES = {"docs/ARCHIVE.md": "README.md"} | {
+    it: it for it in (*(f"docs/{name}.md" for name in ("CHECKING", "LIMITS", "LINUX", "LITMUS", "MODEL", "SCRIPT")), "examples/README.md")}
+# the folders that the archive has
+FOLDERS = ("bin", "completions", "docs/pictures", "examples", "linux", "man")
+# what is typed in the archive for a command of make, with the variables of the command
+COMMANDS = {
+    "run": lambda given: f"bin/fixfiles < {given['SCRIPT']}" if given else "bin/fixfiles",
+    "check": lambda given: " ".join(["bin/fixcheck", *given.values()]),
+    "kernel": lambda given: " ".join(["./play-on-kernel", *given.values()]),
+    "litmus": lambda given: " ".join(["./litmus", *given.values()]),
+    "conform": lambda given: " ".join(["./conform", *(f"--scripts {it}" for it in given.values())]),
+}
+# a command of make with its variables, up to the end of the code or a comment
+MAKE = re.compile(r"\bmake ([a-z][a-z-]*)((?: [A-Z]+=[^ `\n]+)*)")
+ELSEWHERE = " (in the repository)"
+
+
+def command_of(name, variables):
+    """Returns what is typed in the archive, or None if it has no such command."""
+    given = dict(it.split("=", 1) for it in variables.split())
+    return COMMANDS[name](given) if name in COMMANDS else None
+
+
+def with_commands(text):
+    """Replaces the commands of make. A line of code with a command that the archive doesn't have is left out, and in a sentence such a
+    command is said to be in the repository."""
+    lines = []
+    for line in text.split("\n"):
+        found = MAKE.search(line) if line.startswith("    make ") else None
+        if found and command_of(*found.groups()) is None:
+            continue
+        lines.append(MAKE.sub(lambda it: command_of(*it.groups()) or it[0], line) if found else line)
+    text = "\n".join(lines)
+
+    def replaced(found):
+        name, variables = MAKE.fullmatch(found[1]).groups()
+        command = command_of(name, variables)
+        return f"`{command}`" if command else found[0] + ELSEWHERE
+
+    return re.sub(rf"`({MAKE.pattern})`", replaced, text)
+
+
+def is_kept(target, page, text):
+    """Checks whether the archive has what a link of a page leads to."""
+    path, _, anchor = target.partition("#")
+    if re.match(r"\w+:", target):
+        return True
+    if not path:
+        return anchor in anchors(text)
+    path = os.path.normpath(os.path.join(os.path.dirname(page), path))
+    if path in PAGES.values() and path != "README.md":
+        return not anchor or anchor in anchors(read(path))
+    return os.path.exists(os.path.join(ROOT, path)) and (path in archive_scripts() or path.startswith(FOLDERS))
+
+
+def archive_scripts():
+    """Returns the paths of the scripts that the archive has."""
+    return {f"scripts/{it}" for it in read("scripts/archived.txt").split()}
+
+
+def anchors(text):
+    return {anchor_of(re.sub(r"[`*]", "", it).strip()) for it in re.findall(r"^#+ (.*)$", text, re.MULTILINE)}
+
+
+def with_links(text, page):
+    """Turns each link to a file that the archive doesn't have into its words."""
+    def replaced(found):
+        return found[0] if is_kept(found[2], page, text) else found[1]
+
+    return re.sub(r"\[([^][]*)\]\(([^)\s]+)\)", replaced, text)
+
+
+def main(folder):
+    for source, page in PAGES.items():
+        write(os.path.join(os.path.abspath(folder), page), with_links(with_commands(read(source)), page))
+    return 0
+
+
+def dead_links(path, text):
+    for target in re.findall(r"\]\(([^)\s]+)\)", text):
+        file, _, anchor = target.partition("#")
+        if re.match(r"\w+:", target):
+            continue
+        to = os.path.join(os.path.dirname(path), file) if file else path
+        if not os.path.exists(to):
+            yield target
+        elif anchor and to.endswith(".md"):
+            with open(to, encoding="utf-8") as page:
+                if anchor not in anchors(page.read()):
+                    yield target
+
+
+def check(folder):
+    """Prints what is wrong in the pages of an unpacked archive."""
+    found = []
+    for path in sorted(glob.glob(f"{folder}/**/*.md", recursive=True)):
+        with open(path, encoding="utf-8") as file:
+            text = file.read()
+        name = os.path.relpath(path, folder)
+        found += [f"{name} leads to {it}" for it in dead_links(path, text)]
+        found += [f"{name} names `make {it[1]}`" for it in MAKE.finditer(re.sub(rf"`[^`]*`{re.escape(ELSEWHERE)}", "", text)) if "`" + it[0] in text
+                  or "    " + it[0] in text]
+    print("\n".join(found))
+    return 1 if found else 0
+
+
+if __name__ == "__main__":
+    sys.exit(check(sys.argv[2]) if sys.argv[1] == "--check" else main(sys.argv[1]))
