@@ -21,7 +21,7 @@ two_terms f (suc n) {j} {k} apart below_j below_k = by_equality j n (λ _. f j +
     (λ last_k. let rest = sum_grows f (suc j) n (omega arith) in let e = ap f last_k in omega arith)
     (λ other_k. let rest = two_terms f n apart (omega arith) (omega arith) in omega arith))
 
--- a state in which no number is twice, and which is settled
+-- a settled state without two uses of a number
 begins_by_tally : {st : State} → ((n : ℕ) → tally n st ≤ 1) → IsSettled st → IsStart st
 begins_by_tally {st} few settled = record {
   settled = settled;

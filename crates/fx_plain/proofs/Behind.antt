@@ -1,9 +1,9 @@
--- What comes behind a history, from the state there.
+-- The continuation of a history, from the state that the history leads to.
 use Rattle.fx_plain.proofs.Words.{◌≡◌, ℕ, List, [], ◌∷◌, ◌++◌, map, refl, ap, ◌∙◌, None, State, after, state_after, AllowsAll, action_of, Event}
 use Rattle.fx_plain.specs.History.{held_by, AllReleaseTheirOwn}
 use Rattle.fx_plain.specs.Reopening.{LegalBehind}
 
--- the state behind two histories
+-- the state after two histories
 state_behind : (start : State) (h more : List Event)
     → state_after start (map action_of (more ++ h)) ≡ state_after (state_after start (map action_of h)) (map action_of more)
 state_behind start h [] = refl

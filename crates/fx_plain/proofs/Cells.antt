@@ -14,7 +14,7 @@ by_equality q k P same other =
     ] refl
 
 module _ {X Y : Type 0} (g : ℕ → X → Y) (xs : List X) {k : ℕ} (v d : X) (inside : k < length xs) where
-  -- what is read is changed at the place that was written
+  -- a read of the list yields the new value at the place that was written
   pub written : (λ q. g q (slice_index_or (slice_set xs k v) q d)) ≡ changed_at (λ p. g p (slice_index_or xs p d)) k (g k v)
   written = λ i q. by_equality q k (λ b. g q (slice_index_or (slice_set xs k v) q d) ≡ if b then g k v else g q (slice_index_or xs q d))
       (λ same. rw (same, get_or-set_same xs k v d inside) refl) (λ other. ap (g q) (get_or-set_other xs k q v d other)) i
@@ -35,14 +35,14 @@ module _ {Y : Type 0} (f : ℕ → Y) (k : ℕ) where
 pub inside_of : {X : Type 0} (xs : List X) (k : ℕ) (d : X) → slice_index_or xs k d ≢ d → k < length xs
 inside_of xs k d differs = elim (cases_lt k (length xs)) [ inl lt ↦ lt | inr le ↦ absurd (differs (get_or-eq_default xs d le)) ]
 
--- what holds of the element that is written, and of each other one as it was, holds of each
+-- a property of the written element, and of each other one as it was, holds for each element
 pub each_set : {X : Type 0} (P : ℕ → X → Type 0) (xs : List X) (k : ℕ) (v d : X) → k < length xs → P k v
     → (m : ℕ) → (m ≢ k → P m (slice_index_or xs m d)) → P m (slice_index_or (slice_set xs k v) m d)
 each_set P xs k v d inside here m others = by_equality m k (λ _. P m (slice_index_or (slice_set xs k v) m d))
     (λ same. subst (λ (j : ℕ). P j (slice_index_or (slice_set xs k v) j d)) (sym same) (subst (P k) (sym (get_or-set_same xs k v d inside)) here))
     (λ other. subst (P m) (sym (get_or-set_other xs k m v d other)) (others other))
 
--- each element of such a list, and what is read behind it
+-- each element of a list of equal values, and each read past its end
 pub read_default : {X : Type 0} (n i : ℕ) (d : X) → slice_index_or (replicate n d) i d ≡ d
 read_default zero i d = refl
 read_default (suc n) zero d = refl

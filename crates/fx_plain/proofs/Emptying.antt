@@ -22,7 +22,7 @@ pub listed : (found : Option File) → option_to_list (identity_of found) ≡ id
 listed None = refl
 listed (Some f) = refl
 
--- the files of the first slots are out, and those of the others stand where they stood
+-- the files of the first slots are out, and the others are where they were
 pub record IsWorked (slots : List (Option ℕ)) (first nodes : List Node) (s : ℕ) : Type 0 where
   pub len : length nodes ≡ length first
   pub left : IsLeft slots first nodes s

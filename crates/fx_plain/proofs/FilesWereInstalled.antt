@@ -1,4 +1,4 @@
--- Each file of a table was there at the start or was installed: what holds of all those holds of every file.
+-- Each file of a table was there at the start or was installed: a property of all those holds for every file.
 use Rattle.fx_plain.proofs.Words.{◌≡◌, ◌⊎◌, ℕ, ◌<◌, List, [], ◌∷◌, map, refl, sym, ap, subst, ◌∙◌, Option, Some, None, if◌then◌else◌, inl, inr}
 use Rattle.fx_plain.proofs.Words.{Closed, State, Allows, after, changed_at, with_removed, state_after, AllowsAll, action_of, closes_in, closed_by}
 use Rattle.fx_plain.proofs.Words.{File, Event, Action, Look, Put, Clear, Take, Allocate, Close, All, IsLegal}
@@ -6,7 +6,7 @@ use Rattle.fx_plain.specs.Laws.{IsAtSlot, IsInstalled, installed_by, IsClosed}
 use Rattle.std.proofs.lemmas.List.Elements.{All-append, All-cons, All-nil}
 use Rattle.fx_plain.proofs.Cells.{by_equality}
 
--- what holds of each file at a slot, and of each removed file by its number
+-- properties of each file at a slot, and of each removed file by its number
 module _ (P : File → Type 0) (Q : ℕ → File → Type 0) (both : (f : File) → P f → Q f.number f) where
   pub record HoldsOfFiles (st : State) : Type 0 where
     pub at_slots : (slot : ℕ) → slot < st.size → (f : File) → st.at slot ≡ Some f → P f
@@ -44,14 +44,14 @@ module _ (P : File → Type 0) where
   abbrev pub HoldsOfAll : State → Type 0
   HoldsOfAll st = HoldsOfFiles P (λ _. P) (λ _ p. p) st
 
-  -- what holds of each file at the start and of each that was installed holds of each file at the end
+  -- a property of each file at the start, and of each that was installed, holds for each file at the end
   pub holds_at_end : (start : State) (h : List Event) → HoldsOfAll start → AllowsAll start (map action_of h) → ((f : File) → IsInstalled h f → P f)
       → HoldsOfAll (state_after start (map action_of h))
   holds_at_end start [] all may new = all
   holds_at_end start (e ∷ h) all may new =
       holds_after P (λ _. P) (λ _ p. p) (holds_at_end start h all may.0 (λ f is. new f (inl is))) e.action may.1 (λ f is. new f (inr is))
 
-  -- and of each file that was closed
+  -- and for each file that was closed
   pub holds_of_closes : (start : State) (h : List Event) → HoldsOfAll start → AllowsAll start (map action_of h) → ((f : File) → IsInstalled h f → P f)
       → (f : File) → IsClosed h f → P f
   holds_of_closes start [] all may new f is = absurd is
@@ -75,7 +75,7 @@ closed_now : (P : Closed → Type 0) (a : Action) → ((f : File) → a ≡ Clos
 closed_now P (Close f) all = All-cons P f.identity [] (all f refl) (All-nil P)
 closed_now P _ all = All-nil P
 
--- what holds of each file that was closed holds of the list of closes
+-- a property of each file that was closed holds for the list of closes
 pub all_closes_in : (P : Closed → Type 0) (h : List Event) → ((f : File) → IsClosed h f → P f.identity) → All P (closes_in (map action_of h))
 all_closes_in P [] all = All-nil P
 all_closes_in P (e ∷ h) all =

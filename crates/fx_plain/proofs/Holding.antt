@@ -15,14 +15,14 @@ pub at_is : (c : Contents) {slot number : ℕ} {file : Closed} → slot_at c.slo
     → (state_of c).at slot ≡ Some (numbered number file)
 at_is c {number} at named = ap (file_at c.nodes) at ∙ ap (placed_at number) named
 
--- a table in which a file has one hold more
+-- a table, with one more hold of a file
 abbrev pub held_more : Contents → ℕ → Contents
 held_more c n = record c { holds = slice_set c.holds n (slice_index c.holds n + 1) }
 
 abbrev pub held_less : Contents → ℕ → Contents
 held_less c n = record c { holds = slice_set c.holds n (slice_index c.holds n - 1) }
 
--- what other holds of a number keep
+-- a table with another number of holds of a file keeps its invariant, unless a retired file has no hold left
 module _ (c : Contents) {n : ℕ} (h : ℕ) (inside : n < length c.holds) where
   holds_keep : IsTable c → (is_retired (node_at c.nodes n) ≡ true → 0 < h) → IsTable (record c { holds = slice_set c.holds n h })
   holds_keep t some =
@@ -46,14 +46,14 @@ look_steps {c} {slot} {n} t inside at named =
       state_of-holds c _ here ∙ sym (ap (λ (x : Option File). after (state_of c) (Look slot x)) (at_is c at named)),
     )
 
--- so many nodes have no more holds than this
+-- the holds of a table with fewer than 2^32 nodes fit 64 bits
 pub few_held : {c : Contents} {full held removed : ℕ} → IsTable c → IsCounted c full held removed → held + 1 < 2 ^ 64
 few_held {c} t k =
     let all = sum_by-le itself 4294967295 c.holds
     (All-from_get_or (λ x. itself x ≤ 4294967295) c.holds 0 (λ i lt. let one = k.small_holds i in omega arith)) in
     let len = t.same_numbers in let few = t.few_nodes in let h = k.all_holds in omega arith
 
--- a node that tells of a removed file is at no slot
+-- a node with a removed file is at no slot
 off_told : (told : Node → Bool) (node : Node) → ((slot : ℕ) (file : Closed) → told (At slot file) ≡ false) → told node ≡ true → IsOff node
 off_told told node none going slot file is = let e : false ≡ true = sym (none slot file) ∙ ap told (sym is) ∙ going in cc
 
@@ -64,7 +64,7 @@ with_node c n node = record c { nodes = slice_set c.nodes n node }
 abbrev pub closed_at : Contents → ℕ → Contents
 closed_at c n = with_node c n Gone
 
--- what a write at a node keeps, where no slot names the node
+-- a write at a node that no slot names keeps the invariant
 keeps_node : {c : Contents} {n : ℕ} (v : Node) → IsTable c → IsOff (node_at c.nodes n) → n < length c.nodes
     → (is_retired v ≡ true → 0 < slice_index c.holds n) → is_fresh v ≡ false → IsTable (with_node c n v)
 keeps_node {c} {n} v t off inside still unfresh = record {
@@ -152,7 +152,7 @@ none_by_release n true (Leaving file) unretired = refl
 none_by_release n false _ unretired = refl
 none_by_release n true _ unretired = refl
 
--- a hold is given up
+-- one hold is released
 module _ {c : Contents} (n : ℕ) (t : IsTable c) (some_hold : 0 < slice_index c.holds n) where
   less_inside : n < length c.holds
   less_inside = inside_of c.holds n 0 (λ (zero_is : slice_index_or c.holds n 0 ≡ 0). omega arith)

@@ -31,7 +31,7 @@ used_after st (Put slot new replaced) n used = grind arith
 used_after st (Allocate slot new) n used = grind arith
 used_after st _ n used = used
 
--- what a step closes under the file's number is the file
+-- a step that closes a file of this number closes this file
 only_close : (f : File) (st : State) (a : Action) → IsOnly f st → Allows st a → (closed_of f.number a ≡ []) ⊎ (closed_of f.number a ≡ f ∷ [])
 only_close f st (Close g) only may = let there = only.removed g.number g may.0 in grind arith
 only_close f st _ only may = inl refl

@@ -8,7 +8,7 @@ use Rattle.fx_plain.proofs.Cells.{by_equality}
 use Rattle.fx_plain.proofs.Named.{named, named_same}
 use Rattle.fx_plain.proofs.Sums.{sum_below, same_below, changed_below, sum_grows, sum_zero}
 
--- the holds of a number that an action takes, and those that it gives up
+-- the holds of a number that an action adds, and those that it ends
 abbrev taken : ℕ → Action → ℕ
 taken n (Look slot found) = named n found
 taken n _ = 0
@@ -37,7 +37,7 @@ covered_after {claims} others q {holds} left up down off here now cover = record
   ];
 }
 
--- what a pass holds of a number
+-- the holds that a pass has of a number
 abbrev holding : ℕ → List Event → ℕ → ℕ
 holding n h pass = named n (held_by h pass)
 
@@ -51,7 +51,7 @@ own_change : (n : ℕ) (held : Option File) (a : Action) → ReleasesItsOwn held
 own_change n held (Release f) own = let e : named n held ≡ named n (Some f) = ap (named n) own in omega arith
 own_change n held _ own = omega arith
 
--- what passes hold is covered by the holds
+-- the passes have at most as many holds as the state counts
 pub covered : (start : State) (h : List Event) (n : ℕ) → AllowsAll start (map action_of h) → AllReleaseTheirOwn h
     → IsCovered (holding n h) ((state_after start (map action_of h)).holds n)
 covered start [] n may own = record { below = λ bound. let e = sum_zero (holding n []) bound (λ _ _. refl) in omega arith }
@@ -70,7 +70,7 @@ both_empty : (xs ys : List File) → xs ++ ys ≡ [] → (xs ≡ []) × (ys ≡ 
 both_empty [] ys is = (refl, is)
 both_empty (x ∷ xs) ys is = cc
 
--- where a pass releases nothing, it released nothing before, and its last step is no release
+-- if a pass releases nothing, it released nothing before, and its last step isn't a release
 kept_on : (p : ℕ) (e : Event) (since : List Event) → releases_in (part_of_pass p (e ∷ since)) ≡ []
     → (releases_in (part_of_pass p since) ≡ []) × (e.pass ≡ p → released_by e.action ≡ [])
 kept_on p e since = by_equality e.pass p (λ b. releases_in (if b then e ∷ part_of_pass p since else part_of_pass p since) ≡ []
@@ -78,7 +78,7 @@ kept_on p e since = by_equality e.pass p (λ b. releases_in (if b then e ∷ par
     (λ same is. let (before, now) = both_empty (releases_in (part_of_pass p since)) (released_by e.action) is in (before, λ _. now))
     (λ other is. (is, λ same. absurd (other same)))
 
--- what passes hold of a number, where one of them keeps a hold of it
+-- the holds that passes have of a number, if one of them keeps a hold of it
 abbrev keeping : ℕ → ℕ → List Event → ℕ → ℕ
 keeping p n h k = if k == p then 1 else holding n h k
 
@@ -87,7 +87,7 @@ no_close : (st : State) (a : Action) (n : ℕ) → Allows st a → 0 < st.holds 
 no_close st (Close f) n may held = let unheld = may.1 in grind arith
 no_close st _ n may held = refl
 
--- the hold that a pass keeps is no other pass's, and the number isn't closed
+-- the hold that a pass keeps belongs to no other pass, and no file of the number is closed
 kept : (start : State) (h since : List Event) (p n : ℕ) → IsCovered (keeping p n h) ((state_after start (map action_of h)).holds n)
     → AllowsAll start (map action_of (since ++ h)) → AllReleaseTheirOwn (since ++ h) → releases_in (part_of_pass p since) ≡ []
     → IsCovered (keeping p n (since ++ h)) ((state_after start (map action_of (since ++ h))).holds n) × (closes_of n since ≡ [])
@@ -110,7 +110,7 @@ kept start h (e ∷ since) p n cover may own is =
       rw (earlier, here) refl,
     )
 
--- a look-up that found a file gives its pass a hold
+-- after a look-up that found a file its pass has a hold
 looked : (before : List Event) (look : Event) {slot : ℕ} {f : File} {holds : ℕ} → look.action ≡ Look slot (Some f)
     → IsCovered (holding f.number (look ∷ before)) holds → IsCovered (keeping look.pass f.number (look ∷ before)) holds
 looked before look {f} {holds} is cover =

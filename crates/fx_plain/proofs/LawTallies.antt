@@ -18,7 +18,7 @@ present (Some f) = 1
 abbrev pub placed : ℕ → (ℕ → Option File) → ℕ → ℕ
 placed n at size = sum_below (λ slot. named n (at slot)) size
 
--- how often the number is fresh, at a slot, or removed
+-- the number of times that the number is fresh, at a slot, or removed
 abbrev pub tally : ℕ → State → ℕ
 tally n st = bit (st.fresh n) + placed n st.at st.size + present (st.removed n)
 
@@ -43,7 +43,7 @@ removed_change : (removed : ℕ → Option File) (found : Option File) (n : ℕ)
 removed_change removed None n few = omega arith
 removed_change removed (Some f) n few = grind arith
 
--- a slot gets another file, or none, and what stood there is removed
+-- a slot gets another file, or none, and the file that was there is removed
 moved : (st : State) (n : ℕ) {slot : ℕ} (new : Option File) {found : Option File} (fresh : ℕ → Bool)
     → bit (fresh n) + named n new ≡ bit (st.fresh n) → slot < st.size → found ≡ st.at slot → tally n st ≤ 1
     → bit (fresh n) + placed n (changed_at st.at slot new) st.size + present (with_removed st.removed found n) + 0 ≡ tally n st

@@ -12,7 +12,7 @@ file_named_same : (old new : List Node) (x : Option ℕ) → ((n : ℕ) → x �
 file_named_same old new None same = refl
 file_named_same old new (Some n) same = ap file_in (same n refl)
 
--- what the slots from s on name is as it was
+-- the files of the slots from `s` on are as they were
 abbrev pub IsLeft : List (Option ℕ) → List Node → List Node → ℕ → Type 0
 IsLeft slots first nodes s = (u number : ℕ) → s ≤ u → slot_at slots u ≡ Some number → node_at nodes number ≡ node_at first number
 
@@ -76,14 +76,14 @@ module _ (slots : List (Option ℕ)) (first nodes : List Node) {s : ℕ} (placed
   earlier_stays (Some n) is u lt = get_or-set_other nodes n u Gone Gone
       (λ (same : u ≡ n). let e : n ≡ s = own s n is (omega arith) in absurd (omega arith))
 
-  -- what holds of the nodes of the slots before it, and of this one's, holds of each of them
+  -- a property of the nodes of the slots before `s`, and of the node of `s`, holds for each of them
   pub each_settled : (P : ℕ → Node → Type 0) (v : Node) → s < length nodes → P s v → ((u : ℕ) → u < s → P u (node_at nodes u))
       → {u : ℕ} → u < s + 1 → P u (node_at (slice_set (nodes_without nodes (slot_at slots s)) s v) u)
   each_settled P v room here before {u} lt = each_set P (nodes_without nodes (slot_at slots s)) s v Gone
       (let len = length-without nodes (slot_at slots s) in omega arith) here u
       (λ other. subst (P u) (sym (earlier_stays (slot_at slots s) refl u (omega arith))) (before u (omega arith)))
 
-  -- the nodes of the slots behind it stay
+  -- the nodes of the slots after `s` stay
   pub later_stays : (v : Node) (x : Option ℕ) → slot_at slots s ≡ x → {u : ℕ} → s + 1 ≤ u → u < length slots
       → node_at (slice_set (nodes_without nodes x) s v) u ≡ node_at nodes u
   later_stays v None is {u} le lt = get_or-set_other nodes s u v Gone (λ (same : u ≡ s). absurd (omega arith))
@@ -104,7 +104,7 @@ filed_by_move slots nodes s is = record {
   vacant = λ none. rw (is, none) (record { used = refl; none_removed = refl });
 }
 
--- files that stand in nodes of which more were made
+-- files in nodes, to which more nodes were added
 module _ (slots : List (Option ℕ)) (old new : List Node) (placed : AllPlaced slots old)
     (same : (n : ℕ) → n < length old → node_at new n ≡ node_at old n) where
   named_before : (u : ℕ) {n : ℕ} → slot_at slots u ≡ Some n → node_at new n ≡ node_at old n

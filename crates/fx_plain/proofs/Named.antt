@@ -1,7 +1,7 @@
--- Whether a file has a number, as a count.
+-- The test for a file's number, as a count.
 use Rattle.fx_plain.proofs.Words.{◌≡◌, ℕ, ◌<◌, ◌≤◌, ◌==◌, refl, Option, Some, None, if◌then◌else◌, arith, File}
 
--- whether it is a file of the number, as a count
+-- 1 for a file of the number, otherwise 0
 abbrev pub named : ℕ → Option File → ℕ
 named n None = 0
 named n (Some f) = if f.number == n then 1 else 0

@@ -1,4 +1,4 @@
--- A later part of a history, with the numbers that a table which is opened then gives.
+-- A later part of a history, with the numbers that a newly opened table uses.
 use Rattle.fx_plain.proofs.Words.{◌≡◌, ◌⊎◌, ℕ, ◌+◌, ◌-◌, ◌<◌, ◌≤◌, Bool, true, false, not, ◌&&◌, nat_lt, List, [], ◌∷◌, map, length, refl, sym, ap}
 use Rattle.fx_plain.proofs.Words.{◌∙◌, Option, Some, None, if◌then◌else◌, arith, inl, inr, cases_lt, lt-ltb, le-ltb, State, IsSettled, opening}
 use Rattle.fx_plain.proofs.Words.{file_numbered, AllowsAll, state_after, action_of, File, Event, Action, IsLegal, identity_of, number_of, Put}
@@ -24,7 +24,7 @@ by_installed (Allocate slot f) l n (inl same) = inl (f, refl, same)
 by_installed (Allocate slot f) l n (inr more) = inr more
 by_installed _ l n is = inr is
 
--- a number that was given was fresh at the start, and is used then
+-- a number that a history gave to a file was fresh at the start, and isn't fresh afterwards
 module _ (start : State) where
   pub used_then : (h : List Action) → AllowsAll start h → (n : ℕ) → IsIn n (numbers_given h) → (state_after start h).fresh n ≡ false
   used_then [] may n is = absurd is
@@ -54,7 +54,7 @@ module _ (start : State) where
     )
   ] refl
 
--- where nothing is read under an old number, nothing is under a new one
+-- if nothing is read under an old number, nothing is read under a new one
 read_none : {X Y : Type 0} (g : X → Y) (none : Y) (f : ℕ → X) → ((n : ℕ) → g (f n) ≡ none) → (x : Option ℕ) → read_at g none f x ≡ none
 read_none g none f nothing None = refl
 read_none g none f nothing (Some n) = nothing n
@@ -65,7 +65,7 @@ settled_still r fresh st settled = record {
   closed = λ n. read_none (renamed_found r) None st.removed (λ k. rw (settled.closed k) refl) (r.back n);
 }
 
--- a slot's file gets the slot's number, and a new one a number behind those of the slots
+-- a slot's file gets the slot's number, and a new file a number after those of the slots
 abbrev pub number_by : ℕ → List ℕ → ℕ → Option ℕ → ℕ
 number_by size new old None = size + place_of old new
 number_by size new old (Some slot) = slot

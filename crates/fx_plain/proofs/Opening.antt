@@ -21,12 +21,12 @@ module _ {c : Contents} {slots : List (Option ℕ)} {nodes : List Node} {numbers
   own_node : {u m : ℕ} → u < length c.slots → slot_at c.slots u ≡ Some m → node_at nodes u ≡ moved_node (file_in (node_at c.nodes m)) u
   own_node {u} {m} inside is = (r.files.filed u inside).file m is
 
-  -- in no node of a slot stands a removed file
+  -- no node of a slot's own number has a removed file
   low_vacant : {n : ℕ} → n < length c.slots → (x : Option ℕ) → slot_at c.slots n ≡ x → IsVacant (node_at nodes n)
   low_vacant {n} low None is = (r.files.filed n low).vacant is
   low_vacant {n} low (Some m) is = rw (own_node low is, (t.placed n m is).1) (record { used = refl; none_removed = refl })
 
-  -- what holds of each kind of node holds of each
+  -- a property of each kind of node holds for each node
   each_node : (P : ℕ → Node → Type 0) → ((n : ℕ) (node : Node) → n < length c.slots → IsVacant node → P n node)
       → ((n : ℕ) → length c.slots ≤ n → n < numbers → P n Fresh) → ((n : ℕ) → numbers ≤ n → P n Gone) → (n : ℕ) → P n (node_at nodes n)
   each_node P low mid high n = elim (cases_lt n (length c.slots)) [

@@ -1,4 +1,4 @@
--- Where a slot is written, the slots outside of a span still have files with their own numbers.
+-- After a write of a slot, the slots outside the span still have files with their own numbers.
 use Rattle.fx_plain.proofs.Words.{◌≡◌, ◌≢◌, ℕ, ◌<◌, ◌≤◌, List, length, sym, ◌∙◌, arith, slice_set, Option, Some, None, length-set, get_or-set_other}
 use Rattle.fx_plain.proofs.Words.{slot_at, SlotSpan, IsOutside, HaveOwnOutside}
 use Rattle.fx_plain.proofs.Cells.{each_set}

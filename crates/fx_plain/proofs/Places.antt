@@ -41,7 +41,7 @@ place_of_number k {n} (x ∷ l) distinct is = by_equality k (length l) (λ b. (i
     (λ apart there. by_equality x n (λ b. (if b then length l else place_of n l) ≡ k)
     (λ same. absurd (distinct.0 (number_at_in k l (there ∙ ap Some (sym same))))) (λ other. place_of_number k l distinct.1 there)) is
 
--- whether the file that stands there has the number
+-- the test that the file at a slot has the number
 abbrev pub has_number : ℕ → Option File → Bool
 has_number n None = false
 has_number n (Some f) = f.number == n

@@ -1,4 +1,4 @@
--- What is known of the state that passes begin with.
+-- The state in which passes begin.
 use Rattle.fx_plain.proofs.Words.{◌≡◌, ℕ, ◌&&◌, not, nat_lt, ap, subst, sym, ◌∙◌, None, Some, File, Option, IsSettled, State, opening, refl}
 use Rattle.fx_plain.proofs.Words.{file_numbered, identity_of, arith, numbered}
 use Rattle.fx_plain.specs.Laws.{IsStart}

@@ -24,7 +24,7 @@ abbrev pub gave_way : List Node → Option ℕ → List Node
 gave_way nodes None = nodes
 gave_way nodes (Some old) = slice_set nodes old (node_after_removal (node_at nodes old))
 
--- what a slot names stands there
+-- the file that a slot names is at that slot
 abbrev pub Names : List Node → Option ℕ → ℕ → Type 0
 Names nodes x slot = (old : ℕ) → x ≡ Some old → (file : Closed) × (node_at nodes old ≡ At slot file)
 
@@ -40,7 +40,7 @@ leaving-gave_way nodes None slot named = refl
 leaving-gave_way nodes (Some old) slot named = let at = (named old refl).1 in
     written (λ q node. is_leaving node) nodes (node_after_removal (node_at nodes old)) Gone (inside_of-At nodes old at) ∙ rw at refl
 
--- what is told alike of a file at a slot and of one that is leaving is told as before
+-- a test that doesn't distinguish a file at a slot from a leaving one has the same result as before
 told-gave_way : (told : Node → Bool) → ((slot : ℕ) (file : Closed) → told (Leaving file) ≡ told (At slot file)) → (nodes : List Node) (x : Option ℕ)
     (slot : ℕ) → Names nodes x slot → (m : ℕ) → told (node_at (gave_way nodes x) m) ≡ told (node_at nodes m)
 told-gave_way told alike nodes None slot named m = refl
@@ -84,11 +84,11 @@ pub other_number : (slots : List (Option ℕ)) (nodes : List Node) {s u m n : �
     → slot_at slots u ≡ Some n → n ≢ m
 other_number slots nodes {s} {u} {m} {n} placed apart at_s at_u = grind (arith, placed s m at_s, placed u n at_u)
 
--- a table in which a slot names another number, or none, and the file that it named has left it
+-- a table, after a slot got another number, or none, and the file that it named left it
 abbrev moved_in : Contents → ℕ → Option ℕ → Option ℕ → List Node → Contents
 moved_in c slot x y nodes = record c { slots = slice_set c.slots slot y; nodes = gave_way nodes x }
 
--- where the nodes were before as they were for each slot
+-- if the nodes are as they were for each slot
 module _ {c : Contents} {slot : ℕ} {x : Option ℕ} (y : Option ℕ) (nodes : List Node) (t : IsTable c) (inside : slot < length c.slots)
     (at : slot_at c.slots slot ≡ x) (len : length nodes ≡ length c.nodes)
     (kept : (u m : ℕ) → slot_at c.slots u ≡ Some m → node_at nodes m ≡ node_at c.nodes m) where
@@ -155,7 +155,7 @@ module _ {c : Contents} {slot : ℕ} {x : Option ℕ} (y : Option ℕ) (nodes : 
       let r = k.all_removed in
       (omega arith, omega arith, record { full_slots = omega arith; all_holds = k.all_holds; small_holds = k.small_holds; all_removed = omega arith })
 
--- a table from which the file of a slot was taken
+-- a table, after the file of a slot was taken
 abbrev pub taken : Contents → ℕ → ℕ → Contents
 taken c slot number = moved_in c slot (Some number) None c.nodes
 
@@ -180,7 +180,7 @@ module _ {c : Contents} {slot number : ℕ} (t : IsTable c) (inside : slot < len
       let all = changed_counted None c.nodes t inside at refl (λ _ _ _. refl) (full - 1) (removed + 1) k refl (omega arith) (omega arith) in
       (some_full, all.0, (take_keeps, all.2))
 
--- the number is none of a slot, and no file waits under it
+-- no slot has the number, and no file with it waits for its close
 pub record IsFree (c : Contents) (slot n : ℕ) : Type 0 where
   room : n < length c.nodes
   unnamed : (u m : ℕ) → slot_at c.slots u ≡ Some m → m ≢ n
@@ -195,7 +195,7 @@ fresh_free {c} slot n t fresh = record {
   quiet = ap removed_count_of (fresh_is _ fresh);
 }
 
--- the slot's own number is free where the slot is empty and nothing waits
+-- the slot's own number is free, if the slot is empty and no file waits for its close
 pub own_free : {c : Contents} {slot : ℕ} → IsTable c → IsSettled (state_of c) → slot < length c.slots → slot < length c.nodes
     → slot_at c.slots slot ≡ None → IsFree c slot slot
 own_free {c} {slot} t settled inside room empty = record {
@@ -206,7 +206,7 @@ own_free {c} {slot} t settled inside room empty = record {
   quiet = not_removed slot (node_at c.nodes slot) (settled.closed slot);
 }
 
--- a table in which a file was put at a slot
+-- a table, after a file was put at a slot
 abbrev pub put_at : Contents → ℕ → Option ℕ → ℕ → Closed → Contents
 put_at c slot found n file = moved_in c slot found (Some n) (slice_set c.nodes n (At slot file))
 
@@ -273,6 +273,6 @@ module _ {c : Contents} {slot n : ℕ} {found : Option ℕ} (file : Closed) (t :
       let all = changed_counted (Some n) with_file t inside at same_len same_named full' removed' k (omega arith) full_is removed_is in
       (all.0, all.1, (put_keeps, all.2))
 
--- what was read at a slot is there
+-- the value that was read at a slot is there
 pub seen_at : {X : Type 0} (xs : List X) {i : ℕ} (d : X) {x y : X} → i < length xs → x ≡ slice_index_or xs i x → x ≡ y → slice_index_or xs i d ≡ y
 seen_at xs {i} d {x} inside read is = get_or_default xs i d x inside ∙ sym read ∙ is

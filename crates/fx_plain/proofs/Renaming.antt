@@ -20,13 +20,12 @@ IsNamed r old = r.back (r.number old) ≡ Some old
 abbrev pub KnowsFound : Renaming → Option File → Type 0
 KnowsFound r found = (f : File) → found ≡ Some f → IsNamed r f.number
 
--- what is read under a new number: what stands under the old one, or else what a table without
--- files has there
+-- the value under a new number: that of the old number, or else that of a table without files
 abbrev pub read_at : {X Y : Type 0} → (X → Y) → Y → (ℕ → X) → Option ℕ → Y
 read_at g none f None = none
 read_at g none f (Some old) = g (f old)
 
--- the state with other numbers, of which these are fresh
+-- the state with other numbers, and with these fresh ones
 abbrev pub renamed_state : Renaming → (ℕ → Bool) → State → State
 renamed_state r fresh st = record {
   size = st.size;
@@ -50,7 +49,7 @@ abbrev pub InstallsNamed : Renaming → List Action → Type 0
 InstallsNamed r [] = Unit {0}
 InstallsNamed r (action ∷ h) = InstallsNamed r h × KnowsFound r (installed_by action)
 
--- what holds of the new value, and of each old one at another place, holds of each
+-- a property of the new value, and of each old one at another place, holds for each value
 each_changed : {X : Type 0} (P : ℕ → X → Type 0) (f : ℕ → X) (n : ℕ) (v : X) → P n v → (m : ℕ) → (m ≢ n → P m (f m)) → P m (changed_at f n v m)
 each_changed P f n v here m others = by_equality m n (λ b. P m (if b then v else f m))
     (λ same. subst (λ (k : ℕ). P k v) (sym same) here) others
@@ -63,7 +62,7 @@ some_renamed : (r : Renaming) (x : Option File) → IsSome x → IsSome (renamed
 some_renamed r (Some f) is = refl
 some_renamed r None is = absurd (cc is)
 
--- which numbers are fresh after an action
+-- the fresh numbers after an action
 abbrev pub fresh_after : Renaming → (ℕ → Bool) → Action → ℕ → Bool
 fresh_after r fresh (Put slot f replaced) = changed_at fresh (r.number f.number) false
 fresh_after r fresh (Allocate slot f) = changed_at fresh (r.number f.number) false
@@ -204,7 +203,7 @@ module _ (r : Renaming) (one : IsOneToOne r) where
       rw (state_behind h known.0 may.0) (allows (renamable_behind h known.0 may.0) a known.1 may.1),
     )
 
--- what a pass holds
+-- the file that a pass holds
 held_after_same : (r : Renaming) (held : Option File) (a : Action)
     → held_after (renamed_found r held) (renamed r a) ≡ renamed_found r (held_after held a)
 held_after_same r held (Release f) = refl

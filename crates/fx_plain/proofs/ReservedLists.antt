@@ -1,4 +1,4 @@
--- What stands in a list of which only a beginning is written.
+-- The elements of a list of which only the first are written.
 use Rattle.fx_plain.proofs.Words.{◌≡◌, ◌≢◌, ℕ, suc, ◌+◌, ◌-◌, ◌<◌, ◌≤◌, List, [], ◌∷◌, ◌++◌, length, length-append, replicate, sym, ap, subst, ◌∙◌}
 use Rattle.fx_plain.proofs.Words.{slice_index_or, slice_set, append_assoc, IsSome, arith, inl, inr, length-set, length-replicate, get_or_append_left}
 use Rattle.fx_plain.proofs.Words.{cases_lt, get_or-eq_default, node_at, file_in, Fresh, Gone, with_rest, Node, set-set, get_or-append-add}
@@ -9,11 +9,11 @@ module _ {X : Type 0} (rest : X) (len : ℕ) (xs : List X) where
   length-with_rest few = let a = length-append xs (replicate (len - length xs) rest) in
       let b : length (replicate (len - length xs) rest) ≡ len - length xs = length-replicate (len - length xs) rest in omega arith
 
-  -- what was written is read
+  -- a written element is read as it was written
   pub read_written : {n : ℕ} (d : X) → n < length xs → slice_index_or (with_rest rest len xs) n d ≡ slice_index_or xs n d
   read_written {n} d inside = get_or_append_left xs (replicate (len - length xs) rest) d n inside
 
-  -- behind it stands the rest
+  -- after the written elements there is the rest
   pub read_rest : {n : ℕ} (d : X) → length xs ≤ n → n < len → slice_index_or (with_rest rest len xs) n d ≡ rest
   read_rest {n} d behind inside =
       let at : length xs + (n - length xs) ≡ n = omega arith in
@@ -35,7 +35,7 @@ module _ {X : Type 0} (rest : X) (len : ℕ) (xs : List X) where
       append_assoc xs (rest ∷ []) (replicate (len - length (xs ++ rest ∷ [])) rest) in
       joined ∙ ap (λ (k : ℕ). xs ++ replicate k rest) same
 
--- what is read as neither the rest nor the default was written
+-- an element that is neither the rest nor the default was written
 inside_written : {X : Type 0} (rest d : X) {len : ℕ} (xs : List X) (n : ℕ) → length xs ≤ len → slice_index_or (with_rest rest len xs) n d ≢ rest
     → slice_index_or (with_rest rest len xs) n d ≢ d → n < length xs
 inside_written rest d {len} xs n few no_rest no_default = elim (cases_lt n (length xs)) [

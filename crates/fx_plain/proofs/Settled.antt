@@ -1,4 +1,4 @@
--- What the counts of a table say of its state.
+-- The counters of a table, and its state.
 use Rattle.fx_plain.proofs.Words.{◌≡◌, ℕ, zero, suc, ◌≤◌, true, false, List, [], length, length-append, replicate, refl, sym, ap, ◌∙◌, Option, Some}
 use Rattle.fx_plain.proofs.Words.{None, arith, IsSettled, files_in_order, files_of, identities_of, Contents, IsTable, IsCounted, state_of, slot_at}
 use Rattle.fx_plain.proofs.Words.{node_at, file_at, removed_at, is_leaving, is_retired, file_count_of, removed_count_of, itself, take, add-one}
@@ -8,7 +8,7 @@ use Rattle.std.proofs.lemmas.List.Sums.{sum_by_more}
 use Rattle.fx_plain.proofs.Cells.{read_default}
 use Rattle.fx_plain.proofs.SumLemmas.{sum_of_nothings, nothing_in_sum, sum_by-replicate}
 
--- a node of which no removed file is told
+-- a node without a removed file
 abbrev pub IsQuiet : Node → Type 0
 IsQuiet node = ((number : ℕ) → removed_at number node ≡ None) × (is_leaving node ≡ false) × (is_retired node ≡ false)
 
@@ -35,7 +35,7 @@ no_holds {c} k s = k.all_holds ∙ sum_of_nothings itself c.holds 0 s.unheld
 pub none_removed : {c : Contents} {full held removed : ℕ} → IsCounted c full held removed → IsSettled (state_of c) → removed ≡ 0
 none_removed {c} k s = k.all_removed ∙ sum_of_nothings removed_count_of c.nodes Gone (λ n. not_removed n (node_at c.nodes n) (s.closed n))
 
--- what a slot names stands there
+-- the file that a slot names is at that slot
 one_file : {c : Contents} (slot : ℕ) → IsTable c → (x : Option ℕ) → slot_at c.slots slot ≡ x
     → length (identities_of (file_at c.nodes x)) ≡ file_count_of x
 one_file slot t None is = refl

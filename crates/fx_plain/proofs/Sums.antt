@@ -33,7 +33,7 @@ module _ (f : ℕ → ℕ) where
   sum_zero (suc n) none_there = let rest : sum_below f n ≡ 0 = sum_zero n (λ k lt. none_there k (omega arith)) in
       let here = none_there n (omega arith) in omega arith
 
-  -- where at most one term is not 0, and that is 1, so is the sum
+  -- if at most one term isn't 0, and it is 1, so is the sum
   pub sum_one : (n : ℕ) → ((k : ℕ) → f k ≤ 1) → ((j k : ℕ) → j < n → k < n → 0 < f j → 0 < f k → j ≡ k) → sum_below f n ≤ 1
   sum_one zero small single = omega arith
   sum_one (suc n) small single = elim (cases_lt 0 (f n)) [

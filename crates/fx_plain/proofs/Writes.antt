@@ -1,4 +1,4 @@
--- What is read of a table after one of its lists was written at one place.
+-- Reads of a table, after one of its lists was written at one place.
 use Rattle.fx_plain.proofs.Words.{◌≡◌, ◌≢◌, ℕ, ◌<◌, Bool, true, false, List, length, refl, sym, ap, ◌∙◌, slice_set, subst, IsSome, Option, Some, None}
 use Rattle.fx_plain.proofs.Words.{get_or-set_other, Closed, changed_at, Contents, IsTable, state_of, slot_at, node_at, file_at, placed_at, leaving}
 use Rattle.fx_plain.proofs.Words.{removed_at, is_fresh, is_leaving, is_retired, file_in, Fresh, At, Leaving, Retired, Gone, Node}
@@ -16,7 +16,7 @@ inside_told told nodes n none is = inside_of nodes n Gone (λ (gone : node_at no
 pub has_file-At : (nodes : List Node) (n : ℕ) {slot : ℕ} {file : Closed} → node_at nodes n ≡ At slot file → IsSome (file_in (node_at nodes n))
 has_file-At nodes n is = subst (λ (node : Node). IsSome (file_in node)) (sym is) refl
 
--- a node by what is told of it
+-- a node, by the results of its tests
 pub fresh_is : (node : Node) → is_fresh node ≡ true → node ≡ Fresh
 fresh_is Fresh e = refl
 fresh_is _ e = cc

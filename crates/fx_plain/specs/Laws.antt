@@ -107,6 +107,6 @@ EveryFileWasThereOrInstalled =
     → IsAtSlot end f ⊎ IsClosed h f
     → IsAtSlot start f ⊎ IsInstalled h f
 
--- histories to which the laws apply may begin in the state in which passes begin
+-- the state in which passes begin is one from which the laws apply
 abbrev pub OpeningIsStart : Type 0
 OpeningIsStart = (st : State) (numbers : ℕ) → IsStart (opening st numbers)

@@ -17,7 +17,7 @@ pub record Renaming : Type 0 where
   -- the new number of a file, and the new one of a chain
   pub number : ℕ → ℕ
   pub chain : ℕ → ℕ
-  -- the old number that a new one stands for
+  -- the old number of a new one
   pub back : ℕ → Option ℕ
 
 abbrev pub renamed_file : Renaming → File → File
@@ -40,7 +40,7 @@ abbrev pub renamed_event : Renaming → Event → Event
 renamed_event r e =
     record { pass = e.pass; chain = r.chain e.chain; action = renamed r e.action }
 
--- the numbers that installed files were given, the last one first
+-- the numbers of the installed files, the last one first
 abbrev pub with_number_of : Option File → List ℕ → List ℕ
 with_number_of None numbers = numbers
 with_number_of (Some f) numbers = f.number ∷ numbers

@@ -6,7 +6,7 @@ use Rattle.fx_plain.proofs.OwnNumbers.{own_in_wider}
 use Rattle.fx_plain.proofs.table.PlainTable.put.Goals.{After-index-replaced}
 use Rattle.fx_plain.proofs.table.PlainTable.put.Goals as goal
 
--- where the slot names this number, or none
+-- if the slot names this number, or none
 module _ (c : After-index-replaced) {found : Option ℕ} (is : c.index-replaced.result.now ≡ found) where
   abbrev v : Contents
   v = the_view c.self.inside
