@@ -1,4 +1,4 @@
--- What a pass needs for each call of the table that it has, and what it has to show behind it.
+-- The conditions of a pass for each call of the table that it has, and its obligations afterwards.
 use Rattle.fx_baton.proofs.Words.{◌≡◌, ℕ, ◌+◌, ◌*◌, ◌<◌, ◌≤◌, Bool, true, false, [], ◌∷◌, map, sym, refl, ap, ◌∙◌, subst, arith, Option, Some, None}
 use Rattle.fx_baton.proofs.Words.{option_map, is_some, not, TableId, rest, Closed, State, Steps, changed_at, Contents, IsTable, state_of, leaving}
 use Rattle.fx_baton.proofs.Words.{Leads, action_of, close_of, ◌▷◌, ◌▷▷◌, numbered, identity_of, closed_by_release, closed_by_retirement, EndsHold}
@@ -23,7 +23,7 @@ module _ {id : TableId} {k : Start} {u : PassView} {p : BatonPass} where
   pub may_lend : {c d : Contents} → HasTable id k u c d p → (p.seat.table_id ≡ id) × ((x : Contents) × (p.seat.me.1 ≡ (0, x) ∷ rest p.seat.me.1))
   may_lend {c} {d} h = (h.table, (d, h.slots ∙ ap (λ l. (0, d) ∷ l) (sym (ap rest h.slots))))
 
-  -- behind a call the pass has another table
+  -- after a call the pass has another table
   abbrev still_has : {c d : Contents} → HasTable id k u c d p → (now : Contents) → HasTable id k u c now (record p { seat = seat_with p.seat 0 now })
   still_has h now = record {
     table = h.table;
@@ -35,16 +35,16 @@ module _ {id : TableId} {k : Start} {u : PassView} {p : BatonPass} where
     knows = h.knows;
   }
 
--- what answers tell of the file at a slot
+-- the number and the entry of the file at a slot, as results show them
 abbrev pub shown : File → ℕ × ℕ
 shown f = (f.number, f.identity.entry)
 
--- what a pass does that found a file, and one that removed it
+-- the activity of a pass that found a file, and of one that removed it
 idle_told : {X : Type 0} (tell : File → X) (o : Option File) {found : Option X} {flag : Bool} → is_some found ≡ not flag → found ≡ option_map tell o
     → (flag ≡ is_idle (holds_now o)) × (flag ≡ is_idle (retiring o 0))
 idle_told tell o says e = grind arith
 
--- what an answer tells: nothing, or a file
+-- a result is nothing, or a file
 none_found : {X : Type 0} (tell : File → X) (P : Option File → Type 0) (o : Option File) → None ≡ option_map tell o → P o → P None
 none_found tell P None e a = a
 none_found tell P (Some f) e a = let no : None ≡ Some (tell f) = e in absurd (cc no)
@@ -133,7 +133,7 @@ module _ {id : TableId} {k : Start} {u : PassView} {c : Contents} {p : BatonPass
     flag = flag_says;
   }
 
-  -- what the call adds
+  -- the events that the call adds
   pub added : {call : Call} {d : Contents} {q : BatonPass} → HasGivenBack id k call (lent d) q
       → Adds o u (actions_of c view.doing call) (doing_of c call) (use_of call) (view_of q)
   added {d} gives = gives.adds u c d (still_has h d)
@@ -184,7 +184,7 @@ module _ {id : TableId} {k : Start} {u : PassView} {c : Contents} {p : BatonPass
         (slot_turn d p.chain h.knows is_idle_here (Take slot ((state_of c).at slot)) slot None _ _ l.step l.step.1 refl l.leaving tt (λ _. refl)
         (omega arith, λ n _. refl)) tt (omega arith) (omega arith) (idle_told (λ x. x.number) ((state_of c).at slot) says l.answer).1
 
-  -- what a look-up answers: nothing, or a file
+  -- the result of a look-up: nothing, or a file
   pub empty_looked : {slot : ℕ} {d : Contents} {q : BatonPass} → HasGivenBack id k (LookCall slot) (lent d) q
       → None ≡ option_map shown ((state_of c).at slot) → Adds o u ([] ▷ Look slot None) Idle one_look (view_of q)
   empty_looked {slot} {d} {q} gives e =
@@ -197,7 +197,7 @@ module _ {id : TableId} {k : Start} {u : PassView} {c : Contents} {p : BatonPass
       let there = some_found (λ z. Adds o u ([] ▷ Look slot z) (holds_now z) one_look (view_of q)) ((state_of c).at slot) e (added gives) in
       (there.0, (λ i. record { node = (there.1 i).0; entry = (there.1 i).1 }), there.2)
 
-  -- what an installation at a free slot answers
+  -- the result of an installation at any slot
   pub allocated_so : {slot number : ℕ} {its file : Closed} {d : Contents} {q : BatonPass} → number ≡ next_of u → its ≡ file
       → HasGivenBack id k (AllocateCall slot number its) (lent d) q → slot < (state_of c).size
       → (slot < size_of o) × Adds o u ([] ▷ Allocate slot (new_file o u file)) Idle one_number (view_of q)
@@ -220,7 +220,7 @@ module _ {id : TableId} {k : Start} {u : PassView} {c : Contents} {p : BatonPass
         (letting_go_turn d p.chain h.knows f holds_here (closed_by_release c f.number) refl (e.steps f refl) e.leaving))
         tt (omega arith) (omega arith) refl
 
-    -- what a release answers
+    -- the result of a release
     pub released_so : (d : Contents) {q : BatonPass} → HasGivenBack id k ReleaseCall (lent d) q → (result : Option Closed)
         → result ≡ identity_of (closed_by_release c hold.node) → Released o u hold result (view_of q)
     released_so d {q} gives result is = (
@@ -258,7 +258,7 @@ module _ {id : TableId} {k : Start} {u : PassView} {c : Contents} {p : BatonPass
         (retire_turn d p.chain h.knows gone removed.1 removes_here (closed_by_retirement c gone.number) refl (leads_there d leads)
         (leaves ∙ ap (λ (n : ℕ). changed_at (leaving c) n false) place_is))) tt (omega arith) (omega arith) refl
 
-    -- what a retirement answers
+    -- the result of a retirement
     pub retired_so : (d : Contents) {q : BatonPass} → HasGivenBack id k RetireCall (lent d) q → (result : Option Closed)
         → result ≡ identity_of (closed_by_retirement c retired.node)
         → Leads (state_of c) (close_of (closed_by_retirement c retired.node)) (state_of d) → HasRetired o u retired result (view_of q)

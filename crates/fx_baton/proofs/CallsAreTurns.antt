@@ -1,4 +1,4 @@
--- What each call of the plain table is as a turn.
+-- Each call of the plain table, as a turn.
 use Rattle.fx_baton.proofs.Words.{◌≡◌, ◌≢◌, ℕ, ◌+◌, ◌-◌, ◌<◌, ◌≤◌, Bool, true, false, cond, List, [], ◌∷◌, map, sym, refl, ap, ◌∙◌, subst, arith, eqb}
 use Rattle.fx_baton.proofs.Words.{◌⊎◌, inl, inr, ⊎_elim, dite, ℕ_discrete, Option, Some, None, not, ◌&&◌, if◌then◌else◌, State, Steps, changed_at}
 use Rattle.fx_baton.proofs.Words.{with_removed, Contents, state_of, leaving, Leads, IsLegal, ReleasesItsOwn, held_by, close_of, ◌▷◌, ◌▷▷◌}
@@ -35,7 +35,7 @@ module _ {v : View} {x : Log} {c : Contents} (d : Contents) (chain : ℕ) (known
   legal_one {a} step own = legal_then (begin_of v.start) (state_of c) (state_of d) (done (a ∷ [])) x.front known.legal
       ((tt, step.0), step.1) (known.legal.releases, own)
 
-  -- what the pass held before, and what was leaving, where no file was removed or retired
+  -- the file that the pass held before, and the leaving files, if no file was removed or retired
   held_so : {doing : Doing} → v.doing ≡ doing → held_by x.front x.number ≡ file_held doing
   held_so is = known.held ∙ ap file_held is
 
@@ -43,7 +43,7 @@ module _ {v : View} {x : Log} {c : Contents} (d : Contents) (chain : ℕ) (known
       → leaving_count d n + removals_by n v.doing ≡ leaving_count c n + removals_by n doing
   none_leaves is leaves n = let a = ap (λ (z : ℕ → Bool). cond {A = ℕ} (z n) 1 0) leaves in let b = ap (removals_by n) is in omega arith
 
-  -- where a file is closed that nobody holds, the others stay
+  -- after the close of a file without holds the others stay
   files_but : (f : File) {y : State} → state_of d ≡ y → y.holds f.number ≡ 0 → leaving d f.number ≡ false
       → ((g : File) → g.number ≢ f.number → HasFile (state_of c) g → HasFile y g)
       → (g : File) → HasFile (state_of c) g → (0 < (state_of d).holds g.number) ⊎ (leaving d g.number ≡ true) → HasFile y g
@@ -53,12 +53,12 @@ module _ {v : View} {x : Log} {c : Contents} (d : Contents) (chain : ℕ) (known
       (λ still. let no : true ≡ false = sym still ∙ (ap (leaving d) e ∙ retired) in cc no) stays))
       (λ other. kept g other i)
 
-  -- of fresh numbers a turn uses up no other pass's, and none from the pass's next one on
+  -- a turn uses none of another pass's fresh numbers, and none of its own from its next one on
   abbrev pub UsesOwn : (ℕ → Bool) → ℕ → Type 0
   UsesOwn fresh next = (number_behind x.own ≤ next)
       × ((n : ℕ) → (pass_of_number v.start.passes n ≡ x.number → next ≤ n) → fresh n ≡ (state_of c).fresh n)
 
-  -- that of a file that it installs is the pass's next one
+  -- a file that a turn installs has the pass's next number
   pub uses_next : {q : ℕ} → pass_of_number v.start.passes q ≡ x.number → number_behind x.own ≤ q
       → UsesOwn (changed_at (state_of c).fresh q false) (q + 1)
   uses_next {q} its from = (
@@ -67,7 +67,7 @@ module _ {v : View} {x : Log} {c : Contents} (d : Contents) (chain : ℕ) (known
         (λ same. let l = later (ap (pass_of_number v.start.passes) same ∙ its) in omega (arith, same, l)),
   )
 
-  -- what a turn has to show, where the state behind it is y
+  -- the obligations of a turn that leads to the state `y`
   turn : (xs : List Action) (doing : Doing) (y : State) → state_of d ≡ y → UsesOwn y.fresh (number_behind (x.own ▷▷ done xs))
       → IsLegal (begin_of v.start) (x.front ▷▷ done xs) (state_of d)
       → ((n : ℕ) → y.holds n + holds_by n v.doing ≡ (state_of c).holds n + holds_by n doing)
@@ -108,14 +108,14 @@ module _ {v : View} {x : Log} {c : Contents} (d : Contents) (chain : ℕ) (known
         (λ n. let b = ap (holds_by n) idle in let e = one_more_at (state_of c).holds g.number n in omega arith) (none_leaves idle leaves)
         (λ f i _. i) (held_mine x.number chain (Look slot (Some g)) x.front) (λ f e. inl (slot, sym step.0.1 ∙ e))
 
-    -- what stood at the slot, if anything did, is leaving now
+    -- the file that was at the slot, if any, is leaving now
     leaves_more : (slot : ℕ) (o : Option File) → o ≡ (state_of c).at slot → leaving d ≡ more_leaving (leaving c) o
         → (n : ℕ) → leaving_count d n + removals_by n v.doing ≡ leaving_count c n + removals_by n (retiring o 0)
     leaves_more slot None is leaves n = none_leaves idle leaves n
     leaves_more slot (Some f) is leaves n =
         let a = flag_set (leaving c) n leaves (stays_put c known.sound slot f (sym is)) in let b = ap (removals_by n) idle in omega arith
 
-    -- a slot gets another file, or none, and what stood there is removed
+    -- a slot gets another file, or none, and the file that was there is removed
     pub slot_turn : (a : Action) (slot : ℕ) (new found : Option File) (fresh : ℕ → Bool) → Steps (state_of c) a (state_of d)
         → state_of d ≡ record (state_of c) {
           at = changed_at (state_of c).at slot new;
@@ -133,7 +133,7 @@ module _ {v : View} {x : Log} {c : Contents} (d : Contents) (chain : ℕ) (known
         (held_mine x.number chain a x.front ∙ (still (held_by x.front x.number) ∙ (held_so idle ∙ sym (retires found).1)))
         (λ f e. inr (now_removed (state_of c) slot new found is apart f (sym (retires found).2 ∙ e)))
 
-  -- what the pass holds is given up
+  -- the file that the pass holds is released
   module _ (f : File) (holds : v.doing ≡ Holding f) where
     one_less : (n : ℕ) → 0 < (state_of c).holds f.number
         → changed_at (state_of c).holds f.number ((state_of c).holds f.number - 1) n + holds_by n v.doing ≡ (state_of c).holds n + 0
@@ -159,7 +159,7 @@ module _ {v : View} {x : Log} {c : Contents} (d : Contents) (chain : ℕ) (known
         (held_mine x.number chain (Close g) (x.front ▷▷ done ([] ▷ Release f)) ∙ held_mine x.number chain (Release f) x.front)
         (λ h e. absurd (none_file h e))
 
-  -- what the pass removed is retired
+  -- the file that the pass removed is retired
   module _ (f : File) (takes : ℕ) (removes : v.doing ≡ Retiring f takes) where
     there_still : HasFile (state_of c) f
     there_still = known.file f (ap file_in_hand removes)

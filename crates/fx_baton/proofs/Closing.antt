@@ -1,4 +1,4 @@
--- When all passes have come back, one history stands behind them.
+-- When all passes have come back, their events are one history.
 use Rattle.fx_baton.proofs.Words.{◌≡◌, ℕ, ◌<◌, ◌≤◌, cond, List, [], ◌∷◌, map, length, reverse, sym, refl, ap, ◌∙◌, subst, arith, eqb, ⊎_elim, some}
 use Rattle.fx_baton.proofs.Words.{get_elem?, None, Contains, sum_by, count_by, TableId, State, IsSettled, state_of, node_at, removed_at, is_retired}
 use Rattle.fx_baton.proofs.Words.{is_leaving, Node, IsSeenBy, part_of_pass, pass_of_chain, state_at, HasSameFiles, PassView, HasDrawnInTurn}
@@ -76,7 +76,7 @@ module _ (id : TableId) (k : Start) where
     pass_of {n} low high = let p = found_by (λ (p : BatonPass). p.number) n ps (omega (arith, numbers n, once_is k.passes n)) in
         (view_of p.0, contains_mapped view_of ps p.0 p.1, p.2)
 
-    -- what holds of each pass as it is seen
+    -- a property of each pass as contracts show it
     of_views : (P : PassView → Type 0) → ((p : BatonPass) → Contains ps p → P (view_of p)) → (w : PassView) → Contains (map view_of ps) w → P w
     of_views P each_p w h = let p = contains_map view_of ps w h in subst P (sym p.2) (each_p p.0 p.1)
 

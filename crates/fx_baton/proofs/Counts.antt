@@ -1,4 +1,4 @@
--- How often a pass stands among the logs of views, and what a pass's doing counts for.
+-- The number of logs of a pass in views, and the counts of a pass's activity.
 use Rattle.fx_baton.proofs.Words.{◌≡◌, ℕ, ◌+◌, ◌≤◌, Bool, true, false, cond, List, map, ap, arith, eqb, ◌⊎◌, Some, Contains, File, Event, Doing}
 use Rattle.fx_baton.proofs.Words.{bit_here, one_if, sum_map, sum_of, Log, logs_of, file_in_hand, holds_by, removals_by, log_behind, changed_at}
 

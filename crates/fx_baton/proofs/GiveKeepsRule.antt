@@ -1,4 +1,4 @@
--- A seat with one pass that has the table may give it back.
+-- A seat with one pass that has the table may put it back.
 use Rattle.fx_baton.proofs.Words.{◌≡◌, ◌≢◌, ℕ, true, List, [], ◌∷◌, ◌++◌, map, set, sym, refl, ap, ◌∙◌, subst, inl, inr, ⊎_elim, dite, ℕ_discrete}
 use Rattle.fx_baton.proofs.Words.{some, none, some-injective, get_elem?, Some, Contains, step, gives, at_set, Contents, state_of, IsTable, IsLegal}
 use Rattle.fx_baton.proofs.Words.{IsSeenBy, held_by, ◌▷▷◌, Event, Doing, seen_again, Log, View, Start, pass_of_number, Shared, Seated, begin_of}

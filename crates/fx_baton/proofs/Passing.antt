@@ -56,7 +56,7 @@ module _ {id : TableId} {k : Start} {p : BatonPass} (fits : IsPassOf id k p) (se
   pub has_table : HasTable id k (view_of p) (table_of_slots seat.me.1) (table_of_slots seat.me.1) (record p { seat = seat })
   has_table = subst (λ (m : Seated). HasTable id k (view_of p) (table_of_slots m.1) (table_of_slots m.1) (took m)) is_me took_table
 
--- what a close alone adds installs nothing
+-- a close installs nothing
 next_close : (p chain : ℕ) (o : Option File) (own : List Event) → number_behind (map (by p chain) (close_of o) ++ own) ≡ number_behind own
 next_close p chain None own = refl
 next_close p chain (Some f) own = refl
@@ -66,7 +66,7 @@ next_release : (p chain : ℕ) (f : File) (o : Option File) (own : List Event)
 next_release p chain f None own = refl
 next_release p chain f (Some g) own = refl
 
--- the pass's numbers go on behind a call
+-- the pass's numbers after a call
 next_behind : (c : Contents) (v : PassView) (now : ℕ) (doing : Doing) (call : Call) (own : List Event) → number_behind own ≤ next_of v
     → v.numbers_left ≤ 64 * v.chain → now + (use_of call).numbers ≡ v.numbers_left → UsesNext v call
     → number_behind (events_of c v.number v.chain doing call ++ own) ≤ (256 + 64 * v.chain) - now

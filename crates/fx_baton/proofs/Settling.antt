@@ -1,4 +1,4 @@
--- A table of one pass, which does nothing, tells its history without being closed.
+-- The history of a table with one pass, which is idle, without closing the table.
 use Rattle.fx_baton.proofs.Words.{◌≡◌, ℕ, [], ◌∷◌, ◌++◌, sym, refl, ap, ◌∙◌, subst, arith, some, get_elem?, Contains, step, keeps, Allows, BatonPass}
 use Rattle.fx_baton.proofs.Words.{contains_head, contains_only, IsPassOf, IsKept, Seated, Shared, Start, TableId, Idle, opening_of, view_of}
 use Rattle.fx_baton.proofs.Words.{file_held}
