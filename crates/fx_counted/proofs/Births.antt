@@ -39,7 +39,7 @@ module _ (turn : Turn) where
   unheld q empty j u f there holds same = let e = subst (WorkAgrees v.start r.phase j) holds (r.each_view j u there).work in
       let z : None ≡ Some f.identity = sym empty ∙ (ap (λ (m : ℕ). file_in (r.phase m)) (sym same) ∙ e.1) in cc z
 
-  -- a step on the place of a number without a file, of which nothing is told
+  -- a step on the place of a number without a file, which adds no event
   home_step : {q : ℕ} (its : IsNumber v.start q) {ph ph' : Phase} (word' : ℕ) (lies : maybe.Option (Option Closed)) (d : Work)
       → r.phase q ≡ ph → file_in ph ≡ None → MayTurn turn q ph' → ((n : ℕ) → n ≢ q → busy v.work ≢ n + 1)
       → held_in v.work ≡ held_in d → ((n : ℕ) → holding n v.work ≡ holding n d)

@@ -1,4 +1,4 @@
--- What a call of a table needs for its steps.
+-- The conditions of a call's steps.
 use Rattle.fx_counted.proofs.Words.{◌≡◌, ℕ, ◌*◌, true, ◌<◌, ◌≤◌, inl, inr, sym, ap, ◌∙◌, arith, range_of, full_word_of, InRange, HasNode, ◌+◌, ⊎_elim}
 use Rattle.fx_counted.proofs.Words.{chain_numbers, slot_of, slot_place, node_place, opening_of, IsNumber, opening_of_table, Start, CountedTable}
 use Rattle.fx_counted.proofs.Words.{size_of, ◌-◌, ne_eqb, Option, Some, None, dite, ℕ_discrete, number_of, File, name_in, node_in, Names, named}
@@ -13,7 +13,7 @@ use Rattle.fx_counted.proofs.ControlSteps.{may_change}
 pub slot_inside : (t : CountedTable) {slot i : ℕ} → slot < size_of (opening_of_table t) → i ≡ slot_place slot → i < t.table.shared.table_id.words
 slot_inside t {slot} l is = omega (arith, (inside t.size (t.numbers * t.chains) t.few_slots).slot slot (omega (arith, t.same_size)), t.words)
 
--- how many numbers the chains have together
+-- the number of file numbers of all chains together
 pub its_numbers : (t : CountedTable) → t.numbers * t.chains ≡ chain_numbers t.table.shared.key
 its_numbers t = λ i. t.key.2 i * t.key.0 i
 
@@ -42,7 +42,7 @@ in_size t slot r =
 pub full_of : (t : CountedTable) {k : Start} → k ≡ t.table.shared.key → full_word_of t.range_len ≡ full_word_of (range_of (opening_of k)).1
 full_of t is = ap (λ (z : ℕ × ℕ). full_word_of z.1) t.same_range ∙ ap (λ (z : Start). full_word_of (range_of (opening_of z)).1) (sym is)
 
--- What is read from the word of a slot, by what the word names.
+-- The readings of a slot's word, by the file that the word names.
 pub node_is : (word : ℕ) (file : Option File) → Names word file → node_in word ≡ number_of file
 node_is word None e = ap named e
 node_is word (Some f) e = named_suc (name_in word) f.number e.0
@@ -52,10 +52,10 @@ pub no_name : (word : ℕ) → node_in word ≡ None → name_in word ≡ 0
 no_name word is = dite (ℕ_discrete (name_in word) 0) (λ e. e)
     (λ some. let bad : Some (name_in word - 1) ≡ None = rw (ne_eqb (name_in word) 0 some) at is in absurd (cc bad))
 
--- What a removal asks for, and what it adds.
+-- The conditions of a removal, and the events that it adds.
 module _ (act : ℕ → Option File → Action) (t : CountedTable) {p : CountedPass} (fits : IsPassOfTable t p) {slot i : ℕ}
     (place : i ≡ slot_place slot) where
-  -- an idle pass may swap 0 into the slot's word, behind a begin if the slot is in the range
+  -- an idle pass may swap 0 into the slot's word, after the beginning of a change if the slot is in the range
   pub removal_requires : {slots : ℕ} {seat : Seat (Option Closed) View} (began : Bool) → IsRemoval act → IsIdle (view_of p)
       → slot < size_of (opening_of_table t) → seat.table_id ≡ p.seat.table_id → InRange t.table.shared.key slot began
       → Goes p.seat.me [] no_use p.seat.me.0.work (begun began) 1 seat.me

@@ -45,24 +45,24 @@ module _ (turn : Turn) where
   drawn_v : (c : ℕ) → drawn_of c v ≡ times c x.drawn
   drawn_v c = of_one (λ z. times c z.drawn) one
 
-  -- the pass's last chain was given
+  -- the pass's last chain was drawn
   pub chain_few : chain_in x ≤ d.given
   chain_few = dite (ℕ_discrete (chain_in x) 0) (λ none. omega arith)
       (λ some_chain. let a = chain_drawn x.drawn (omega (arith, some_chain)) in let b = sum_at (drawn_of (chain_in x)) st.views id v here in
       let c = drawn_v (chain_in x) in let e = d.each (chain_in x) in omega (arith, once_is d.given (chain_in x)))
 
-  -- few passes are told that there are no more chains, so the word doesn't run over
+  -- few passes get `None`, so the word doesn't overflow
   word_is : (found + 1) % 2 ^ 64 ≡ found + 1
   word_is = let a = sum_le_at told_of lengths st.views (λ j u e. told_few u.logs) in let b = r.whole in let f = r.shape.passes in
       let told : sum_by told_of st.views ≤ 16 = omega arith in
       let b = d.counts in let c = d.few in let e = r.shape.chains in omega (arith, told, b, c, e)
 
   module _ (idle : v.work ≡ Between Idle) (untold : x.no_chains_left ≡ false) (carried : List (ℕ × Option Closed)) (slots : ℕ) where
-    -- what a draw comes to
+    -- the result of a draw
     abbrev Drawn : Type 0
     Drawn = Made turn carried draw_place (λ _. found + 1) (DrawTells (step slots draw_place 1 0 none) (v, carried))
 
-    -- a pass alone has drawn all chains that were given
+    -- a table's only pass has drawn all chains that were drawn
     alone : v.start.passes ≡ 1 → found ≡ chain_in x
     alone passes =
         let all : length v.logs ≡ v.start.passes = ap (length {A = Log}) one ∙ sym passes in
@@ -73,7 +73,7 @@ module _ (turn : Turn) where
         dite (dec_le d.given (chain_in x)) (λ le. omega (arith, le, few, counts, none_told))
         (λ gt. let none = (its_log turn).last d.given (omega (arith, gt)) in absurd (omega (arith, none, drawn_here, gt, once_is d.given d.given)))
 
-    -- what a draw has to keep
+    -- the obligations of a draw
     module _ (drawn : List ℕ) (told : Bool) (left : ℕ) (phase' : ℕ → Phase) where
       abbrev y : Log
       y = record x { drawn = drawn; no_chains_left = told; numbers_left = left; steps = x.steps + 1 }

@@ -18,7 +18,7 @@ use Rattle.fx_counted.proofs.LettingGo.{sub_wraps}
 module _ (turn : Turn) (h' : List Event) where
   open turn use {st, v, r, id, x, here, one}
 
-  -- the history tells of nothing new
+  -- the history has no new event
   pub record Quiet : Type 0 where
     pub grows : Grows x.number r.history h'
     pub legal : IsHistory v.start h'
@@ -72,7 +72,7 @@ module _ (turn : Turn) where
   pub no_event : Quiet turn r.history
   no_event = record { grows = grows_none x.number r.history; legal = r.legal; state = refl; looked = refl; all = refl; held = refl }
 
--- what one of them adds to the gap between two totals
+-- the part of one of them in the gap between two totals
 pub total_gap : {X : Type 0} {f g : X → ℕ} (xs : List X) (i : ℕ) {v : X} → get_elem? xs i ≡ some v
     → ((j : ℕ) (x : X) → get_elem? xs j ≡ some x → f x ≤ g x) → sum_by f xs + g v ≤ sum_by g xs + f v
 total_gap [] i {v} e each = absurd (some-ne-none v (sym e))
@@ -82,7 +82,7 @@ total_gap {f} {g} (x ∷ xs) zero {v} e each = let p : f x ≡ f v = ap f (some-
 total_gap {f} {g} (x ∷ xs) (suc i) {v} e each = let a = each 0 x refl in let c = sum_by-cons f x xs in
     let d = sum_by-cons g x xs in let b = total_gap xs i e (λ j y d. each (suc j) y d) in omega arith
 
--- a pass has something to tell in a change alone, and one slot at most
+-- a pass has a difference to report only in a change, and at most one slot
 pub at_most_one : (c : Change) → (in_change c ≤ 1) × (added c ≤ in_change c) × (removed_by c ≤ in_change c)
 at_most_one Outside = (omega arith, omega arith, omega arith)
 at_most_one _ = (omega arith, omega arith, omega arith)
@@ -132,7 +132,7 @@ module _ (turn : Turn) where
   wide : control_place < length st.words
   wide = let a = r.shape.words in let b = (near turn).control in omega arith
 
-  -- what is written to the control word
+  -- the value that is written to the control word
   module _ (y : ℕ) where
     abbrev words' : List ℕ
     words' = set st.words control_place y
@@ -176,7 +176,7 @@ module _ (turn : Turn) where
         let sum : (word + 4294967296) % 2 ^ 64 ≡ word + 4294967296 = omega arith in
         record { upper = omega arith; lower = omega arith }
 
-    -- the difference is told: amount is 2^32 less it
+    -- the difference is reported: `amount` is 2^32 minus the difference
     end_counts : (h' : List Event) (amount : ℕ) → in_change v.change ≡ 1 → amount + added v.change ≡ one_change + removed_by v.change
         → ControlCounts at_now range (set st.views id (went turn h' v.work Outside)) ((word + (2 ^ 64 - amount)) % 2 ^ 64)
     end_counts h' amount in_now amount_is = let w = went turn h' v.work Outside in
@@ -247,7 +247,7 @@ answers_keep k slots id i m x has same place = by_turn slots (λ _. Unit {0}) (�
       record { full = λ says. absurd (not_so says); not_full = λ _. goes_on turn Outside m.1; carried = refl },
     )))
 
--- What a pass tells of a slot that it changes.
+-- The difference that a pass reports for a slot that it changes.
 amount_told : (c : Change) {delta : ℤ} {amount : ℕ} → in_change c ≡ 1 → difference c ≡ delta → amount ≡ end_amount_of delta
     → amount + added c ≡ one_change + removed_by c
 amount_told Outside one d e = absurd (cc one)

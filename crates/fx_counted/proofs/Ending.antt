@@ -1,4 +1,5 @@
--- The end, when one seat has all passes again, and does nothing: everything is settled, and one history stands behind it.
+-- The end, when one seat has all passes, and all are idle: the state is settled, and the events of all passes are one
+-- history.
 use Rattle.fx_counted.proofs.Words.{sum_zero_at, numbers_for, ◌≡◌, ℕ, suc, ◌+◌, ◌<◌, ◌≤◌, map, length, sym, ap, ◌∙◌, arith, ◌⊎◌, inl, inr, ⊎_elim}
 use Rattle.fx_counted.proofs.Words.{Option, Some, None, sum_by, dite, some, dec_le, get_elem?, Closed, State, IsSettled, numbered, File, start_of}
 use Rattle.fx_counted.proofs.Words.{Does, OwnerAgrees, lengths, Agrees, place_of, Shared, opening_of, slots_of, chain_numbers, IsNumber}

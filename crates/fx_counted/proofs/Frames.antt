@@ -1,4 +1,4 @@
--- What a step of one seat leaves as it was: other seats, slots, numbers, the control word and the draw word.
+-- The frame of a step of one seat: other seats, slots, numbers, the control word and the draw word stay.
 use Rattle.fx_counted.proofs.Words.{next_in, end_in, placing, ◌<◌, ◌≤◌, Contains, sum_of, sum_by, ◌≡◌, ◌≢◌, ℕ, ◌+◌, List, [], ◌∷◌, set, sym, refl, ap}
 use Rattle.fx_counted.proofs.Words.{◌∙◌, subst, arith, eqb, some, some-injective, get_elem?, set_here, set_else, File, Event, numbered, sum_two}
 use Rattle.fx_counted.proofs.Words.{sum_set, Does, OwnerAgrees, WorkAgrees, ViewAgrees, Agrees, Shared, logs_of, Phase, spare, placed, leaving}
@@ -16,7 +16,7 @@ busy (Placing number) = number + 1
 busy (Emptying number) = number + 1
 busy _ = 0
 
--- what belongs to another seat, and the spare numbers of another pass, are as they were
+-- the phases that belong to another seat, and the spare numbers of another pass, stay
 pub record Stays (id p : ℕ) (phase phase' : ℕ → Phase) : Type 0 where
   pub owned : (n : ℕ) → owner (phase n) ≢ 0 → owner (phase n) ≢ id + 1 → phase' n ≡ phase n
   pub spared : (n q : ℕ) → phase n ≡ spare q → q ≢ p → phase' n ≡ spare q
@@ -74,7 +74,7 @@ not_there {k} {st} r {id} {j} {v} {u} {x} here one other there y at same =
     let f = bit_here x.number y.number same in
     omega (arith, once_is k.passes x.number)
 
--- what is read where an element stands
+-- the read of an element that is in a list
 pub read_at : {A : Type 0} (xs : List A) (i : ℕ) {v : A} (d : A) → get_elem? xs i ≡ some v → slice_index_or xs i d ≡ v
 read_at xs i {v} d e = let at = stands_at xs i v e in get_or_default xs i d v at.0 ∙ at.1
 
@@ -107,7 +107,7 @@ module _ (views : List View) (id : ℕ) (v w : View) (here : get_elem? views id 
       (λ (e : j ≡ id). subst (λ (i : ℕ). Does (set views id w) i d) (sym e) (does_now views id v w d here (same ∙ work_of e o)))
       (λ (e : j ≢ id). does_else e o))
 
--- What a step leaves as it was: slots, numbers, the control word and the draw word.
+-- The frame of a step: slots, numbers, the control word and the draw word stay.
 module _ (k : Start) (h h' : List Event) (phase phase' : ℕ → Phase) (slot : ℕ) where
   abbrev pub SameFile : Type 0
   SameFile = (f : File) → (state_after_all k h).at slot ≡ Some f → phase f.number ≡ seated slot f.identity
@@ -128,7 +128,7 @@ slot_same {k} {h} {h'} {phase} {phase'} {slot} {word} same_word same_file more s
   takes = let t = so.takes in let e = ap takes_in same_word in omega arith;
 }
 
--- a number of which nothing has changed
+-- a number whose state has not changed
 module _ (st st' : State) (n l l' word word' : ℕ) (home home' : Home) (fresh : st'.fresh n ≡ st.fresh n) (removed : st'.removed n ≡ st.removed n)
     (holds : st'.holds n ≡ st.holds n) (looked : l' ≡ l) (worded : word' ≡ word) (homed : home' ≡ home) (sized : st'.size ≡ st.size) where
   gone_same : {lies : Home} → IsGone st n l word home lies → IsGone st' n l' word' home' lies

@@ -44,7 +44,7 @@ full_all at off (suc len) e slot low high = let a = full_few at off len in let b
     (λ same. subst (λ (i : ℕ). IsSome (at i)) (sym same) (some_full (at (off + len)) (omega arith)))
     (λ else. full_all at off len (omega arith) slot low (omega arith))
 
--- where a slot is, and where the pass then stands
+-- a slot's place relative to the range, and the change of the pass afterwards
 abbrev pub Stands : ℕ × ℕ → ℕ → Change → Type 0
 Stands range s change = (((range.0 ≤ s) × (s < range.0 + range.1)) × (change ≡ Same))
     ⊎ (((s < range.0) ⊎ (range.0 + range.1 ≤ s)) × (change ≡ Outside))
@@ -55,7 +55,7 @@ changed_so zero zero a b = (refl, refl)
 changed_so (suc o) zero a b = (refl, omega arith)
 changed_so _ _ a b = (refl, omega arith)
 
--- what a pass then has to tell makes up for what the range gains
+-- the difference that a pass then has to report equals the change in the range
 turned_counts : (at : ℕ → Option File) (range : ℕ × ℕ) (s : ℕ) (old new : Option File) (c : Change) → at s ≡ old → Stands range s c
     → (in_change (turned c (if_full old) (if_full new)) ≡ in_change c)
     × (full_in (changed_at at s new) range.0 range.1 + added c + removed_by (turned c (if_full old) (if_full new))

@@ -121,7 +121,7 @@ may_observe slots id i {me} start s r wide at small = (
   record { last = s; rule = rw start r; seat = id; view = at; same = refl },
 )
 
--- a table of one pass, which does nothing, tells its history without being closed
+-- the history of a table with one pass, which is idle, without closing the table
 module _ (id : TableId) (k : Start) (p : CountedPass) (fits : IsPassOf id k p) (idle : (view_of p).doing ≡ Idle) (alone : k.passes ≡ 1)
     {s : Shared} (r : Agrees k s) (seat : ℕ) (at : get_elem? s.views seat ≡ some p.seat.me.0) where
   work : p.seat.me.0.work ≡ Between Idle

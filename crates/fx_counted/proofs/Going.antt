@@ -1,4 +1,4 @@
--- Some steps in a row, and the pass behind them.
+-- Several steps in a row, and the pass after them.
 use Rattle.fx_counted.proofs.Words.{◌≡◌, ◌≤◌, ℕ, ◌+◌, ◌*◌, List, [], ◌∷◌, inl, sym, ap, ◌∙◌, subst, arith, Some, TableId, ◌▷◌, Action, Close, Use}
 use Rattle.fx_counted.proofs.Words.{no_use, Adds, IsFront, File, Goes, HasPlace, HasPass, place_of, Sat, opening_of, pass_of, doing_in, chain_in}
 use Rattle.fx_counted.proofs.Words.{first_log, view_of, is_idle, IsPassOf, IsInside, Stepped, TakesOut, LetsGo, CountedPass, Change, Outside, Log}
@@ -22,12 +22,12 @@ goes_then {m} {m'} {m''} {xs} {ys} {a} {b} {w} {w'} {c} {c'} {n} {n'} g h =
       steps,
     )
 
--- what the steps of a pass add to what callers see
+-- the changes that a pass's steps make to its view
 pub adds_so : {id : TableId} {k : Start} {p : CountedPass} (fits : IsPassOf id k p) {m' : Sat} {xs : List Action} {a : Use} {w : Work}
     {c : Change} {n : ℕ} → Goes p.seat.me xs a w c n m' → Adds (opening_of k) (view_of p) xs (doing_in w) a (pass_of m'.0)
 adds_so fits goes = rw fits.seated.start at goes.adds
 
--- a seat with one pass behind some steps
+-- a seat with one pass, after some steps
 module _ {id : TableId} {k : Start} {p : CountedPass} (q : CountedPass) (fits : IsPassOf id k p) {xs : List Action} {a : Use} {w : Work} {n : ℕ}
     (goes : Goes p.seat.me xs a w Outside n q.seat.me) where
   abbrev old : Log
@@ -36,7 +36,7 @@ module _ {id : TableId} {k : Start} {p : CountedPass} (q : CountedPass) (fits : 
   abbrev new : Log
   new = goes.one.0
 
-  -- what is told of the view is told of the log
+  -- a property of the view is one of the log
   new_is : first_log q.seat.me.0.logs ≡ new
   new_is = ap first_log goes.one.1
 
@@ -84,12 +84,12 @@ module _ {id : TableId} {k : Start} {p : CountedPass} (q : CountedPass) (fits : 
     };
   }
 
--- what a pass does between two calls
+-- the work of a pass between two calls
 work_between : (w : Work) {d : Doing} → IsBetweenCalls w → doing_in w ≡ d → w ≡ Between d
 work_between (Between _) rests is = ap (λ (z : Doing). Between z) is
 work_between _ rests is = absurd rests
 
--- what it does that callers see
+-- the pass's activity, as callers see it
 pub its_doing : {id : TableId} {k : Start} {p : CountedPass} (fits : IsPassOf id k p) {d : Doing} → (view_of p).doing ≡ d
     → p.seat.me.0.work ≡ Between d
 its_doing {p} fits is = work_between p.seat.me.0.work fits.seated.work is
@@ -109,7 +109,7 @@ out_place {k} {m} {m'} {xs} {f} its empty out = let s = out.stepped in record {
   place = out.carried ∙ λ i. (place_of (its.0 i) f.number, Some f.identity) ∷ empty i;
 }
 
--- the file of a pass comes out: its close, and the step in which its place goes home
+-- the file of a pass is taken out: its close, and the step in which its place goes home
 pub out_and_home : {m m' m'' : Sat} {xs : List Action} {f : File} → TakesOut m xs f m'
     → Stepped m' [] no_use (Between Idle) m'.0.change m'' → Goes m (xs ▷ Close f) no_use (Between Idle) m.0.change 2 m''
 out_and_home out home = rw out.stepped.change at (goes_then (goes_one out.stepped) (goes_one home))
@@ -118,7 +118,7 @@ out_and_home out home = rw out.stepped.change at (goes_then (goes_one out.steppe
 pub let_go : {m m' : Sat} {xs : List Action} → m.0.change ≡ Outside → LetsGo m xs m' → Goes m xs no_use (Between Idle) Outside 1 m'
 let_go {m} {m'} {xs} outside went = subst (λ (c : Change). Goes m xs no_use (Between Idle) c 1 m') outside (goes_one went.stepped)
 
--- a pass is still at work behind some steps
+-- a pass is still at work after some steps
 pub still_at_work : {k : Start} {m m' : Sat} {x : Log} {xs : List Action} {a : Use} {w : Work} {c : Change} {n : ℕ} → HasPass k m x
     → Goes m xs a w c n m' → IsAtWork k m'
 still_at_work {k} {m} {m'} its goes = record {

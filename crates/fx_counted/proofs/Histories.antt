@@ -12,7 +12,7 @@ part_mine {p} {e} h is = rw (eq-eqb e.pass p is) refl
 pub held_mine : {p : ℕ} (e : Event) (h : List Event) → e.pass ≡ p → held_by (e ∷ h) p ≡ held_after (held_by h p) e.action
 held_mine {p} e h is = rw (eq-eqb e.pass p is) refl
 
--- what holds of the value that is changed, and of each other one as it was, holds of each
+-- a property of the changed value, and of each other one as it was, holds for each value
 pub each_changed : {Y : Type 0} (P : ℕ → Y → Type 0) (f : ℕ → Y) {k : ℕ} {v : Y} {n : ℕ} → (n ≡ k → P n v) → (n ≢ k → P n (f n))
     → P n (changed_at f k v n)
 each_changed P f {k} {v} {n} here else = by_equality n k (λ b. P n (cond b v (f n))) here else

@@ -12,7 +12,7 @@ use Rattle.fx_counted.proofs.Frames.{read_at}
 use Rattle.fx_counted.proofs.Histories.{same_shape}
 use Rattle.fx_counted.proofs.Places.{apart, low_home, high_home}
 
--- a table has no file behind its slots
+-- a table has no file past its slots
 pub none_outside : (c : Contents) {slot : ℕ} → (state_of c).size ≤ slot → (state_of c).at slot ≡ None
 none_outside c g = rw (get_or-eq_default c.slots None g)
 
@@ -24,7 +24,7 @@ pub record Becomes (old : State) (slot : ℕ) (file : Option Closed) (new : Stat
   pub others : (other : ℕ) → other ≢ slot → new.at other ≡ old.at other
   pub settled : IsSettled new
 
--- a file came to an empty slot, under the slot's number
+-- a file was put at an empty slot, under the slot's number
 pub file_put : {a b : State} {slot : ℕ} {file : Closed} → IsSettled a
     → b ≡ record a { at = changed_at a.at slot (Some (numbered slot file)) } → Becomes a slot (Some file) b
 file_put {a} {slot} {file} settled is = let new = Some (numbered slot file) in
@@ -130,7 +130,7 @@ module _ (size : ℕ) (words : List ℕ) where
   none_stays (suc slot) xs place e = still_none (number_at slot) (emptied slot xs) place (none_stays slot xs place e)
 
   module _ (numbers : ℕ) (xs : List (Option Closed)) (home : AreAtHome numbers xs) where
-    -- what lies in the place of a later slot's number is untouched
+    -- the content of the place of a later slot's number stays
     pub untouched : (done : ℕ) {slot n : ℕ} → done ≤ slot → slot < size → number_at slot ≡ Some n
         → get_elem? (emptied done xs) (home_place size n) ≡ get_elem? xs (home_place size n)
     untouched zero l inside is = refl
@@ -159,7 +159,7 @@ module _ (size : ℕ) (words : List ℕ) where
         go (Some file) e = let o = home.others place file e in
             ap (get_elem? (emptied size xs)) (sym o.4) ∙ gone size o.0 o.1 o.2 (omega arith) o.3
 
--- one slot's file comes back, or there is none
+-- one slot's file comes back, if there is one
 module _ {size : ℕ} {words : List ℕ} {numbers : ℕ} {xs : List (Option Closed)} (home : AreAtHome size words numbers xs) {shell : State}
     {slot : ℕ} (inside : slot < size) {now : List (Option Closed)} (are : now ≡ emptied size words slot xs) {st : State}
     (part : IsPartlyBack shell (file_at size words xs) slot size st) where
@@ -202,7 +202,7 @@ module _ {size : ℕ} {words : List ℕ} {numbers : ℕ} {xs : List (Option Clos
   none_emptied named = are ∙ (ap (λ (m : Option ℕ). without size words m (emptied size words slot xs)) (sym named)
       ∙ ap (λ (m : ℕ). emptied size words m xs) next)
 
--- what lies in the places at the settled end, and how it comes back: the end of a table whose passes are all idle
+-- the contents of the places at the settled end, and their way back: the end of a table whose passes are all idle
 module _ (t : CountedTable) {id : ℕ} {v : View} {words : List ℕ} (xs : List (Option Closed))
     (final : Final (Seen (Agrees t.table.shared.key) id v) words xs) (idle : AllAreIdle t.table.shared.key id v) where
   abbrev k : Start

@@ -33,7 +33,7 @@ pub shape_kept : {k : Start} {s s' : Shared} → length s'.words ≡ length s.wo
 shape_kept words homes a = assumption (words ∙ a.words, homes ∙ a.homes)
 
 module _ (k : Start) (s : Shared) (r : Agrees k s) where
-  -- a number in its phase
+  -- a number in its phase, with these words and places, after this history
   pub in_phase : {n : ℕ} → IsNumber k n → {ph : Phase} → r.phase n ≡ ph → NodeIn k s.words s.homes r.history n ph
   in_phase {n} its is = subst (NodeIn k s.words s.homes r.history n) is (r.each_node n its)
 
@@ -56,7 +56,7 @@ pub record Turn : Type 0 where
 abbrev pub turn_of : (m : Sat) (x : Log) → m.0.logs ≡ x ∷ [] → (id : ℕ) (st : Shared) → Agrees m.0.start st → get_elem? st.views id ≡ some m.0 → Turn
 turn_of m x one id st r here = record { st = st; v = m.0; r = r; id = id; x = x; here = here; one = one }
 
--- what a law asks for: the word at the place becomes f of what it was, and the seat is told so
+-- the conclusion of a law: the word at the place becomes `f` of its old value, and the seat sees that value
 abbrev pub Made : Turn → List (ℕ × Option Closed) → ℕ → (ℕ → ℕ) → (ℕ → Sat → Type 0) → Type 0
 Made turn carried i f told = (w : View) × (a : Act (Option Closed)) × Valid turn.st.homes carried a
     × Agrees turn.v.start (stepped turn.st i (f (word_at turn.st.words i)) turn.id carried w a)
@@ -82,7 +82,7 @@ module _ (turn : Turn) where
   pub its_work : WorkAgrees v.start r.phase id v.work
   its_work = (r.each_view id v here).work
 
-  -- the view behind a step that uses nothing up
+  -- the view after a step that uses no number and no look-up
   abbrev pub went : List Event → Work → Change → View
   went h' d c = now v (logged x h' x.numbers_left x.looks_left) d c
 
@@ -100,7 +100,7 @@ module _ (turn : Turn) where
     abbrev views' : List View
     views' = set st.views id (now v y d c)
 
-    -- what a step has to keep
+    -- the obligations of a step
     pub record Step : Type 0 where
       pub words : length words' ≡ length st.words
       pub homes : length homes' ≡ length st.homes
@@ -155,7 +155,7 @@ module _ (turn : Turn) where
       draws = s.draws;
     }
 
-  -- what the step tells
+  -- the step's result
   pub tells : (carried homes : List (ℕ × Option Closed)) (h' : List Event) (left looks_left : ℕ) (d : Work)
       (c : Change) (actions : List Action) (used : Use) → Grows x.number r.history h' → IsHistory v.start h'
       → part_of_pass x.number h' ≡ map (event_of (shown x v.work)) actions ++ part_of_pass x.number r.history

@@ -1,4 +1,4 @@
--- A pass lets go of a file, which stays open, or is closed and comes out: a retirement and a release keep the rule.
+-- A pass is done with a file, which stays open, or is closed and taken out: a retirement and a release keep the rule.
 use Rattle.fx_counted.proofs.Words.{◌≡◌, ◌≢◌, ℕ, ◌+◌, ◌-◌, ◌%◌, ◌^◌, ◌<◌, ◌≤◌, List, ◌∷◌, ◌++◌, map, set, sym, refl, ap, ◌∙◌, arith, eq-eqb, Option}
 use Rattle.fx_counted.proofs.Words.{Some, None, some, none, keeps, takes, set_here, set_else, Closed, ◌▷◌, State, File, Event, Close, Action, no_use}
 use Rattle.fx_counted.proofs.Words.{event_of, sum_two, held_by, part_of_pass, NodeAgrees, OwnerAgrees, looks, word_of, place_of, IsNumber}
@@ -12,7 +12,7 @@ use Rattle.fx_counted.proofs.Steps.{MayTurn, Turn, its_log, tells, Made, went, O
 use Rattle.fx_counted.proofs.Steps.{its_work, by_turn, one_same, owner_stays, grows_one, NodeIn}
 use Rattle.fx_counted.proofs.Births.{word_now, home_now, roomy, else_place}
 
--- A pass lets go of a file, which stays open, or is closed and comes out.
+-- A pass is done with a file, which stays open, or is closed and taken out.
 pub sub_wraps : {n k : ℕ} → k ≤ n → n < 18446744073709551616 → 0 < k → (n + (2 ^ 64 - k)) % 2 ^ 64 ≡ n - k
 sub_wraps le fits more = omega arith
 
@@ -26,7 +26,7 @@ holding_it {n} f same = rw (eq-eqb f.number n (sym same)) refl
 module _ (turn : Turn) (f : File) (its : IsNumber turn.v.start f.number) (h₁ : List Event) (xs : List Action) where
   open turn use {st, v, r, id, x, here, one}
 
-  -- by these actions, if any, the pass has let go of the file, and of no other
+  -- by these actions, if any, the pass is done with the file, and with no other
   pub record IsLetGo : Type 0 where
     pub grows : Grows x.number r.history h₁
     pub legal : IsHistory v.start h₁
@@ -148,7 +148,7 @@ module _ (turn : Turn) (f : File) (t : ℕ) (works : turn.v.work ≡ Between (Re
   counted : word_now turn f.number ≡ (state_after_all v.start r.history).holds f.number + retire_amount_of t
   counted = let n = node.counts in let a = node.all_takes in let c = few_looks turn f.number in omega arith
 
-  -- no action is told of, where the file stays open
+  -- there is no action if the file stays open
   retirement_lets_go : IsLetGo turn f leaves.0 r.history []
   retirement_lets_go = record {
     grows = grows_none x.number r.history;
@@ -236,7 +236,7 @@ module _ (turn : Turn) (f : File) (works : turn.v.work ≡ Between (Holding f)) 
     open_file = holds_it.1;
   }
 
-  -- where the word was 1, the file was retired, and this is its last hold
+  -- if the word was 1, the file was retired, and this is its last hold
   by_phase : word < 18446744073709551616 → (ph : Phase) → r.phase f.number ≡ ph → file_in ph ≡ Some f.identity
       → ((word ≢ 1) × NodeAgrees new f.number (looks r.history f.number) (less_one word) (home_now turn f.number) ph)
       ⊎ ((word ≡ 1) × (less_one word ≡ 0) × (r.phase f.number ≡ retired f.identity) × (home_now turn f.number ≡ some (some (Some f.identity)))

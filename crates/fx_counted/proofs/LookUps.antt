@@ -50,7 +50,7 @@ module _ (turn : Turn) (idle : turn.v.work ≡ Between Idle) (some_left : 0 < tu
   state_is None = λ i. record old { holds = λ n. (let e : old.holds n ≡ old.holds n + 0 = omega arith in e) i }
   state_is (Some f) = λ i. record old { holds = λ n. one_more_at old.holds f.number n i }
 
-  -- what the pass does now
+  -- the work of the pass afterwards
   does_now : (file : Option File) → old.at s ≡ file → (held_in (holds_now file) ≡ file) × (placing (holds_now file) ≡ 0)
       × ((y : Log) → PlacesNext v.start y (holds_now file)) × WorkAgrees v.start r.phase id (holds_now file) × IsInside v.start (holds_now file)
   does_now None is = (refl, refl, λ y. tt, tt, tt)

@@ -10,7 +10,7 @@ use Rattle.fx_counted.proofs.Histories.{Grows, IsHistory, each_changed}
 use Rattle.fx_counted.proofs.Frames.{busy, owner_stays, slot_same, node_same, control_same, draws_same, SameFile}
 use Rattle.fx_counted.proofs.Keeping.{Turn, Homes, word_at, logged, step_kept, log_now, went, NodeIn, now}
 
--- what a step on the number q tells of the histories
+-- the effect of a step on the number `q` on histories
 pub record OneNumber (v : View) (q : ℕ) (h h' : List Event) : Type 0 where
   pub at : (state_after_all v.start h').at ≡ (state_after_all v.start h).at
   pub size : (state_after_all v.start h').size ≡ (state_after_all v.start h).size
@@ -55,7 +55,7 @@ module _ (turn : Turn) where
     word_else : {place : ℕ} → place ≢ i → word_at (set st.words i word') place ≡ word_at st.words place
     word_else {place} other = get_or-set_other st.words i place word' 0 other
 
-    -- what the step on the number has to keep
+    -- the obligations of a step on the number
     pub record NodeStep : Type 0 where
       pub grows : Grows x.number r.history h'
       pub legal : IsHistory v.start h'
@@ -67,7 +67,7 @@ module _ (turn : Turn) where
       pub keeps : (j : ℕ) (u : View) (f : File) → j ≢ id → get_elem? st.views j ≡ some u → u.work ≡ Between (Holding f)
           → f.number ≡ q → file_in ph ≡ file_in (r.phase q)
       pub free : (n : ℕ) → n ≢ q → busy v.work ≢ n + 1
-      -- what the number is now, and who works with it
+      -- the state of the number afterwards, and its owner
       pub node : NodeAgrees (state_after_all v.start h') q (looks r.history q) word' (get_elem? homes' (home_place (slots_of v.start) q)) ph
       pub known : OwnerAgrees (set st.views id w) q ph
       pub held : held_by h' x.number ≡ held_in d
@@ -77,7 +77,7 @@ module _ (turn : Turn) where
       pub holds : (n : ℕ) → (state_after_all v.start h').holds n + held_of n v ≡ (state_after_all v.start r.history).holds n + held_of n w
 
     module _ (s : NodeStep) where
-      -- what others rely on stays: the phase of a number that isn't the pass's, nor retired
+      -- the phases that others rely on stay: those of numbers that are neither the pass's nor retired
       stays_if : {n : ℕ} {z : Phase} → r.phase n ≡ z → (owner z ≡ id + 1 → ph ≡ z) → (z ≡ spare x.number → ph ≡ z)
           → ((f : Closed) → z ≡ retired f → ph ≡ z) → phase' n ≡ z
       stays_if {n} {z} is owned spared gone = each_changed (λ m p. p ≡ z) r.phase
@@ -126,7 +126,7 @@ module _ (turn : Turn) where
             (λ n is. stays_if is (λ o. absurd (omega (arith, o))) (λ o. absurd (cc o)) (λ g o. absurd (cc o))) r.draws;
       }
 
--- What a step on the word of one slot leaves as it was.
+-- The frame of a step on the word of one slot.
 module _ (turn : Turn) (s : ℕ) (inside : s < slots_of turn.v.start) (word' : ℕ) where
   open turn use {st, v, r, id, x, here, one}
 

@@ -65,7 +65,7 @@ few_numbers {numbers} {chains} few count =
 first_words : (control_place ≡ 0) × (draw_place ≡ 8) × (slot_place 0 ≡ 16) × (slot_place 1 ≡ 24) × (slot_place 255 ≡ 2056)
 first_words = (refl, refl, refl, refl, refl)
 
--- a slot's number beside its word, a chain's numbers behind all slots
+-- a slot's number is next to its word, a chain's numbers follow all slots
 nodes_of_two_slots : (node_place 2 0 ≡ 17) × (node_place 2 1 ≡ 25) × (node_place 2 256 ≡ 32) × (node_place 2 257 ≡ 33) × (node_place 2 319 ≡ 95)
 nodes_of_two_slots = (refl, refl, refl, refl, refl)
 

@@ -36,7 +36,7 @@ still_placing p s = record {
   place = s.1 ∙ p.place;
 }
 
--- whether the word was as it was loaded
+-- the test that the word is as it was loaded
 tries_by : {m m' : Sat} {n slot : ℕ} {file : Closed} {a b : ℕ} → (a ≡ b → HasAllocated n file slot More m m')
     → (a ≢ b → StillPlaces n Same m m') → Tries n file slot m (nat_eq a b) m'
 tries_by {m} {m'} {n} {slot} {file} {a} {b} won lost = dite (ℕ_discrete a b)
@@ -60,7 +60,7 @@ exchange_tried {m} {m'} {m''} {n} {slot} {i} {found} {old} {file} p here s same 
     still_then loaded (one_still work
     (subst (λ (z : Change). Stepped m' [] no_use m'.0.work z m'') s.change l.0) l.1))
 
--- a pass that has told of the slot that it found
+-- a pass that has reported the slot that it found
 pub allocated_told : {m m' m'' : Sat} {n slot : ℕ} {file : Closed} → HasAllocated n file slot More m m'
     → Goes m' [] no_use m'.0.work Outside 1 m'' → m''.1 ≡ m'.1 → HasAllocated n file slot Outside m m''
 allocated_told {m} {m'} {m''} a goes same =

@@ -1,4 +1,5 @@
--- What a shared table begins with: words, written one slot after the other, and the files of the slots, which move to its places.
+-- The first words of a shared table, written one slot after the other, and the files of the slots, which move to its
+-- places.
 use Rattle.fx_counted.proofs.Words.{◌≡◌, ℕ, zero, suc, ◌+◌, ◌*◌, ◌<◌, ◌≤◌, List, length, refl, ap, arith, Option, Some, None, slice_index, State}
 use Rattle.fx_counted.proofs.Words.{file_numbered, File, full_in, if_full, first_at, control_place, draw_place, slot_place, words_for, word_for}
 use Rattle.fx_counted.proofs.Words.{node_for, length-append, files_in_order, identities_of, control_word_of, [], ◌∷◌, ◌++◌, sym, ◌∙◌, Result, dite}
@@ -45,7 +46,7 @@ pub prepared_or_not : {E : Type 0} (old new : Contents) (numbers : ℕ) (r : Res
 prepared_or_not old new numbers (Ok x) is = prepared_again old new numbers is
 prepared_or_not old new numbers (Err e) is = tt
 
--- what is left of a table whose files were taken out
+-- a table whose files were taken out
 pub all_taken : {st : State} {same now : State} → HasSameFiles st same → IsSettled same → now ≡ record same { at = λ _. None } → IsShellOf st now
 all_taken files settled is = rw is assumption
 
@@ -56,7 +57,7 @@ in_order : (at : ℕ → Option File) (n slot : ℕ) → slot < n → get_elem? 
 in_order at n slot l = at_index (slots_in_order at n) slot (identity_of (at slot)) (omega (arith, length_in_order at n))
     (sym (get_or-map-range_with_len (λ s. identity_of (at s)) 0 n slot slot (identity_of (at slot)) l (omega arith)))
 
--- behind the slots' places the others are empty
+-- the places after those of the slots are empty
 pub record AreHomesUpTo (st : State) (homes : List (Option Closed)) : Type 0 where
   pub files : (slot : ℕ) → slot < st.size → get_elem? homes slot ≡ some (identity_of (st.at slot))
   pub others : (place : ℕ) → st.size ≤ place → place < length homes → get_elem? homes place ≡ some None
@@ -83,7 +84,8 @@ none_behind {st} {homes} pushed h = record {
       at_longer homes (None ∷ []) place None (h.others place g (omega (arith, ne, l, d, e))));
 }
 
--- A table that begins with the words and places of a table of one thread keeps the rule; and what comes back where memory is refused.
+-- A table with the words and places of a table of one thread keeps the rule; and the table that comes back if an
+-- allocation fails.
 home_is : (found : Option File) (slot : ℕ) → identity_of found ≡ home_for (file_numbered found slot)
 home_is None slot = refl
 home_is (Some f) slot = refl

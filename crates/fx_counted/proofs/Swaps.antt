@@ -34,7 +34,7 @@ by_old : (old : Option File) {n : ℕ} (P : Type 0) → ((f : File) → old ≡ 
 by_old None P is else = else (λ f bad. absurd (cc bad))
 by_old (Some f) {n} P is else = dite (ℕ_discrete n f.number) (λ same. is f refl same) (λ other. else (λ g e same. other (cc (e, same))))
 
--- what a pass does that has a file to retire, or none
+-- the work of a pass that has a file to retire, or none
 by_retiring : (old : Option File) (takes : ℕ) (P : Work → Type 0) → P (Between Idle)
     → ((f : File) → old ≡ Some f → P (Between (Retiring f takes))) → P (Between (retiring old takes))
 by_retiring None takes P idle retires = idle
@@ -80,7 +80,7 @@ module _ (turn : Turn) (s : ℕ) (inside : s < slots_of turn.v.start) where
       abbrev Node : Homes → ℕ → Phase → Type 0
       Node homes' n = NodeAgrees after n (looks r.history n) (word_at st.words (word_of v.start n)) (get_elem? homes' (place_of v.start n))
 
-      -- what a removal, and an installation of a file, do to the state
+      -- the effect of a removal or an installation on the state
       pub record Effect (new : Option File) (fresh : ℕ → Bool) : Type 0 where
         pub legal : IsHistory v.start h'
         pub state : after ≡ record state { at = changed_at state.at s new; removed = with_removed state.removed old; fresh = fresh }
@@ -102,7 +102,7 @@ module _ (turn : Turn) (s : ℕ) (inside : s < slots_of turn.v.start) where
           fresh : ℕ → Bool
           does : Effect new fresh
           homes : length homes' ≡ length st.homes
-          -- what comes to the slot
+          -- the file that is put at the slot
           names : Names word' new
           no_takes : takes_in word' ≡ 0
           seat : IsSeated v.start (looks r.history) phase₁ s word' new
@@ -141,7 +141,7 @@ module _ (turn : Turn) (s : ℕ) (inside : s < slots_of turn.v.start) where
           same_phase : {n : ℕ} {ph : Phase} → r.phase n ≡ ph → NotOf n old → (ph ≡ placed id → ⊥) → phase' n ≡ ph
           same_phase {n} is apart other = else_phase apart ∙ ⊎_elim (λ same. same ∙ is) (λ mine. absurd (other (sym is ∙ mine))) (p.kept n)
 
-          -- no look is told
+          -- there is no look-up
           now_in : (n : ℕ) {ph : Phase} → ph ≡ phase' n → Node homes' n ph → NodeIn v.start st.words homes' h' n (phase' n)
           now_in n is node = rw (← is, p.does.looked) node
 

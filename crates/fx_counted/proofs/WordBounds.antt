@@ -1,4 +1,4 @@
--- How large the words become.
+-- The bounds of the words.
 use Rattle.fx_counted.proofs.Words.{sum_by, ◌≡◌, ℕ, ◌+◌, ◌≤◌, Option, Some, None, sym, ◌∙◌, subst, arith, File, sum_le_at, node_in, Agrees, Names}
 use Rattle.fx_counted.proofs.Words.{WorkAgrees, lengths, changes_of, looks, all_looks, Shared, looks_of, told_of, Start, Retiring, Between, IsSeated}
 use Rattle.fx_counted.specs.Bounds.{AreBounded, slot_word_in, node_word_in}

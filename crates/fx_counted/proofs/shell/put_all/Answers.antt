@@ -3,7 +3,7 @@ use Rattle.fx_counted.proofs.Words.{state_of, file_in_place, get_or_append_left,
 use Rattle.fx_counted.proofs.HomeComing.{file_put, last_back}
 use Rattle.fx_counted.proofs.shell.put_all.Goals as goal
 
--- what was in the last place
+-- the content of the last place
 module _ (all xs ys : List (Option Closed)) (x : Option Closed) (split : xs ≡ ys ++ x ∷ [])
     (same : (k : ℕ) → k < length xs → file_in_place xs k ≡ file_in_place all k) where
   one_less : length xs ≡ length ys + 1

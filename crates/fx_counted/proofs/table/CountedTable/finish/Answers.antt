@@ -6,7 +6,7 @@ use Rattle.fx_counted.proofs.Frames.{read_at}
 use Rattle.fx_counted.proofs.table.CountedTable.finish.Goals.{in-Some+in-Some-take_home, in-Some+in_default-take_home, in_default}
 use Rattle.fx_counted.proofs.table.CountedTable.finish.Goals as goal
 
--- what a slot's word names
+-- the number that a slot's word names
 named_by : (size slot : ℕ) {ws now : List ℕ} {place word : ℕ} {n : Option ℕ} → now ≡ ws → place ≡ slot_place slot
     → get_elem? now place ≡ some word → n ≡ node_in word → number_at size ws slot ≡ n
 named_by size slot {ws} {now} {place} same is there named =

@@ -19,7 +19,7 @@ fetch_sub-found-requires c =
           (c.retire_amount-amount.ensures ∙ ap (λ (r : Retired). retire_amount_of r.takes) value),
     )
 
--- what the step told, by the file that the pass removed
+-- the result of the step, for the file that the pass removed
 module _ (c : After-fetch_sub-found) where
   abbrev file : File
   file = c.requires.removed.0
