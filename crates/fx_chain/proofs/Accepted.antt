@@ -1,4 +1,4 @@
--- What a submission without a fault keeps to.
+-- The properties of a submission without a fault.
 use Rattle.fx_chain.proofs.Words.{◌≡◌, ℕ, ◌+◌, ◌*◌, ◌≤◌, List, [], ◌∷◌, ◌++◌, length, take, drop, refl, sym, ap, ◌∙◌, All, subst, arith, Option}
 use Rattle.fx_chain.proofs.Words.{Some, None, false, ltb-false, sum_by-cons, append-nil, append_assoc, All-head, All-tail, IsAccepted}
 use Rattle.fx_chain.proofs.Words.{slice_index_or, suc, IsWithinLimits, Operation, Updates, Asked, runs_of, weight_of, take-append-drop, all_weights}
@@ -19,7 +19,7 @@ pub record Counts (front : List Asked) : Type 0 where
   pub installs : ℕ
   pub is : AreCounts front chains members installs
 
--- the numbers in front of a request, which is fine there
+-- the counts before a request without a fault
 pub record Passes (front : List Asked) (r : Asked) : Type 0 where
   pub counts : Counts front
   pub is_fine : IsFine counts.chains counts.members counts.installs r
@@ -35,7 +35,7 @@ counts_more r counts none = record {
   is = counted_step r counts.is (sym (fault_behind-counted r counts.is) ∙ none);
 }
 
--- where no request has a fault, those in front are counted, and those behind them have none
+-- if no request has a fault, those before are counted, and those after them have none
 counts_all : (front more behind : List Asked) → Counts front → first_fault front (more ++ behind) ≡ None
     → Counts (front ++ more) × (first_fault (front ++ more) behind ≡ None)
 counts_all front [] behind counts none = rw append-nil (counts, none)
@@ -46,8 +46,7 @@ counts_all front (x ∷ more) behind counts none =
 counts_of : (requests : List Asked) → IsAccepted requests → Counts requests
 counts_of requests accepted = (counts_all [] requests [] counts_none (rw append-nil accepted)).0
 
--- each request is fine behind those in front of it
--- each request is fine behind those in front of it
+-- each request is without a fault after those before it
 pub passes_at : (front : List Asked) (r : Asked) (behind : List Asked) → IsAccepted (front ++ r ∷ behind) → Passes front r
 passes_at front r behind accepted =
     let (counts, none) = counts_all [] front (r ∷ behind) counts_none accepted in

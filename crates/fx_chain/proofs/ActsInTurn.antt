@@ -1,4 +1,4 @@
--- What a player does, one thing after another.
+-- The actions of a player, one after another.
 use Rattle.fx_chain.proofs.Words.{◌≡◌, ℕ, ◌+◌, ◌≤◌, List, [], ◌++◌, length, sym, refl, ap, subst, ◌∙◌, append_assoc, length-append, Option, Some, inl}
 use Rattle.fx_chain.proofs.Words.{inr, arith, None, is_some, append-nil, Closed, Action, Look, Release, closes_in, closed_by, ◌▷◌, ◌▷▷◌, Opening}
 use Rattle.fx_chain.proofs.Words.{PassView, IsFront, IsIdle, retired_of, Use, Adds, one_look, no_use, both_uses, Retired, MayClose, PlayerView}
@@ -49,7 +49,7 @@ so_then {o} {p} {q} {r} one two so l n f =
       few_files = omega arith;
     }
 
--- a call that closes nothing, whatever the pass does behind it, and what was done then
+-- a call that closes nothing, after earlier actions, whatever the pass does afterwards
 calls_then : {o : Opening} {p q : PlayerView} {u : PassView} {step : Action} {doing : Doing} {used : Use} {looks numbers files : ℕ}
     {Says Tells : List Action → Type 0} → Adds o p.pass ([] ▷ step) doing used u → closed_by step ≡ []
     → ((xs : List Action) → Says xs → Tells (([] ▷ step) ▷▷ xs)) → ActsSo o (player u p.closes) looks numbers files Says q
@@ -72,14 +72,14 @@ calls_then {o} {p} {q} {u} {step} {doing} {used} adds none so does =
       few_files = omega arith;
     }
 
--- what was done before may stand in front
+-- earlier actions may come before
 may_close_behind : (xs steps : List Action) (removed : Option File) (ys : List Action) → MayClose steps removed ys
     → MayClose (xs ▷▷ steps) removed (xs ▷▷ ys)
 may_close_behind xs steps None ys is = ap (λ (l : List Action). l ++ xs) is
 may_close_behind xs steps (Some f) ys (inl is) = inl (ap (λ (l : List Action). l ++ xs) is)
 may_close_behind xs steps (Some f) ys (inr is) = inr (ap (λ (l : List Action). l ++ xs) is)
 
--- what can be said of a look-up that found a file, and the release of it
+-- the properties of a look-up that found a file, and of its release
 pub looks_and_releases : {o : Opening} {p q : PlayerView} {u : PassView} {slot : ℕ} {f : File} {Says : List Action → Type 0}
     → Adds o p.pass ([] ▷ Look slot (Some f)) (Holding f) one_look u → IsRelease o (player u p.closes) q
     → ((xs : List Action) → MayClose ([] ▷ Look slot (Some f) ▷ Release f) (Some f) xs → Says xs) → ActsSo o p 1 0 1 Says q

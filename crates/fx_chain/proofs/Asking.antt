@@ -1,4 +1,4 @@
--- What is asked by the first requests of a list, and by the rest of them.
+-- The requests of a part of a list, as contracts see them.
 use Rattle.fx_chain.proofs.Words.{◌≡◌, ℕ, ◌+◌, ◌<◌, ◌≤◌, List, [], ◌∷◌, ◌++◌, length, take, drop, slice_index_or, sym, ap, ◌∙◌, length-map}
 use Rattle.fx_chain.proofs.Words.{length-take-le, map_more, drop_more, drop_all, take_all, take-map, drop-map, asked_of, all_asked, Request}
 
@@ -19,6 +19,6 @@ asked_all requests i le = ap all_asked (take_all i requests le)
 pub asked_none : (requests : List Request) (i : ℕ) → length requests ≤ i → all_asked (drop i requests) ≡ []
 asked_none requests i le = ap all_asked (drop_all i requests le)
 
--- what a part of the requests asks is that part of what they ask
+-- a part of the list of requests is a part of what contracts see
 pub asked_part : (requests : List Request) (first len : ℕ) → all_asked (take len (drop first requests)) ≡ take len (drop first (all_asked requests))
 asked_part requests first len = sym (take-map asked_of len (drop first requests)) ∙ ap (take len) (sym (drop-map asked_of first requests))

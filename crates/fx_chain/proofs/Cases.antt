@@ -1,4 +1,4 @@
--- What holds by the cases of a test.
+-- Properties by the cases of a test.
 use Rattle.std.proofs.Common.{◌≡◌, Bool, true, false, refl}
 use Rattle.std.specs.Bool.{MatchBool}
 

@@ -42,7 +42,7 @@ module _ (catalogue : List FileEntry) (size : ℕ) where
       (λ (ended : (others ≡ []) × (rest ≡ canceled (next_member place) requests)). ap length ended.1 ∙ canceled_count (next_member place) requests)
       (explained_count (next_member place) requests others rest) goes)
 
-  -- the next member is performed behind members of which none severs the chain, and canceled behind one that does
+  -- the next member is performed if no earlier member severed the chain, and canceled otherwise
   pub explains_next : (place : Place) (requests : List Asked) (r : Asked) (events own : List Action) (cs : List Completed) (c : Completed) (n : ℕ)
       → n ≡ place.member + length requests → Explains catalogue size place requests events cs
       → AnswersBehind catalogue size (record place { member = n }) (any_severs requests cs) r own c
@@ -91,11 +91,11 @@ answers_next o catalogue place requests r cs c n is done own =
     let weights = sum_by-append (λ (x : Asked). weight_of x.operation) requests (r ∷ []) in
     so_then done own (λ xs ys a b. explains_next catalogue (size_of o) place requests r xs ys cs c n is a b) (omega arith) (omega arith) (omega arith)
 
--- what the requests from a place on ask
+-- the requests from a place on, as contracts see them
 abbrev pub asked_from : List Request → ℕ → List Asked
 asked_from requests i = all_asked (drop i requests)
 
--- what they weigh is what the first of them and those behind it do
+-- their weight is that of the first one plus that of the later ones
 pub weighs_from : (weigh : Asked → ℕ) (requests : List Request) (i : ℕ) (x : Request) → i < length requests → x ≡ slice_index_or requests i x
     → sum_by weigh (asked_from requests i) ≡ weigh (asked_of x) + sum_by weigh (asked_from requests (i + 1))
 weighs_from weigh requests i x inside is =

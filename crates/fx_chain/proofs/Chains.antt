@@ -1,4 +1,4 @@
--- The chains of a submission without a fault: where each stands, and what it keeps to.
+-- The chains of a submission without a fault: their places and limits.
 use Rattle.fx_chain.proofs.Words.{◌≡◌, inl, ℕ, ◌+◌, ◌≤◌, List, [], ◌∷◌, ◌++◌, length, map, drop, refl, sym, ap, ◌∙◌, All, subst, arith}
 use Rattle.fx_chain.proofs.Words.{flat_map, take_at, drop_at, All-nil, All-cons, All-head, All-tail, All-take, All-drop, IsAccepted, IsWithinLimits}
 use Rattle.fx_chain.proofs.Words.{IsShortRun, IsChain, members_of, chains_from, chains_of, Asked, but_last, runs_of, all_installs}
@@ -15,13 +15,13 @@ members_of-run : {requests : List Asked} (before run later : List Asked) → req
 members_of-run before run later is =
     rw (is, drop_at before (run ++ later) (length before) refl, take_at run later (length run) refl)
 
--- what a run keeps to that no limit refuses
+-- the limits of a run
 record Fits (run : List Asked) : Type 0 where
   pub members : length run ≤ MOST_MEMBERS
   pub installs : all_installs run ≤ CHAIN_NUMBERS
 
 module _ (requests : List Asked) (accepted : IsAccepted requests) where
-  -- a run ends with a request that is fine behind the others, so it is short
+  -- a run ends with a request without a fault, so it is short
   fits : (before run later : List Asked) → requests ≡ before ++ (run ++ later) → IsClosed before → HasMembers run → IsLinked run → Fits run
   fits before [] later is closed some linked = absurd (omega arith)
   fits before (x ∷ xs) later is closed some linked =
@@ -56,7 +56,7 @@ module _ (requests : List Asked) (accepted : IsAccepted requests) where
         });
       }
 
-  -- the same of all runs behind some requests
+  -- the same for all runs after some requests
   all_chains : (before : List Asked) (runs : List (List Asked)) → requests ≡ before ++ flat_map (λ run. run) runs → IsClosed before
       → All HasMembers runs → All IsLinked runs → All IsOver (but_last runs) → All (IsChain requests) (chains_from (length before) runs)
   all_chains before [] is closed some linked over = All-nil (IsChain requests)
@@ -72,7 +72,7 @@ module _ (requests : List Asked) (accepted : IsAccepted requests) where
       (IsClosed-append before run (All-head IsOver run (but_last (next ∷ runs)) over)) (All-tail HasMembers run (next ∷ runs) some)
       (All-tail IsLinked run (next ∷ runs) linked) (All-tail IsOver run (but_last (next ∷ runs)) over)))
 
--- each chain of a submission without a fault stands in it and is short
+-- each chain of a submission without a fault is in the submission and short
 pub accepted-chains : (requests : List Asked) → IsAccepted requests → All (IsChain requests) (chains_of (runs_of requests))
 accepted-chains requests accepted =
     let are = are_runs requests in

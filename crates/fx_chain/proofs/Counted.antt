@@ -1,4 +1,4 @@
--- What `check` keeps of the requests that it has seen.
+-- The invariant of `check`: the counts of the requests that it has seen.
 use Rattle.fx_chain.proofs.Words.{◌≡◌, ◌≢◌, inl, inr, ℕ, ◌+◌, ◌*◌, ◌<◌, ◌≤◌, ◌==◌, nat_lt, Bool, true, false, ◌&&◌, if◌then◌else◌, List, [], ◌∷◌}
 use Rattle.fx_chain.proofs.Words.{◌++◌, length, refl, sym, ◌∙◌, arith, Option, Some, None, cases_Bool, eqb-false, ltb-false, and_cases, ne_eqb}
 use Rattle.fx_chain.proofs.Words.{cases_eq, sum_by-append, Asked, is_fixed, is_link, runs_of, open_run, installs_of, all_installs, fault_after}
@@ -8,7 +8,7 @@ use Rattle.std.proofs.lemmas.List.{length-append}
 use Rattle.fx_chain.specs.declared.fault.CutKind.TheVariants.{BadFlags, LongRead, LongUpdate, ChainTooLong, TooManyFiles, TooManyChains}
 use Rattle.fx_chain.proofs.Splits.{runs-push, open_run-push, open_run-over}
 
--- the numbers of chains, of members and of installs behind some requests without a fault
+-- the numbers of chains, members and installations after some requests without a fault
 pub record AreCounts (front : List Asked) (chains members installs : ℕ) : Type 0 where
   pub chains_is : chains ≡ length (runs_of front)
   pub members_is : members ≡ length (open_run front)
@@ -23,7 +23,7 @@ pub fault_behind-counted : {front : List Asked} {chains members installs : ℕ} 
     → fault_behind front r ≡ fault_after chains members installs r
 fault_behind-counted r is = rw (is.chains_is, is.members_is, is.installs_is)
 
--- what a request without a fault keeps to
+-- the properties of a request without a fault
 pub record IsFine (chains members installs : ℕ) (r : Asked) : Type 0 where
   pub flags : has_bad_flags r.operation (is_fixed r.flags) ≡ false
   pub read : is_long_read r.operation ≡ false
@@ -32,7 +32,7 @@ pub record IsFine (chains members installs : ℕ) (r : Asked) : Type 0 where
   pub room : installs + installs_of r.operation ≤ CHAIN_NUMBERS
   pub not_last : members ≡ 0 → chains ≢ MAX_CHAINS
 
--- where nothing is found, the first test doesn't hold, and those behind it find nothing
+-- if nothing is found, the first test doesn't hold, and the later ones find nothing
 pub passed : {X : Type 0} (b : Bool) (x : X) (rest : Option X) → (if b then Some x else rest) ≡ None → (b ≡ false) × (rest ≡ None)
 passed true x rest none = cc
 passed false x rest none = (refl, none)
@@ -82,7 +82,7 @@ bounded_step {front} {chains} {members} is f links = elim (cases_eq members 0) [
       (elim links as (λ b. IsBounded (length front + 1) chains (or_none b (members + 1))) [ true ↦ omega arith | false ↦ omega arith ])
 ]
 
--- the open run behind one more request
+-- the open run after one more request
 open_run-after : (F : List Asked → ℕ) (front : List Asked) (r : Asked) (n : ℕ) → F (open_run front ++ r ∷ []) ≡ n → F [] ≡ 0
     → or_none (is_link r.flags) n ≡ F (open_run (front ++ r ∷ []))
 open_run-after F front r n more nil = elim (cases_Bool (is_link r.flags)) [

@@ -20,7 +20,7 @@ minus_one (negsuc (suc n)) low high = let lt = ltb-true (suc n) 1 high in absurd
 abbrev installing : List ℤ → List ℤ
 installing list = filter (λ entry. int_le (pos 0) entry) list
 
--- a list with an entry in front, and one with an entry at its end
+-- a list with an entry before it, and one with an entry after it
 pub list_installs-cons : (z : ℤ) (list : List ℤ) → list_installs (z ∷ list) ≡ entry_installs z + list_installs list
 list_installs-cons (pos n) list =
     ap (λ (b : Bool). length (if b then pos n ∷ installing list else installing list)) (le-leb 0 n (omega arith)) ∙ omega arith
@@ -38,7 +38,7 @@ leaves_slot place in_list slot entries (pos n) good low high = let e : true ≡ 
 leaves_slot place in_list slot entries (negsuc zero) good low high = cc
 leaves_slot place in_list slot entries (negsuc (suc n)) good low high = refl
 
--- the entries of a list, and one more behind them
+-- the entries of a list, and then one more
 applies_more : (place : Place) (in_list slot : ℕ) (list : List ℤ) (z : ℤ) (at to : ℕ) (events own : List Action) → at ≡ in_list + length list
     → to ≡ slot + length list → AppliesList place in_list slot list events → AppliesEntry place at to z own
     → AppliesList place in_list slot (list ++ z ∷ []) (events ▷▷ own)
@@ -50,7 +50,7 @@ applies_more place in_list slot (x ∷ list) z at to events own at_is to_is (fir
     let more = applies_more place (in_list + 1) (slot + 1) list z at to others own (omega arith) (omega arith) rest applies in
     (first, others ▷▷ own, rw (is, append_assoc), front, more)
 
--- the entries that are left install what this one and those behind it do
+-- the entries that are left install what this one and the later ones do
 pub installs_left : (list : List ℤ) (i : ℕ) → i < length list → list_installs (drop i list)
     ≡ entry_installs (slice_index_or list i (pos 0)) + list_installs (drop (i + 1) list)
 installs_left list i inside =

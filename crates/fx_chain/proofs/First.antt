@@ -3,7 +3,7 @@ use Rattle.fx_chain.proofs.Words.{◌≡◌, ◌+◌, ◌⊎◌, List, [], ◌�
 use Rattle.fx_chain.proofs.Words.{append_assoc, length-append, Asked, HasNoFault, IsFirstFault, fault_behind, first_fault, fault_of, or_later}
 use Rattle.std.specs.Option.{MatchOption}
 
--- a request of a list with one more behind it is that one, or one of the list
+-- a request of a list with one more request at its end is that one, or one of the list
 last_or_before : (front more behind : List Asked) (x r : Asked) → front ++ x ∷ [] ≡ more ++ r ∷ behind
     → ((more ≡ front) × (r ≡ x)) ⊎ ((rest : List Asked) × (front ≡ more ++ r ∷ rest))
 last_or_before [] [] behind x r is = inl (refl, cc)

@@ -1,4 +1,4 @@
--- The steps of a chain with other numbers, and how many numbers they give.
+-- The steps of a chain with other numbers, and the count of numbers that they use.
 use Rattle.fx_chain.proofs.Words.{◌≡◌, ◌⊎◌, ℕ, zero, suc, ◌+◌, ◌<◌, ◌≤◌, ℤ, pos, negsuc, List, [], ◌∷◌, ◌++◌, length, map, ap, ◌∙◌}
 use Rattle.fx_chain.proofs.Words.{Option, Some, None, inl, inr, arith, list_any, map-append, sum_by-cons, FileEntry, Action, ◌▷▷◌, Refuses, MayClose}
 use Rattle.fx_chain.proofs.Words.{AppliesEntry, AppliesList, Answers, is_bad_entry, Completed, next_member, Explains, severs, canceled, Operation}
@@ -89,7 +89,7 @@ module _ (r : Renaming) where
     same_cases (severs request c) refuses (explains catalogue size requests (next_member place) others cs) goes,
   )
 
--- how many numbers actions give
+-- the count of numbers that actions use
 abbrev given : List Action → ℕ
 given events = length (numbers_given events)
 

@@ -3,7 +3,7 @@ use Rattle.fx_chain.proofs.Words.{◌≡◌, ◌<◌, true, false, not, if◌the
 use Rattle.fx_chain.proofs.Words.{cases_Bool, not-true, flat_map, append-nil, list_all-from_AllPass, All-nil, All-cons, All-head, All-tail, Asked}
 use Rattle.fx_chain.proofs.Words.{is_link, but_last, is_over, AreRuns, AreTheOnlyRuns, in_front, runs_of, open_run}
 
--- what each request does that is a member of a run and not its last
+-- each request of a run but its last one links
 abbrev pub AllLink : List Asked → Type 0
 AllLink requests = All (λ request. is_link request.flags ≡ true) requests
 
@@ -23,7 +23,7 @@ Links request = is_link request.flags ≡ true
 pub runs_one : (r : Asked) → runs_of (r ∷ []) ≡ (r ∷ []) ∷ []
 runs_one r = elim (is_link r.flags) as (λ b. (if b then (r ∷ []) ∷ [] else (r ∷ []) ∷ []) ≡ (r ∷ []) ∷ []) [ true ↦ refl | false ↦ refl ]
 
--- a linked request in front of runs
+-- a linking request before runs
 linked_step : (r : Asked) (rs : List Asked) (runs : List (List Asked)) → is_link r.flags ≡ true → AreRuns rs runs → AreRuns (r ∷ rs) (in_front r runs)
 linked_step r rs [] links are = record {
   whole = ap (λ xs. r ∷ xs) are.whole;
@@ -52,7 +52,7 @@ over_step : (r : Asked) (runs : List (List Asked)) → is_link r.flags ≡ false
 over_step r [] ends over = All-nil _
 over_step r (run ∷ runs) ends over = All-cons IsOver (r ∷ []) (but_last (run ∷ runs)) (ap not ends) over
 
--- a run of one request in front of runs
+-- a run of one request before runs
 ended_step : (r : Asked) (rs : List Asked) (runs : List (List Asked)) → is_link r.flags ≡ false → AreRuns rs runs → AreRuns (r ∷ rs) ((r ∷ []) ∷ runs)
 ended_step r rs runs ends are = record {
   whole = ap (λ ys. r ∷ ys) are.whole;

@@ -1,4 +1,4 @@
--- A run and its last request, and the open run behind runs that are over.
+-- A run and its last request, and the open run after runs that are over.
 use Rattle.fx_chain.proofs.Words.{◌≡◌, inl, inr, ◌<◌, ◌⊎◌, true, false, not, ◌&&◌, if◌then◌else◌, List, [], ◌∷◌, ◌++◌, length, refl, sym, ap}
 use Rattle.fx_chain.proofs.Words.{◌∙◌, subst, arith, ◌+◌, ◌==◌, list_all, and_right, and_cases, both_ways, cases_Bool, not-true, ne_eqb, All-nil}
 use Rattle.fx_chain.proofs.Words.{All-cons, All-head, All-tail, All-push, append-nil, Asked, is_link, but_last, is_over, in_front, runs_of, open_run}
@@ -33,7 +33,7 @@ list_all-over [] rest over = cc
 list_all-over (x ∷ []) rest over = ap (λ b. b && list_all (λ r. is_link r.flags) rest) (not-true (is_link x.flags) over)
 list_all-over (x ∷ y ∷ run) rest over = and_right (is_link x.flags) _ (list_all-over (y ∷ run) rest over)
 
--- the open run stands behind each run that is over
+-- the open run follows each run that is over
 open_run-skip : (run rest : List Asked) → is_over run ≡ true → open_run (run ++ rest) ≡ open_run rest
 open_run-skip [] rest over = cc
 open_run-skip (x ∷ []) rest over = rw (list_all-over (x ∷ []) rest over)
@@ -96,7 +96,7 @@ ends_of (x ∷ xs) = elim (cases_Bool (list_all (λ r. is_link r.flags) (x ∷ x
       }
 ]
 
--- the first run of a list goes on behind requests that link
+-- the first run of a list continues earlier requests that link
 record Begins (run : List Asked) (r : Asked) (behind : List Asked) : Type 0 where
   pub rest : List Asked
   pub later : List (List Asked)
@@ -138,7 +138,7 @@ but_last-links (x ∷ []) linked = All-nil Links
 but_last-links (x ∷ y ∷ run) linked =
     All-cons Links x (but_last (y ∷ run)) (All-head Links x (y ∷ run) linked) (but_last-links (y ∷ run) (All-tail Links x (y ∷ run) linked))
 
--- the open run behind one more request
+-- the open run after one more request
 pub open_run-over : (front : List Asked) (r : Asked) → is_link r.flags ≡ false → open_run (front ++ r ∷ []) ≡ []
 open_run-over front r ends =
     ap open_run (sym (append-nil (front ++ r ∷ []))) ∙ open_run-skip (front ++ r ∷ []) [] (is_over-push front r ends)
