@@ -1,4 +1,4 @@
--- What is made of each chunk of a list, joined, is what is made of the list.
+-- The results for each chunk of a list, joined, are the result for the list.
 use Rattle.std.proofs.Common.{◌≡◌, ℕ, suc, ◌+◌, ◌*◌, ◌/◌, ◌%◌, ◌<◌, ◌≤◌, min, inl, inr, List, [], ◌∷◌, ◌++◌, length, take, drop, arith, sym, ap, ◌∙◌}
 use Rattle.std.proofs.Common.{slice_index_or}
 use Rattle.std.proofs.lemmas.List.{drop-drop, length-drop, nil_from_length, take-append-drop}
@@ -8,7 +8,7 @@ use Rattle.std.specs.Fork.{slice_chunk}
 use Rattle.std.specs.List.{flat_map}
 use native.Mathlib.Nat.{suc-mul, zero-mul}
 
--- so many chunks as a list of so many has are all of it
+-- the chunks of a list, in the number that its length has, are all of it
 pub all_chunks : (count len size : ℕ) → 0 < size → count ≡ len / size + min 1 (len % size) → len ≤ count * size
 all_chunks count len size some is =
     let whole : ℕ = len / size in

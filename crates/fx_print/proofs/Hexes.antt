@@ -10,7 +10,7 @@ use Rattle.std.specs.Str.{IsAscii, IsUtf8}
 use Rattle.hex.specs.Hex.{encode_lower, encode_with, lower_digits}
 use Rattle.hex.proofs.HexLemmas.{IsAscii-encode_with}
 
--- bytes behind bytes
+-- bytes followed by bytes
 pub encode_lower-append : (a b : List ℕ) → encode_lower (a ++ b) ≡ encode_lower a ++ encode_lower b
 unfolding encode_with
 encode_lower-append [] b = refl
@@ -29,7 +29,7 @@ pub nothing_left : encode_lower [] ≡ []
 unfolding encode_with
 nothing_left = refl
 
--- what holds where there is a value holds of one that is there
+-- a property that holds if there is a value holds for one that is there
 pub on_ok : {T E P : Type 0} (r : Result T E) → IsOk r → OnOk r P → P
 on_ok (Ok x) is holds = holds
 on_ok (Err e) is holds = cc
