@@ -23,7 +23,7 @@ use Rattle.fx_language.specs.Lines.{lines, words, is_printable, is_skipped}
 use Rattle.fx_language.specs.Script.{AreFiles, LineFault, Meaning, Progress, IsScript, after_file, after_line, after_text, after_texts, at_end}
 use Rattle.fx_language.specs.Script.{is_late, line_fault_of, nothing, on_line, reading_of, unless, with_file}
 
--- where lines are read, the files are those of a script
+-- the files of lines that are read are those of a script
 abbrev Keeps : Result Progress ScriptFault → Type 0
 Keeps r = IfOk r (λ p. AreFiles p.catalogue)
 

@@ -8,7 +8,7 @@ use Rattle.std.proofs.lemmas.Str.Ascii.{IsAscii-nil, IsAscii-cons}
 use Rattle.fx_language.specs.Lines.{is_printable, words}
 use Rattle.std.proofs.lemmas.Bool.{and_parts, leb-true}
 
--- one byte in front of the parts
+-- one byte before the parts
 one_byte : (ends : Bool) (b : ℕ) (parts : List (List ℕ)) → nat_le 32 b && nat_le b 126 ≡ true → list_all is_printable parts ≡ true
     → list_all is_printable (if ends then [] ∷ parts else onto_first b parts) ≡ true
 one_byte true b parts here all = all
@@ -22,7 +22,7 @@ words_are_printable (b ∷ bs) all =
     let parts = and_parts (nat_le 32 b && nat_le b 126) (is_printable bs) all in
     one_byte (b == 32) b (words bs) parts.0 (words_are_printable bs parts.1)
 
--- and so are those behind the first
+-- and so are the later ones
 pub others_are_printable : {word : List ℕ} {others left : List (List ℕ)} → left ≡ word ∷ others → list_all is_printable left ≡ true
     → list_all is_printable others ≡ true
 others_are_printable {word} {others} is all = (and_parts (is_printable word) (list_all is_printable others) (rw is at all)).1
@@ -37,7 +37,7 @@ printable_is_ascii (b ∷ bs) all =
 pub printable_is_text : (word : List ℕ) → is_printable word ≡ true → IsUtf8 word
 printable_is_text word all = IsUtf8-from_ascii word (printable_is_ascii word all)
 
--- what fails only where the bytes are no text doesn't fail
+-- a conversion that fails only for bytes that aren't text doesn't fail
 pub text_is_ok : {A E : Type 0} (r : Result A E) (word : List ℕ) (P : A → Type 0) (Q : E → Type 0)
     → MatchResult r P (λ e. ¬ (IsUtf8 word) × Q e) → IsUtf8 word → IsOk r
 text_is_ok (Ok x) word P Q cases is = refl

@@ -19,7 +19,7 @@ value_more word i n d inside digit is before =
     let value = digit_value_digit c (low, leb-true c 57 both.1) in
     omega (arith, digits_value_more 10 word i inside)
 
--- a word whose first digits write too large a number is no number
+-- a word whose first digits are too large a number isn't a number
 too_large : (largest : ℕ) (word : List ℕ) (i n : ℕ) → n ≡ digits_value 10 (take i word) → largest < n → None ≡ number_up_to largest word
 too_large largest word i n is large =
     let less : digits_value 10 (take i word) ≤ digits_value 10 word = digits_value-take-le 10 word i (omega arith) in

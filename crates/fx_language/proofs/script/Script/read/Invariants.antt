@@ -5,7 +5,7 @@ use Rattle.fx_language.specs.Script.{after_texts, nothing}
 use Rattle.fx_language.specs.ScriptView.{progress_of}
 use Rattle.fx_language.proofs.script.Script.read.Given as goal
 
--- what the lines from here on give is what all of them give
+-- the result of the lines from here on is the result of all lines
 abbrev pub invariant-loop-text : goal.invariant-loop-text
 invariant-loop-text l = record {
   left : after_texts l.line (progress_of l.reader) (parts_left l.text-iterator) ≡ after_texts 1 nothing (lines l.bytes);
