@@ -1,4 +1,4 @@
--- What the bytes that are kept of an input say of it.
+-- The kept bytes of an input, and its meaning.
 use Rattle.fx_script.proofs.Words.{◌≡◌, ℕ, ◌+◌, ◌<◌, true, nat_lt, List, length, take, refl, sym, ap, ◌∙◌, inl, inr, arith, Option, Some, None}
 use Rattle.fx_script.proofs.Words.{IfSome, Err, length-take, take_all, IsInput, IsInputFault, LONGEST_SCRIPT}
 use Rattle.std.proofs.lemmas.Bool.{cases_lt}

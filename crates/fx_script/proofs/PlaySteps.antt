@@ -20,14 +20,14 @@ Appends-append (Some a) None c xs ys first second = absurd first
 Appends-append (Some a) (Some b) None xs ys first second = absurd second
 Appends-append (Some a) (Some b) (Some c) xs ys first second = second ∙ ap (λ (k : List ℕ). k ++ ys) first ∙ append_assoc a xs ys
 
--- what is known of a play without memory may be put otherwise
+-- the known output of a play that ran out of memory, in other words
 fault_maps : (fault : PlayFault) {one other : Type 0} → (one → other) → IsPlayFault fault one → IsPlayFault fault other
 fault_maps Read f known = known
 fault_maps (Script line kind) f known = known
 fault_maps Write f known = known
 fault_maps NoMemory f known = f known
 
--- what some commands print, with what those behind them print
+-- the output of some commands, and then that of the later ones
 behind : (next : RingContents) (others : List ℕ) (P : RingContents → List Instruction → List ℕ → Type 0)
     → ((ring : RingContents) (back : List Instruction) → ring_of ring ≡ ring_of next → P next back others → P ring back others)
     → ((ring then : RingContents) (command : Instruction) (commands : List Instruction) (line rest : List ℕ) → Prints ring command then line
@@ -44,7 +44,7 @@ prints_nothing : (now : RingContents) (left : List Instruction) → PrintsFirst 
 prints_nothing now [] = refl
 prints_nothing now (command ∷ commands) = inl refl
 
--- the first so many commands were played: what was written is the text of these
+-- the first `i` commands were played: the output is their text
 pub record HasPlayed (ring now : RingContents) (commands : List Command) (i : ℕ) (before known : Option (List ℕ)) : Type 0 where
   pub written : Writes (PrintsUpTo ring (instructions_of (take i commands)) now) before known
 
@@ -65,7 +65,7 @@ module _ {ring now : RingContents} {commands : List Command} {i : ℕ} {before k
   since written goes (line, prints, appended) =
       (text ++ line, goes line prints, Appends-append before known written text line played.written.2 appended)
 
-  -- and so many more
+  -- and then `count` more
   pub some_more : {next : RingContents} {written : Option (List ℕ)} (count : ℕ)
       → Writes (PrintsUpTo now (instructions_of (take count (drop i commands))) next) known written
       → HasPlayed ring next commands (i + count) before written
@@ -99,7 +99,7 @@ module _ {ring now : RingContents} {commands : List Command} {i : ℕ} {before k
       (behind now line PrintsAll (λ r l is. all_same now r is l line)
       (λ r then command l line rest prints more. (then, line, rest, prints, refl, more)) front [] ring text played.written.1 prints))
 
-  -- or the play came to no end behind them
+  -- or the play ended early after them
   pub ends_early : (fault : PlayFault) (written : Option (List ℕ)) → IsPlayFault fault (Writes (PrintsFirst now back) known written)
       → IsPlayFault fault (Writes (PrintsFirst ring (instructions_of commands)) before written)
   ends_early fault written = fault_maps fault (since written (λ line prints. subst (λ (l : List Instruction). PrintsFirst ring l (text ++ line))
@@ -113,7 +113,7 @@ module _ {ring now : RingContents} {commands : List Command} {i : ℕ} {before k
   fails fault written failed = ends_early fault written (fault_maps fault (λ same.
       ([], prints_nothing now back, subst (λ (w : Option (List ℕ)). Appends known w []) (sym same) (Appends-nothing known))) failed)
 
--- what was written is a text of another kind too
+-- the output is a text of another kind, too
 pub written_as : {P Q : List ℕ → Type 0} (before written : Option (List ℕ)) → ((text : List ℕ) → P text → Q text)
     → Writes P before written → Writes Q before written
 written_as before written so (line, is, appended) = (line, so line is, appended)

@@ -1,4 +1,4 @@
--- What commands print on a ring, they print on one that shows the same.
+-- The output of commands on a ring is that on a ring that shows the same.
 use Rattle.fx_script.proofs.Words.{◌≡◌, ℕ, pos, List, [], ◌∷◌, length, sym, subst, ◌∙◌, Option, Some, None, Bool, true, false, nat_le, inl, inr}
 use Rattle.fx_script.proofs.Words.{codes, Asked, RingContents, RingState, files_of, ring_of, without_table, Instruction, MakesSparse, RegistersList}
 use Rattle.fx_script.proofs.Words.{Unregisters, SetsRange, UpdatesRing, SubmitsAll, Answers, IsRefused, Prints, PrintsAll, PrintsClosed, PrintsEnd}
@@ -16,7 +16,7 @@ use Rattle.fx_print.specs.Text.{result_line, refused_line, too_many_line}
 use Rattle.fx_script.specs.Text.{report_text}
 
 module _ (old same next : RingContents) (line : List ℕ) (is : ring_of same ≡ ring_of old) where
-  -- what a submission prints, where this is said of its report
+  -- the output of a submission, with this property of its report
   abbrev OnSubmit : Option CutFault → Bool → RingState → Type 0 → Type 0
   OnSubmit fault many ring reported = MatchOption fault (MatchBool many ((ring_of next ≡ ring) × (line ≡ too_many_line)) reported)
       (λ f. (ring_of next ≡ ring) × (line ≡ refused_line f))

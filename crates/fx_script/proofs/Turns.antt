@@ -1,8 +1,8 @@
--- What was read and kept, turn by turn.
+-- The bytes that were read and kept, turn by turn.
 use Rattle.fx_script.proofs.Words.{◌≡◌, ℕ, zero, suc, ◌-◌, ◌≤◌, List, [], ◌∷◌, ◌++◌, length, take, refl, sym, ap, ◌∙◌, append_assoc, length-append}
 use Rattle.fx_script.proofs.Words.{Option, Some, None, arith, IfSome, Consumes, IsAtEnd, append-nil, length-take}
 
--- what was read is gone from the reader, and the first n bytes of it were kept
+-- the bytes that were read are gone from the reader, and the first `n` of them were kept
 pub record Kept (n : ℕ) (old now : Option (List ℕ)) (input : List ℕ) : Type 0 where
   pub read : List ℕ
   pub gone : Consumes old now read

@@ -2,7 +2,7 @@ use Rattle.fx_script.proofs.Words.{◌+◌, ◌≤◌, length, LONGEST_SCRIPT}
 use Rattle.fx_script.proofs.Turns.{Kept}
 use Rattle.fx_script.proofs.input.read_all.Given as goal
 
--- the first bytes of what the reader has given are kept
+-- the first bytes that the reader has returned are kept
 abbrev pub invariant-reading : goal.invariant-reading
 invariant-reading g l = record {
   kept : Kept (LONGEST_SCRIPT + 1) (g.I.Read.remaining l.fn.reader) (g.I.Read.remaining l.reader) l.input.items;

@@ -2,7 +2,7 @@ use Rattle.fx_script.proofs.Words.{◌≤◌, ◌-◌, length}
 use Rattle.fx_script.proofs.PlaySteps.{HasPlayed}
 use Rattle.fx_script.proofs.player.play_commands.Given as goal
 
--- so many commands were played
+-- the first `played` commands were played
 abbrev pub invariant-loop-played : goal.invariant-loop-played
 invariant-loop-played g l = record {
   inside : l.played ≤ length l.commands;
