@@ -6,7 +6,7 @@ use Rattle.fx_order.proofs.Words.{action_of, part_of_chain, identity_of, by_equa
 use Rattle.fx_order.proofs.Words.{PermitsAll, table_with, table_after, Access, access_of, accesses_of, accesses_of_chain, ChainAccess, ◌⊎◌, inl, inr}
 use Rattle.fx_order.proofs.Words.{Bool, false, true}
 
--- a state without the numbers of its files, its holds and what it has given up
+-- a state without its file numbers, holds and removed files
 abbrev pub shown : State → Table
 shown st = record { size = st.size; range = st.range; at = λ slot. identity_of (st.at slot) }
 
@@ -75,7 +75,7 @@ accesses_of_chain-order_in chain (e ∷ h) =
     (λ b. accesses_in (map action_of part) ++ cond b (accesses_by e.action) [] ≡ accesses_in (map action_of (cond b (e ∷ part) part)))
     (λ _. refl) (λ _. append-nil (accesses_in (map action_of part)))
 
--- the accesses of a chain with one more in front
+-- the accesses of a chain, with one more before them
 pub of_chain : (x : ChainAccess) (order : List ChainAccess) (chain : ℕ)
     → ((x.chain ≡ chain) × (accesses_of_chain chain (x ∷ order) ≡ x.access ∷ accesses_of_chain chain order))
     ⊎ ((x.chain ≡ chain → ⊥) × (accesses_of_chain chain (x ∷ order) ≡ accesses_of_chain chain order))
@@ -111,7 +111,7 @@ pub identities-changed_at : (at : ℕ → Option File) (slot : ℕ) (x : Option 
 identities-changed_at at slot x = λ i k.
     by_equality k slot (λ b. identity_of (if b then x else at k) ≡ (if b then identity_of x else identity_of (at k))) (λ _. refl) (λ _. refl) i
 
--- what is chosen at the place itself
+-- the choice at the place itself
 pub at_itself : {X : Type 0} (k : ℕ) (x y : X) → (if k == k then x else y) ≡ x
 at_itself k x y = by_equality k k (λ b. (if b then x else y) ≡ x) (λ _. refl) (λ other. absurd (other refl))
 

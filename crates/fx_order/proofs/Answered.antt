@@ -1,4 +1,4 @@
--- What explains an answer by accesses explains it by the steps that they are at once.
+-- Accesses that explain an answer: the steps that they are explain it.
 use Rattle.fx_order.proofs.Words.{◌≡◌, inl, inr, ℕ, zero, suc, ◌+◌, ◌==◌, ◌||◌, nat_le, nat_lt, ℤ, pos, negsuc, List, [], ◌∷◌, ◌++◌, length, map}
 use Rattle.fx_order.proofs.Words.{same_cases, file_told, refl, sym, ap, subst, ◌∙◌, append_assoc, Option, Some, None, list_any, append-nil, FileEntry}
 use Rattle.fx_order.proofs.Words.{has_name, Errno, ENOENT, ENXIO, EBADF, ENOMEM, EINVAL, ENFILE, Closed, File, Event, Action, Look, Put, Clear, Take}

@@ -1,4 +1,5 @@
--- Where no mark is placed twice, and none that is in the table, what was removed isn't there afterwards, and was removed once.
+-- If no mark is placed twice, and none that is in the table, each removed file isn't there afterwards, and was removed
+-- once.
 use Rattle.fx_order.proofs.Words.{◌≡◌, ◌≢◌, ◌⊎◌, inl, inr, ⊎_elim, ℕ, List, [], ◌∷◌, ◌++◌, sym, ◌∙◌, Some, Closed, Table, Puts, Allocates, Permits}
 use Rattle.fx_order.proofs.Words.{not-true, Decides-not, Contains-get_or, recursion_from_All, IsDistinct-cons, PermitsAll, table_with, table_after}
 use Rattle.fx_order.proofs.Words.{removed_by, Access, removed_in, Bool, None, Option, false, refl, slice_index_or, option_to_list}
@@ -44,7 +45,7 @@ module _ (t : Table) (x : Access) (xs : List Access) (apart : IsApart t (placed_
   later_unlike : {s : ℕ} (o : ℕ) {f : Closed} (g : Closed) → t.at s ≡ Some f → Has (placed xs) o g → f.mark ≢ g.mark
   later_unlike {s} o {f} g was new = apart.unlike s o f g was (has_right (placed_by x) (placed xs) o g new)
 
-  -- it stays so behind an access
+  -- it stays so after an access
   pub apart_then : IsApart (table_with t x) (placed xs)
   apart_then = record {
     distinct = λ s o f g is are same. ⊎_elim
@@ -56,7 +57,7 @@ module _ (t : Table) (x : Access) (xs : List Access) (apart : IsApart t (placed_
     once = once_behind (placed_by x) (placed xs) apart.once;
   }
 
-  -- what it removed is at no slot then, and isn't placed again
+  -- the file that it removed is at no slot then, and isn't placed again
   gone : (g : Closed) → Permits t x → removed_by x ≡ Some g → (s : ℕ) (f : Closed) → ((table_with t x).at s ≡ Some f) ⊎ Has (placed xs) s f
       → g.mark ≢ f.mark
   gone g may is s f (inl now) =
@@ -65,7 +66,7 @@ module _ (t : Table) (x : Access) (xs : List Access) (apart : IsApart t (placed_
       (λ other same. other.0 (apart.distinct s e.slot f g other.1 e.was (sym same))) (λ new. here_unlike s f e.was new) (e.behind s f now)
   gone g may is s f (inr later) = let e = emptied t x g may is in later_unlike s f e.was later
 
--- what was removed is at no slot afterwards
+-- a removed file is at no slot afterwards
 pub removed_is_gone : (t : Table) (xs : List Access) (g : Closed) → IsApart t (placed xs) → PermitsAll t xs → Removes xs g
     → (s : ℕ) (f : Closed) → (table_after t xs).at s ≡ Some f → g.mark ≢ f.mark
 removed_is_gone t [] g apart may none s f at = absurd none

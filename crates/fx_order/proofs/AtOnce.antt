@@ -21,7 +21,7 @@ Does (Takes slot removed) actions = (x : Option File) × (identity_of x ≡ remo
 Does (Allocates slot file) actions = (f : File) × (f.identity ≡ file) × (actions ≡ [] ▷ Allocate slot f)
 Does FindsFull actions = actions ≡ [] ▷ Full
 
--- how many files an access installs
+-- the number of files that an access installs
 abbrev pub installs : Access → ℕ
 installs (Puts slot file removed) = 1
 installs (Allocates slot file) = 1

@@ -1,4 +1,4 @@
--- What the first member of a chain made stands at the front of what the chain made.
+-- The accesses of a chain's first member are the first ones of the chain.
 use Rattle.fx_order.proofs.Words.{◌≡◌, ◌↔◌, ℕ, ◌+◌, Bool, false, IsTrue, List, [], ◌∷◌, ◌++◌, length, take, drop, refl, sym, ap, ◌∙◌, arith, min}
 use Rattle.fx_order.proofs.Words.{AllByRecursion, either_way, MatchBool, when_false, take-append-drop, length-append, take-append_seam}
 use Rattle.fx_order.proofs.Words.{drop-append_seam, FileEntry, Completed, next_member, canceled, severs, Asked, Place, Access, IsChainDone}
@@ -12,14 +12,14 @@ front_is xs ys zs n is count = (
   (λ i. drop (sym count i) (is i)) ∙ drop-append_seam xs ys,
 )
 
--- what holds of each of both parts
+-- a property of each element of both parts
 pub both_parts : {X : Type 0} (P : X → Type 0) (xs ys : List X) → AllByRecursion P (xs ++ ys) → AllByRecursion P xs × AllByRecursion P ys
 both_parts P [] ys all = (tt, all)
 both_parts P (x ∷ xs) ys all = let rest = both_parts P xs ys all.1 in ((all.0, rest.0), rest.1)
 
 module _ (catalogue : List FileEntry) (size : ℕ) (place : Place) (request : Asked) (requests : List Asked) (accesses : List Access)
     (c : Completed) (cs : List Completed) (made : ℕ) where
-  -- what the others do
+  -- the accesses of the other members
   abbrev Behind : List Access → Type 0
   Behind others = MatchBool (severs request c) ((others ≡ []) × (cs ≡ canceled (next_member place) requests))
       (IsChainDone catalogue size (next_member place) requests others cs)

@@ -1,4 +1,4 @@
--- What the first chain of a submission answered stands at the front of what its chains answered.
+-- The completions of a submission's first chain are the first ones of the submission.
 use Rattle.fx_order.proofs.Words.{◌≡◌, ◌↔◌, ℕ, ◌+◌, ◌<◌, ◌≤◌, Bool, IsTrue, List, ◌∷◌, ◌++◌, length, map, take, drop, sym, ap, ◌∙◌, arith, ◌-◌}
 use Rattle.fx_order.proofs.Words.{slice_index_or, take-append-drop, length-append, length-map, take-map, drop-map, FileEntry, members_of, Completed}
 use Rattle.fx_order.proofs.Words.{all_completed, completed_of, first_member, Asked, all_asked, asked_of, Chain, Completion, Request, Access}
@@ -40,7 +40,7 @@ module _ (catalogue : List FileEntry) (size submission chain : ℕ) (run : List 
       λ x. same.1 (rw back (parts_of x).1),
     )
 
--- the completions of a chain's members, and those behind them
+-- the completions of a chain's members, and the later ones
 pub own_completed : (members : List Request) (completions own : List Completion) → own ≡ take (length members) completions
     → all_completed own ≡ take (length (all_asked members)) (all_completed completions)
 own_completed members completions own front = rw (front, length-map members asked_of) (sym (take-map completed_of (length members) completions))

@@ -1,4 +1,4 @@
--- How many accesses an update made.
+-- The number of accesses of an update.
 use Rattle.fx_order.proofs.Words.{◌≡◌, ℕ, zero, suc, ◌+◌, ℤ, pos, negsuc, int_le, Bool, true, false, if◌then◌else◌, List, [], ◌∷◌, length, filter}
 use Rattle.fx_order.proofs.Words.{refl, sym, ap, ◌∙◌, arith, false≢true, nat_tests, length-append, Errno, ENOENT, Completed, negated, Place, Access}
 use Rattle.fx_order.proofs.Words.{IsEntryDone, AreEntriesDone, IsUpdateDone}
@@ -25,7 +25,7 @@ entries_made place in_list slot (entry ∷ list) accesses x =
     let rest = entries_made place (in_list + 1) (slot + 1) list x.1 x.4 in
     ap length x.2 ∙ (length-append x.0 x.1 ∙ omega arith)
 
--- a refusal is no success
+-- a refusal isn't a success
 no_success : (errno : Errno) → int_le (pos 0) (negated errno) ≡ false
 no_success ENOENT = refl
 no_success errno = refl

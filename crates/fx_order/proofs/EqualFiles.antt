@@ -1,4 +1,4 @@
--- Where `==` of two values tells whether they are one.
+-- Types whose `==` decides equality.
 use Rattle.fx_order.proofs.Words.{◌≡◌, Bool, refl, ap, Decides, Closed, Mark}
 use Rattle.std.proofs.Common.{rules, Option, Some, None}
 use Rattle.std.specs.Option.{option_eq}

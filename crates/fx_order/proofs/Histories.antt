@@ -1,4 +1,4 @@
--- What one order leads to, the history of its accesses leads to.
+-- The history of an order's accesses leads to what the order leads to.
 use Rattle.fx_order.proofs.Words.{◌≡◌, ℕ, ◌+◌, ◌≤◌, List, [], map, length, refl, sym, ap, subst, ◌∙◌, arith, lt-ltb, le-ltb, append-nil, Closed}
 use Rattle.fx_order.proofs.Words.{Action, State, opening, state_of, action_of, state_after, AllReleaseTheirOwn, numbers_for, IsAccepted, Asked}
 use Rattle.fx_order.proofs.Words.{runs_of, RingContents, RingState, HasClosed, ring_of, IsOneHistory, Reported, Table, PermitsAll, table_after}

@@ -14,7 +14,7 @@ installs_in-append : (xs ys : List Access) → installs_in (xs ++ ys) ≡ instal
 installs_in-append [] ys = omega arith
 installs_in-append (x ∷ xs) ys = let rest = installs_in-append xs ys in omega arith
 
--- accesses that install so many files at most
+-- accesses that install at most this number of files
 abbrev InstallAtMost : ℕ → List Access → Type 0
 InstallAtMost most accesses = installs_in accesses ≤ most
 

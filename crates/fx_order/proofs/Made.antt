@@ -14,7 +14,7 @@ abbrev pub AllDo : List Access → List Action → Type 0
 AllDo [] actions = actions ≡ []
 AllDo (access ∷ accesses) actions = (own : List Action) × (others : List Action) × (actions ≡ own ▷▷ others) × Does access own × AllDo accesses others
 
--- how many files the accesses install
+-- the number of files that the accesses install
 abbrev pub installs_in : List Access → ℕ
 installs_in [] = 0
 installs_in (access ∷ accesses) = installs access + installs_in accesses

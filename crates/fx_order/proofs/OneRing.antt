@@ -25,7 +25,7 @@ module _ (old : RingState) (requests : List Asked) (report : Reported) (is : IsR
     each B reach c low high =
         chain_places old.catalogue old.size B report.submission 1 (runs_of requests) order report.completions reach o.done c low (omega arith)
 
-    -- what the order places is of one of the chains
+    -- the files that the order places are of one of the chains
     of_chain : (B : ℕ → ℕ → Type 0) → All (ReachesAll B 1) (runs_of requests) → (s : ℕ) (f : Closed) → Has (placed (accesses_of order)) s f
         → (c : ℕ) × (c ≤ chains) × IsOf B c f
     of_chain B reach s f has =
@@ -52,7 +52,7 @@ module _ (old : RingState) (requests : List Asked) (report : Reported) (is : IsR
     left_stays : (s : ℕ) (f : Closed) → (table_after (table_of old) (accesses_of order)).at s ≡ Some f → Contains report.closes.files f → ⊥
     left_stays s f at closed = removed_is_gone (table_of old) (accesses_of order) f apart o.permitted (closed_is_removed f closed) s f at refl
 
-  -- what one order leaves, another one leaves
+  -- the files that one order leaves, another one leaves as well
   module _ (catalogue : IsCatalogue old.catalogue) (one other : List ChainAccess) (o : IsOrderOf one old requests report)
       (p : IsOrderOf other old requests report) where
     placed_too : (s : ℕ) (f : Closed) → Has (placed (accesses_of one)) s f → Has (placed (accesses_of other)) s f
@@ -109,7 +109,7 @@ in_limits requests accepted =
     let few = run.members in
     reaches_all_limits 1 (members_of requests (slice_index_or (chains_of (runs_of requests)) k d)) run.each (omega arith)))
 
--- what an order places is of the next submission
+-- the files that an order places are of the next submission
 of_next : (old : RingState) {requests : List Asked} (report : Reported) (is : IsRing old) {order : List ChainAccess}
     (o : IsOrderOf order old requests report) → IsAccepted requests → (s : ℕ) {f : Closed} → Has (placed (accesses_of order)) s f
     → IsOfNext old requests f

@@ -15,6 +15,6 @@ pub as_many : (asked : List Asked) (cut : List Chain) (n : ℕ) → n ≡ length
     → n ≡ length (runs_of asked)
 as_many asked cut n count members = count ∙ (sym (length-map cut (members_of asked)) ∙ ap length members)
 
--- the answer is no where there is no such order
+-- the result is `false` if there is no such order
 pub never : {P : Type 0} → (P → ⊥) → IsTrue false ↔ P
 never none = (λ yes. absurd (false≢true yes), λ p. absurd (none p))

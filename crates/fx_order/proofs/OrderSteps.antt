@@ -26,7 +26,7 @@ module _ (order : List ChainAccess) (i : ℕ) (d : ChainAccess) (within : i < le
       rw (accesses_more, removed_in-append (accesses_of (take i order)) (x ∷ []), append-nil (option_to_list (removed_by x)))
       (grown ∙ (λ j. so_far j ++ option_to_list (is j)))
 
--- each access of an order may be made where it stands
+-- each access of an order is permitted at its place
 permitted_at : (start : Table) (order : List ChainAccess) (i : ℕ) (d : ChainAccess) → i < length order → PermitsAll start (accesses_of order)
     → Permits (table_after start (accesses_of (take i order))) (slice_index_or order i d).access
 permitted_at start [] i d within all = absurd (omega arith)

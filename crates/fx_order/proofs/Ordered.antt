@@ -1,4 +1,4 @@
--- What one history leads to, the order of its accesses leads to.
+-- The order of a history's accesses leads to what the history leads to.
 use Rattle.fx_order.proofs.Words.{◌≡◌, ℕ, ◌+◌, ◌≤◌, List, [], ◌∷◌, map, length, refl, sym, ap, subst, ◌∙◌, All, Contains, Option, IsPermutation}
 use Rattle.fx_order.proofs.Words.{opening_is_start, All-nil, All-append, IsPermutation-trans, Closed, Event, Action, State, opening, state_of}
 use Rattle.fx_order.proofs.Words.{action_of, closes_in, numbers_for, Asked, runs_of, RingContents, RingState, ring_of, IsOneHistory, Reported, Table}
@@ -28,7 +28,7 @@ same_outline table [] = refl
 same_outline table (Looks slot found ∷ accesses) = same_outline table accesses
 same_outline table (access ∷ accesses) = same_outline (table_with table access) accesses
 
--- a ring with another table, and so many submissions counted
+-- a ring with another table, and with this number of accepted submissions
 abbrev pub ring_after : RingState → ℕ → Table → RingState
 ring_after ring submissions table = record ring { size = table.size; range = table.range; at = table.at; submissions = submissions }
 

@@ -1,4 +1,4 @@
--- What accesses place at slots, what is at the slots then, and what they removed.
+-- The files that accesses place at slots, the files at the slots then, and the removed ones.
 use Rattle.fx_order.proofs.Words.{◌≡◌, ◌≢◌, ◌⊎◌, inl, inr, ⊎_elim, ℕ, ◌<◌, List, [], ◌∷◌, ◌++◌, Contains, refl, sym, ap, ◌∙◌, append_assoc, arith}
 use Rattle.fx_order.proofs.Words.{IsAt, with_file, Option, Some, None, if◌then◌else◌, option_to_list, Contains-append_right, Closed, by_equality}
 use Rattle.fx_order.proofs.Words.{contains_none, contains_head, contains_cases, Table, Looks, Puts, Clears, Takes, Allocates, Permits, PermitsAll}
@@ -46,7 +46,7 @@ abbrev pub Removes : List Access → Closed → Type 0
 Removes [] file = ⊥
 Removes (access ∷ accesses) file = (removed_by access ≡ Some file) ⊎ Removes accesses file
 
--- what is at a slot after a write was there, and the write was elsewhere, or it is what was written
+-- a file that is at a slot after a write was there, and the write was elsewhere, or it is the written one
 written : (t : Table) {slot : ℕ} {new : Option Closed} {s : ℕ} {f : Closed} → (with_file t slot new).at s ≡ Some f
     → ((s ≢ slot) × (t.at s ≡ Some f)) ⊎ ((s ≡ slot) × (new ≡ Some f))
 written t {slot} {new} {s} {f} =
@@ -57,7 +57,7 @@ written t {slot} {new} {s} {f} =
 is_placed : {slot : ℕ} {file : Closed} {s : ℕ} {f : Closed} → (s ≡ slot) × (Some file ≡ Some f) → Has ((slot, file) ∷ []) s f
 is_placed {file} {f} here = let e : file ≡ f = cc (here.1) in inl (λ i. (sym here.0 i, e i))
 
--- what an access leaves at a slot was there, or was placed by it
+-- a file that is at a slot after an access was there, or the access placed it
 pub step_from : (t : Table) (x : Access) {s : ℕ} {f : Closed} → (table_with t x).at s ≡ Some f → (t.at s ≡ Some f) ⊎ Has (placed_by x) s f
 step_from t (Puts slot file removed) {s} {f} is = ⊎_elim (λ o. inl o.1) (λ h. inr (is_placed h)) (written t is)
 step_from t (Clears slot removed) {s} {f} is = ⊎_elim (λ o. inl o.1) (λ h. absurd (cc (h.1))) (written t is)
@@ -72,14 +72,14 @@ left_from t (x ∷ xs) s f is = ⊎_elim (λ now. ⊎_elim (λ was. inl was) (λ
     (λ later. inr (has_right (placed_by x) (placed xs) s f later))
     (left_from (table_with t x) xs s f is)
 
--- what is found at a slot is there after a write, or the write removed it
+-- a file at a slot is there after a write, or the write removed it
 kept : (t : Table) (slot : ℕ) (removed new : Option Closed) (s : ℕ) (f : Closed) → removed ≡ t.at slot → t.at s ≡ Some f
     → ((with_file t slot new).at s ≡ Some f) ⊎ (removed ≡ Some f)
 kept t slot removed new s f found was =
     by_equality s slot (λ b. (◌≡◌ {A = Option Closed} (if b then new else t.at s) (Some f)) ⊎ (removed ≡ Some f))
     (λ same. inr (found ∙ (ap t.at (sym same) ∙ was))) (λ _. inl was)
 
--- what an access finds at a slot is there afterwards, or was removed by it
+-- a file at a slot is there after an access, or the access removed it
 step_kept : (t : Table) (x : Access) {s : ℕ} {f : Closed} → Permits t x → t.at s ≡ Some f → ((table_with t x).at s ≡ Some f) ⊎ (removed_by x ≡ Some f)
 step_kept t (Puts slot file removed) {s} {f} may was = kept t slot removed (Some file) s f may.1 was
 step_kept t (Clears slot removed) {s} {f} may was = kept t slot removed None s f may.1 was
@@ -87,7 +87,7 @@ step_kept t (Takes slot removed) {s} {f} may was = kept t slot removed None s f 
 step_kept t (Allocates slot file) {s} {f} may was = kept t slot None (Some file) s f may.0.1 was
 step_kept t x may was = inl was
 
--- what an access places is there afterwards
+-- the file that an access places is there afterwards
 step_placed : (t : Table) (x : Access) (s : ℕ) {f : Closed} → Has (placed_by x) s f → (table_with t x).at s ≡ Some f
 step_placed t (Puts slot file removed) s {f} (inl here) = (λ i. (with_file t (here i).0 (Some (here i).1)).at s) ∙ at_itself s (Some f) (t.at s)
 step_placed t (Puts slot file removed) s (inr none) = absurd none
@@ -133,7 +133,7 @@ pub same_size : (t : Table) (x : Access) → (table_with t x).size ≡ t.size
 same_size t (Looks slot found) = refl
 same_size t x = refl
 
--- where a removed file was
+-- the place that a removed file had
 pub record WasAt (t : Table) (l : List (ℕ × Closed)) (g : Closed) : Type 0 where
   pub slot : ℕ
   pub inside : slot < t.size

@@ -1,4 +1,4 @@
--- What a submission places: files of the catalogue without a tag, with marks of its own, and no mark twice.
+-- The files that a submission places: of the catalogue, without a tag, with marks of its own, and no mark twice.
 use Rattle.fx_order.proofs.Words.{◌≡◌, ◌≢◌, inl, inr, ⊎_elim, ℕ, zero, suc, ◌+◌, ◌<◌, ◌≤◌, ℤ, pos, negsuc, false, List, [], ◌∷◌, ◌++◌, length, refl}
 use Rattle.fx_order.proofs.Words.{either_way, or_parts, sym, ap, subst, ◌∙◌, arith, All, list_any, leb-false, ltb-false, All-head, All-tail, has_name}
 use Rattle.fx_order.proofs.Words.{FileEntry, Errno, Submitted, Closed, IsWithinLimits, installed, is_bad_entry, Completed, next_member, severs}
@@ -23,7 +23,7 @@ once_then (x ∷ xs) ys first behind apart = (
   λ o g has. ⊎_elim (λ one. first.1 o g one) (λ later. apart x.0 o x.1 g (inl refl) later) (has_either xs ys o g has),
 )
 
--- what accesses place
+-- the files that accesses place
 abbrev pub OwnOf : (Closed → Type 0) → List Access → Type 0
 OwnOf P accesses = Own P (placed accesses)
 
@@ -169,7 +169,7 @@ module _ (catalogue : List FileEntry) (size : ℕ) (B : ℕ → ℕ → Type 0) 
       (chain (first_member submission first) run (accesses_of_chain first order) x.0 (All-head (ReachesAll B 1) run runs reach) x.3))
       (λ other. chain_places submission (first + 1) runs order x.1 (All-tail (ReachesAll B 1) run runs reach) x.4 c (omega arith) (omega arith))
 
--- what a chain's accesses place with one more in front
+-- the files that a chain's accesses place, with one more access before them
 parted : (x : ChainAccess) (order : List ChainAccess) (c : ℕ) → (front : List (ℕ × Closed))
     × (placed (accesses_of_chain c (x ∷ order)) ≡ front ++ placed (accesses_of_chain c order))
     × ((s : ℕ) (f : Closed) → Has front s f → Has (placed_by x.access) s f)
@@ -178,7 +178,7 @@ parted x order c = elim (of_chain x order c) [
   | inr other ↦ ([], ap placed other.1, λ s f has. absurd has)
 ]
 
--- what a chain's accesses place, the order places
+-- the files that a chain's accesses place, the order places
 pub has_of_chain : (c : ℕ) (order : List ChainAccess) (s : ℕ) (f : Closed) → Has (placed (accesses_of_chain c order)) s f
     → Has (placed (accesses_of order)) s f
 has_of_chain c [] s f has = has
@@ -205,7 +205,7 @@ module _ (entries : ℕ) (B : ℕ → ℕ → Type 0) (submission chains : ℕ) 
       let rest = placed (accesses_of_chain c order) in
       (λ s f has. own.0 s f (has_right p.0 rest s f has), once_behind p.0 rest own.1)
 
-  -- what an order places, the chain of the access places
+  -- the files that an order places, the chain of the access places
   pub has_in_chain : (order : List ChainAccess) → All IsInside order → (s : ℕ) (f : Closed) → Has (placed (accesses_of order)) s f
       → (c : ℕ) × (1 ≤ c) × (c ≤ chains) × Has (placed (accesses_of_chain c order)) s f
   has_in_chain [] inside s f has = absurd has

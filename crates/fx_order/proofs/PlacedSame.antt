@@ -1,4 +1,4 @@
--- What answers of a submission tell of what was placed: two orders with one list of completions place the same files at the same slots.
+-- Two orders with the same completions place the same files at the same slots.
 use Rattle.fx_order.proofs.Words.{◌≡◌, inl, inr, ℕ, zero, suc, ◌+◌, ◌<◌, ◌≤◌, ◌==◌, ◌||◌, nat_le, nat_lt, ℤ, pos, negsuc, Bool, true, false, List, []}
 use Rattle.fx_order.proofs.Words.{both_ways, ◌∷◌, ◌++◌, length, sym, ap, subst, ◌∙◌, arith, list_any, false≢true, has_name, FileEntry, IsCatalogue}
 use Rattle.fx_order.proofs.Words.{installed, is_bad_entry, Completed, next_member, severs, first_member, Operation, Opens, Reads, Closes, Updates}

@@ -48,14 +48,14 @@ moved_to_front n {f} (g ∷ files) =
     (λ _ is. IsPermutation-trans (g ∷ files) (g ∷ f ∷ without n files) (f ∷ g ∷ without n files)
     (IsPermutation-cons g files (f ∷ without n files) (moved_to_front n files is)) (IsPermutation-middle (g ∷ []) f (without n files)))
 
--- what was removed is what was closed, and what waits for its close
+-- the removed files are the closed ones and those that wait for their close
 record Accounts (left : ℕ → Option File) (removed closed : List Closed) : Type 0 where
   waiting : List File
   found : (n : ℕ) → left n ≡ found_in n waiting
   apart : AreApart waiting
   same_files : IsPermutation removed (closed ++ map identity waiting)
 
--- where nothing is removed or closed
+-- if nothing is removed or closed
 kept : {left : ℕ → Option File} (removed closed : List Closed) → Accounts left removed closed → Accounts left (removed ++ []) (closed ++ [])
 kept removed closed a = record {
   waiting = a.waiting;
@@ -64,7 +64,7 @@ kept removed closed a = record {
   same_files = rw (append-nil removed, append-nil closed) a.same_files;
 }
 
--- where a file leaves its slot
+-- if a file leaves its slot
 leaves : {left : ℕ → Option File} (removed closed : List Closed) (f : File) → left f.number ≡ None → Accounts left removed closed
     → Accounts (with_removed left (Some f)) (removed ++ f.identity ∷ []) (closed ++ [])
 leaves removed closed f not_yet a =
@@ -76,7 +76,7 @@ leaves removed closed f not_yet a =
           (IsPermutation-sym (closed ++ f.identity ∷ theirs) (f.identity ∷ (closed ++ theirs)) (IsPermutation-middle closed f.identity theirs)));
     }
 
--- where a file is closed
+-- if a file is closed
 closed_one : {left : ℕ → Option File} (removed closed : List Closed) (f : File) → left f.number ≡ Some f → Accounts left removed closed
     → Accounts (changed_at left f.number None) (removed ++ []) (closed ++ f.identity ∷ [])
 closed_one {left} removed closed f is a =

@@ -1,4 +1,4 @@
--- What holds of what a request did, by its cases: it was refused, it made one access, or those of a list.
+-- Properties of a request's accesses, by its cases: it was refused, it made one access, or those of a list.
 use Rattle.fx_order.proofs.Words.{◌≡◌, inl, inr, ℕ, ◌+◌, ◌==◌, ◌||◌, nat_le, nat_lt, ℤ, pos, false, List, [], ◌∷◌, length, refl, sym, subst, Option}
 use Rattle.fx_order.proofs.Words.{either_way, Some, None, list_any, FileEntry, Errno, EBADF, EINVAL, ENFILE, ENOMEM, ENXIO, Closed, installed}
 use Rattle.fx_order.proofs.Words.{is_bad_entry, Completed, completed, refusal, Place, Any, Slot, Looks, Puts, Takes, Allocates, FindsFull, Access}

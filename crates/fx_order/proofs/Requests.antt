@@ -1,4 +1,4 @@
--- What explains an answer by steps explains it by their accesses.
+-- Steps that explain an answer: their accesses explain it.
 use Rattle.fx_order.proofs.Words.{◌≡◌, inl, inr, ℕ, zero, suc, ◌+◌, ◌==◌, ◌||◌, nat_le, nat_lt, ℤ, pos, negsuc, List, [], ◌∷◌, length, map, ap}
 use Rattle.fx_order.proofs.Words.{same_cases, ◌∙◌, Option, Some, None, list_any, append-nil, FileEntry, has_name, Errno, ENOENT, ENXIO, EBADF, ENOMEM}
 use Rattle.fx_order.proofs.Words.{EINVAL, ENFILE, File, Event, Action, Look, Release, Put, Clear, Take, ◌▷◌, action_of, part_of_chain, identity_of}
@@ -75,7 +75,7 @@ module _ (catalogue : List FileEntry) (size : ℕ) (place : Place) (events : Lis
   answered (Updates off list) = updated off list
 
 module _ (catalogue : List FileEntry) (size : ℕ) where
-  -- what explains a chain
+  -- the steps that explain a chain
   explained : (place : Place) (requests : List Asked) (events : List Action) (cs : List Completed)
       → Explains catalogue size place requests events cs → IsChainDone catalogue size place requests (accesses_in events) cs
   explained place [] events cs x = (ap accesses_in x.0, x.1)

@@ -1,4 +1,4 @@
--- Which lists have the same files: how often a file stands in each of them.
+-- Lists with the same files: the number of times that a file is in each of them.
 use Rattle.fx_order.proofs.Words.{◌≡◌, ◌≢◌, ℕ, suc, ◌+◌, ◌<◌, ◌≤◌, ◌==◌, Bool, cond, List, [], ◌∷◌, ◌++◌, length, take, drop, IsTrue}
 use Rattle.fx_order.proofs.Words.{not-true, Decides-not, nil_from_length, ◌↔◌, subst, refl, sym, ap, ◌∙◌, arith, slice_index_or}
 use Rattle.fx_order.proofs.Words.{IsPermutation, sum_by, remove, Decides-eqb, append-nil, length-append}
@@ -6,7 +6,7 @@ use Rattle.fx_order.proofs.Words.{take_all, take_more, split_at, sum_by-IsPermut
 use Rattle.fx_order.proofs.Words.{sum_by-cons, Closed}
 use Rattle.fx_order.proofs.EqualFiles.{file_Decides, same_file}
 
--- how often a file stands in a list
+-- the number of times that a file is in a list
 abbrev one_if_same : Closed → Closed → ℕ
 one_if_same file x = cond (same_file file x) 1 0
 
@@ -19,7 +19,7 @@ times-none {file} (x ∷ files) none =
     let rest = times-none files (λ i d lt. none (suc i) d (omega arith)) in
     sum_by-cons (one_if_same file) x files ∙ omega arith
 
--- where the file is next, it is one of those that are left
+-- if the file is next, it is one of those that are left
 is_left : {files : List Closed} (done rest left : List Closed) {file : Closed} → IsPermutation files (done ++ left)
     → IsPermutation files (done ++ file ∷ rest) → ((i : ℕ) (d : Closed) → i < length left → slice_index_or left i d ≢ file) → ⊥
 is_left {files} done rest left {file} one other none =

@@ -14,14 +14,14 @@ use Rattle.fx_ring.specs.Ring.{RingContents, RingState, IsRing, ring_of}
 use Rattle.fx_ring.specs.Submission.{IsOneHistory, Reported}
 use Rattle.fx_order.specs.Order.{IsOneOrder}
 
--- what one history leads to, one order leads to as well
+-- one order leads to what one history leads to
 abbrev pub EachHistoryIsAnOrder : Type 0
 EachHistoryIsAnOrder =
     (old new : RingContents) (requests : List Asked) (report : Reported)
     → IsOneHistory old requests report new
     → IsOneOrder (ring_of old) requests report (ring_of new)
 
--- what one order of an accepted submission leads to, one history leads to as well
+-- one history leads to what one order of an accepted submission leads to
 abbrev pub EachOrderIsAHistory : Type 0
 EachOrderIsAHistory =
     (old : RingContents) (requests : List Asked) (report : Reported) (left : RingState)
