@@ -104,7 +104,7 @@ filed_by_move slots nodes s is = record {
   vacant = λ none. rw (is, none) (record { used = refl; none_removed = refl });
 }
 
--- files in nodes, to which more nodes were added
+-- files in nodes, after more nodes were added
 module _ (slots : List (Option ℕ)) (old new : List Node) (placed : AllPlaced slots old)
     (same : (n : ℕ) → n < length old → node_at new n ≡ node_at old n) where
   named_before : (u : ℕ) {n : ℕ} → slot_at slots u ≡ Some n → node_at new n ≡ node_at old n

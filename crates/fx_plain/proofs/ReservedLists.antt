@@ -1,4 +1,4 @@
--- The elements of a list of which only the first are written.
+-- The elements of a list whose first elements alone are written.
 use Rattle.fx_plain.proofs.Words.{◌≡◌, ◌≢◌, ℕ, suc, ◌+◌, ◌-◌, ◌<◌, ◌≤◌, List, [], ◌∷◌, ◌++◌, length, length-append, replicate, sym, ap, subst, ◌∙◌}
 use Rattle.fx_plain.proofs.Words.{slice_index_or, slice_set, append_assoc, IsSome, arith, inl, inr, length-set, length-replicate, get_or_append_left}
 use Rattle.fx_plain.proofs.Words.{cases_lt, get_or-eq_default, node_at, file_in, Fresh, Gone, with_rest, Node, set-set, get_or-append-add}
