@@ -23,7 +23,7 @@ pub record PassView : Type 0 where
   pub chain : ℕ
   -- all chains that the pass drew
   pub drawn : List ℕ
-  -- whether a draw has returned `None`
+  -- the flag that a draw has returned `None`
   pub no_chains_left : Bool
   -- the number of file numbers of the chain that the pass has left
   pub numbers_left : ℕ
