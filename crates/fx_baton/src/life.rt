@@ -82,7 +82,7 @@ impl BatonTable {
         }
     }
 
-    // Gives each pass a seat of its own.
+    // Hands each pass a seat of its own.
     pub(crate) fn deal(&self, mut seat: Seat<PlainTable, View>, list: &mut Vec<BatonPass>)
         requires seat { HasAllPasses self.now seat }
         requires list { (list.old.items ≡ []) × (self.now.passes ≤ vec_capacity list.old) }
