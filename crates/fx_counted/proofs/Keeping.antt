@@ -17,7 +17,7 @@ Homes = List (maybe.Option (Option Closed))
 abbrev pub word_at : List ℕ → ℕ → ℕ
 word_at words place = get_or words place 0
 
--- a number in its phase, with these words and places, behind this history
+-- a number in its phase, with these words and places, after this history
 abbrev pub NodeIn : Start → List ℕ → Homes → List Event → ℕ → Phase → Type 0
 NodeIn k words homes h n = NodeAgrees (state_after_all k h) n (looks h n) (word_at words (node_place (slots_of k) n))
     (get_elem? homes (home_place (slots_of k) n))
@@ -33,7 +33,7 @@ pub shape_kept : {k : Start} {s s' : Shared} → length s'.words ≡ length s.wo
 shape_kept words homes a = assumption (words ∙ a.words, homes ∙ a.homes)
 
 module _ (k : Start) (s : Shared) (r : Agrees k s) where
-  -- a number in its phase, with these words and places, after this history
+  -- a number in its phase
   pub in_phase : {n : ℕ} → IsNumber k n → {ph : Phase} → r.phase n ≡ ph → NodeIn k s.words s.homes r.history n ph
   in_phase {n} its is = subst (NodeIn k s.words s.homes r.history n) is (r.each_node n its)
 
@@ -52,7 +52,7 @@ pub record Turn : Type 0 where
   pub here : get_elem? st.views id ≡ some v
   pub one : v.logs ≡ x ∷ []
 
--- the turn of the seat's pass, as laws of steps give it
+-- the turn of the seat's pass, as a premise of the laws of steps
 abbrev pub turn_of : (m : Sat) (x : Log) → m.0.logs ≡ x ∷ [] → (id : ℕ) (st : Shared) → Agrees m.0.start st → get_elem? st.views id ≡ some m.0 → Turn
 turn_of m x one id st r here = record { st = st; v = m.0; r = r; id = id; x = x; here = here; one = one }
 

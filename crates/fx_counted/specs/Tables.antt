@@ -29,7 +29,7 @@ abbrev pub IsBetweenCalls : Work → Type 0
 IsBetweenCalls (Between doing) = Unit {0}
 IsBetweenCalls _ = ⊥
 
--- whether the pass is idle
+-- the test that the pass is idle
 abbrev pub is_idle : Work → Bool
 is_idle (Between Idle) = true
 is_idle _ = false

@@ -141,7 +141,7 @@ impl CountedTable {
         }
     }
 
-    // Gives each pass a seat of its own.
+    // Hands each pass a seat of its own.
     fn deal(&self, mut seat: Seat<Option<OpenFile>, View>, list: &mut Vec<CountedPass>)
         requires seat { HasAllPasses self.now seat }
         requires list { (list.old.items ≡ []) × (self.now.passes ≤ vec_capacity list.old) }
