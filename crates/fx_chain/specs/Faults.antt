@@ -13,7 +13,7 @@ use Rattle.fx_chain.specs.declared.fault.CutFault.{CutFault}
 use Rattle.fx_chain.specs.declared.fault.TheConstants.{MOST_MEMBERS}
 use Rattle.fx_chain.specs.declared.request.TheConstants.{LONGEST_READ, LONGEST_UPDATE}
 
--- whether the flags are wrong: a read names its file by a slot, and no other request does
+-- the test for wrong flags: a read names its file by a slot, and no other request does
 abbrev pub has_bad_flags : Operation → Bool → Bool
 has_bad_flags (Reads slot off len) fixed = not fixed
 has_bad_flags _ fixed = fixed
