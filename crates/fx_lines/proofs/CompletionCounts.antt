@@ -1,4 +1,4 @@
--- How many completions a submission has.
+-- The number of completions of a submission.
 use Rattle.fx_lines.proofs.Words.{◌≡◌, ℕ, ◌+◌, List, [], ◌∷◌, length, ap, ◌∙◌, arith, length-append, FileEntry, state_of, Event, Completed, Asked}
 use Rattle.fx_lines.proofs.Words.{runs_of, are_runs, ExplainsParts}
 use Rattle.std.specs.Prelude.{flat_map}

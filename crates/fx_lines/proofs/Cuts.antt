@@ -11,7 +11,7 @@ use Rattle.std.proofs.lemmas.List.Folds.{list_all-append}
 not_self : (at x : ℕ) → at ≡ x → not (x == at) ≡ true → ⊥
 not_self at x same other = grind (arith, nat_tests)
 
--- two texts, one behind the other
+-- two texts, one after the other
 pub without_both : (at : ℕ) (xs ys : List ℕ) → is_without at xs ≡ true → is_without at ys ≡ true → is_without at (xs ++ ys) ≡ true
 without_both at xs ys left right = list_all-append (λ b. not (b == at)) xs ys ∙ and_from _ _ left right
 
@@ -35,7 +35,7 @@ cut_once at (x ∷ before) after (y ∷ front) behind own other same =
     let more = cut_once at before after front behind (and_parts _ _ own).1 (and_parts _ _ other).1 others in
     let same_front : before ≡ front = more.0 in (cc, more.1)
 
--- where a text is cut
+-- the place at which a text is cut
 pub cut_here : (at : ℕ) (text : List ℕ) (i : ℕ) → i < length text → get_or text i 0 ≡ at → is_without at (take i text) ≡ true
     → IsPrintedFrom (cut_text at) (IsCutPart at) text (take i text, drop (i + 1) text)
 cut_here at text i inside here before =
@@ -59,7 +59,7 @@ behind_is text front (Some x) is = record {
   only = λ other _ same. append_cancel_left front other x.now (sym same ∙ is);
 }
 
--- the text of a number goes on behind its full stop: no letter stands in front of one
+-- the text of a number continues after its full stop: no letter comes before one
 pub other_first : (at : ℕ) (front rest more : List ℕ) (b : ℕ) → is_without b front ≡ true → at ≢ b → front ++ at ∷ rest ≡ b ∷ more → ⊥
 other_first at [] rest more b none differ same = differ cc
 other_first at (x ∷ front) rest more b none differ same = let first : b ≡ x = cc in not_self b x first (and_parts _ _ none).0

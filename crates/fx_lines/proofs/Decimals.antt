@@ -68,7 +68,7 @@ number_reads largest word small = by_test largest word small _ refl
 differs : (d at : ℕ) → is_digit d ≡ true → is_digit at ≡ false → not (d == at) ≡ true
 differs d at is none = grind (arith, nat_tests)
 
--- a byte that is no digit stands in no number
+-- a byte that isn't a digit is in no number
 digits_without : (at : ℕ) (ds : List ℕ) → is_digit at ≡ false → list_all is_digit ds ≡ true → is_without at ds ≡ true
 digits_without at [] none all = refl
 digits_without at (d ∷ ds) none all =

@@ -1,4 +1,4 @@
--- What a play prints begins with no line of a closed file, and with none of a tag.
+-- The output of a play begins with no line of a closed file or of a tag.
 use Rattle.fx_lines.proofs.Words.{◌≡◌, ℕ, zero, suc, ◌/◌, ◌%◌, ◌<◌, ◌==◌, true, false, List, [], ◌∷◌, ◌++◌, get_or, refl, sym, ap, ◌∙◌, arith}
 use Rattle.fx_lines.proofs.Words.{if◌then◌else◌, codes, decimal, true≢false, nat_tests, is_digit, HasNoCloses}
 use Rattle.std.specs.Fmt.{digit_glyph, digits, digits_onto}

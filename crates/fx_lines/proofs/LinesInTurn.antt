@@ -20,7 +20,7 @@ module _ {A : Type 0} {print : A → List ℕ} {fits : A → Type 0} {may : List
   abbrev GoesOn : Type 0
   GoesOn = (behind : List ℕ) → may items behind → rest ≡ behind → ⊥
 
-  -- whatever lines a text has that may not end here, one stands next
+  -- in all lines of a text that may not end here, a line is next
   at_next : {C : Type 0} → GoesOn → (others : List A) (behind : List ℕ) → All fits others → may others behind → text ≡ flat_map print others ++ behind
       → ((y : A) (later : List A) → others ≡ items ++ y ∷ later → fits y → All fits later → rest ≡ print y ++ (flat_map print later ++ behind) → C) → C
   at_next {C} goes_on others behind fit ends same next =
@@ -47,12 +47,12 @@ module _ {A : Type 0} {print : A → List ℕ} {fits : A → Type 0} {may : List
         (later, moved ∙ sym (append_assoc items (x ∷ []) later), fits_later, sym first.1));
   }
 
-  -- where the rest goes on and begins with no line, the text has no such lines
+  -- if the rest goes on but begins with no line, the text has no such lines
   stops : GoesOn → ((y : A) (more : List ℕ) → fits y → rest ≡ print y ++ more → ⊥) → Reads (lines_before print) (IsFront fits may) text None
   stops goes_on none other fit same =
       at_next goes_on other.0 other.1 fit.0 fit.1 same (λ y later whole fits_y fits_later left. none y (flat_map print later ++ other.1) fits_y left)
 
-  -- where the lines are over, these are all
+  -- if the lines are over, these are all
   pub ends_here : may items rest
       → ((y : A) (later : List A) (behind : List ℕ) → may (items ++ y ∷ later) behind → rest ≡ flat_map print (y ∷ later) ++ behind → ⊥)
       → IsPrintedFrom (lines_before print) (IsFront fits may) text (items, rest)
@@ -68,7 +68,7 @@ module _ {A : Type 0} {print : A → List ℕ} {fits : A → Type 0} {may : List
       by_later other all [] whole left = (whole ∙ append-nil items, sym left)
       by_later other all (y ∷ later) whole left = absurd (over y later other.1 (subst (λ l. may l other.1) whole all) left)
 
--- what is printed is one line: a word, a body without a line end, and the line end
+-- a printed value is one line: a word, a body without a line end, and the line end
 pub record IsOneLine {A : Type 0} (print body : A → List ℕ) (fits : A → Type 0) (word : List ℕ) : Type 0 where
   pub line : (x : A) (more : List ℕ) → print x ++ more ≡ word ++ cut_text 10 (body x, more)
   pub no_end : (x : A) → fits x → is_without 10 (body x) ≡ true
@@ -90,7 +90,7 @@ module _ {A : Type 0} {print body : A → List ℕ} {fits : A → Type 0} {word 
       parts_of_line y more fit same =
           let parts = parts_are 10 cuts (body y) more (lines.no_end y fit) (tail_of y more same) in (parts.0, sym parts.1)
 
-      -- a line of another form is none of these
+      -- a line of another form isn't one of these
       pub other_line : Reads body wide line None → Reads (lines_before print) (IsFront fits may) text None
       other_line none = stops before goes (λ y more fit same. none y (wider y fit) (parts_of_line y more fit same).0)
 
@@ -100,7 +100,7 @@ module _ {A : Type 0} {print body : A → List ℕ} {fits : A → Type 0} {word 
           ∙ ap (λ (t : List ℕ). word ++ t) (cuts.printed ∙ ap (λ (t : List ℕ). t ++ 10 ∷ behind) is.printed) ∙ sym (lines.line x behind)) goes
           (λ y more fit same. let parts = parts_of_line y more fit same in (is.only y (wider y fit) parts.0, parts.1))
 
--- a text that begins with a word, and what stands behind no more lines of that word
+-- a text that begins with a word, and a rest that doesn't follow all lines of that word
 pub goes_on : (word : List ℕ) {rest : List ℕ} (tail : List ℕ) → rest ≡ word ++ tail
     → (behind : List ℕ) → ¬ (StartsWith behind word) → rest ≡ behind → ⊥
 goes_on word tail begins behind over same = over (ap (take (length word)) (sym same ∙ begins) ∙ take_at word tail (length word) refl)

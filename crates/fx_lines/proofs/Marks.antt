@@ -13,7 +13,7 @@ use Rattle.fx_lines.proofs.Decimals.{decimal_without}
 abbrev pub is_small : ℕ → Type 0
 is_small n = n < 2 ^ 32
 
--- a place, and a place in a list behind it, by their numbers
+-- a place and a position in a list after it, by their numbers
 pub place_reads : (word : List ℕ) (r : Option (ℕ × (ℕ × ℕ))) → Reads (number_and (number_and decimal)) (AreBoth (AreBoth is_small)) word r
     → Reads place_text IsPlaceInRange word (option_map (λ x. record { submission = x.0; chain = x.1.0; member = x.1.1 }) r)
 place_reads word None none = λ other fits same. none (other.submission, (other.chain, other.member)) (fits.submission, (fits.chain, fits.member)) same
@@ -39,7 +39,7 @@ entry_reads word (Some x) is = record {
       λ i. (record { submission = (told i).0; chain = (told i).1.0; member = (told i).1.1.0 }, (told i).1.1.1);
 }
 
--- the word of a registered mark has a letter in front
+-- the word of a registered mark begins with a letter
 no_letter : (n : ℕ) (rest more : List ℕ) → n < 2 ^ 32 → number_text (n, rest) ≡ 114 ∷ more → ⊥
 no_letter n rest more small same =
     other_first 46 (decimal n) rest more 114 (decimal_without 114 n refl (omega arith)) (λ e. absurd (omega arith)) same
@@ -83,7 +83,7 @@ not_submitted : {word rest : List ℕ} {s : ℕ} (c m e : ℕ) → s < 2 ^ 32 �
 not_submitted {rest} {s} c m e small begins same =
     no_letter s (number_text (c, number_text (m, decimal e))) rest small (sym (same ∙ submitted_text s c m e) ∙ begins)
 
--- a number and what stands behind its full stop
+-- a number and the text after its full stop
 number_without : (at n : ℕ) (rest : List ℕ) → is_digit at ≡ false → (46 == at) ≡ false → n < 2 ^ 32 → is_without at rest ≡ true
     → is_without at (number_text (n, rest)) ≡ true
 number_without at n rest none other small behind = without_between at 46 (decimal n) rest (decimal_without at n none (omega arith)) other behind

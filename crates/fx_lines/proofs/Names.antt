@@ -1,4 +1,4 @@
--- The names of a catalogue stand in lines.
+-- The names of a catalogue fit in lines.
 use Rattle.fx_lines.proofs.Words.{◌≡◌, ℕ, ◌==◌, Bool, true, false, not, nat_le, List, [], ◌∷◌, length, refl, sym, ap, ◌∙◌, list_all, eqb-true}
 use Rattle.fx_lines.proofs.Words.{true≢false, and_from, and_parts, is_without}
 use Rattle.fx_base.specs.Name.{is_name, name_byte}

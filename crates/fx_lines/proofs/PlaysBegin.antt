@@ -1,4 +1,4 @@
--- What a play prints begins with no line of a closed file, and with none of a tag.
+-- The output of a play begins with no line of a closed file or of a tag.
 use Rattle.fx_lines.proofs.Words.{◌≡◌, ℕ, ◌<◌, ◌≤◌, ◌==◌, Bool, true, false, nat_le, List, [], ◌∷◌, ◌++◌, length, drop, map, refl, sym, ap, subst}
 use Rattle.fx_lines.proofs.Words.{◌∙◌, inl, inr, arith, All, Option, Some, None, if◌then◌else◌, ℤ, pos, codes, decimal, signed_decimal, MatchBool}
 use Rattle.fx_lines.proofs.Words.{append_assoc, All-head, FileEntry, Closed, state_of, Event, Completed, Asked, runs_of, are_runs, ExplainsParts}
@@ -60,7 +60,7 @@ no_closes {old} {asked} {report} one empty =
     length_permutation (closes_in (map action_of one.history)) report.closes.files one.closed.same_files in
     nil_from_length report.closes.files (as_many ∙ ap length closed)
 
--- the lines of a report, and what stands behind them
+-- the lines of a report, and the text after them
 report_begins : (catalogue : List FileEntry) (completions : List Completed) {files : List Closed} {others : List ℕ}
     → (completions ≡ [] → files ≡ []) → HasNoCloses others
     → HasNoCloses ((completion_lines completions ++ closes_text catalogue files) ++ others)

@@ -1,4 +1,4 @@
--- What was read, where it is known whether something was.
+-- The result of a reading, if it is known whether there is one.
 use Rattle.fx_lines.proofs.Words.{◌≡◌, ℕ, ◌<◌, ◌^◌, true, List, Option, Some, None, option_map, sym, ap, ◌∙◌, subst, IsCutPart, cut_text, number_text}
 use Rattle.fx_lines.proofs.Words.{is_without, IsPrintedFrom, Reads}
 
@@ -11,7 +11,7 @@ pub parts_are : (at : ℕ) {text front rest : List ℕ} → IsPrintedFrom (cut_t
     → (one two : List ℕ) → is_without at one ≡ true → text ≡ cut_text at (one, two) → (front ≡ one) × (rest ≡ two)
 parts_are at cuts one two none same = let parts = cuts.only (one, two) none same in (sym (ap (λ p. p.0) parts), sym (ap (λ p. p.1) parts))
 
--- a number, and what is read behind its full stop
+-- a number, and the reading after its full stop
 abbrev pub number_and : {B : Type 0} → (B → List ℕ) → ℕ × B → List ℕ
 number_and print x = number_text (x.0, print x.1)
 

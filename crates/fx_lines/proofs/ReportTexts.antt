@@ -30,7 +30,7 @@ behind_completions front = flat_map named_line front.0.closed ++ behind_closed f
 regroup : (front : Lines × List ℕ) → lines_text front.0 ++ front.1 ≡ flat_map completion_line front.0.completions ++ behind_completions front
 regroup front = simp append_assoc
 
--- no line of a closed file stands behind them
+-- no line of a closed file follows them
 no_closed_behind : (tags : List ℕ) {rest : List ℕ} → HasNoCloses rest → ¬ (StartsWith (flat_map line_of_tag tags ++ rest) (codes "closed "))
 no_closed_behind [] none = none.no_closed
 no_closed_behind (tag ∷ tags) none = λ starts.
@@ -77,7 +77,7 @@ module _ {count : ℕ} {text : List ℕ} {cs : List Completed} {rest : List ℕ}
           let told = third.only (other.0.tags, other.1) (fits.in_range.tags, fits.behind.no_tag) (second_of_report other fits same).1 in
           (ap (λ p. p.0) told, ap (λ p. p.1) told)
 
-      -- a line of a closed file behind those of the tags: the text begins with no report
+      -- a line of a closed file follows those of the tags: the text begins with no report
       pub closed_behind_tags : StartsWith last (codes "closed ") → ReadsReport count text None
       closed_behind_tags starts other fits same = fits.behind.no_closed (ap (take 7) (third_of_report other fits same).1 ∙ starts)
 
@@ -96,7 +96,7 @@ module _ {count : ℕ} {text : List ℕ} {cs : List Completed} {rest : List ℕ}
             λ i. (record { completions = first i; closed = second i; tags = three.0 i }, three.1 i);
       }
 
--- whether a text begins with a word
+-- the test that a text begins with a word
 pub begun : {word : List ℕ} (text : List ℕ) (r : Option (Bor (List ℕ)))
     → Reads (λ (rest : List ℕ). word ++ rest) (λ _. Unit {0}) text (option_map (λ rest. rest.now) r) → is_some r ≡ true → StartsWith text word
 begun text None reads some = cc some

@@ -1,4 +1,4 @@
--- The line of a result tells it.
+-- The line of a result determines the result.
 use Rattle.fx_lines.proofs.Words.{◌≡◌, ℕ, ◌<◌, ◌^◌, List, ◌++◌, refl, sym, ◌∙◌, arith, ℤ, pos, negsuc, codes, signed_decimal, append_assoc}
 use Rattle.fx_lines.proofs.Words.{append_cancel_left, cut_text, IsResultInRange, result_line}
 use Rattle.std.specs.Int.Signed.{mag}

@@ -1,4 +1,4 @@
--- What contracts see of the line of a closed file that was read.
+-- A line of a closed file that was read, as contracts see it.
 use Rattle.fx_lines.specs.Lines.{NamedClose}
 use Rattle.fx_lines.specs.declared.close.ClosedLine.{ClosedLine}
 

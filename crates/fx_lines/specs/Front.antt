@@ -17,16 +17,16 @@ with_rest front = (front.0, front.1.now)
 abbrev pub lines_before : {A : Type 0} → (A → List ℕ) → List A × List ℕ → List ℕ
 lines_before print front = flat_map print front.0 ++ front.1
 
--- each of the lines fits, and the rest may stand behind them
+-- each of the lines fits, and the rest may follow them
 abbrev pub IsFront : {A : Type 0} → (A → Type 0) → (List A → List ℕ → Type 0)
     → List A × List ℕ → Type 0
 IsFront fits may front = All fits front.0 × may front.0 front.1
 
--- so many lines, whatever stands behind them
+-- this number of lines, whatever follows them
 abbrev pub AreSoMany : {A : Type 0} → ℕ → List A → List ℕ → Type 0
 AreSoMany count items rest = length items ≡ count
 
--- no line that begins so stands behind the lines
+-- no line that begins with this word follows the lines
 abbrev pub AreAll : {A : Type 0} → List ℕ → List A → List ℕ → Type 0
 AreAll word items rest = ¬ (StartsWith rest word)
 

@@ -1,4 +1,4 @@
--- What holds of printed lines (this project's own).
+-- Laws of printed lines (this project's own).
 use Rattle.std.specs.Prelude.{◌≡◌, ℕ, ℤ, List, ◌++◌, length, IsTrue}
 use Rattle.fx_chain.specs.Operation.{Asked}
 use Rattle.fx_ring.specs.Ring.{RingContents}
@@ -17,8 +17,7 @@ BeginsWithOneResult =
     → result_line word res ++ behind ≡ result_line word other ++ more
     → (res ≡ other) × (behind ≡ more)
 
--- whatever commands are played, their text begins with no line of a closed file, and with none
--- of a tag
+-- the text of commands never begins with a line of a closed file or of a tag
 abbrev pub PlaysBeginWithNoClose : Type 0
 PlaysBeginWithNoClose =
     (ring : RingContents) (commands : List Instruction) (text : List ℕ)

@@ -15,19 +15,19 @@ use Rattle.fx_ring.specs.Submission.{Reported}
 use Rattle.fx_lines.specs.Reads.{Reads}
 use Rattle.fx_print.specs.Text.{closed_line, completion_lines, name_of, tag_line}
 
--- what the line of a closed file says
+-- the content of a closed file's line
 pub record NamedClose : Type 0 where
   pub mark : Mark
   pub name : List ℕ
 
--- what the line of a closed file says of the file
+-- the content of a closed file's line, for the file
 abbrev pub named_close : List FileEntry → Closed → NamedClose
 named_close catalogue file = record { mark = file.mark; name = name_of catalogue file.entry }
 
 abbrev pub named_closes : List FileEntry → List Closed → List NamedClose
 named_closes catalogue files = map (named_close catalogue) files
 
--- what the lines of a report say
+-- the content of a report's lines
 pub record Lines : Type 0 where
   pub completions : List Completed
   pub closed : List NamedClose
@@ -41,7 +41,7 @@ named_line close = closed_line close.mark close.name
 abbrev pub line_of_tag : ℕ → List ℕ
 line_of_tag tag = tag_line (tag_completion tag)
 
--- the lines one behind another: those of the completions, of the closed files, and of the tags
+-- the lines one after another: those of the completions, of the closed files, and of the tags
 abbrev pub lines_text : Lines → List ℕ
 lines_text lines =
     completion_lines lines.completions
@@ -72,39 +72,39 @@ abbrev pub IsResultInRange : ℤ → Type 0
 IsResultInRange (pos n) = n < 2 ^ 31
 IsResultInRange (negsuc n) = n < 2 ^ 31
 
--- the numbers of a completion are those that its type has
+-- the numbers of a completion are within the ranges of its type
 pub record IsCompletionInRange (c : Completed) : Type 0 where
   pub place : IsPlaceInRange c.place
   pub res : IsResultInRange c.res
   pub got : IsBytes c.got
 
--- a byte stands nowhere in a text
+-- the byte is nowhere in the text
 abbrev pub is_without : ℕ → List ℕ → Bool
 is_without byte text = list_all (λ b. not (b == byte)) text
 
--- the numbers of a mark are those that its type has, and the name has no line end
+-- the numbers of a mark are within the ranges of its type, and the name has no line end
 pub record IsCloseInRange (close : NamedClose) : Type 0 where
   pub mark : IsMarkInRange close.mark
   pub name : IsTrue (is_without 10 close.name)
 
--- the numbers of the lines are those that their types have, and no name has a line end
+-- the numbers of the lines are within the ranges of their types, and no name has a line end
 pub record AreLinesInRange (lines : Lines) : Type 0 where
   pub completions : All IsCompletionInRange lines.completions
   pub closed : All IsCloseInRange lines.closed
   pub tags : All (λ tag. tag < 2 ^ 64) lines.tags
 
--- a text begins with no line of a closed file, and with none of a tag
+-- a text begins with no line of a closed file or of a tag
 pub record HasNoCloses (text : List ℕ) : Type 0 where
   pub no_closed : ¬ (StartsWith text (codes "closed "))
   pub no_tag : ¬ (StartsWith text (codes "tag "))
 
--- the lines of a report with so many completions, and what stands behind all of its lines
+-- the lines of a report with `count` completions, and the text after all of its lines
 pub record IsReportBefore (count : ℕ) (front : Lines × List ℕ) : Type 0 where
   pub each : length front.0.completions ≡ count
   pub in_range : AreLinesInRange front.0
   pub behind : HasNoCloses front.1
 
--- the lines of the report that a text begins with, and what stands behind them
+-- the lines of the report that a text begins with, and the text after them
 abbrev pub ReadsReport : ℕ → List ℕ → Option (Lines × List ℕ) → Type 0
 ReadsReport count text found =
     Reads (λ front. lines_text front.0 ++ front.1) (IsReportBefore count) text found

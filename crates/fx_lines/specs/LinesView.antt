@@ -1,4 +1,4 @@
--- What contracts see of the lines that were read.
+-- The lines that were read, as contracts see them.
 use Rattle.std.specs.Prelude.{ℕ, List, map}
 use Rattle.std.specs.Borrow.{Bor}
 use Rattle.fx_chain.specs.Completed.{all_completed}
@@ -13,6 +13,6 @@ lines_in lines = record {
   tags = lines.tags.items;
 }
 
--- what was read, and the rest of the text
+-- the lines that were read, and the rest of the text
 abbrev pub front_of : ReportLines × Bor (List ℕ) → Lines × List ℕ
 front_of front = (lines_in front.0, front.1.now)

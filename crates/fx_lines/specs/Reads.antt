@@ -8,7 +8,7 @@ pub record IsPrintedFrom {A : Type 0} (print : A → List ℕ) (fits : A → Typ
   pub printed : text ≡ print value
   pub only : (other : A) → fits other → text ≡ print other → other ≡ value
 
--- the value that a text is printed from, or `None` where it is printed from no value that fits
+-- the value that a text is printed from, or `None` if it is printed from no value that fits
 abbrev pub Reads : {A : Type 0} → (A → List ℕ) → (A → Type 0) → List ℕ → Option A → Type 0
 Reads {A} print fits text None = (other : A) → fits other → text ≡ print other → ⊥
 Reads print fits text (Some value) = IsPrintedFrom print fits text value

@@ -21,7 +21,7 @@ pub struct ClosedLine {
     pub name: Vec<u8>,
 }
 
-// The place and the place in a list that a word writes: `S.C.M.E`.
+// Parses a word as a place and a position in a list: `S.C.M.E`.
 fn entry_of(word: &[u8]) -> Option<(Place, u32)>
     ensures { Reads entry_text (λ found. IsPlaceInRange found.0 × (found.1 < 2 ^ 32)) word.now result }
 {
@@ -36,7 +36,7 @@ fn entry_of(word: &[u8]) -> Option<(Place, u32)>
     Some((place, number(rest)?))
 }
 
-// The mark that a word writes: `rK.I`, or `S.C.M.E`.
+// Parses a word as a mark: `rK.I`, or `S.C.M.E`.
 fn mark_of(word: &[u8]) -> Option<Mark>
     ensures { Reads mark_text IsMarkInRange word.now result }
 {
@@ -51,7 +51,7 @@ fn mark_of(word: &[u8]) -> Option<Mark>
     })
 }
 
-// What a line of a closed file writes behind its first word.
+// Parses the text of a closed file's line after its first word.
 fn closed_of(alloc: Global, text: &[u8]) -> Result<Option<ClosedLine>, NoMemory>
     ensures { IfOk result (λ closed. Reads close_text (λ close. IsMarkInRange close.mark)
         text.now (option_map close_of closed)) }
@@ -66,7 +66,7 @@ fn closed_of(alloc: Global, text: &[u8]) -> Result<Option<ClosedLine>, NoMemory>
     Ok(Some(ClosedLine { mark, name }))
 }
 
-// The closed files of the first lines of a text, up to one that isn't of a closed file, and the rest behind them.
+// Returns the closed files of the first lines of a text, up to a line of another kind, and the rest of the text.
 pub fn read_closed(alloc: Global, text: &[u8]) -> Result<Option<(Vec<ClosedLine>, &[u8])>, NoMemory>
     ensures { IfOk result (λ found. Reads (lines_before named_line)
         (IsFront IsCloseInRange (AreAll (codes "closed ")))
@@ -87,7 +87,7 @@ pub fn read_closed(alloc: Global, text: &[u8]) -> Result<Option<(Vec<ClosedLine>
     Ok(Some((closed, rest)))
 }
 
-// The tags of the first lines of a text, up to one that isn't of a tag, and the rest behind them.
+// Returns the tags of the first lines of a text, up to a line of another kind, and the rest of the text.
 pub fn read_tags(alloc: Global, text: &[u8]) -> Result<Option<(Vec<u64>, &[u8])>, NoMemory>
     ensures { IfOk result (λ found. Reads (lines_before line_of_tag)
         (IsFront (λ tag. tag < 2 ^ 64) (AreAll (codes "tag ")))

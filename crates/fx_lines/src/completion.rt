@@ -14,7 +14,7 @@ use fx_chain::{Completion, Place};
 use hex::FromHexError;
 use std::alloc::Global;
 
-// The place that a word writes: `S.C.M`.
+// Parses a word as a place: `S.C.M`.
 pub fn place_of(word: &[u8]) -> Option<Place>
     ensures { Reads place_text IsPlaceInRange word.now result }
 {
@@ -27,7 +27,7 @@ pub fn place_of(word: &[u8]) -> Option<Place>
     })
 }
 
-// The bytes that a word writes in lower case hexadecimal: one byte at least.
+// Parses a word as bytes in lower case hexadecimal, at least one.
 fn bytes_of(alloc: Global, word: &[u8]) -> Result<Option<Vec<u8>>, NoMemory>
     ensures { IfOk result (λ bytes. Reads encode_lower (λ got. (0 < length got) × IsBytes got)
         word.now (option_map (λ got. got.items) bytes)) }
@@ -40,7 +40,7 @@ fn bytes_of(alloc: Global, word: &[u8]) -> Result<Option<Vec<u8>>, NoMemory>
         Err(FromHexError::OutOfMemory) => return Err(NoMemory),
         Err(_) => return Ok(None),
     };
-    // An upper case digit writes the same byte, and is never printed.
+    // An upper case digit stands for the same byte, and is never printed.
     if hex::encode(alloc, bytes.as_slice())?.as_bytes() == word {
         Ok(Some(bytes))
     } else {
@@ -48,7 +48,7 @@ fn bytes_of(alloc: Global, word: &[u8]) -> Result<Option<Vec<u8>>, NoMemory>
     }
 }
 
-// The result and the bytes of a read that the rest of a line writes: `RES`, or `RES HEX`.
+// Parses the rest of a line as a result and the bytes of a read: `RES`, or `RES HEX`.
 fn answer_of(alloc: Global, text: &[u8]) -> Result<Option<(i32, Vec<u8>)>, NoMemory>
     ensures { IfOk result (λ answer. Reads answer_text
         (λ found. IsResultInRange found.0 × IsBytes found.1)
@@ -69,7 +69,7 @@ fn answer_of(alloc: Global, text: &[u8]) -> Result<Option<(i32, Vec<u8>)>, NoMem
     Ok(Some((res, got)))
 }
 
-// The completion that a line without its end writes.
+// Parses a line without its end as a completion.
 fn completion_of(alloc: Global, line: &[u8]) -> Result<Option<Completion>, NoMemory>
     ensures { IfOk result (λ completion. Reads completion_text IsCompletionInRange
         line.now (option_map completed_of completion)) }
@@ -86,7 +86,7 @@ fn completion_of(alloc: Global, line: &[u8]) -> Result<Option<Completion>, NoMem
     Ok(Some(Completion { place, res, got }))
 }
 
-// The completions of the first so many lines of a text, and the rest behind them.
+// Returns the completions of the first `count` lines of a text, and the rest of the text.
 pub fn read_completions(
     alloc: Global,
     text: &[u8],

@@ -3,7 +3,7 @@ ghost use Rattle.std.specs.Prelude.{◌≡◌, ◌++◌, ℕ, List, option_map};
 ghost use Rattle.fx_lines.specs.Front.{cut_text, IsCutPart, parts_of};
 ghost use Rattle.fx_lines.specs.Reads.{Reads};
 
-// The part of a text in front of the first such byte, and the rest behind that byte, where the text has one.
+// Returns the text before the first byte `at`, and the text after it, or `None` if the text doesn't have that byte.
 pub fn cut(text: &[u8], at: u8) -> Option<(&[u8], &[u8])>
     ensures { Reads (cut_text at) (IsCutPart at) text.now (option_map parts_of result) }
 {

@@ -17,21 +17,21 @@ const LARGEST_RESULT: u64 = 2_147_483_647;
 /// How far below zero a result may be.
 const FARTHEST_BELOW_ZERO: u64 = 2_147_483_648;
 
-// The tag that a word writes.
+// Parses a word as a tag.
 pub fn tag(word: &[u8]) -> Option<u64>
     ensures { Reads decimal (λ n. n < 2 ^ 64) word.now result }
 {
     number_up_to(LARGEST_TAG, word)
 }
 
-// The number that a word writes.
+// Parses a word as a number.
 pub fn number(word: &[u8]) -> Option<u32>
     ensures { Reads decimal (λ n. n < 2 ^ 32) word.now result }
 {
     Some(number_up_to(LARGEST_NUMBER, word)? as u32)
 }
 
-// The number in front of the first full stop, and the rest behind it.
+// Parses the text before the first full stop as a number, and returns the rest after it.
 pub fn first_number(word: &[u8]) -> Option<(u32, &[u8])>
     ensures { Reads number_text (λ front. front.0 < 2 ^ 32) word.now (option_map with_rest result) }
 {
@@ -39,7 +39,7 @@ pub fn first_number(word: &[u8]) -> Option<(u32, &[u8])>
     Some((number(digits)?, rest))
 }
 
-// The result that a word writes: 0 or more, or `-` and a number other than 0.
+// Parses a word as a result: 0 or more, or `-` and a number other than 0.
 pub fn res_of(word: &[u8]) -> Option<i32>
     ensures { Reads signed_decimal IsResultInRange word.now result }
 {

@@ -7,7 +7,7 @@ use Rattle.fx_lines.proofs.CompletionTexts.{completions_are_lines}
 use Rattle.fx_lines.proofs.LinesInTurn.{ends_here, next_line, no_line, other_line}
 use Rattle.fx_lines.proofs.completion.read_completions.Goals as goal
 
--- the text may not end before so many completions
+-- the text may not end before `count` completions
 not_yet : (items : List Completion) {n count : ℕ} → length items ≡ n → n < count → {rest behind : List ℕ}
     → AreSoMany count (all_completed items) behind → rest ≡ behind → ⊥
 not_yet items counted left all same = let known = length-map items completed_of in absurd (omega arith)
