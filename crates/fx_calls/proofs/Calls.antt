@@ -1,4 +1,5 @@
--- The calls between submissions: why a ring refuses one, and what it leaves and prints where it doesn't.
+-- The calls between submissions: the refusals of a ring, and otherwise the ring that a call leaves and the text that it
+-- prints.
 use Rattle.std.proofs.Common.{◌≡◌, ◌↔◌, ◌<◌, ◌^◌, ℕ, pos, negsuc, List, [], ◌++◌, All, codes, length, refl, sym, ap, ◌∙◌, arith, Option, Some, None}
 use Rattle.std.proofs.Common.{IfSome, append_assoc}
 use Rattle.std.proofs.lemmas.List.{append-nil}
@@ -16,7 +17,8 @@ use Rattle.fx_lines.proofs.ResultLines.{one_result}
 use Rattle.fx_calls.proofs.FilesThere.{IsAtOne, all_in_order, all_removed, closes_printed}
 use Rattle.fx_print.specs.Text.{closes_text, result_line}
 
--- a call at a ring: its word, and why it is refused; where it isn't, the ring that it leaves, its result, and the files that it tells closed
+-- a call at a ring: its word, and its refusal, if any; otherwise the ring that it leaves, its result, and the files
+-- that it lists as closed
 pub record Call : Type 0 where
   pub word : List ℕ
   pub refusal : Option Errno
@@ -47,13 +49,13 @@ call_of ring (UpdatesRing off list tags) = record {
 }
 call_of ring (SubmitsAll asked) = record { word = []; refusal = None; left = ring; res = 0; closed = None }
 
--- the commands that these are: a range takes no memory, and a submission is no call
+-- the calls that allocate: a range allocates nothing, and a submission isn't such a call
 abbrev pub TakesMemory : Instruction → Type 0
 TakesMemory (SetsRange off len) = ⊥
 TakesMemory (SubmitsAll asked) = ⊥
 TakesMemory _ = Unit {0}
 
--- the line of a result, and those of the files where they are told
+-- the line of a result, and the lines of the files, if the call lists them
 abbrev pub TellsClosed : RingState → List ℕ → Option (List Closed) → List ℕ → Type 0
 TellsClosed ring head None line = line ≡ head
 TellsClosed ring head (Some files) line = PrintsClosed ring files head line
@@ -61,7 +63,7 @@ TellsClosed ring head (Some files) line = PrintsClosed ring files head line
 abbrev pub Tells : RingState → Call → List ℕ → Type 0
 Tells ring call line = TellsClosed ring (result_line call.word (pos call.res)) call.closed line
 
--- the call, where this is why it is refused, leaves that ring and prints this
+-- the call leaves that ring and prints this, if this is its refusal or it has none
 abbrev pub Called : RingState → Call → Option Errno → RingState → List ℕ → Type 0
 Called old call refusal new line = Answers refusal ((new ≡ call.left) × Tells old call line) (IsRefused old new call.word line)
 
@@ -78,7 +80,7 @@ there ring Unregisters = all_in_order ring.at ring.size
 there ring (UpdatesRing off list tags) = all_removed ring.at off list
 there ring _ = tt
 
--- so it has one line of success
+-- so success has one line
 one_told : (ring : RingState) (head : List ℕ) (closed : Option (List Closed)) (a b : List ℕ) → IsRing ring → IfSome closed (All (IsAtOne ring.at))
     → TellsClosed ring head closed a → TellsClosed ring head closed b → a ≡ b
 one_told ring head None a b is_ring all first second = first ∙ sym second
@@ -90,7 +92,7 @@ pub one_line : (ring : RingState) (command : Instruction) (a b : List ℕ) → I
 one_line ring command a b is_ring =
     let call = call_of ring command in one_told ring (result_line call.word (pos call.res)) call.closed a b is_ring (there ring command)
 
--- which is not that of one that found no memory
+-- and it isn't the line of an allocation failure
 tail_of : (ring : RingState) (head : List ℕ) (closed : Option (List Closed)) (line : List ℕ) → TellsClosed ring head closed line
     → (tail : List ℕ) × (line ≡ head ++ tail)
 tail_of ring head None line tells = ([], tells ∙ sym (append-nil head))

@@ -1,4 +1,4 @@
--- Of some files whose marks tell them apart there is one list in order of mark.
+-- Files with different marks have exactly one list in order of mark.
 use Rattle.std.proofs.Common.{◌≡◌, ℕ, suc, ◌+◌, ◌<◌, ◌≤◌, Bool, true, false, if◌then◌else◌, List, [], ◌∷◌, length, All, refl, sym, ap, ◌∙◌, arith}
 use Rattle.std.proofs.Common.{slice_index_or, Some}
 use Rattle.std.specs.Cmp.{IsStrictWeakOrder}
@@ -48,7 +48,7 @@ is_below x y = below (numbers x.mark) (numbers y.mark)
 pub is_order : IsStrictWeakOrder is_below
 is_order = ranks_by nat_list_cmp_total (λ (file : Closed). numbers file.mark)
 
--- two lists of numbers of which neither is below the other are one
+-- two lists of numbers are equal if neither is below the other
 level : (o p : Ordering) → o ≡ ordering_reverse p → is_lt o ≡ false → is_lt p ≡ false → o ≡ Equal
 level o p turned one other = grind arith
 
@@ -68,7 +68,7 @@ abbrev pub Rises : List Closed → Type 0
 Rises [] = Unit {0}
 Rises (x ∷ xs) = AreNotBelow x xs × Rises xs
 
--- what is sorted rises
+-- a sorted list rises
 rises_from : (xs : List Closed) → ((i j : ℕ) (d : Closed) → i ≤ j → j < length xs → is_below (slice_index_or xs j d) (slice_index_or xs i d) ≡ false)
     → Rises xs
 rises_from [] far = tt
@@ -88,7 +88,7 @@ hits k x = if pointwise nat_eq (numbers x.mark) k then 1 else 0
 hits_itself : (x : Closed) → hits (numbers x.mark) x ≡ 1
 hits_itself x = ap (λ (b : Bool). if b then 1 else 0) ((bytes_decides (numbers x.mark) (numbers x.mark)).1 refl)
 
--- a mark that one of them has isn't below that in front of them
+-- a mark that one of them has isn't below that before them
 found_above : (k : List ℕ) (y : Closed) (zs : List Closed) → AreNotBelow y zs → 1 ≤ sum_by (hits k) zs → below k (numbers y.mark) ≡ false
 found_above k y [] rises some = absurd (omega arith)
 found_above k y (z ∷ zs) rises some =

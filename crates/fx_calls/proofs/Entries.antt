@@ -60,7 +60,7 @@ larger_entry : (m n : ℕ) (z : ℤ) → m ≤ n → is_bad_entry m z ≡ false 
 larger_entry m n (pos e) few good = let inside = leb-false m e good in lt-leb n e (omega arith)
 larger_entry m n (negsuc e) few good = good
 
--- what a small catalogue has, a larger one has
+-- the entries of a smaller catalogue are those of a larger one, too
 pub good_larger : (m n : ℕ) (list : List ℤ) → m ≤ n → list_any (is_bad_entry m) list ≡ false → list_any (is_bad_entry n) list ≡ false
 good_larger m n [] few good = refl
 good_larger m n (z ∷ list) few good =

@@ -1,4 +1,4 @@
--- The files that a call closes are at slots of the ring, so their marks tell them apart.
+-- The files that a call closes are at slots of the ring, so they have different marks.
 use Rattle.std.proofs.Common.{◌≡◌, ℕ, zero, suc, ◌+◌, ℤ, pos, negsuc, List, [], ◌∷◌, ◌++◌, All, refl, sym, ap, subst, ◌∙◌, arith, Option, Some, None}
 use Rattle.std.specs.Option.{option_to_list}
 use Rattle.std.proofs.lemmas.List.Elements.{All-append, All-cons, All-nil}
@@ -31,13 +31,13 @@ all_removed at slot [] = λ k d inside. absurd (omega arith)
 all_removed at slot (number ∷ list) =
     All-append (IsAtOne at) (removed_by number (at slot)) (removed_from at (slot + 1) list) (taken at slot number) (all_removed at (slot + 1) list)
 
--- the marks of files at slots tell them apart
+-- files at different slots have different marks
 pub one_at : (ring : RingState) → IsRing ring → (x y : Closed) → IsAtOne ring.at x → IsAtOne ring.at y → x.mark ≡ y.mark → x ≡ y
 one_at ring is x y here there marks =
     let slots : here.0 ≡ there.0 = is.distinct here.0 there.0 x y here.1 there.1 marks in
     let same : Some x ≡ Some y = sym here.1 ∙ ap ring.at slots ∙ there.1 in cc
 
--- what is printed of them is one text
+-- the printed text of them is the same
 pub closes_printed : (before ring : RingState) (files theirs : List Closed) (closes : CloseListView) (line printed : List ℕ) → IsRing before
     → ring ≡ before → All (IsAtOne before.at) files → theirs ≡ files → HasClosed files closes → PrintsClosed ring theirs line printed
     → printed ≡ line ++ closes_text before.catalogue closes.files

@@ -1,4 +1,4 @@
--- What is left of a list from an element on: that element, and those behind it.
+-- The rest of a list from an element on: that element, and those after it.
 use Rattle.std.proofs.Common.{◌≡◌, ℕ, ◌+◌, ◌<◌, List, ◌∷◌, length, drop, sym, ap, ◌∙◌, slice_index_or}
 use Rattle.std.proofs.lemmas.List.{drop_more}
 

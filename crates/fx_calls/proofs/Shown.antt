@@ -1,4 +1,4 @@
--- What is kept of a ring is what some ring shows.
+-- The slots and counts of a ring are what some ring shows.
 use Rattle.std.proofs.Common.{◌≡◌, List}
 use Rattle.fx_base.specs.Catalogue.{FileEntry}
 use Rattle.fx_ring.specs.Ring.{RingContents, ring_of}

@@ -1,9 +1,9 @@
--- Files whose numbers are those of their types.
+-- Files whose numbers are within the ranges of their types.
 use Rattle.std.specs.Prelude.{◌≡◌, ◌<◌, ◌^◌, ℕ, Option, Some}
 use Rattle.fx_base.specs.declared.open_file.Closed.{Closed}
 use Rattle.fx_lines.specs.Lines.{IsMarkInRange}
 
--- the numbers of a file's mark, and its tag, are those that their types have
+-- the numbers of a file's mark, and its tag, are within the ranges of their types
 pub record IsInRange (file : Closed) : Type 0 where
   pub mark : IsMarkInRange file.mark
   pub tag : file.tag < 2 ^ 64

@@ -30,8 +30,8 @@ pub fn empty_slots(alloc: Global, n: u32) -> Result<Slots, NoMemory>
     Ok(Slots { range: (0, n), at })
 }
 
-// Applies one number: -1 empties the slot, -2 leaves it, and every other one opens that catalogue entry there. It gives
-// the file that was removed.
+// Applies one number: -1 empties the slot, -2 leaves it as it is, and any other number opens that catalogue entry
+// there. Returns the file that was removed.
 fn apply_number(slots: &mut Slots, mark: Mark, tag: u64, slot: u32, number: i32) -> Option<Closed>
     requires slot { slot < length slots.old.at.items }
     requires good { is_bad_entry MOST_ENTRIES number ≡ false }
