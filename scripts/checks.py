@@ -22,10 +22,10 @@ class Counted:
         return 1 if self.wrong else 0
 
 
-def arguments(usage, paths="", flags="", numbers=None, options=None):
+def arguments(usage, paths="", flags="", numbers=None, options=None, words=()):
     """The arguments of a command. Paths stand first, of which those with a `?` may be left out, and
     then numbers, each with what it is where it is left out. Flags are there or not; and an option
-    has a value, which is a path unless it is a number."""
+    has a value, which is a path unless it is a number. An option of `words` has a word, by default ""."""
     parser = argparse.ArgumentParser(usage=usage)
     for name in paths.split():
         may_lack = {"nargs": "?"} if name.endswith("?") else {}
@@ -37,6 +37,8 @@ def arguments(usage, paths="", flags="", numbers=None, options=None):
     for name, value in (options or {}).items():
         kind = int if isinstance(value, int) else os.path.abspath
         parser.add_argument(f"--{name}", type=kind, default=value)
+    for name in words:
+        parser.add_argument(f"--{name}", default="")
     return parser.parse_args()
 
 
