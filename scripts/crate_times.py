@@ -1,17 +1,17 @@
-"""How long crates take: which crate stands on which, the seconds of scripts/seconds.txt, and how long some are expected to take in
-lanes that prove beside each other."""
+"""How long crates take: the dependencies of each crate, the seconds of scripts/seconds.txt, and how long several crates are expected to
+take that are proved in parallel."""
 import re
 
 from repository import read
 
-# a crate of which nothing was measured
+# the seconds of a crate that was not measured
 UNMEASURED = 100
-# what a crate takes that was proved before and hasn't changed
+# the seconds of a crate that was proved before and hasn't changed
 KEPT = 1
 
 
 def crates():
-    """Each crate of crates.txt with those of them that it stands on, in the order of the file."""
+    """Returns each crate of crates.txt with the crates that it depends on, in the order of the file."""
     found = {}
     for line in read("crates.txt").splitlines():
         left, colon, right = line.partition("#")[0].partition(":")
@@ -21,13 +21,13 @@ def crates():
 
 
 def measured():
-    """The processor seconds of each crate that was measured: of its proof, and of its tests."""
+    """Returns the measured processor seconds of each crate: of its proof, and of its tests."""
     rows = (line.split() for line in read("scripts/seconds.txt").splitlines() if re.match(r"\w", line))
     return {name: (int(proof), int(tests)) for name, proof, tests in rows}
 
 
 def needed(root, below):
-    """The crates that one stands on, and itself as the last."""
+    """Returns the crates that `root` depends on, and `root` as the last."""
     wanted = {root}
     for name in reversed(below):
         if name in wanted:
@@ -36,7 +36,7 @@ def needed(root, below):
 
 
 def behind(those, below, seconds):
-    """Of each crate the seconds from its begin to the end of the last one, as if each lane were free."""
+    """Returns for each crate the seconds from its start to the end of the last one, if a lane is always free."""
     found = {}
     for name in reversed(those):
         above = [found[it] for it in those if name in below[it]]
@@ -45,8 +45,8 @@ def behind(those, below, seconds):
 
 
 def expected(left, running, below, lanes):
-    """How many seconds some crates take in so many lanes: those that are left by their seconds, and those that run by what is
-    left of theirs."""
+    """Returns how many seconds crates take in that many lanes. `left` has the seconds of those that haven't begun, and `running` what
+    those that run still take."""
     weight, clock = behind(list(left), below, left), 0
     left, running = dict(left), dict(running)
     while left or running:
@@ -59,7 +59,8 @@ def expected(left, running, below, lanes):
     return clock
 
 
-def told(seconds):
-    """Some seconds in words."""
-    minutes = round(seconds / 60)
-    return "less than a minute" if seconds < 50 else "a minute" if minutes <= 1 else f"{minutes} minutes"
+def told(seconds, is_least=False):
+    """Returns some seconds in words: an estimate, or a lower bound."""
+    minutes = max(round(seconds / 60), 1)
+    amount = "a minute" if minutes == 1 else f"{minutes} minutes"
+    return f"at least {amount}" if is_least else "less than a minute" if seconds < 50 else f"some {amount}"

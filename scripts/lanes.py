@@ -1,11 +1,12 @@
-"""lanes.py CRATE NAME: proves the crates that a program stands on, builds it, and leaves it at bin/NAME. scripts/build-program
-calls it.
+"""lanes.py CRATE NAME: proves the crates that a program depends on, builds the program, and leaves it at bin/NAME, for
+scripts/build-program.
 
-Crates that don't stand on each other are proved beside each other, as far as memory goes. Those with the longest ways to the
-program share the processors, a job for each; the others have one job each, which takes what these leave. The toolchain locks
-the folder of a crate and those of all crates below it while it proves, so only one is proved where it stands, and the others
-in copies (scripts/proved.py). On standard error it tells what is proved and how long the rest is expected to take: a terminal
-shows it as it goes, and else it is a line a minute. What the prover says goes to build/program.log."""
+Crates that don't depend on each other are proved in parallel, as far as memory goes. The crates on the longest paths to the program
+share the processors; each other crate has one job at a lower priority. The toolchain locks the folders of a crate and of its
+dependencies while it proves, so one crate is proved in place, and the others in copies (scripts/proved.py). Prints on standard error
+what is proved and how long the rest is expected to take: on a terminal a line that is updated, else a line a minute. The estimate is
+scaled by the last crates of this run. It is a lower bound ("at least") before the first crate has ended, and while a crate takes
+longer than expected. What the prover prints goes to build/program.log."""
 import fcntl
 import os
 import re
@@ -25,19 +26,21 @@ LOG = "build/program.log"
 STARTED = "build/program.started"
 VERDICTS = "build/verdicts.log"
 DONE_OF = re.compile(r"^(?:checked .*, |so far: )(\d+ of \d+)", re.MULTILINE)
-# what is proved beside each other wants so many KiB of memory each
+# the KiB of memory that each crate needs which is proved
 ROOM_OF_ONE = 4 << 20
 PROCESSORS = len(os.sched_getaffinity(0))
-# more jobs than these don't prove a crate faster
+# more jobs than this don't prove a crate faster
 MOST_JOBS = 4
-# a way to the program that is no less than so much of the longest one is as long
+# a path to the program counts as a longest one from this part of the longest path on
 NEARLY = 0.75
-# what one job's processor seconds take of the clock, before a crate of this run has told it
+# the seconds that a measured processor second takes, before a crate of this run has ended
 CLOCK = 0.65 if PROCESSORS >= 4 else 0.9
+# the number of crates by which the estimate is scaled
+RECENT = 3
 
 
 def memory():
-    """The KiB that are available; enough where nobody says."""
+    """Returns the KiB of available memory; enough for all lanes if that isn't known."""
     try:
         with open("/proc/meminfo", encoding="utf-8") as file:
             return int(re.search(r"MemAvailable: *(\d+)", file.read())[1])
@@ -46,7 +49,7 @@ def memory():
 
 
 def is_kept(name, below, kept):
-    """Whether what was proved of a crate is newer than its files, and so it is of those below."""
+    """Checks whether the proof of a crate is newer than its files, and so is that of each dependency."""
     built = f"crates/{name}/out/rlib/{name}.rlib"
     if not os.path.exists(built) or not all(it in kept for it in below[name]):
         return False
@@ -54,8 +57,8 @@ def is_kept(name, below, kept):
 
 
 class Job:
-    """A crate that is being proved, in a process group of its own: where it stands, or in a copy with the crates `below`. Its folder
-    is locked as the toolchain does it, so that another run there waits. It yields to others where its way to the program isn't far."""
+    """A crate that is being proved, in a process group of its own: in place, or in a copy with the crates `below`. Its folder is locked
+    as the toolchain does it, so that another run there waits. It has a lower priority unless it is on a longest path (`is_far`)."""
 
     def __init__(self, name, words, is_far, below=None):
         self.name, self.is_far, self.path, self.begin = name, is_far, f"build/{name}.log", time.monotonic()
@@ -70,7 +73,7 @@ class Job:
             self.process = subprocess.Popen(words, cwd=f"{self.copy.name if self.copy else '.'}/crates/{name}", **how)
 
     def take_back(self):
-        """What was proved in a copy comes to the repository, and the copy goes."""
+        """Moves what was proved in a copy to the repository, and removes the copy."""
         if self.copy:
             take_back(self.copy.name, self.name)
             os.close(self.lock)
@@ -85,12 +88,27 @@ class Job:
             return log.read()
 
     def now(self):
-        """How far it is, in words."""
+        """Returns its progress in words."""
         done = DONE_OF.findall(self.said())
         return f"{self.name} {done[-1]} functions" if done else self.name
 
+    def part(self):
+        """Returns the part of its functions that is proved, from 0 to 1, or 0 if that isn't known."""
+        done = DONE_OF.findall(self.said())
+        count, of = map(int, done[-1].split(" of ")) if done else (0, 1)
+        return count / of if of else 0
+
+    def left(self, whole):
+        """Returns the seconds that it still takes, if it takes `whole`, and whether it has taken longer: then by its functions, or else
+        as long again as it is late."""
+        passed = self.seconds()
+        if passed < whole:
+            return whole - passed, False
+        part = self.part()
+        return (passed * (1 - part) / part if part else passed - whole) + KEPT, True
+
     def end(self):
-        """Ends it, and what it began."""
+        """Ends it, and the processes that it has started."""
         for number in (signal.SIGTERM, signal.SIGKILL):
             try:
                 os.killpg(self.process.pid, number)
@@ -112,7 +130,8 @@ class Lanes:
             self.seconds[it] = KEPT if it in self.kept else known.get(it, (UNMEASURED,))[0]
         self.weight = behind(self.those, self.below, self.seconds)
         self.left, self.jobs, self.done, self.is_interrupted = list(self.those), [], 0, False
-        self.clock, self.of, self.shown, self.begin = 0, 0, 0, time.monotonic()
+        # the seconds of each crate that has ended, and its measured ones
+        self.ended, self.shown, self.begin = [], 0, time.monotonic()
 
     def tell(self, text, end="\n"):
         clear = "\r\033[K" if sys.stderr.isatty() else ""
@@ -120,26 +139,28 @@ class Lanes:
         sys.stderr.flush()
 
     def scale(self):
-        """What a second of scripts/seconds.txt takes here, by the crates that were proved in this run and yielded to no other."""
-        return self.clock / self.of if self.of else CLOCK
+        """Returns the seconds that a second of scripts/seconds.txt takes here, by the last crates of this run on a longest path."""
+        last = self.ended[-RECENT:]
+        return sum(it for it, _ in last) / sum(it for _, it in last) if last else CLOCK
 
     def expected(self):
-        """How long the rest takes."""
-        scale, running = self.scale(), {}
+        """Returns how long the rest takes, in words."""
+        scale, running, is_least = self.scale(), {}, not self.ended
         for it in self.jobs:
-            running[it.name] = max(self.seconds[it.name] * scale - it.seconds(), KEPT)
-        return expected({it: self.seconds[it] * scale for it in self.left}, running, self.below, self.lanes)
+            running[it.name], is_late = it.left(self.seconds[it.name] * scale)
+            is_least |= is_late
+        return told(expected({it: self.seconds[it] * scale for it in self.left}, running, self.below, self.lanes), is_least)
 
     def words(self, name, jobs):
-        """What proves it by so many jobs. Of a library it keeps the statements and not the proofs, as the gate does, so that the
-        crates above have less to read. The program is built by a run on no script, which prints nothing, or for its help where it
-        needs arguments."""
+        """Returns the command that proves a crate with that many jobs. Of a library the statements are kept and not the proofs, as in the
+        gate, so that dependent crates have less to read. The program is built by a run on an empty script, which prints nothing, or
+        by a run that prints its help if it needs arguments."""
         if name != self.root:
             return ["rt", "lib", "--jobs", str(jobs), "--statements"]
         return ["rt", "run", "--jobs", str(jobs), *(["--", "--help"] if os.path.exists(f"crates/{name}/args") else [])]
 
     def start(self):
-        """Begins what stands on nothing that is left."""
+        """Starts crates of which all dependencies are proved."""
         proving = [it.name for it in self.jobs]
         free = [it for it in self.left if not any(low in self.left or low in proving for low in self.below[it])]
         chosen = sorted(free, key=lambda it: -self.weight[it])[: self.lanes - len(proving)]
@@ -152,7 +173,7 @@ class Lanes:
             self.jobs.append(Job(name, self.words(name, jobs), name in far, self.below if is_apart else None))
 
     def take(self, job):
-        """A crate has ended. Whether it was proved."""
+        """Takes the results of a crate that has ended. Returns whether it was proved."""
         self.jobs.remove(job)
         job.take_back()
         with open(LOG, "a", encoding="utf-8") as log:
@@ -161,32 +182,32 @@ class Lanes:
             self.tell("", "")
             refusals.main(job.path)
             return False
-        # scripts/dist gives the verdict away
+        # for scripts/dist
         with open(VERDICTS, "a", encoding="utf-8") as log:
             log.write("\n".join([f"== {job.name}", *re.findall(r"^logic=.*", job.said(), re.MULTILINE)[-1:], ""]))
         os.remove(job.path)
         self.done += 1
         if job.is_far and job.name not in self.kept:
-            self.clock, self.of = self.clock + job.seconds(), self.of + self.seconds[job.name]
+            self.ended.append((job.seconds(), self.seconds[job.name]))
         self.tell(f"  {job.name}, crate {self.done} of {len(self.those)}: {job.seconds():.0f} s")
         return True
 
     def show(self):
-        """A terminal's line each second, or a line a minute."""
+        """Updates the line of a terminal each second, or prints a line a minute."""
         if not self.jobs or time.monotonic() - self.begin < self.shown * (1 if sys.stderr.isatty() else 60):
             return
         now, minutes = ", ".join(it.now() for it in self.jobs), self.shown
         self.shown += 1
         if sys.stderr.isatty():
-            line = f"  {now}: {self.done} of {len(self.those)} crates proved, {told(self.expected())} left"
+            line = f"  {now}: {self.done} of {len(self.those)} crates proved, {self.expected()} left"
             self.tell(line[: shutil.get_terminal_size().columns - 1], "")
         elif minutes:
-            self.tell(f"  after {told(60 * minutes)}: {self.done} of {len(self.those)} crates proved, {told(self.expected())} left: {now}")
+            self.tell(f"  after {minutes} min: {self.done} of {len(self.those)} crates proved, {self.expected()} left: {now}")
 
     def prove(self):
-        """Whether all of them were proved. It stops where the user ends it, or a crate isn't proved."""
+        """Returns whether all crates were proved. Stops at the first that isn't, or if the user interrupts it."""
         left = len(self.those) - len(self.kept)
-        self.tell(f"Proving and building the program, {left} of {len(self.those)} crates: that takes some {told(self.expected())} here.")
+        self.tell(f"Proving and building the program, {left} of {len(self.those)} crates: that takes {self.expected()} here.")
         while self.left or self.jobs:
             self.start()
             time.sleep(0.2)
@@ -221,7 +242,7 @@ def main(root, name):
     if lanes.is_interrupted:
         lanes.tell("\nInterrupted: no program was built. The same command begins again with the crates that are not proved yet.")
         return 130
-    lanes.tell(f"The program could not be built. All that the prover said is in {LOG}.")
+    lanes.tell(f"The program could not be built. What the prover printed is in {LOG}.")
     return 1
 
 
