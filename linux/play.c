@@ -3,35 +3,35 @@
  *
  * Each line is the real call or request with its real flags: `sparse`, `register`, `unregister`, `range` and `regupdate`
  * are those of io_uring_register(2), a request is one of io_uring_enter(2), and the requests of a `submit` go to the
- * kernel by one call. The ring is set up with IORING_SETUP_SUBMIT_ALL, so that a request which can't be submitted
- * doesn't end the submission. Nothing is counted or refused here: what is written is the kernel's answer. The numbers of
- * submissions and registrations are those that the kernel accepted.
+ * kernel in one call. The ring is set up with IORING_SETUP_SUBMIT_ALL, so that a request which can't be submitted
+ * doesn't end the submission. Nothing is counted or refused here: each answer is the kernel's. Submissions and
+ * registrations are numbered as the kernel accepts them.
  *
  * How a close is seen. A catalogue entry is a file in a fresh folder. For each installation that a script asks for (an
- * open, or a file in a list) a hard link of its own is made, and the kernel is given that link. The links' folder is
- * watched by inotify(7), so an event IN_CLOSE says that the kernel has given up the last use of the open file of that
- * one installation. It is not told by the program's own account of the slots. Which files are in the table is read from
- * the kernel's list in /proc/self/fdinfo; behind each command the program waits until every file that was opened is in
- * that list or was closed, and only then writes the closed lines.
+ * open, or a file in a list) a hard link of its own is made, and the kernel gets that link. The links' folder is watched
+ * by inotify(7), so an event IN_CLOSE says that the kernel has dropped the last use of the open file of that one
+ * installation. It doesn't come from the program's own account of the slots. The list in /proc/self/fdinfo says which
+ * files are in the table; after each command the program waits until every file that was opened is in that list or was
+ * closed, and only then writes the closed lines.
  *
  * A file of a list is first a descriptor of this process, as io_uring_register(2) has it. It is closed here as soon as
- * the command or the submission has ended. It has a closed line only if the kernel said by its result that it took it.
+ * the command or the submission has ended. It has a closed line only if the kernel's result says that it took it.
  *
  * How a tag is seen. A list with tags goes to the kernel by the calls that take them, and the kernel posts a completion for
- * a tag. Behind each command, once the closes are there, the program waits for a completion for each file with a tag that
- * was closed, at most a second, and writes the tags that came: those of the closed files in order of mark, and behind them
- * any others, which would differ from every text of the model. So a tag and the close that inotify saw are two witnesses.
- * At the end the table is unregistered in front of the ring's own end, since a ring that is gone can't tell a tag. What the
- * requests of a submission have as their data is chosen so that none of the script's tags is among it.
+ * a tag. After each command, once the closes are there, the program waits for a completion for each file with a tag that
+ * was closed, at most a second, and writes the tags that came: those of the closed files in order of mark, and then any
+ * others, which would differ from every text of the model. So a tag and the close that inotify saw are two witnesses.
+ * At the end the table is unregistered before the ring is closed, since a closed ring posts no tag. The user data of a
+ * submission's requests are chosen so that none of the script's tags is among them.
  *
  * With the argument --async each request is started by a thread of the kernel (IOSQE_ASYNC), so that the chains of a submission
- * run beside each other. Without it a kernel does the first requests of all chains in their order.
+ * run concurrently. Without it a kernel does the first requests of all chains in their order.
  *
- * With the argument --mistake the first tag that comes is taken for the next number: what is written then is another text, or
- * tags aren't told from the completions.
+ * With the argument --mistake the first tag that comes is taken for the next number: then another text is written, or the
+ * tags don't come from the completions.
  *
  * What can't be seen: when within a command a file was closed, in which order, and by whom; who holds it meanwhile; that
- * an open was started and gave up before it had opened its file. A file that is opened and closed without having been in
+ * an open was started and ended before it had opened its file. A file that is opened and closed without having been in
  * the table has a closed line like any other, since the kernel did close it.
  */
 #include <errno.h>

@@ -9,7 +9,9 @@ SLOTS_OF_LINUX = 1 << 20
 
 class Linux(Player):
     """The model with those differences that are in `shown`. `met` has the ones that a play met; each of them shows in
-    the text, whatever the order of chains."""
+    the text, whatever the order of chains. `files_allowed` is the hard limit of open files where the kernel runs."""
+
+    files_allowed = resource.getrlimit(resource.RLIMIT_NOFILE)[1]
 
     def __init__(self, files, shown):
         super().__init__(files)
@@ -23,7 +25,7 @@ class Linux(Player):
 
     def refusal_of_table(self, count, is_bad=False):
         refusal = super().refusal_of_table(count, is_bad)
-        largest = min(SLOTS_OF_LINUX, resource.getrlimit(resource.RLIMIT_NOFILE)[1])
+        largest = min(SLOTS_OF_LINUX, self.files_allowed)
         if self.slots and count == 0 and self.meets("sparse_of_nothing_on_a_table"):
             return -EINVAL
         if not self.slots and SLOTS < count <= largest and self.meets("larger_table"):

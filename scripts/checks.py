@@ -1,4 +1,4 @@
-"""What the checks share: their arguments, what they count, and a program without end."""
+"""Code that the checks share: result counters, argument parsing, timeouts."""
 import argparse
 import os
 import subprocess

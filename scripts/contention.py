@@ -1,4 +1,4 @@
-"""Scripts whose chains contend, played many times: which texts does a player give?"""
+"""Collects the texts that a player prints for scripts whose chains contend, each played many times."""
 import concurrent.futures
 import os
 import time

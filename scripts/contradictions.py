@@ -1,9 +1,9 @@
-"""Whether lines that fixcheck names as having no order have none, and whether one can be left out: looked at in every order of the
-requests of a submission on scripts/model.py, one step at a time.
+"""Checks conflicts: that lines which fixcheck names as having no order have none, and that each of them is needed. Every order of the
+requests of a submission is tried on scripts/model.py, one step at a time.
 
-A line that isn't named, or that is left out, says nothing: its request may answer what it does, where that leaves the requests behind
-it in its chain canceled or not as in the text; and a file may be closed or not. Lines of opens at any slot are never left out. Where
-lines tell of one slot, what is done at the others is left out, and none of their lines may be named."""
+A line that isn't named, or is left out, puts no condition on its request: it may answer anything that leaves the following requests
+of its chain canceled, or not, as in the text; and a file may be closed or not. Lines of opens at any slot are never left out. If the
+lines are those of one slot, requests at the others are left out, and none of their lines may be named."""
 import re
 
 from model import ECANCELED, Player, chains_of, severs, submitted, text_of_mark

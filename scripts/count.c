@@ -1,10 +1,10 @@
-/* Preloaded before a program. It counts the threads that the program makes, the bytes of memory that it asks for, its growths
- * and its writes to standard output, and keeps them in the file that the variable COUNTS names, as numbers of 8 bytes: the
- * threads, the bytes, the growths, the writes, and what each of the first 64 writes was given. So they are there however the
- * program ends. scripts/counts.py reads them.
+/* Preloaded into a program. Counts the threads that the program starts, the bytes of memory that it requests, its growths and its
+ * writes to standard output, and keeps them in the file that the variable COUNTS names, as numbers of 8 bytes: the threads, the
+ * bytes, the growths, the writes, and the size of each of the first 64 writes. So they are there however the program ends.
+ * scripts/counts.py reads them.
  *
- * Growths are the calls of malloc, calloc, realloc, posix_memalign and aligned_alloc from the begin of main to its end. The
- * one whose number the variable REFUSED_GROWTH has, from 1 on, is refused, where it has one. */
+ * Growths are the calls of malloc, calloc, realloc, posix_memalign and aligned_alloc from the start of main to its end. If the
+ * variable REFUSED_GROWTH is set, the growth with that number, from 1 on, is refused. */
 #define _GNU_SOURCE
 #include <dlfcn.h>
 #include <errno.h>

@@ -1,6 +1,6 @@
-"""What a program did in a run, as scripts/count.c counts it: the threads that it made, the bytes that
-it asked for, its growths and its writes. A growth is a call by which the program asks the C library
-for memory, from the begin of main on. And what comes where one growth is refused, each in its turn."""
+"""Runs a program and counts, by scripts/count.c, the threads that it started, the bytes that it requested, its growths and its writes. A
+growth is a call that requests memory from the C library, from the start of main on. Also refuses one growth of a run after another,
+and checks each outcome."""
 import collections
 import shutil
 import sys

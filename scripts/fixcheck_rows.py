@@ -1,5 +1,5 @@
-"""What fixcheck is asked of beside random scripts: texts of each size, and parts of a submission beside one with too many states.
-Statuses and lines are worked out by hand, by docs/CHECKING.md."""
+"""Texts for fixcheck beside those of random scripts: texts of each size, and submissions of which a part has too many states. Statuses
+and lines are derived by hand from docs/CHECKING.md."""
 from limits import BAD_LIMITS, LIMITS, limits, lines
 from sweeps import KINDS, sweeps
 
@@ -7,9 +7,11 @@ NOT_LEGAL, UNDECIDED = 1, 6
 # of limits two are bad scripts; of sweeps two kinds are
 LEGAL_SIZES = LIMITS - BAD_LIMITS + sum(count for kind, count in KINDS.items() if kind not in ("fault_at", "unsubmitted_from"))
 # how many rows of parts there are
-PARTS = 3
+PARTS = 4
 # so many states are too few for the part of two slots: an order of its ten accesses goes through eleven
 FEW_STATES = 10
+# and so many for five slots where so many opens at the first one can be done in any order
+FIVE_STATES, OPENS = 60, 7
 
 
 def sizes():
@@ -33,7 +35,8 @@ def contending(chains):
 
 
 def parts():
-    """A part with too many states beside others: its name, the script, the text, the status and what the verdict says."""
+    """A part with too many states, alone or beside others: its name, the script, the text, the states, the status and what the
+    verdict says."""
     requests, answers, closed, left = contending(4)
     head = ["file a 61", "file b 62", "file c 63", "file x 78", "register 2,2,2,2,2,2,2"]
     rest = [f"closed r1.{it} c" for it in (2, 3, 4)]
@@ -41,7 +44,7 @@ def parts():
 
     def case(more, told, gone, stay, last):
         text = ["register 0", *answers, *told, "closed r1.0 c", "closed r1.1 c", *gone, *closed, "teardown", *stay, *left, *last]
-        return lines(*head, *requests, *more, "submit").encode(), lines(*text)
+        return lines(*head, *requests, *more, "submit").encode(), lines(*text), FEW_STATES
 
     yield "the part alone", *case([], [], [], [*rest, *both], []), UNDECIDED, "undecided: submission 1"
     yield "a slot by itself", *case(["read 5 0 1"], ["1.6.1 1 61"], [], [*rest, *both], []), NOT_LEGAL, "which is never at slot 5"
@@ -50,3 +53,15 @@ def parts():
     told = ["1.6.1 0", "1.6.2 1 63", "1.7.1 0", "1.7.2 1 63"]
     opened = ["closed 1.6.1.0 a", "closed 1.7.1.0 b"]
     yield "a later part", *case(crossed, told, both, rest, opened), NOT_LEGAL, "lines 13 and 15 of the text: no order of the requests gives all of these"
+    yield "the fifth slot of a part", *fifth_slot(), NOT_LEGAL, "lines 6 and 7 of the text: no order of the requests gives all of these, which tell of slot 4"
+
+
+def fifth_slot():
+    """A chain that reads at five slots, the last one twice, where it finds the new file and then the old one."""
+    reads = [f"read {slot} 0 1 link" for slot in range(5)] + ["read 4 0 1"]
+    opens = ["open a at 0"] * OPENS
+    answers = [f"1.1.{member} 1 {'62' if member == 5 else '63'}" for member in range(1, 7)] + [f"1.{nth}.1 0" for nth in range(2, OPENS + 3)]
+    closed = ["closed r1.0 c", "closed r1.4 c", *(f"closed 1.{nth}.1.0 a" for nth in range(3, OPENS + 2))]
+    left = [*(f"closed r1.{slot} c" for slot in (1, 2, 3)), "closed 1.2.1.0 b", f"closed 1.{OPENS + 2}.1.0 a"]
+    script = lines("file a 61", "file b 62", "file c 63", "register 2,2,2,2,2", *reads, "open b at 4", *opens, "submit")
+    return script.encode(), lines("register 0", *answers, *closed, "teardown", *left), FIVE_STATES

@@ -1,7 +1,7 @@
-"""The file table of one thread: its state, its steps, and where each may be taken, as the table of steps in docs/MODEL.md
-has it. A history is legal where each of its steps may be taken in the state that the steps before it lead to.
+"""The file table of one thread: its state, its steps, and when each is allowed, by the table of steps in docs/MODEL.md. A history is
+legal if each of its steps is allowed in the state that the earlier steps lead to.
 
-A file is its number here. Where a step may not be taken, `Illegal` says why."""
+A file is its number here. If a step is not allowed, `Illegal` says why."""
 
 from illegal import want
 

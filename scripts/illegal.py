@@ -1,4 +1,4 @@
-"""What the checks of histories and orders share: a step that isn't allowed, and why."""
+"""The error of the checks of histories and orders: a step that isn't allowed, and why."""
 
 
 class Illegal(Exception):

@@ -1,6 +1,6 @@
-"""The texts of a script by playing every order of its chains' members, and of the entries of updates, to its end: each on a player of
-its own. No state is remembered, no order is left out, and a member that never comes to the table has its turn as any other. So it
-suits tiny scripts alone. Nothing answers -12 here. scripts/check-outcomes compares scripts/outcomes.py with it."""
+"""All texts of a script, by playing every order of its chains' members, and of the entries of updates, to its end, each on a player of
+its own. No state is remembered and no order is left out; a member that doesn't reach the table takes a turn like any other. So it is
+for tiny scripts. Nothing answers -12 here. scripts/check-outcomes compares the lists of fixcheck with it."""
 from model import ECANCELED, Player, Script, chains_of, completion_line, severs
 
 # so many orders are played before a script is given up

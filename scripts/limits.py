@@ -1,6 +1,5 @@
-"""Scripts at the limits of the language and of the table, each with the text that it must write. Texts are worked out by
-hand here, and from neither the program nor scripts/model.py. scripts/check-limits plays them on the program, and
-scripts/check-model on the model."""
+"""Scripts at the limits of the language and of the table, each with its text. Texts are derived by hand here, neither from the program
+nor from scripts/model.py. scripts/check-limits plays them on the program, and scripts/check-model on the model."""
 
 SCRIPT_BYTES = 4_194_304
 LINE_BYTES = 10_000

@@ -1,7 +1,6 @@
 /*
- * Asks the running kernel what docs/LINUX.md tells of it and no script can show, and prints one line for each question: what
- * a script can show, scripts/conform and scripts/agree ask by one. It needs io_uring and liburing 2.3; it proves nothing, and
- * no other test stands on it.
+ * Asks the running kernel the questions of docs/LINUX.md that no script can, and prints a line for each. scripts/conform and
+ * scripts/agree ask the others, by scripts. It needs io_uring and liburing 2.3; it proves nothing, and no other test relies on it.
  */
 #define _GNU_SOURCE
 #include <errno.h>

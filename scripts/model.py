@@ -1,9 +1,9 @@
 #!/usr/bin/env python3
-"""A second fixfiles, written from docs/MODEL.md and docs/SCRIPT.md alone and slow.
+"""A second fixfiles, written from docs/MODEL.md and docs/SCRIPT.md alone, and slow.
 
-It plays a script from standard input, as fixfiles does. scripts/check-model holds it against rows that were worked out by
-hand, scripts/compare holds the program against it, and scripts/agree the kernel. scripts/orders.py says of a text
-whether it is one that this model allows in another order of chains.
+It plays a script from standard input, as fixfiles does. scripts/check-model compares it with rows that were derived by hand,
+scripts/compare compares the program with it, and scripts/agree the kernel. scripts/orders.py decides whether this model prints a
+text in another order of chains.
 """
 import re
 import sys

@@ -1,8 +1,8 @@
-"""Which texts a model allows for a script.
+"""Searches for an order of requests in which a model prints a text.
 
-Chains of a submission run beside each other, and an open at any slot may take any free one. So a script can have many
-texts. `ending_of` looks for an order of steps in which a model writes a given text. A request is one step; with `splits`
-each entry of an update is a step of its own, so that requests of other chains may come between two.
+The chains of a submission run concurrently, and an open at any slot may take any free one. So a script can have many texts.
+`ending_of` searches for an order of steps in which a model writes a given text. A request is one step; with `splits` each entry of
+an update is a step of its own, so that requests of other chains may come between two of them.
 """
 import re
 

@@ -1,4 +1,4 @@
-"""What the pages of this repository have: headings, sections, tables and indented blocks."""
+"""Reads the pages of this repository: headings, sections, tables and indented blocks."""
 import functools
 import re
 

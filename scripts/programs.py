@@ -1,4 +1,4 @@
-"""Runs of programs, questions to fixcheck, and what is built of C and preloaded."""
+"""Runs programs, asks fixcheck, and builds the C code that is preloaded."""
 import contextlib
 import os
 import subprocess

@@ -1,4 +1,4 @@
-"""How far something is."""
+"""Shows progress on a terminal."""
 import sys
 import time
 

@@ -1,4 +1,4 @@
-"""What the gate has proved, a copy of the crates that goes on from there, and what the prover says there."""
+"""Copies of the crates that start from what the gate has proved, and the prover's output there."""
 import os
 import re
 import shutil

@@ -1,4 +1,4 @@
-"""Random scripts, each of a shape. What a script has is right, but for the odd part of it, which may be refused."""
+"""Random scripts of several shapes. A script is valid except for its odd part, which may be refused."""
 import random
 from typing import NamedTuple
 

@@ -1,9 +1,9 @@
-"""refusals.py LOG: says in a few lines why a crate was not proved, by what the prover wrote of it: a line `fn NAME: ` for each
-function, and errors in proof files.
+"""refusals.py LOG: prints in a few lines why a crate was not proved, from the prover's output: a line `fn NAME: ` for each function, and
+errors in proof files.
 
-`proved` may be followed by `, may wait`, `, may abort` or `where its callers give what it asks`: those are proved too. A
-function that calls one that is not proved has `no proof: it calls X, ..` or `not proved; it calls X, ..`. That is no refusal
-of its own: its goals were proved, or nobody tried them. It is refused itself where its own proof files have an error."""
+`proved` may be followed by `, may wait`, `, may abort` or `where its callers give what it asks`: these are proved too. A function that
+calls an unproved one has `no proof: it calls X, ..` or `not proved; it calls X, ..`. This doesn't count as a refusal: its goals
+were proved, or nobody tried them. It is refused itself if its own proof files have an error."""
 import re
 import sys
 

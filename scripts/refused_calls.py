@@ -1,6 +1,5 @@
-"""The calls of scripts/check-refused-calls, and what the program test_refusals may tell of each where one growth of its
-memory is refused. What is wanted is what the documentation of each call says: its answer, what a refusal leaves, and what
-the same call answers afterwards."""
+"""The calls of scripts/check-refused-calls, and what the program test_refusals may report of each if one of its growths is refused. The
+expected result is that of the call's documentation: its answer, what a refusal leaves, and what the same call answers afterwards."""
 
 TABLES = ("words", "baton")
 

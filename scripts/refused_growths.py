@@ -1,7 +1,7 @@
-"""The scripts of scripts/check-refused-growths, and what may come out where one growth of the program is refused.
+"""The scripts of scripts/check-refused-growths, and the allowed outcomes if one growth of the program is refused.
 
-Of each script this may: its text, where the program did without; its text with one answer -12, as scripts/model.py writes
-it; or status 5 and the whole texts of its first commands. The scripts are such that the order of chains changes no text."""
+For each script these are: its text, if the program did without; its text with one answer -12, as scripts/model.py writes it; or
+status 5 and the whole texts of its first commands. The order of chains changes no text of these scripts."""
 import re
 
 from limits import CHAINS, ENTRIES, MEMBERS, full_catalogue, linked, lines

@@ -1,4 +1,4 @@
-"""The files of this repository: where they are, what they have, and programs as modules."""
+"""The files of this repository: paths, contents, and programs as modules."""
 import glob
 import importlib.machinery
 import importlib.util

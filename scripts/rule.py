@@ -1,5 +1,5 @@
-"""The rule that the words of the table without a lock keep between any two steps, as docs/INTERNALS.md has it: words and
-places agree with the state that the history leads to. It looks at a `Table` of scripts/steps.py."""
+"""The invariant of the lock-free table's words between any two steps, by docs/INTERNALS.md: words and places agree with the state that
+the history leads to. It checks a `Table` of scripts/steps.py."""
 from history import CLOSED, FRESH, REMOVED
 from steps import BORN, EMPTY, FILE, ONE_CHANGE, control_word, takes_of
 from illegal import want

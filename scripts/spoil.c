@@ -1,18 +1,17 @@
-/* Stands for a program that is wrong: it runs the program that the variable SPOILED names, with its own words and standard
- * input, and gives what that one gave but for the change that the variable SPOIL names:
+/* Replaces a program by a wrong one: it runs the program that the variable SPOILED names, with its own arguments and standard
+ * input, and passes its output on, with the change that the variable SPOIL names:
  *
  *   nothing   no change
- *   byte      the last byte in front of the last line end of the text is another
+ *   byte      the last byte before the last line end of the text is changed
  *   line      the last line of the text is left out
- *   status    the status is another: 1 where it was 0, and else 0
- *   message   the last byte in front of the line end of the message on standard error is another
- *   end       it comes to no end
- *   memory    it needs twice as much memory: it gets half of what is there, where that is limited
- *   words     it is given none of its words
+ *   status    another exit status: 1 for 0, and 0 for any other
+ *   message   the last byte before the line end of the message on standard error is changed
+ *   end       it never ends
+ *   memory    it needs twice as much memory: it gets half of what is there, if that is limited
+ *   words     it gets none of its arguments
  *
- * Where there is no text, byte and line change the message, and where there is neither, an empty line is written.
- * scripts/check-checks says what it is for. It is linked statically, so that what is preloaded before the program isn't
- * preloaded before this. */
+ * If there is no text, byte and line change the message, and if there is neither, an empty line is written.
+ * scripts/check-checks uses it. It is linked statically, so that what is preloaded into the program isn't preloaded into this. */
 #define _GNU_SOURCE
 #include <stdio.h>
 #include <stdlib.h>

@@ -1,7 +1,7 @@
-"""Kinds of texts with a spoiled line, and what a refusal of one should name: the command whose line was spoiled, and the line.
+"""Texts with a spoiled line, by kinds, and what a refusal of one should name: the command whose line was spoiled, and the line.
 
-A line that is named is one that the verdict has by its number; of a line that is lost, its place or the file that it told closed.
-What names a line names its command too."""
+A verdict names a line by its number; a lost line by its place, or by the file that it reported closed. What names a line names its
+command too."""
 import re
 
 from model import Script, fault_of

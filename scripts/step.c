@@ -1,11 +1,11 @@
-/* Preloaded before a program. From the first thread that the program makes until it waits for one, its threads go in turns of a
- * few instructions, however many processors there are: each has the trap flag of x86-64 set, and so a SIGTRAP behind every
- * instruction, whose handler counts, and gives the turn to a thread that is drawn. So threads meet of which the first would
- * be done before the next one is there. The numbers that are drawn come of the one that the variable SEED has, and TURN has
- * the most instructions of a turn. scripts/check-meetings plays with it.
+/* Preloaded into a program. From the start of its first thread to the end of one, its threads run in turns of a few
+ * instructions, however many processors there are: the trap flag of x86-64 raises SIGTRAP after every instruction, and the
+ * handler counts, and passes the turn to a thread drawn at random. So threads meet of which the first would otherwise end
+ * before the next one starts. The variable SEED is the seed of the draws, and TURN the most instructions of a turn.
+ * scripts/check-meetings plays with it.
  *
- * A thread gives its turn up in front of a call of the kernel in which it may wait for another one, and behind it waits for
- * a turn. The C library's own making of a thread and waiting for one isn't stepped, since it stops signals. */
+ * A thread passes its turn on before a system call in which it may wait for another thread, and waits for a turn after it. The
+ * C library's own creation and joining of threads isn't stepped, since it blocks signals. */
 #define _GNU_SOURCE
 #include <dlfcn.h>
 #include <errno.h>

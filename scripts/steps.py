@@ -1,13 +1,13 @@
-"""The step table of the table without a lock, as docs/INTERNALS.md has it: its words, and the atomic steps of each call.
+"""The step table of the lock-free table, by docs/INTERNALS.md: its words, and the atomic steps of each call.
 
-It was written from the table of steps and from no code. A `Table` has the words, the open files' places and the passes,
-each between two of its steps, and beside them the history that the steps add to (scripts/history.py). scripts/check-steps
-takes its steps in every order.
+It was written from the table of steps and from no code. A `Table` has the words, the open files' places and the passes, each between
+two of its steps, and the history to which the steps add events (scripts/history.py). scripts/check-steps runs its steps in every
+order.
 
-Each pass has drawn a chain before the play begins. A number is its place in the lists of nodes: the files that were there
-have the numbers of their slots, and behind them each chain has as many as a pass may install. In a slot word it is as
-large as the product's, 256 + 64 (c - 1) + k for the k-th file of chain c. Look-ups that are spent make no step and aren't
-here, nor are the splits and joins of passes. A take has the steps of a clear."""
+Each pass has drawn a chain before the play begins. A number is its place in the lists of nodes: the files that were there have the
+numbers of their slots; after them each chain has as many as a pass may install. In a slot word it is as large as the product's,
+256 + 64 (c - 1) + k for the k-th file of chain c. Look-ups that are spent make no step and aren't here, nor are the splits and joins
+of passes. A take has the steps of a clear."""
 from history import History, changed
 from illegal import want
 

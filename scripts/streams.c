@@ -1,11 +1,11 @@
-/* Preloaded before a program. Its reads from standard input and its writes to standard output get less than they ask for, or fail,
- * as these variables say, where they are there:
+/* Preloaded into a program. Its reads from standard input and its writes to standard output transfer less than requested, or
+ * fail, as these variables say, if they are set:
  *
- *   READ_BYTES     how many bytes a read gets at most
+ *   READ_BYTES     the most bytes that a read returns
  *   FAILING_READ   the number of the read that fails, from 1 on, once
- *   READ_ERROR     with which errno it fails
- *   WRITE_BYTES    how many bytes a write takes at most
- *   ROOM           how many bytes all writes take; one that has no room fails with ENOSPC, as on a full disk
+ *   READ_ERROR     the errno with which it fails
+ *   WRITE_BYTES    the most bytes that a write takes
+ *   ROOM           the bytes that all writes take; one without room fails with ENOSPC, as on a full disk
  *
  * scripts/check-examples plays with it. */
 #define _GNU_SOURCE

@@ -1,7 +1,7 @@
-"""Scripts between the limits of the language and of the table: for each thing that has a size one script, or one for each size.
-Of lists, of tables, and of the files that the end closes, that is every size up to the limit; of all else each power of two, one
-less and one more, up to the limit, and the limit. Each has the text that it must write, worked out by hand here as in
-scripts/limits.py. The order of chains changes no text. scripts/check-limits plays them."""
+"""Scripts between the limits of the language and of the table: for each thing that has a size one script, or one for each size. For
+lists, tables, and the files that the end closes, that is every size up to the limit; for all others each power of two, one less and
+one more, up to the limit, and the limit. Each has the text that it must write, derived by hand here as in scripts/limits.py. The
+order of chains changes no text. scripts/check-limits plays them."""
 from limits import BYTES, CHAINS, ENTRIES, FILES, LARGEST_TAG, MEMBERS, SCRIPT_BYTES, SLOTS, lines
 
 A = "file a.txt 68656c6c6f"

@@ -1,6 +1,6 @@
-"""Whether what `fixcheck --history` tells is a legal history of docs/MODEL.md, "Steps", that gives a text: each event may be
-taken where it stands and is its request's, behind each line stands the state that it leads to, and the answers and closes are
-those of the text. How much a read gave is looked at, and the bytes aren't, since a history doesn't tell them."""
+"""Checks that the output of `fixcheck --history` is a legal history of docs/MODEL.md, "Steps", that results in a text: each event is
+allowed when it comes and belongs to its request, each line ends with the state after it, and the answers and closes are those of the
+text. The number of bytes of a read is checked, and the bytes aren't, since a history doesn't have them."""
 import re
 
 from model import Script, chains_of

@@ -1,7 +1,7 @@
-"""Shows that what looks at an answer complains of a wrong one: a history with a line left out or changed, an order with steps of a
-chain left out or exchanged, the outcome of a refused growth, the growths between two marks, a verdict that is a lie, one that names
-another command or line, and one that names a line too many or too few of those that have no order. Each function tells how many wrong
-answers of its kind there were, and those that nothing complained of. scripts/check-checks wants the numbers."""
+"""Tests what judges an answer with wrong ones: a history with a line left out or changed, an order with steps of a chain left out or
+exchanged, an order of another text, the outcome of a refused growth, the growths between two marks, a false verdict, one that names
+another command or line, and one that names a line too many or too few of a conflict. Each function returns the number of wrong answers
+of its kind, and those that were accepted. scripts/check-checks checks the numbers."""
 import os
 import re
 

@@ -1,5 +1,5 @@
-"""Wrong step tables of the table without a lock, by their names: each is scripts/steps.py with one thing wrong. They show
-that scripts/check-steps can fail."""
+"""Wrong step tables of the lock-free table, by name: each is scripts/steps.py with one change. They show that scripts/check-steps can
+fail."""
 import re
 
 from steps import ONE_CHANGE, Table, control_word, takes_of
