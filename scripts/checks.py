@@ -49,5 +49,5 @@ def status_of(name, main, *given):
     except subprocess.TimeoutExpired as hang:
         command = [hang.cmd] if isinstance(hang.cmd, str) else hang.cmd
         shown = " ".join([os.path.basename(command[0]), *map(str, command[1:])])
-        print(f"{name}: {shown} didn't come to its end within {hang.timeout:g} s")
+        print(f"{name}: {shown} didn't end within {hang.timeout:g} s")
         return 1

@@ -125,9 +125,9 @@ def complaint_of(script, text, said, most=20_000):
     named = {int(re.match(r" +(\d+): ", it)[1]) - 1 for it in said[1:]}
     closes_no_other = CLOSES_NO_OTHER in said[0]
     for line in submission.strange(named):
-        return f"line {line + 1} tells nothing of it"
+        return f"line {line + 1} says nothing about it"
     if submission.has_order(named, closes_no_other, most):
-        return f"an order gives the lines {sorted(it + 1 for it in named)}"
+        return f"an order results in the lines {sorted(it + 1 for it in named)}"
     if FEWER in said[0]:
         return None
     for line in submission.optional(named):

@@ -57,5 +57,5 @@ def asked(fixcheck, script, most=MOST, *options):
         raise Failed(f"fixcheck --all ended with status {status} and said: {message.strip()}")
     found = parsed(said.split("\n"))
     if found.are_all != (status == 0):
-        raise Failed(f"fixcheck --all ended with status {status} behind {said[:80]!r}")
+        raise Failed(f"fixcheck --all ended with status {status} after {said[:80]!r}")
     return found

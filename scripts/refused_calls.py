@@ -25,16 +25,16 @@ class Call:
         if refusal:
             self.outcomes["no memory"] = [f"{name}: {refusal}", *before, *self.outcomes["done"]]
         if torn is not None:
-            self.outcomes["behind the call"] = [*done, "tear_down: NoMemory", *after, *torn]
+            self.outcomes["after the call"] = [*done, "tear_down: NoMemory", *after, *torn]
         self.outcomes.update(others)
         # the outcomes that must each come at some growth
-        self.wanted = {it for it in self.outcomes if it not in ("done", "behind the call")}
+        self.wanted = {it for it in self.outcomes if it not in ("done", "after the call")}
 
     def name(self):
         return self.words.replace(" -", "").removesuffix(" 0")
 
     def kind(self, ended, _whole):
-        """The name of an outcome, or None where it may not be. The last growth stands behind the call, and the program tells
+        """The name of an outcome, or None where it may not be. The last growth comes after the call, and the program reports
         whether it is refused."""
         status, text, message = ended
         *lines, end = text.splitlines() or [""]
@@ -43,7 +43,7 @@ class Call:
         if lines == ["no setting"]:
             return "no setting" if end == "end" else None
         kind = next((it for it, wanted in self.outcomes.items() if wanted == lines), None)
-        return kind if end == "end" else "behind all" if kind == "done" else None
+        return kind if end == "end" else "after all" if kind == "done" else None
 
 
 def entries(count):

@@ -68,7 +68,7 @@ class Chain:
         self.is_severed |= severs(request, linked_by, res)
 
     def pass_by(self, player):
-        """A member that isn't in the order was canceled, or never came to the table."""
+        """A member that isn't in the order was canceled, or never reached the table."""
         place, request, _ = self.now()
         if self.is_severed:
             return self.answer(-ECANCELED, b"")
@@ -80,7 +80,7 @@ class Chain:
             self.pass_by(player)
         want(not self.is_done() and not self.is_severed and len(self.answers) + 1 == member, f"{self.place} has no member {member} there")
         place, request, _ = self.now()
-        want(player.comes_to_the_table(request), f"{place} never came to the table")
+        want(player.comes_to_the_table(request), f"{place} never reached the table")
         want(not self.entries or entry is not None and entry > self.entries[-1], f"the entries of {place} aren't in order")
         res, got = player.step(place, request, entry)
         if entry is None:

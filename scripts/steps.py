@@ -132,11 +132,11 @@ class Table:
     def take_place(self, who, number, lies):
         """The place of a number goes to a pass, and that is what lies there."""
         found = "another pass" if isinstance(self.places[number], int) else self.places[number]
-        want(found == lies, "a pass wants {} in the place of {}, and finds {}", lies, number, found)
+        want(found == lies, "a pass expects {} in the place of {}, and finds {}", lies, number, found)
         self.places = changed(self.places, number, who)
 
     def give_place(self, who, number, lies):
-        want(self.places[number] == who, "a pass gives the place of {} back, and hasn't it", number)
+        want(self.places[number] == who, "a pass returns the place of {}, and hasn't it", number)
         self.places = changed(self.places, number, lies)
 
     def work_is(self, who, *work):
@@ -299,7 +299,7 @@ class Table:
             return "rest", self.next_number(who)
         others = any(self.is_in_change(nth) for nth in range(len(self.next)) if nth != who)
         is_free = not self.history.has_full_range()
-        want(is_free or others, "the range is full, nobody else changes it, and an allocation isn't told so")
+        want(is_free or others, "the range is full, nobody else changes it, and an allocation doesn't answer so")
         self.rounds = changed(self.rounds, who, self.rounds[who] + 1)
         return self.round()
 

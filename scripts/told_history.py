@@ -132,7 +132,7 @@ class Reader:
             who, what = self.line()
             if what is not None:
                 words, is_answer, res = what.rpartition("answers ")
-                want(is_answer, f"{what} is no answer")
+                want(is_answer, f"{what} isn't an answer")
                 return who, words, res
 
     def call(self, command):
@@ -170,7 +170,7 @@ class Reader:
             given += self.submission(command[1]) if command[0] == "submit" else self.call(command)
         while self.lines:
             who, what = self.line()
-            want((who, what) == ("teardown", None), f"{who} stands at the end")
+            want((who, what) == ("teardown", None), f"{who} is at the end")
         closes = self.closes()
         want(not self.table.at, "files are left")
         return given + (["teardown", *closes] if closes else [])
@@ -184,4 +184,4 @@ def complaint_of(script, text, lines):
     except (Illegal, ValueError, IndexError) as wrong:
         return str(wrong)
     wanted = [re.sub(r"^(\d+\.\d+\.\d+ \S+) .*$", r"\1", it) for it in text.split("\n")[:-1]]
-    return None if given == wanted else f"the history gives {given}, and not {wanted}"
+    return None if given == wanted else f"the history results in {given}, and not {wanted}"

@@ -44,7 +44,7 @@ def kinds(fixcheck):
     yield "lines of histories", LINES, lambda: histories(fixcheck)
     yield "exchanged steps of orders", PAIRS, lambda: orders(fixcheck)
     yield "orders of another text", OTHER_ORDERS, other_orders
-    yield "lines that are no order", len(NO_ORDERS), no_orders
+    yield "lines that aren't an order", len(NO_ORDERS), no_orders
     yield "outcomes of a refused growth", OUTCOMES, outcomes
     yield "growths between marks", GROWTHS, growths
     yield "verdicts", VERDICTS, verdicts
