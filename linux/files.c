@@ -12,7 +12,7 @@
 #include <sys/stat.h>
 #include <unistd.h>
 
-/* A close that doesn't come within ten seconds is an error. */
+/* A close that takes more than ten seconds is an error. */
 enum { TURNS = 50000, TURN_MICROSECONDS = 200 };
 
 struct installation {
@@ -20,17 +20,17 @@ struct installation {
 	int entry;
 	unsigned long long tag;	/* 0 for none */
 	int descriptor;		/* ours, or -1 */
-	int is_installed;	/* an open counts as one: whether the kernel keeps the file is what the events say */
+	int is_installed;	/* also after an open: the events say whether the kernel keeps the file */
 	int was_opened, was_closed;
 	int is_in_table;
-	int is_finished;	/* nothing more can happen to it, and its line was written */
+	int is_finished;	/* it is closed, and its line is written */
 };
 
 static char folder[PATH_MAX];
 static int catalogue = -1, links = -1, events = -1;
 static struct installation *installations;
 static size_t count, room;
-static size_t first;		/* those before it are finished */
+static size_t first;		/* all before it are finished */
 
 static void name_of_entry(unsigned entry, char name[NAME_BYTES])
 {
@@ -187,9 +187,9 @@ static FILE *ring_information(int ring)
 }
 
 /*
- * Notes which files are in the table, as the kernel lists it in /proc/self/fdinfo, and says whether it did. The list
- * stands between the lines `UserFiles:` and `UserBufs:`, which aren't there while the kernel is at work on the ring. Its
- * own lines are a slot and a path.
+ * Notes which files are in the table, by the kernel's list in /proc/self/fdinfo. Returns whether there is such a list: it is
+ * between the lines `UserFiles:` and `UserBufs:`, which are missing while the kernel works on the ring. Each of its lines
+ * has a slot and a path.
  */
 static int read_table(int ring)
 {
@@ -283,7 +283,7 @@ unsigned tags_to_come(void)
 	return tags;
 }
 
-/* Only a registration gives tags, so the order of installations is that of their marks. */
+/* Writes the tags in the order of installations. That is the order of marks, since only registrations give tags. */
 static void write_tags(void)
 {
 	for (size_t at = first; at < count; at++)

@@ -2,37 +2,36 @@
  * Plays a script of docs/SCRIPT.md on the io_uring of the running kernel, and writes the text that fixfiles writes.
  *
  * Each line is the real call or request with its real flags: `sparse`, `register`, `unregister`, `range` and `regupdate`
- * are those of io_uring_register(2), a request is one of io_uring_enter(2), and the requests of a `submit` go to the
- * kernel in one call. The ring is set up with IORING_SETUP_SUBMIT_ALL, so that a request which can't be submitted
- * doesn't end the submission. Nothing is counted or refused here: each answer is the kernel's. Submissions and
- * registrations are numbered as the kernel accepts them.
+ * are calls of io_uring_register(2), and all requests of a `submit` go to the kernel by one io_uring_enter(2). The ring is
+ * set up with IORING_SETUP_SUBMIT_ALL, so that a request that can't be submitted doesn't end the submission. Nothing is
+ * counted or refused here: the text has the kernel's answers. Submissions and registrations are numbered as the kernel
+ * accepts them.
  *
- * How a close is seen. A catalogue entry is a file in a fresh folder. For each installation that a script asks for (an
- * open, or a file in a list) a hard link of its own is made, and the kernel gets that link. The links' folder is watched
- * by inotify(7), so an event IN_CLOSE says that the kernel has dropped the last use of the open file of that one
- * installation. It doesn't come from the program's own account of the slots. The list in /proc/self/fdinfo says which
- * files are in the table; after each command the program waits until every file that was opened is in that list or was
- * closed, and only then writes the closed lines.
+ * How closes are observed: a catalogue entry is a file in a new folder. For each installation that a script asks for (an
+ * open, or a file in a list) a hard link is made, and the kernel gets that link. inotify(7) watches the links' folder, so
+ * an event IN_CLOSE says that the kernel has released the last use of the open file of that installation. The program
+ * keeps no account of the slots. The kernel's list in /proc/self/fdinfo says which files are in the table. After each
+ * command the program waits until every opened file is in that list or closed, and then writes the closed lines.
  *
- * A file of a list is first a descriptor of this process, as io_uring_register(2) has it. It is closed here as soon as
- * the command or the submission has ended. It has a closed line only if the kernel's result says that it took it.
+ * A file of a list is first a descriptor of this process, as io_uring_register(2) requires. It is closed here when the
+ * command or the submission has ended. It has a closed line only if the kernel's result says that the kernel took it.
  *
- * How a tag is seen. A list with tags goes to the kernel by the calls that take them, and the kernel posts a completion for
- * a tag. After each command, once the closes are there, the program waits for a completion for each file with a tag that
- * was closed, at most a second, and writes the tags that came: those of the closed files in order of mark, and then any
- * others, which would differ from every text of the model. So a tag and the close that inotify saw are two witnesses.
- * At the end the table is unregistered before the ring is closed, since a closed ring posts no tag. The user data of a
- * submission's requests are chosen so that none of the script's tags is among them.
+ * How tags are observed: a list with tags goes to the kernel by the calls that take tags, and the kernel posts a completion
+ * for a tag. After each command, once the closes are there, the program waits at most a second for a completion for each
+ * closed file with a tag. It writes the tags in the order of the closed files' marks, and then any other tags, which no
+ * text of the model has. So a tag and the close that inotify saw are two witnesses. At the end the table is unregistered
+ * before the ring is closed, since a closed ring can't post a tag. The user data of requests is chosen so that no tag of
+ * the script is among it.
  *
- * With the argument --async each request is started by a thread of the kernel (IOSQE_ASYNC), so that the chains of a submission
- * run concurrently. Without it a kernel does the first requests of all chains in their order.
+ * With the argument --async a thread of the kernel starts each request (IOSQE_ASYNC), so that the chains of a submission
+ * run concurrently. Without it a kernel runs the first requests of all chains in their order.
  *
- * With the argument --mistake the first tag that comes is taken for the next number: then another text is written, or the
- * tags don't come from the completions.
+ * With the argument --mistake the first tag is taken for the next number. The text must differ then, or the tags are not
+ * read from the completions.
  *
- * What can't be seen: when within a command a file was closed, in which order, and by whom; who holds it meanwhile; that
- * an open was started and ended before it had opened its file. A file that is opened and closed without having been in
- * the table has a closed line like any other, since the kernel did close it.
+ * What can't be observed: when within a command a file was closed, in which order, and by whom; who holds it meanwhile; and
+ * whether an open was started that failed before it opened its file. A file that is opened and closed without having been
+ * in the table has a closed line like any other, since the kernel did close it.
  */
 #include <errno.h>
 #include <signal.h>
@@ -52,7 +51,7 @@ struct play {
 	struct script script;
 	const struct command **requests;	/* since the last submit */
 	unsigned request_count;
-	unsigned submissions, registrations;	/* that were accepted */
+	unsigned submissions, registrations;	/* the accepted ones */
 };
 
 static unsigned largest_submission(const struct script *script)
@@ -66,7 +65,7 @@ static unsigned largest_submission(const struct script *script)
 	return largest;
 }
 
-/* The kernel compares the size of a table with the limit of open files, so that is raised as far as it goes. */
+/* Raises the limit of open files as far as it goes, since the kernel compares the size of a table with it. */
 static void raise_limit(void)
 {
 	struct rlimit limit;
@@ -82,7 +81,7 @@ static void open_ring(struct play *play)
 	unsigned entries = largest_submission(&play->script);
 	if (entries > MOST_REQUESTS)
 		die_of("a ring has at most 32,768 requests");
-	/* the tags of a whole table have room too */
+	/* room for the tags of a whole table */
 	if (entries < LEAST_ROOM)
 		entries = LEAST_ROOM;
 	errno = -io_uring_queue_init(entries, &play->ring, IORING_SETUP_SUBMIT_ALL);
@@ -109,14 +108,14 @@ static int play_call(struct play *play, const struct command *command, const int
 	return io_uring_register_files_update(&play->ring, command->numbers[0], list, command->length);
 }
 
-/* The kernel is given one length for a list and its tags. */
+/* Ends a play whose list and tags have different lengths: the kernel's call has one length for both. */
 static void end_unsaid(void)
 {
-	fprintf(stderr, "play-on-kernel: more tags than numbers, or fewer, can't be said to a kernel\n");
+	fprintf(stderr, "play-on-kernel: the tags and the list have different lengths, and the kernel's call has one\n");
 	exit(UNSAID);
 }
 
-/* `register` and `regupdate`. */
+/* Plays `register` or `regupdate`. */
 static void play_list(struct play *play, const struct command *command, const char *word)
 {
 	if (command->tags && command->tag_count != command->length)
@@ -186,14 +185,14 @@ int main(int count, char **words)
 		fprintf(stderr, "play-on-kernel: line %ld: not in the language\n", play.script.bad_line);
 		return BAD_SCRIPT;
 	}
-	/* so that the folder is removed where nobody reads the text any more */
+	/* so that the folder is removed even if nobody reads the text any more */
 	signal(SIGPIPE, SIG_IGN);
 	raise_limit();
 	open_ring(&play);
 	play_script(&play);
 	if (is_any_open())
 		puts("teardown");
-	/* a ring that is gone can't tell a tag */
+	/* a closed ring can't post a tag */
 	io_uring_unregister_files(&play.ring);
 	settle(play.ring.ring_fd);
 	wait_for_tags(&play.ring, tags_to_come());

@@ -1,15 +1,15 @@
-"""Where Linux answers otherwise: the model with the differences that docs/LINUX.md lists, each under its name."""
+"""Changes the model by the differences of Linux that docs/LINUX.md lists, each under its name."""
 import resource
 
 from model import EAGAIN, EBADF, EINVAL, SLOTS, Player, has_bad_tags, registered, submitted
 
-# what a kernel allows, beside the hard limit of open files
+# the kernel's limit, beside the hard limit of open files
 SLOTS_OF_LINUX = 1 << 20
 
 
 class Linux(Player):
-    """The model with those differences that are in `shown`. `met` has the ones that a play met; each of them shows in
-    the text, whatever the order of chains. `files_allowed` is the hard limit of open files where the kernel runs."""
+    """The model with the differences in `shown`. `met` has those that a play met; each is visible in the text, whatever the order of
+    chains. `files_allowed` is the hard limit of open files where the kernel runs."""
 
     files_allowed = resource.getrlimit(resource.RLIMIT_NOFILE)[1]
 
@@ -46,7 +46,7 @@ class Linux(Player):
         return res
 
     def first_bad(self, listed, tags, least):
-        """The place of the first entry that is bad or has a bad tag."""
+        """Returns the place of the first entry that is bad or has a bad tag."""
         return next(nth for nth, it in enumerate(listed) if not least <= it < len(self.names) or it < 0 and tags and tags[nth])
 
     def register(self, listed, tags=None):
@@ -63,7 +63,7 @@ class Linux(Player):
         return self.refusal_of_list(off, listed, tags) == -EBADF and self.meets("update_up_to_a_bad_entry")
 
     def up_to_a_bad_entry(self, off, listed, mark_of, tags=None):
-        """The slot of a bad entry is emptied too, and that of a bad tag isn't."""
+        """Applies a list up to a bad entry, whose slot is emptied, or up to a bad tag, whose slot stays as it is."""
         at = self.first_bad(listed, tags, -2)
         self.work_off(off, listed[:at], mark_of, tags)
         if listed[at] in (-1, -2):

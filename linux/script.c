@@ -1,4 +1,4 @@
-/* Reads a script by the rules of docs/SCRIPT.md. It says which line is refused, and not why. */
+/* Reads a script by the rules of docs/SCRIPT.md. It says which line is invalid; scripts/faults.py explains why. */
 #include "script.h"
 
 #include <ctype.h>
@@ -37,7 +37,7 @@ int entry_of(const struct script *script, const char *name)
 	return -1;
 }
 
-/* 0 to 2,147,483,647 without a leading zero. */
+/* Reads a number from 0 to 2,147,483,647 without a leading zero. */
 static int number_of(const char *word, unsigned *number)
 {
 	size_t digits = strspn(word, "0123456789");
@@ -68,7 +68,7 @@ static int list_of(const char *word, struct command *command)
 	}
 }
 
-/* 0 to 18,446,744,073,709,551,615 without a leading zero. */
+/* Reads a number from 0 to 18,446,744,073,709,551,615 without a leading zero. */
 static int tag_of(const char *word, unsigned long long *tag)
 {
 	size_t digits = strspn(word, "0123456789");
@@ -133,8 +133,8 @@ static int take_file(struct script *script, char **words, int count)
 }
 
 /*
- * The forms of lines: a letter says what a word is. n is a number, l a list, t tags, f a name, a the word `at`, y the word
- * `any`. A request may have the word `link` or `hardlink` more.
+ * The forms of lines, with a letter for each word: n is a number, l a list, t tags, f a name, a the word `at`, y the word
+ * `any`. A request may also end in `link` or `hardlink`.
  */
 static const struct form {
 	const char *word, *kinds;
@@ -214,7 +214,7 @@ static int take_command(struct script *script, char **words, int count, long lin
 	return 0;
 }
 
-/* The line's words, which are parted by single spaces and may be empty. */
+/* Splits a line at single spaces into words, which may be empty. Returns their number. */
 static int words_of(char *line, char **words)
 {
 	int count = 0;

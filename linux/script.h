@@ -8,18 +8,18 @@ enum { MOST_FILES = 256, MOST_BYTES = 4096, MOST_NUMBERS = 3, MOST_REQUESTS = 32
 
 enum kind { SPARSE, REGISTER, UNREGISTER, RANGE, REGUPDATE, SUBMIT, OPEN, OPEN_ANY, READ, CLOSE, UPDATE };
 
-/* What links the next request to one. */
+/* The link from a request to the next one. */
 enum link { NO_LINK, SOFT_LINK, HARD_LINK };
 
-/* A command or a request: a line but for `file`. */
+/* A command or a request: any line but `file`. */
 struct command {
 	enum kind kind;
 	enum link link;
 	const char *name;		/* of an open */
-	unsigned numbers[MOST_NUMBERS];	/* the line's numbers, in its order */
+	unsigned numbers[MOST_NUMBERS];	/* the line's numbers, in order */
 	int *list;			/* of a registration or an update */
 	unsigned length;		/* of that list */
-	unsigned long long *tags;	/* of a registration or an update that has some */
+	unsigned long long *tags;	/* of a registration or an update with tags */
 	unsigned tag_count;
 };
 
@@ -35,21 +35,21 @@ struct script {
 	struct command *commands;
 	size_t command_count;
 	size_t room;
-	long bad_line;			/* where the script is refused; 0 for its length */
+	long bad_line;			/* the invalid line; 0 if the script is too long */
 	long first_request;		/* the line of the first request since the last submit, or 0 */
-	unsigned long long first_data;	/* as many numbers from here on as a submission may have requests are no tags */
+	unsigned long long first_data;	/* none of the MOST_REQUESTS numbers from here on is a tag of the script */
 };
 
-/* Whether standard input is a script; where it isn't, `bad_line` says which line is to blame. */
+/* Reads standard input. Returns 0 if it is not a script; then `bad_line` is the first invalid line. */
 int read_script(struct script *script);
 
-/* Which entry has that name, or -1. */
+/* Returns the entry with that name, or -1. */
 int entry_of(const struct script *script, const char *name);
 
-/* Memory that is there, or the end of the program. */
+/* Returns memory of zeros, or ends the program if there is none. */
 void *memory_of(size_t size);
 
-/* Says what happened, and ends the program with status 4. `die` gives errno as the reason. */
+/* Print what happened and end the program with status 4. `die` adds the reason from errno. */
 void die(const char *what) __attribute__((noreturn));
 void die_of(const char *what) __attribute__((noreturn));
 

@@ -9,7 +9,7 @@
 #include "files.h"
 #include "tags.h"
 
-/* A request, where it stands, and what it needs until it has completed. */
+/* A request, its place, and what it needs until it has completed. */
 struct member {
 	const struct command *request;
 	unsigned chain, place;
@@ -20,8 +20,8 @@ struct member {
 };
 
 /*
- * -1 and -2 mean to the kernel what they mean in a script, and an entry below them is no descriptor there either. A file
- * of the catalogue is opened. For a number past the catalogue stands one that is no descriptor of this process.
+ * -1 and -2 mean the same to the kernel as in a script, and entries below them are invalid in both. A file of the catalogue
+ * is opened. A number past the catalogue is replaced by one that is not a descriptor of this process.
  */
 struct descriptors open_list(const struct script *script, const struct command *command, struct mark mark)
 {
@@ -108,7 +108,7 @@ static void submit(struct io_uring *ring, unsigned count)
 		die_of("the kernel took a part of the submission");
 }
 
-/* A completion whose data is none of the requests' tells a tag. */
+/* Waits for the completions of all requests. A completion with other user data has a tag. */
 static void wait_for_all(struct io_uring *ring, struct member *members, unsigned count, unsigned long long first_data)
 {
 	struct io_uring_cqe *cqe;
