@@ -13,7 +13,7 @@ given := $(foreach it,$(.VARIABLES),$(if $(filter command,$(origin $(it))),$(it)
 ifneq ($(filter-out $(VARIABLES),$(given)),)
 $(error There is no variable $(filter-out $(VARIABLES),$(given)). There are $(VARIABLES), as in: make run SCRIPT=path)
 endif
-# a path is no goal: as one it would be there already, and nothing would be said
+# A path is not a goal: make would find it up to date, and say nothing.
 paths := $(strip $(foreach it,$(MAKECMDGOALS),$(if $(findstring /,$(it))$(filter %.script %.text,$(it)),$(it))))
 ifneq ($(paths),)
 $(error A path is given by a variable. Type: make $(firstword $(filter-out $(paths),$(MAKECMDGOALS)) run) SCRIPT=$(firstword $(paths)))

@@ -11,8 +11,8 @@ from repository import ROOT, read, write
 
 PAGES = {"docs/ARCHIVE.md": "README.md"} | {
     it: it for it in (*(f"docs/{name}.md" for name in ("CHECKING", "LIMITS", "LINUX", "LITMUS", "MODEL", "SCRIPT")), "examples/README.md")}
-# the folders that the archive has
-FOLDERS = ("bin", "completions", "docs/pictures", "examples", "linux", "man")
+# what the archive has beside pages and scripts
+FOLDERS = ("LICENSE", "completions", "docs/pictures", "examples", "linux", "man")
 # what is typed in the archive for a command of make, with the variables of the command
 COMMANDS = {
     "run": lambda given: f"bin/fixfiles < {given['SCRIPT']}" if given else "bin/fixfiles",
@@ -51,14 +51,8 @@ def with_commands(text):
     return re.sub(rf"`({MAKE.pattern})`", replaced, text)
 
 
-def is_kept(target, page, text):
-    """Checks whether the archive has what a link of a page leads to."""
-    path, _, anchor = target.partition("#")
-    if re.match(r"\w+:", target):
-        return True
-    if not path:
-        return anchor in anchors(text)
-    path = os.path.normpath(os.path.join(os.path.dirname(page), path))
+def is_kept(path, anchor):
+    """Checks whether the archive has what a link leads to, by the path from the top."""
     if path in PAGES.values() and path != "README.md":
         return not anchor or anchor in anchors(read(path))
     return os.path.exists(os.path.join(ROOT, path)) and (path in archive_scripts() or path.startswith(FOLDERS))
@@ -73,17 +67,22 @@ def anchors(text):
     return {anchor_of(re.sub(r"[`*]", "", it).strip()) for it in re.findall(r"^#+ (.*)$", text, re.MULTILINE)}
 
 
-def with_links(text, page):
-    """Turns each link to a file that the archive doesn't have into its words."""
+def with_links(text, source, page):
+    """Turns each link of a page to a file that the archive doesn't have into its words. The others lead from the page's new place."""
     def replaced(found):
-        return found[0] if is_kept(found[2], page, text) else found[1]
+        words, target = found.groups()
+        path, hash_, anchor = target.partition("#")
+        if re.match(r"\w+:", target) or not path and anchor in anchors(text):
+            return found[0]
+        path = os.path.normpath(os.path.join(os.path.dirname(source), path))
+        return f"[{words}]({os.path.relpath(path, os.path.dirname(page) or '.')}{hash_}{anchor})" if is_kept(path, anchor) else words
 
     return re.sub(r"\[([^][]*)\]\(([^)\s]+)\)", replaced, text)
 
 
 def main(folder):
     for source, page in PAGES.items():
-        write(os.path.join(os.path.abspath(folder), page), with_links(with_commands(read(source)), page))
+        write(os.path.join(os.path.abspath(folder), page), with_links(with_commands(read(source)), source, page))
     return 0
 
 
