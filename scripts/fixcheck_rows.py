@@ -3,11 +3,11 @@ and lines are derived by hand from docs/CHECKING.md."""
 from limits import BAD_LIMITS, LIMITS, limits, lines
 from sweeps import KINDS, sweeps
 
-NOT_LEGAL, UNDECIDED = 1, 6
+LEGAL, NOT_LEGAL, UNDECIDED = 0, 1, 6
 # of limits two are bad scripts; of sweeps two kinds are
 LEGAL_SIZES = LIMITS - BAD_LIMITS + sum(count for kind, count in KINDS.items() if kind not in ("fault_at", "unsubmitted_from"))
 # how many rows of parts there are
-PARTS = 4
+PARTS = 6
 # so many states are too few for the part of two slots: an order of its ten accesses goes through eleven
 FEW_STATES = 10
 # and so many for five slots where so many opens at the first one can be done in any order
@@ -54,6 +54,7 @@ def parts():
     opened = ["closed 1.6.1.0 a", "closed 1.7.1.0 b"]
     yield "a later part", *case(crossed, told, both, rest, opened), NOT_LEGAL, "lines 13 and 15 of the text: no order of the requests gives all of these"
     yield "the fifth slot of a part", *fifth_slot(), NOT_LEGAL, "lines 6 and 7 of the text: no order of the requests gives all of these, which tell of slot 4"
+    yield from range_without_slots()
 
 
 def fifth_slot():
@@ -65,3 +66,18 @@ def fifth_slot():
     left = [*(f"closed r1.{slot} c" for slot in (1, 2, 3)), "closed 1.2.1.0 b", f"closed 1.{OPENS + 2}.1.0 a"]
     script = lines("file a 61", "file b 62", "file c 63", "register 2,2,2,2,2", *reads, "open b at 4", *opens, "submit")
     return script.encode(), lines("register 0", *answers, *closed, "teardown", *left), FIVE_STATES
+
+
+def range_without_slots():
+    """Chains of two slots, whose open at any slot finds an allocation range of no slots full: the range begins behind the last
+    slot, and the chain is of one part all the same. In the second text each of two chains reads what the other one puts later."""
+    head = ["file a 61", "file b 62", "register 0,0", "range 2 0", "read 1 0 1 hardlink", "open a any hardlink", "open b at 0"]
+    text = ["register 0", "range 0", "1.1.1 1 61", "1.1.2 -23", "1.1.3 0", "closed r1.0 a", "teardown", "closed r1.1 a", "closed 1.1.3.0 b"]
+    yield "a range without slots", lines(*head, "submit").encode(), lines(*text), LEGAL, "legal"
+    others = ["read 0 0 1 hardlink", "open a any hardlink", "open b at 1"]
+    text = [
+        "register 0", "range 0", "1.1.1 1 62", "1.1.2 -23", "1.1.3 0", "1.2.1 1 62", "1.2.2 -23", "1.2.3 0", "closed r1.0 a", "closed r1.1 a",
+        "teardown", "closed 1.1.3.0 b", "closed 1.2.3.0 b",
+    ]
+    said = "lines 3 and 6 of the text: no order of the requests gives all of these"
+    yield "a range without slots, crossed", lines(*head, *others, "submit").encode(), lines(*text), NOT_LEGAL, said

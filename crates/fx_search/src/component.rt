@@ -29,16 +29,24 @@ fn join_range(labels: &mut [usize], range: (u32, u32)) {
     }
 }
 
+// The slot by which a claim is joined with others of its chain, if it is of a slot: a range without slots has none.
+fn slot_of(range: (u32, u32), claim: &Claim) -> Option<usize> {
+    match claim {
+        Claim::At(slot, _, _) => Some(*slot as usize),
+        Claim::Full if range.1 == 0 => None,
+        Claim::Full => Some(range.0 as usize),
+    }
+}
+
 // Joins the slots of a chain.
 fn join_chain(labels: &mut [usize], range: (u32, u32), claims: &[Claim]) {
     let mut last: Option<usize> = None;
     for claim in claims {
-        let slot = match claim {
-            Claim::At(slot, _, _) => *slot as usize,
-            Claim::Full => {
-                join_range(labels, range);
-                range.0 as usize
-            }
+        if matches!(claim, Claim::Full) {
+            join_range(labels, range);
+        }
+        let Some(slot) = slot_of(range, claim) else {
+            continue;
         };
         if let Some(other) = last {
             join(labels, slot, other);
