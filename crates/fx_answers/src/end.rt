@@ -1,4 +1,4 @@
-//! Which rings a submission may leave: all of them, each by an order.
+//! The rings that a submission can leave, each with an order.
 ghost use Rattle.std.specs.Prelude.{◌≡◌, ◌+◌, ◌<◌, ◌≤◌, ◌^◌, ℕ, All, IfOk, IfSome, IsTrue, length};
 ghost use Rattle.fx_base.specs.Catalogue.{IsCatalogue};
 ghost use Rattle.fx_chain.specs.Accepted.{IsAccepted};
@@ -22,21 +22,21 @@ use fx_order::{ChainAccess, Slots};
 use fx_search::Limits;
 use std::alloc::Global;
 
-/// One ring that a submission may leave: what then stands at the slots, and an order that leads there.
+/// A ring that a submission can leave: its slots, and an order that leads there.
 #[derive(Debug, Drop)]
 pub struct End {
-    /// The slots.
+    /// The slots after the submission.
     pub slots: Slots,
     /// The order.
     pub order: Vec<ChainAccess>,
 }
 
-/// Which rings a submission may leave.
+/// The rings that a submission can leave.
 #[derive(Debug, Drop)]
 pub struct Ends {
     /// The ends.
     pub ends: Vec<End>,
-    /// Whether these are all of them.
+    /// Whether these were shown to be all.
     pub are_all: bool,
 }
 
@@ -134,13 +134,12 @@ fn are_all_ends(claimed: &Claimed<'_>, slots: &Slots, ends: &[End]) -> Result<bo
     are_all_states(claimed, slots)
 }
 
-/// Which rings a submission may leave, at a ring with this catalogue and these slots and behind so many accepted submissions,
-/// where no request lacks memory: each with an order of accesses that leads to it. Where `are_all` is true it leaves no
-/// other; else more states would have to be met than `limits` allows. The caller has seen that no request has a fault
-/// ([`fx_chain::check`]).
+/// Returns the rings that a submission can leave if no allocation fails, starting from `slots` after `submissions` accepted
+/// submissions, each with an order of accesses that leads to it. Where `are_all` is true there is no other; else that was not
+/// shown within `limits`. The caller has checked that no request has a fault ([`fx_chain::check`]).
 ///
 /// # Errors
-/// `NoMemory` where there is no memory for the states, or for an end and its order.
+/// `NoMemory` if an allocation fails.
 pub fn may_leave(
     alloc: Global,
     catalogue: &Catalogue,

@@ -1,11 +1,11 @@
-//! What a list of states has that were met with what was told on the way to them.
+//! A law of lists of states that were met with what was reported on the way.
 
 ghost use Rattle.fx_answers.specs.Reports.{EachReportIsListed};
 
-/// Where a list of states, each with what was answered and which files were removed on the way to it, has the first one of a
-/// submission and each one that an access leads to, whatever report comes of the submission, each request finding memory, is
-/// told by one of the list where no chain has an access left: the answers exactly, the closed files but for their order, and
-/// the ring that is left.
+/// States that a closed list of states has each report of a submission. Such a list has the first state of the submission and each
+/// state that an access leads to, with the answers and the removed files on the way. If no allocation fails, each report of the
+/// submission is that of a listed state where no chain has an access left: the same answers, the same closed files in any order,
+/// the same ring.
 pub fn each_report_is_listed()
     ensures { EachReportIsListed }
 {}

@@ -1,5 +1,5 @@
-//! What may come of a submission where memory is found: what a request of it may answer, and which rings it may leave. Each
-//! comes with an order of accesses that leads to it, and where the search reached its end nothing else may come.
+//! The results that a submission can have if no allocation fails: the answers of a request, the rings after it, its reports. Each
+//! has an order of accesses that leads to it. Where `are_all` is true, a list is proved to be whole.
 #![tactic(auto)]
 
 mod chain;

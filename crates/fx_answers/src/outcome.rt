@@ -1,4 +1,4 @@
-//! What a request of a submission may answer: all of it, each by an order.
+//! The answers that a request of a submission can give, each with an order.
 ghost use Rattle.std.specs.Prelude.{◌≡◌, ◌+◌, ◌<◌, ◌≤◌, ◌^◌, ℕ};
 ghost use Rattle.std.specs.Prelude.{All, Contains, IfOk, IfSome, IsTrue, length};
 ghost use Rattle.fx_base.specs.Catalogue.{IsCatalogue};
@@ -23,34 +23,34 @@ use fx_order::{ChainAccess, Slots};
 use fx_search::Limits;
 use std::alloc::Global;
 
-/// What a request may answer, an order of the submission's accesses that comes to it, and the slots that this order leaves.
+/// An answer of a request, an order of the submission's accesses that gives it, and the slots that this order leaves.
 #[derive(Debug, Drop)]
 pub struct Answer {
     /// The answer.
     pub completion: Completion,
     /// The order.
     pub order: Vec<ChainAccess>,
-    /// The slots behind the submission, where its accesses are made in this order.
+    /// The slots after the submission, if its accesses are made in this order.
     pub slots: Slots,
 }
 
-/// What a request may answer.
+/// The answers that a request can give.
 #[derive(Debug, Drop)]
 pub struct Answers {
     /// The answers.
     pub answers: Vec<Answer>,
-    /// Whether these are all of them.
+    /// Whether these were shown to be all.
     pub are_all: bool,
 }
 
-/// What is asked of a submission.
+/// A question: which answers a request of a submission can give.
 #[derive(Drop)]
 pub struct Question<'a> {
     /// The submission's requests.
     pub requests: &'a [Request],
-    /// The place of the request that is asked for.
+    /// The place of the request.
     pub place: Place,
-    /// How far the states are looked for, each of them the files at the slots and how far each chain has come.
+    /// The limits of the search. A state is the files at the slots and the progress of each chain.
     pub limits: Limits,
 }
 
@@ -115,13 +115,13 @@ fn all_confirmed(
     Ok(answers)
 }
 
-/// What the request at a place of a submission may answer, at a ring with this catalogue and these slots and behind so many
-/// accepted submissions, where no request lacks memory: each answer with an order of accesses that comes to it. Where
-/// `are_all` is true it answers nothing else; else more states would have to be met than the question's limits allow. A place
-/// where no request stands has no answer. The caller has seen that no request has a fault ([`fx_chain::check`]).
+/// Returns the answers that the request at the question's place can give if no allocation fails, starting from `slots` after
+/// `submissions` accepted submissions, each with an order of accesses that gives it. Where `are_all` is true there is no other;
+/// else that was not shown within the question's limits. A place without a request has no answer. The caller has checked that no
+/// request has a fault ([`fx_chain::check`]).
 ///
 /// # Errors
-/// `NoMemory` where there is no memory for the states, or for an answer and its order.
+/// `NoMemory` if an allocation fails.
 pub fn may_answer(
     alloc: Global,
     catalogue: &Catalogue,

@@ -1,4 +1,4 @@
-//! Which reports a submission may come to: all of them, each by an order.
+//! The reports that a submission can produce, each with an order.
 ghost use Rattle.std.specs.Prelude.{◌≡◌, ◌+◌, ◌<◌, ◌≤◌, ◌^◌, ℕ};
 ghost use Rattle.std.specs.Prelude.{All, IfOk, IfSome, IsTrue, length};
 ghost use Rattle.fx_base.specs.Catalogue.{IsCatalogue};
@@ -27,23 +27,23 @@ use fx_ring::Report;
 use fx_search::Limits;
 use std::alloc::Global;
 
-/// A report that a submission may come to, an order of its accesses that comes to it, and the slots that this order leaves.
+/// A report that a submission can produce, an order of its accesses that gives it, and the slots that this order leaves.
 #[derive(Debug, Drop)]
 pub struct PossibleReport {
     /// The report.
     pub report: Report,
     /// The order.
     pub order: Vec<ChainAccess>,
-    /// The slots behind the submission, where its accesses are made in this order.
+    /// The slots after the submission, if its accesses are made in this order.
     pub slots: Slots,
 }
 
-/// Which reports a submission may come to.
+/// The reports that a submission can produce.
 #[derive(Debug, Drop)]
 pub struct PossibleReports {
     /// The reports.
     pub reports: Vec<PossibleReport>,
-    /// Whether these are all of them.
+    /// Whether these were shown to be all.
     pub are_all: bool,
 }
 
@@ -213,13 +213,12 @@ fn are_all_reports(
     are_all_states(claimed, slots)
 }
 
-/// Which reports a submission may come to, at a ring with this catalogue and these slots and behind so many accepted
-/// submissions, where no request lacks memory: each with an order of accesses that comes to it. Where `are_all` is true it
-/// comes to no other; else more states would have to be met than `limits` allows. The caller has seen that no request has a
-/// fault ([`fx_chain::check`]).
+/// Returns the reports that a submission can produce if no allocation fails, starting from `slots` after `submissions` accepted
+/// submissions, each with an order of accesses that gives it. Where `are_all` is true there is no other; else that was not shown
+/// within `limits`. The caller has checked that no request has a fault ([`fx_chain::check`]).
 ///
 /// # Errors
-/// `NoMemory` where there is no memory for the states, or for a report and its order.
+/// `NoMemory` if an allocation fails.
 pub fn may_report(
     alloc: Global,
     catalogue: &Catalogue,

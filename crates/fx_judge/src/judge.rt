@@ -1,4 +1,4 @@
-//! The verdict on a submission.
+//! The verdict on what was reported of a submission.
 ghost use Rattle.std.specs.Prelude.{◌≡◌, ◌+◌, ◌<◌, ◌≤◌, ◌^◌, IfOk, IsTrue, OnErr, length, false};
 ghost use Rattle.fx_plain.specs.declared.table.TheConstants.{MOST_SLOTS};
 ghost use Rattle.fx_chain.specs.Accepted.{IsAccepted};
@@ -95,15 +95,14 @@ fn judge_told(case: &Case<'_>, ring: &RingSlots, limits: Limits) -> Result<Outco
     judge_table(case.alloc, &table, limits)
 }
 
-/// Whether what was told of a submission's requests comes of an order of them, done one at a time, at a ring with this
-/// catalogue. Where it does, the ring is afterwards the one behind the submission, and else it stays. For each
-/// part of the submission that has slots of its own no more states of the table are looked at, or kept, than the limits say;
-/// where they don't suffice, the verdict is `Undecided` by `TooManyStates` or `TooMuchMemory`. The caller has seen that no
-/// request has a fault ([`fx_chain::check`]).
+/// Judges whether `told` is the result of some order of the requests, done one at a time, at `ring` with `catalogue`. If the
+/// verdict is `Legal`, `ring` becomes the ring after the submission; else it stays as it was. `limits` apply to each part of the
+/// submission that has slots of its own. The verdict is `Undecided` if it wasn't shown within them: by `TooManyStates` or
+/// `TooMuchMemory` if a search reached a limit, by `NotShown` if the result of a search was not confirmed. The caller has checked
+/// that no request has a fault ([`fx_chain::check`]).
 ///
 /// # Errors
-/// `NoMemory` where there is no memory for lists as long as the submission and for as many states as are looked at. The ring
-/// stays.
+/// `NoMemory` if an allocation fails. The ring stays as it was.
 pub fn judge_submission(
     alloc: Global,
     catalogue: &Catalogue,

@@ -1,5 +1,5 @@
-//! Whether what was told of a submission, as by a kernel, comes of an order of its requests: a judge that is right in both
-//! directions.
+//! A judge of what was reported of a submission, for instance by a kernel: whether some order of the requests gives it. Both
+//! verdicts are proved.
 #![tactic(auto)]
 
 mod chain;

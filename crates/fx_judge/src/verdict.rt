@@ -2,28 +2,28 @@ use fx_chain::Place;
 use fx_order::ChainAccess;
 use fx_search::Doubt;
 
-/// Where it was seen that what was told comes of no order. It is advice for a person, and no contract speaks of it.
+/// The place where no order gives what was reported. It is advice for a person, and no contract says anything of it.
 #[derive(Clone, Copy, Debug, PartialEq, Eq)]
 pub enum Reason {
-    /// The request at this place has no completion, or one that no table lets it have.
+    /// The request at this place has no completion, or one that is impossible with any table.
     Member(Place),
-    /// The completions are of more requests than there are.
+    /// There are more completions than requests.
     TooManyCompletions,
-    /// The closes aren't in order of mark, or have a file that was never in the table.
+    /// The closes aren't in order of mark, or contain a file that was never in the table.
     Closes,
-    /// What was told of this slot comes of no order of the accesses there.
+    /// No order of the accesses to this slot gives what was reported of it.
     Slot(u32),
-    /// What was told of slots comes of no order of the accesses of chains that have slots in common.
+    /// No order of the accesses of chains that share slots gives what was reported of them.
     Chains,
 }
 
-/// Whether what was told of a submission comes of an order of its requests (this project's own).
+/// A verdict on what was reported of a submission (this project's own).
 #[derive(Debug, Drop)]
 pub enum Verdict {
-    /// It comes of this order of accesses.
+    /// This order of accesses gives it.
     Legal(Vec<ChainAccess>),
-    /// It comes of no order.
+    /// No order gives it.
     NotLegal(Reason),
-    /// It wasn't seen.
+    /// Neither was shown within the limits.
     Undecided(Doubt),
 }

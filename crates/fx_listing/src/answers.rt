@@ -1,4 +1,4 @@
-//! What a request may answer, as it is printed.
+//! The printed list of the answers of a request.
 ghost use Rattle.std.specs.Prelude.{◌≡◌};
 ghost use Rattle.fx_listing.specs.Status.{may_status};
 
@@ -10,14 +10,14 @@ use fx_script::{Command, Script};
 use fx_texts::{Past, RequestAnswers};
 use std::alloc::{AllocError, Global};
 
-/// The status of the program: 0 where all answers are listed, 6 where there may be more.
+/// Returns the exit status of the program: 0 if all answers are listed, 6 if there may be more.
 pub fn status_of_answers(may: &RequestAnswers) -> u8
     ensures { result ≡ may_status may.now }
 {
     if may.are_all { 0 } else { 6 }
 }
 
-/// The place that a word names, as `1.1.2`: a submission, a chain and a member, each from 1.
+/// Parses a place, such as `1.1.2`: a submission, a chain and a member, each from 1. Returns `None` for any other word.
 pub fn place_of(word: &str) -> Option<Place> {
     let mut parts = word.split('.');
     let submission = parts.next()?.parse::<u32>().ok()?;
@@ -181,10 +181,10 @@ fn orders_to(alloc: Global, orders: &[Past], last: usize) -> Result<Vec<usize>, 
     Ok(way)
 }
 
-/// Puts the lines of the orders that lead to one, and of that one, behind others, each behind these signs.
+/// Appends the line of the order `last` after those of the orders that lead to it, each with the prefix `front`.
 ///
 /// # Errors
-/// Where memory is refused.
+/// `NoMemory` if an allocation fails.
 pub fn push_orders(
     alloc: Global,
     told: &mut String,
@@ -202,23 +202,23 @@ pub fn push_orders(
     Ok(())
 }
 
-/// Puts behind others how far the states were looked for.
+/// Appends that the list was not shown to be whole, with the limits.
 ///
 /// # Errors
-/// Where memory is refused.
+/// `AllocError` if an allocation fails.
 pub fn push_limits(told: &mut String, settings: Settings<'_>) -> Result<(), AllocError> {
     let states = settings.states;
     let memory = settings.memory;
     write!(
         told,
-        ": more than {states} states, or than {memory} MiB hold"
+        ": not shown to be all within {states} states and {memory} MiB"
     )
 }
 
-/// The lines of what a request may answer: each answer, and behind it the orders that come to it; and whether these are all.
+/// Returns the lines of the answers, each with the orders that lead to it, and a last line that says whether these are all.
 ///
 /// # Errors
-/// Where memory is refused.
+/// `NoMemory` if an allocation fails.
 pub fn listing(
     alloc: Global,
     script: &Script,

@@ -1,4 +1,4 @@
-//! The answers of a request, or the texts of a script, as they are printed.
+//! The printed lists of the answers of a request and of the texts of a script.
 #![tactic(auto)]
 
 mod answers;

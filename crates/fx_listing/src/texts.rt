@@ -1,4 +1,4 @@
-//! Every text of a script, as it is printed.
+//! The printed list of the texts of a script.
 ghost use Rattle.std.specs.Prelude.{◌≡◌};
 ghost use Rattle.fx_listing.specs.Status.{all_status};
 
@@ -9,7 +9,7 @@ use fx_script::Script;
 use fx_texts::AllTexts;
 use std::alloc::{AllocError, Global};
 
-/// The status of the program: 0 where the texts are all that there are, 6 where there may be more.
+/// Returns the exit status of the program: 0 if all texts were found, 6 if there may be more.
 pub fn status_of_texts(all: &AllTexts) -> u8
     ensures { result ≡ all_status all.now }
 {
@@ -48,11 +48,10 @@ fn push_lines(told: &mut String, text: &str) -> Result<(), AllocError> {
     Ok(())
 }
 
-/// The lines of the texts of a script: how many there are, and of as many as are wanted the number of each, its lines, and
-/// the orders that come to it.
+/// Returns the lines of the list: the number of texts, and of the first `most` texts the number, the lines and the orders of each.
 ///
 /// # Errors
-/// Where memory is refused.
+/// `NoMemory` if an allocation fails.
 pub fn listing_of_texts(
     alloc: Global,
     script: &Script,

@@ -1,4 +1,4 @@
-//! What a request may do next, at the table as it is.
+//! The accesses that a request may make next at a table.
 ghost use Rattle.std.specs.Prelude.{◌≡◌, [], ◌∷◌, IfOk};
 ghost use Rattle.fx_chain.specs.Operation.{Closes, Reads, Updates, asked_of, operation_of};
 ghost use Rattle.fx_chain.specs.Accepted.{IsWithinLimits};
@@ -180,11 +180,11 @@ fn update_choices(
     }
 }
 
-/// What a request may do next, behind so many accesses: each access that it may make then and the table permits, and perhaps
+/// Returns the accesses that a request may make next, after `made` of its accesses: each one that the table permits, and perhaps
 /// others.
 ///
 /// # Errors
-/// `NoMemory` where the memory of the list is refused.
+/// `NoMemory` if an allocation fails.
 pub fn next_accesses(
     alloc: Global,
     catalogue: &Catalogue,

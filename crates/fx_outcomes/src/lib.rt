@@ -1,4 +1,4 @@
-//! Every outcome of a submission: what its requests may do and answer in whatever order their accesses are made.
+//! The outcomes of a submission: the accesses and answers of its requests in any order of the accesses.
 #![tactic(auto)]
 
 mod choice;

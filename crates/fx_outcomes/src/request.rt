@@ -1,4 +1,4 @@
-//! What a request answers that finds memory, and how many accesses it makes.
+//! The answer of a request and the number of its accesses, if no allocation fails.
 ghost use Rattle.std.specs.Prelude.{◌≡◌, ◌<◌, ◌^◌, ℕ, IfOk, Some, length};
 ghost use Rattle.fx_base.specs.declared.open_file.Closed.{Closed as File};
 ghost use Rattle.fx_chain.specs.Accepted.{IsWithinLimits};
@@ -48,7 +48,7 @@ fn update_count(entries: u32, size: u32, off: u32, list: &[i32]) -> usize
     entries_done(list)
 }
 
-/// How many accesses a request makes that finds memory.
+/// Returns the number of accesses that a request makes, if no allocation fails.
 pub fn count(catalogue: &Catalogue, size: u32, request: &Request) -> usize
     ensures { result ≡ count_of catalogue.now size (operation_of request.now.op) }
 {
@@ -139,10 +139,10 @@ fn update_answer(
     Completion::number(alloc, place, list.len() as u32)
 }
 
-/// What a request answers that finds memory, by the last one of its accesses.
+/// Returns the completion of a request in which no allocation fails, by the last one of its accesses.
 ///
 /// # Errors
-/// `NoMemory` where there is no memory for the bytes of a read.
+/// `NoMemory` if the bytes of a read can't be allocated here.
 pub fn answer(
     alloc: Global,
     catalogue: &Catalogue,

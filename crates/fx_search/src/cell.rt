@@ -10,13 +10,13 @@ use crate::claim::{Claim, Leaves, Resident, Wants};
 pub struct Cell {
     /// The slot.
     pub slot: u32,
-    /// Whether it is of the allocation range.
+    /// Whether the slot is in the allocation range.
     pub in_range: bool,
-    /// The file there, or none.
+    /// The file at the slot, or `None`.
     pub file: Option<Resident>,
 }
 
-/// The file at a slot, or none.
+/// Returns the file at `slot`, or `None` where the slot is empty or not among `cells`.
 pub fn cell_at(cells: &[Cell], slot: u32) -> Option<Resident>
     ensures { result ≡ cell_at cells.now slot }
 {
@@ -113,7 +113,7 @@ fn write(cells: &mut [Cell], slot: u32, file: Option<Resident>)
     }
 }
 
-/// Makes the access that a claim tells of.
+/// Applies the access of a claim to `cells`: the file at its slot is replaced, removed or left as it is.
 pub fn apply(cells: &mut [Cell], claim: &Claim)
     ensures { cells.new ≡ cells_after cells.old claim.now }
 {

@@ -1,4 +1,4 @@
-//! What a search hands over, looked through.
+//! The check of a search that found no order: whether its states show that there is none.
 ghost use Rattle.std.specs.Prelude.{◌≡◌, ◌↔◌, IfOk, IfSome, IsTrue, All, Contains, Some};
 ghost use Rattle.fx_search.specs.Machine.{HasNoEnd, IsExplored, IsLookedThrough, LeadsInside, StepLeadsInside, TestLeadsInside, view};
 ghost use Rattle.fx_search.specs.Packed.{all_unpacked, unpacked};
@@ -15,7 +15,7 @@ use crate::strand::Strand;
 use fx_base::NoMemory;
 use std::alloc::Global;
 
-/// The states that a search met, and the steps that it went by. What those tell of a state is taken as a hint.
+/// The states that a search met, and the steps that it took. What the steps say of a state is a hint only, and is checked.
 #[derive(Drop)]
 pub struct Web<'a> {
     /// The steps.
@@ -180,7 +180,10 @@ fn is_closed(alloc: Global, strands: &[Strand], web: &Web<'_>) -> Result<bool, N
     Ok(true)
 }
 
-/// Whether the states that a search met show that no order leads to an end.
+/// Checks whether the states that a search met show that no order leads to an end.
+///
+/// # Errors
+/// `NoMemory` if an allocation fails.
 pub fn shows_no_end(
     alloc: Global,
     strands: &[Strand],

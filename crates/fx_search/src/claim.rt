@@ -1,26 +1,26 @@
-//! What a completion tells of one access.
+//! Claims: what a completion says of one access to the table.
 ghost use Rattle.std.specs.Prelude.{◌≡◌, ◌↔◌, IsTrue, Contains, List};
 ghost use Rattle.fx_search.specs.Residents.{IsResident};
 
 use fx_base::Closed;
 
-/// A file at a slot, and whether the closes have it.
+/// A file at a slot, and whether it is in the list of closes.
 #[derive(Clone, Copy, Debug, PartialEq, Eq)]
 pub struct Resident {
     /// The file.
     pub file: Closed,
-    /// Whether the closes have it.
+    /// Whether the file is in the list of closes.
     pub leaves: bool,
 }
 
-/// What an access must have found at its slot.
+/// The condition on what an access found at its slot.
 #[derive(Clone, Copy, Debug)]
 pub enum Wants {
-    /// A file, or none.
+    /// A file or no file.
     Anything,
     /// No file.
     Nothing,
-    /// No file, and a close looked for one.
+    /// No file, where a close looked for one.
     NothingToTake,
     /// A file.
     Something,
@@ -28,10 +28,10 @@ pub enum Wants {
     Bytes([bool; 256]),
 }
 
-/// What is at the slot behind an access.
+/// The content of the slot after an access.
 #[derive(Clone, Copy, Debug)]
 pub enum Leaves {
-    /// What was there.
+    /// What was there before.
     Same,
     /// No file.
     Empty,
@@ -39,7 +39,7 @@ pub enum Leaves {
     File(Resident),
 }
 
-/// An access that a completion tells of.
+/// A claim: an access that a completion reports.
 #[derive(Clone, Copy, Debug)]
 pub enum Claim {
     /// An access of a slot.
@@ -48,7 +48,7 @@ pub enum Claim {
     Full,
 }
 
-/// A file, with whether the closes have it.
+/// Returns `file` with the mark whether `closes` has it.
 pub fn resident_for(closes: &[Closed], file: Closed) -> Resident
     ensures { IsResident closes.now file result }
 {

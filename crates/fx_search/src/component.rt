@@ -1,4 +1,4 @@
-//! Which slots chains have in common. Nothing is promised of it: a part is judged by itself, whatever its slots.
+//! The partition of the slots into parts that no chain joins. Nothing is proved of it: a part is judged by itself, whatever its slots.
 
 use crate::claim::Claim;
 use fx_base::NoMemory;
@@ -55,7 +55,10 @@ fn join_chain(labels: &mut [usize], range: (u32, u32), claims: &[Claim]) {
     }
 }
 
-/// The slots, parted so that no chain has claims in two parts.
+/// Returns the slots in parts, so that no chain has claims in two parts.
+///
+/// # Errors
+/// `NoMemory` if an allocation fails.
 pub fn components(
     alloc: Global,
     size: usize,

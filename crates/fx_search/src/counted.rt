@@ -1,4 +1,4 @@
-//! Files that come to a slot and leave it, counted: where they don't come out even, no order leads to an end.
+//! Counts of the files that come to a slot and leave it: where they don't balance, no order leads to an end.
 ghost use Rattle.std.specs.Prelude.{◌≡◌, ◌≤◌, IfSome, IsTrue, cond, count_by, drop};
 ghost use Rattle.fx_search.specs.Counted.{LastStays, TooFewLeave, TwoStay, changes, is_change, leaving, staying, to_come};
 ghost use Rattle.fx_search.specs.Machine.{HasNoEnd, view};
@@ -8,16 +8,16 @@ use crate::claim::{Claim, Leaves, Resident, Wants};
 use crate::node::{Node, place_of};
 use crate::strand::{Strand, has_slot};
 
-/// How a claim changes its slot.
+/// A change that a claim makes to its slot.
 #[derive(Clone, Copy, Debug, PartialEq, Eq)]
 pub enum Change {
-    /// A file is taken, which is there.
+    /// The file that is there is taken.
     Takes,
-    /// What is there is removed, and no file comes.
+    /// What is there is removed, and no file is installed.
     Empties,
-    /// A file comes that the closes have.
+    /// A file is installed that is in the list of closes.
     Leaving,
-    /// A file comes that the closes don't have.
+    /// A file is installed that is not in the list of closes.
     Staying,
 }
 
@@ -148,7 +148,7 @@ fn last_stays(strands: &[Strand], node: &Node, slot: u32) -> bool
     leaving(found).saturating_add(leaves) >= 1
 }
 
-/// Whether the files of a slot don't come out even: then no order leads to an end.
+/// Checks whether the files of `slot` don't balance, so that no order leads to an end.
 pub fn is_uneven(strands: &[Strand], node: &Node, slot: u32) -> bool
     ensures { IsTrue result → HasNoEnd strands.now (view node.now) }
 {

@@ -1,4 +1,4 @@
-//! States from which no end is reached: a claim waits for a file that doesn't come.
+//! States from which no end is reached, since a claim waits for a file that is never installed.
 ghost use Rattle.std.specs.Prelude.{◌≡◌, ℕ, ◌≤◌, IsTrue, Some, true, slice_get};
 ghost use Rattle.fx_search.specs.Dead.{IsHopeless, NoneHelps, no_help};
 ghost use Rattle.fx_search.specs.Machine.{HasNoEnd, view};
@@ -59,7 +59,8 @@ fn is_hopeless(strands: &[Strand], node: &Node, slot: u32, claim: &Claim) -> boo
     !may_leave(found) || none_helps(strands, &node.places, slot, claim)
 }
 
-/// Whether the claim of a chain at a place is still to be made, and waits for a file that doesn't come.
+/// Checks whether the claim at `at`, by its chain and its place, is still to be made and waits for a file that is never
+/// installed.
 pub fn is_dead_by(strands: &[Strand], node: &Node, at: Option<(usize, usize)>) -> bool
     ensures { IsTrue result → HasNoEnd strands.now (view node.now) }
 {

@@ -1,10 +1,10 @@
-/// Why nothing is said of a submission (this project's own).
+/// The reason for an undecided submission (this project's own).
 #[derive(Clone, Copy, Debug, PartialEq, Eq)]
 pub enum Doubt {
-    /// There are more states than may be looked at.
+    /// The search met as many states as the limits allow.
     TooManyStates,
-    /// There are states for which there is no more room.
+    /// The states that the search kept take as many bytes as the limits allow.
     TooMuchMemory,
-    /// What was found couldn't be shown to be right.
+    /// The result of the search was not confirmed.
     NotShown,
 }

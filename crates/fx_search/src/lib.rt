@@ -1,5 +1,5 @@
-//! In which order claims may be made, one for each access that is told of: a search, of which nothing is proved, and proved code
-//! that looks through what it met.
+//! A search for an order of claims, one claim for each reported access. Nothing is proved of the search; proved code checks what it
+//! found.
 #![tactic(auto)]
 
 mod cell;

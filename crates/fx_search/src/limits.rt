@@ -1,8 +1,8 @@
-/// How far a search for the states of a submission, or of a part of it, may go (this project's own).
+/// The limits of a search for the states of a submission, or of a part of one (this project's own).
 #[derive(Clone, Copy, Debug, PartialEq, Eq)]
 pub struct Limits {
-    /// How many states it may meet.
+    /// The largest number of states.
     pub states: usize,
-    /// How many bytes the states take that it keeps.
+    /// The largest number of bytes that the kept states take, as estimated by the search.
     pub bytes: usize,
 }

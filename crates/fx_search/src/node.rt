@@ -9,10 +9,10 @@ use crate::strand::Strand;
 use fx_base::NoMemory;
 use std::alloc::Global;
 
-/// How many claims of each chain were made, and the files at the slots.
+/// A state of a search: the number of claims of each chain that were made, and the files at the slots.
 #[derive(Debug, Drop)]
 pub struct Node {
-    /// How many claims of each chain were made.
+    /// The number of claims of each chain that were made.
     pub places: Vec<usize>,
     /// The slots.
     pub cells: Vec<Cell>,
@@ -28,7 +28,7 @@ pub(crate) fn place_of(places: &[usize], chain: usize) -> usize
     }
 }
 
-/// The claim that a chain makes next.
+/// Returns the claim that `chain` makes next, by the chain's place among `strands`, or `None` if all its claims are made.
 pub fn claim_of<'a>(strands: &'a [Strand], places: &[usize], chain: usize) -> Option<&'a Claim>
     ensures { option_copied result ≡ claim_at strands.now places.now chain }
 {
@@ -38,7 +38,10 @@ pub fn claim_of<'a>(strands: &'a [Strand], places: &[usize], chain: usize) -> Op
     }
 }
 
-/// The state where no claim was made, and these files are at the slots.
+/// Returns the state where no claim is made yet and `cells` are the slots.
+///
+/// # Errors
+/// `NoMemory` if an allocation fails.
 pub fn start_of(alloc: Global, strands: &[Strand], cells: &[Cell]) -> Result<Node, NoMemory>
     ensures { IfOk result (λ node. view node ≡ starting strands.now cells.now) }
 {

@@ -1,4 +1,4 @@
-//! A search for an order. Nothing is proved of what it finds: what it hands over is looked through (`crate::certificate`).
+//! The search for an order. Nothing is proved of what it finds: its result is checked (`crate::certificate`).
 
 use crate::doubt::Doubt;
 use crate::limits::Limits;
@@ -10,14 +10,14 @@ use fx_base::NoMemory;
 use indexmap::IndexSet;
 use std::alloc::Global;
 
-/// How a search ended.
+/// The result of a search.
 #[derive(Debug, Drop)]
 pub enum Found {
-    /// These chains, by their places in the list, lead to an end.
+    /// The chains whose claims, made in this order, lead to an end, by their places in the list.
     Order(Vec<usize>),
-    /// All states that can be reached were met, and none is an end.
+    /// The search met each state that can be reached, and none is an end.
     NoEnd,
-    /// There are more states than the limits let be kept.
+    /// The search reached its limits.
     Stopped(Doubt),
 }
 
@@ -81,11 +81,14 @@ pub(crate) fn search_along(
 // How many states are met with all chains before some are left out.
 const FIRST_STATES: usize = 10_000;
 
-/// How many more states than claims a first search meets: the text of one worker is found within a state for each claim.
+/// The number of states, beyond one for each claim, of a first search: the text of one worker needs one state for each claim.
 pub const FEW_STATES: usize = 1_000;
 
-/// Looks for an end, through no more states than the limits let be looked at and kept: where few states don't suffice, first by
-/// plans that find what some workers played.
+/// Searches for an end within `limits`. If a small number of states isn't enough, it first tries plans that find what some number
+/// of workers played.
+///
+/// # Errors
+/// `NoMemory` if an allocation fails.
 pub fn explore(
     alloc: Global,
     steps: &Steps<'_>,

@@ -50,7 +50,10 @@ fn number_for(
 }
 
 impl<'a> Steps<'a> {
-    /// The claims of these chains at these slots.
+    /// Returns the claims of `strands` at `cells` by numbers.
+    ///
+    /// # Errors
+    /// `NoMemory` if an allocation fails.
     pub fn new(
         alloc: Global,
         strands: &'a [Strand],

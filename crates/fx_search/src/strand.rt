@@ -8,13 +8,13 @@ use crate::claim::Claim;
 /// A chain, by its number from 1, and its claims at some slots.
 #[derive(Debug, Drop)]
 pub struct Strand {
-    /// The chain.
+    /// The number of the chain.
     pub chain: u32,
-    /// The claims, the first one first.
+    /// The claims in the order of the chain.
     pub claims: Vec<Claim>,
 }
 
-/// Whether one of these slots is this one.
+/// Checks whether `slot` is among `cells`.
 pub fn has_slot(cells: &[Cell], slot: u32) -> bool
     ensures { result ≡ list_any (λ cell. cell.slot == slot) cells.now }
 {

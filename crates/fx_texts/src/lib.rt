@@ -1,4 +1,4 @@
-//! Every text of a script, and what a request of it may answer: all of it and nothing else.
+//! The texts that a script can print, and the answers that a request of it can give, if no allocation fails.
 #![tactic(auto)]
 
 mod asking;

@@ -1,29 +1,29 @@
-//! A ring that commands may come to, what was printed on the way, and the orders that led there.
+//! A ring after commands, with what they printed and the orders that lead there.
 ghost use Rattle.std.specs.Prelude.{◌≤◌, length};
 ghost use Rattle.fx_plain.specs.declared.table.TheConstants.{MOST_SLOTS};
 
 use fx_order::{ChainAccess, RingSlots};
 
-/// An order of an accepted submission, and where the one of the submission before it is kept, if there is one.
+/// An order of an accepted submission, with a link to the order of the submission before it.
 #[derive(Debug, Drop)]
 pub struct Past {
-    /// Which of the accepted submissions, from 1.
+    /// The number of the accepted submission, from 1.
     pub submission: u32,
-    /// How many slots the table has.
+    /// The number of slots of the table.
     pub size: usize,
-    /// The accesses, the first one first.
+    /// The accesses in order.
     pub order: Vec<ChainAccess>,
-    /// Which of the orders is that of the submission before.
+    /// The index of the order of the accepted submission before this one, if there is one.
     pub before: Option<usize>,
 }
 
-/// A ring that commands may come to.
+/// A ring that commands can lead to.
 #[derive(Debug, Drop)]
 pub(crate) struct Reached {
     pub(crate) ring: RingSlots,
-    /// What was printed on the way, where that is kept; else nothing.
+    /// What was printed on the way if the setting keeps it; else empty.
     pub(crate) printed: String,
-    /// Which of the orders that are kept is that of the last submission that led there.
+    /// The index of the order of the last accepted submission on the way, if there is one.
     pub(crate) past: Option<usize>,
     pub ghost few_slots: { length ring.slots.at.items ≤ MOST_SLOTS },
 }

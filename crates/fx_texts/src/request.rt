@@ -1,4 +1,4 @@
-//! What a request of a script may answer.
+//! The answers that a request of a script can give.
 ghost use Rattle.std.specs.Prelude.{All, Contains, IfOk, IsTrue};
 ghost use Rattle.fx_chain.specs.Completed.{Completed, completed_of};
 ghost use Rattle.fx_texts.specs.Rings.{said_in};
@@ -16,24 +16,24 @@ use fx_language::Script;
 use fx_search::Limits;
 use std::alloc::Global;
 
-/// What a request of a script may answer, and orders that come to it.
+/// The answers that a request of a script can give, and orders that lead to them.
 #[derive(Debug, Drop)]
 pub struct RequestAnswers {
     /// The answers.
     pub answers: Vec<Said>,
-    /// The orders of the answers' submissions and of those before them.
+    /// The orders of the submissions up to the answers.
     pub orders: Vec<Past>,
-    /// Whether these are all of the answers. Where there is none then, no accepted submission of the script has the request.
+    /// Whether these were shown to be all. If so and there is none, no accepted submission has the request.
     pub are_all: bool,
 }
 
-/// What the request at a place of a script may answer where memory is found: each answer is one that it gives in some play
-/// of the whole script. Where `are_all` is true it answers nothing else; else more states of a submission would have to be
-/// met, or more rings looked at, than `limits` allows. The orders are those by which the answers were found, and no contract
-/// speaks of them.
+/// Returns the answers that the request at `place` gives in the plays of the whole script in which no allocation fails, as the
+/// definitions have them. Where `are_all` is true there is no other; else that was not shown within `limits`, which apply to the
+/// states of each submission at one ring, and to the rings after each command. The orders are those by which the answers were
+/// found, and no contract says anything of them.
 ///
 /// # Errors
-/// `NoMemory` where there is no memory for the rings, the states or the answers.
+/// `NoMemory` if an allocation fails.
 pub fn may(
     alloc: Global,
     script: &Script,

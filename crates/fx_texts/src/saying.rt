@@ -1,4 +1,4 @@
-//! What a request may answer at some rings, each answer in front of a whole text.
+//! The answers that a request can give at some rings, each in a play to the end of the script.
 ghost use Rattle.std.specs.Prelude.{◌≡◌, ◌+◌, ◌<◌, ◌≤◌, IfOk, IsTrue, Contains, length};
 ghost use Rattle.fx_chain.specs.Completed.{completed_of};
 ghost use Rattle.fx_chain.specs.Operation.{all_asked};
@@ -26,7 +26,7 @@ use fx_order::RingSlots;
 pub struct Said {
     /// The answer.
     pub completion: Completion,
-    /// Which of the orders is that of its submission.
+    /// The index of the order of its submission.
     pub past: usize,
 }
 

@@ -1,4 +1,4 @@
-//! Every text of a script.
+//! The texts that a script can print.
 ghost use Rattle.std.specs.Prelude.{◌≡◌, All, Contains, IfOk, IsTrue, List, OnOk, map};
 ghost use Rattle.fx_order.specs.Slots.{ring_with_slots};
 ghost use Rattle.std.specs.Prelude.{string_bytes, string_eq, true, ℕ};
@@ -20,16 +20,16 @@ use fx_search::Limits;
 use indexmap::IndexSet;
 use std::alloc::Global;
 
-/// The texts of a script, and orders that come to them.
+/// The texts that a script can print, and orders that lead to them.
 #[derive(Debug, Drop)]
 pub struct AllTexts {
     /// The texts, each once.
     pub texts: IndexSet<String>,
-    /// Of each text, by its number, which of the orders is that of its last submission, if one was accepted.
+    /// For each text, the index of the order of its last accepted submission, if there is one.
     pub by: Vec<Option<usize>>,
-    /// The orders of the submissions that came to the texts.
+    /// The orders of the submissions.
     pub orders: Vec<Past>,
-    /// Whether these are all of the texts.
+    /// Whether these were shown to be all.
     pub are_all: bool,
 }
 
@@ -91,12 +91,12 @@ fn all_at_end(setting: &Setting<'_>, rings: &[Reached]) -> Result<EachText, NoMe
     Ok(all)
 }
 
-/// The texts of a script in which memory is found, each once: each is one that some play of the script prints. Where
-/// `are_all` is true there is no other; else more states of a submission would have to be met, or more rings looked at, than
-/// `limits` allows. The orders are those by which the texts were found, and no contract speaks of them.
+/// Returns the texts that the plays of a script print in which no allocation fails, each once. Where `are_all` is true there is no
+/// other; else that was not shown within `limits`. The orders are those by which the texts were found, and no contract says
+/// anything of them.
 ///
 /// # Errors
-/// `NoMemory` where there is no memory for the rings, the states or the texts.
+/// `NoMemory` if an allocation fails.
 pub fn texts_of(alloc: Global, script: &Script, limits: Limits) -> Result<AllTexts, NoMemory>
     ensures each { IfOk result (λ all.
         All (λ text. IsTextFound script.now (string_bytes text)) all.texts.keys) }
