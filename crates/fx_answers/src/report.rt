@@ -45,6 +45,8 @@ pub struct PossibleReports {
     pub reports: Vec<PossibleReport>,
     /// Whether these were shown to be all.
     pub are_all: bool,
+    /// How many states the search met.
+    pub states: usize,
 }
 
 // A list of these closes, if each file is in the catalogue.
@@ -259,5 +261,10 @@ pub fn may_report(
         answers: &[],
     };
     let are_all = are_all_reports(&claimed, slots, &reports)?;
-    Ok(PossibleReports { reports, are_all })
+    let states = found.states.len();
+    Ok(PossibleReports {
+        reports,
+        are_all,
+        states,
+    })
 }

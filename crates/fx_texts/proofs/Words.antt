@@ -36,7 +36,7 @@ pub use Rattle.fx_table.proofs.Members.{contains_map, contains_mapped, contains_
 pub use Rattle.fx_texts.specs.Rings.{AreFrom, EndsAs, Grows, HasEachFrom, HasEachLast, HasEachNext, HasEachSaidFrom, IsLineOf, IsTextAt, Leads}
 pub use Rattle.fx_texts.specs.Rings.{LeadsAll, MayEnd, MayLeadAllTo, MayLeadTo, MaySay, Stage, after_call, count_after, count_after_all, count_behind}
 pub use Rattle.fx_texts.specs.Rings.{kept_text, said_in, stage, stage_left, stage_of, stage_reported, stages_of, unless_refused, AreSaidFrom, IsCall}
-pub use Rattle.fx_texts.specs.Rings.{IsAskedIn}
+pub use Rattle.fx_texts.specs.Rings.{IsAskedIn, IsFoundAt, IsSearched, asked_in}
 pub use Rattle.fx_texts.specs.Texts.{FoundMemory, IsReportFound, IsTextFound, MayAnswerIn, PrintsAllFound}
 pub use Rattle.fx_texts.specs.declared.reached.Reached.{Reached}
 pub use Rattle.fx_texts.specs.declared.saying.Said.{Said}

@@ -1,6 +1,6 @@
 -- The rings that commands may come to where memory is found.
 use Rattle.std.specs.Prelude.{◌≡◌, ◌⊎◌, ℕ, ◌+◌, pos, List, [], ◌∷◌, ◌++◌, codes, length, map}
-use Rattle.std.specs.Prelude.{Bool, true, false, Option, Some, None, Contains, nat_le}
+use Rattle.std.specs.Prelude.{All, Bool, true, false, Option, Some, None, Contains, IsTrue, nat_le}
 use Rattle.std.specs.Prelude.{if◌then◌else◌, string_bytes}
 use Rattle.std.specs.Option.{MatchOption}
 use Rattle.fx_base.specs.Catalogue.{FileEntry}
@@ -11,8 +11,9 @@ use Rattle.fx_chain.specs.Operation.{Asked, all_asked}
 use Rattle.fx_chain.specs.declared.completion.Place.{Place}
 use Rattle.fx_chain.specs.declared.fault.CutFault.{CutFault}
 use Rattle.fx_order.specs.declared.slots.Slots.{Slots}
-use Rattle.fx_answers.specs.Outcomes.{ring_behind}
+use Rattle.fx_answers.specs.Outcomes.{HasEachReport, IsPossible, ring_behind}
 use Rattle.fx_answers.specs.declared.report.PossibleReport.{PossibleReport}
+use Rattle.fx_answers.specs.declared.report.PossibleReports.{PossibleReports}
 use Rattle.fx_ring.specs.Registration.{range_refusal, register_refusal, registered, removed_from}
 use Rattle.fx_ring.specs.Registration.{registered_sparse, sparse_refusal, unregister_refusal}
 use Rattle.fx_ring.specs.Registration.{update_refusal, updated}
@@ -30,6 +31,7 @@ use Rattle.fx_texts.specs.Texts.{FoundMemory, IsReportFound, PrintsAllFound}
 use Rattle.fx_texts.specs.declared.asking.Asking.{Asking}
 use Rattle.fx_texts.specs.declared.saying.Said.{Said}
 use Rattle.fx_texts.specs.declared.reached.Reached.{Reached}
+use Rattle.fx_texts.specs.declared.searched.Searched.{Searched}
 
 -- what a call leaves that may be refused
 abbrev pub unless_refused : Option Errno → RingState → RingState → RingState
@@ -143,6 +145,23 @@ abbrev pub HasEachNext : Bool → Stage → Instruction → List Stage → Type 
 HasEachNext keeps old command stages =
     (ring next : RingContents) (line : List ℕ) → ring_of ring ≡ old.ring
     → Leads ring command next line → Contains stages (stage keeps next (old.printed ++ line))
+
+-- the requests of a command, where it is a submission
+abbrev pub asked_in : Instruction → List Asked
+asked_in (SubmitsAll asked) = asked
+asked_in _ = []
+
+-- the reports that a search found at a ring are reports of the submission, and all of them where it
+-- says so
+pub record IsFoundAt (old : RingState) (asked : List Asked) (found : PossibleReports) : Type 0
+  where
+    pub each : All (IsPossible old asked) found.reports.items
+    pub all : IsTrue found.are_all → HasEachReport old asked found.reports.items
+
+-- what is kept of a search at its ring
+abbrev pub IsSearched : List FileEntry → List Asked → Searched → Type 0
+IsSearched catalogue asked searched =
+    IsFoundAt (ring_with_slots catalogue searched.ring) asked searched.found
 
 -- each of the one list is where the command may lead to from one of the other
 abbrev pub AreFrom : Bool → List Stage → Instruction → List Stage → Type 0

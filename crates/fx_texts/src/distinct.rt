@@ -25,8 +25,8 @@ pub(crate) fn copy_of(alloc: Global, ring: &RingSlots) -> Result<RingSlots, NoMe
     })
 }
 
-// Whether both rings have the same slots, the same allocation range and the same counts.
-fn are_same(one: &RingSlots, other: &RingSlots) -> bool
+/// Checks whether both rings have the same slots, the same allocation range and the same counts.
+pub(crate) fn are_same(one: &RingSlots, other: &RingSlots) -> bool
     ensures { IsTrue result → (catalogue : List FileEntry)
         → ring_with_slots catalogue one.now ≡ ring_with_slots catalogue other.now }
 {

@@ -7,7 +7,9 @@ ghost use Rattle.fx_texts.specs.Rings.{MayEnd, MayLeadTo, stage_of};
 
 use crate::next::push_next;
 use crate::reached::Reached;
+use crate::searched::Searches;
 use crate::setting::Setting;
+use crate::spent::Spent;
 use fx_base::NoMemory;
 use fx_language::Command;
 
@@ -22,9 +24,17 @@ fn one_next(
         (stage_of setting.now.catalogue.now from.now) (instruction_of command.now)
         (stage_of setting.now.catalogue.now reached))) }
 {
+    let mut searches = Searches::none(setting.alloc, Spent::nothing());
     let mut pasts = Vec::new(setting.alloc);
     let mut rings = Vec::new(setting.alloc);
-    let _all = push_next(setting, &mut pasts, &mut rings, from, command)?;
+    let _all = push_next(
+        setting,
+        &mut searches,
+        &mut pasts,
+        &mut rings,
+        from,
+        command,
+    )?;
     Ok(rings.pop())
 }
 

@@ -12,7 +12,9 @@ mod reached;
 mod request;
 mod rings;
 mod saying;
+mod searched;
 mod setting;
+mod spent;
 mod texts;
 
 pub use laws::each_found_text_is_a_text;

@@ -11,24 +11,21 @@ ghost use Rattle.fx_plain.specs.declared.table.TheConstants.{MOST_SLOTS};
 ghost use Rattle.fx_ring.specs.Ring.{IsRing};
 ghost use Rattle.fx_ring.specs.declared.ring.TheConstants.{MOST_SUBMISSIONS};
 ghost use Rattle.fx_texts.specs.Rings.{Grows, HasEachNext, IsCall, MayLeadTo, count_behind, kept_text};
+ghost use Rattle.fx_texts.specs.Rings.{IsFoundAt, IsSearched, asked_in};
 ghost use Rattle.fx_texts.specs.Rings.{stage_left, stage_of, stage_reported, stages_of};
 
 use crate::call::call;
 use crate::distinct::{copy_of, push_new};
 use crate::reached::{Past, Reached};
+use crate::searched::{Searched, Searches, search_at};
 use crate::setting::Setting;
-use fx_answers::{PossibleReport, may_leave, may_report};
+use fx_answers::{PossibleReport, PossibleReports, may_leave, may_report};
 use fx_base::NoMemory;
 use fx_chain::{Request, check};
 use fx_language::Command;
 use fx_order::{ChainAccess, RingSlots, Slots};
 use fx_ring::MOST_SUBMISSIONS;
 use fx_script::report_text;
-
-// What a ring that is kept takes beside its text: a slot, and all else.
-const SLOT_BYTES: usize = 40;
-
-const RING_BYTES: usize = 120;
 
 /// Whether requests are accepted behind so many submissions: none of them has a fault, and there is a number for one more.
 pub(crate) fn is_accepted(requests: &[Request], submissions: u32) -> bool
@@ -221,18 +218,21 @@ fn push_report(
     Ok(())
 }
 
-// The same of the reports of the submission.
-fn push_reports(
+// The same of the reports that a search at the ring found.
+fn push_found(
     setting: &Setting<'_>,
     pasts: &mut Vec<Past>,
     rings: &mut Vec<Reached>,
     from: &Reached,
     requests: &[Request],
+    found: &PossibleReports,
 ) -> Result<bool, NoMemory>
     requires accepted { IsAccepted (all_asked requests.now) }
     requires faultless { fault_of (all_asked requests.now) ≡ None }
     requires few { from.now.ring.submissions < MOST_SUBMISSIONS }
     requires ring { IsRing (ring_with_slots setting.now.catalogue.now from.now.ring) }
+    requires found { IsFoundAt (ring_with_slots setting.now.catalogue.now from.now.ring)
+        (all_asked requests.now) found.now }
     ensures grows { IfOk result (λ _. Grows
         (MayLeadTo setting.now.keeps (stage_of setting.now.catalogue.now from.now)
         (SubmitsAll (all_asked requests.now)))
@@ -242,18 +242,55 @@ fn push_reports(
         (stage_of setting.now.catalogue.now from.now) (SubmitsAll (all_asked requests.now))
         (stages_of setting.now.catalogue.now rings.new.items)) }
 {
+    for possible in &found.reports {
+        push_report(setting, pasts, rings, from, possible)?;
+    }
+    Ok(found.are_all)
+}
+
+// The same of the reports of the submission. They are searched for once at each ring.
+fn push_reports(
+    setting: &Setting<'_>,
+    searches: &mut Searches,
+    pasts: &mut Vec<Past>,
+    rings: &mut Vec<Reached>,
+    from: &Reached,
+    requests: &[Request],
+) -> Result<bool, NoMemory>
+    requires accepted { IsAccepted (all_asked requests.now) }
+    requires faultless { fault_of (all_asked requests.now) ≡ None }
+    requires few { from.now.ring.submissions < MOST_SUBMISSIONS }
+    requires ring { IsRing (ring_with_slots setting.now.catalogue.now from.now.ring) }
+    requires known { All (IsSearched setting.now.catalogue.now (all_asked requests.now))
+        searches.old.known.items }
+    ensures grows { IfOk result (λ _. Grows
+        (MayLeadTo setting.now.keeps (stage_of setting.now.catalogue.now from.now)
+        (SubmitsAll (all_asked requests.now)))
+        (stages_of setting.now.catalogue.now rings.old.items)
+        (stages_of setting.now.catalogue.now rings.new.items)) }
+    ensures all { IfOk result (λ all. IsTrue all → HasEachNext setting.now.keeps
+        (stage_of setting.now.catalogue.now from.now) (SubmitsAll (all_asked requests.now))
+        (stages_of setting.now.catalogue.now rings.new.items)) }
+    ensures known { IfOk result (λ _. All
+        (IsSearched setting.now.catalogue.now (all_asked requests.now)) searches.new.known.items) }
+{
+    if let Some(searched) = search_at(&searches.known, &from.ring) {
+        return push_found(setting, pasts, rings, from, requests, &searched.found);
+    }
     let found = may_report(
         setting.alloc,
         setting.catalogue,
         &from.ring.slots,
         from.ring.submissions,
         requests,
-        setting.limits,
+        searches.spent.left_of(setting.limits, rings.is_empty()),
     )?;
-    for possible in &found.reports {
-        push_report(setting, pasts, rings, from, possible)?;
-    }
-    Ok(found.are_all)
+    searches.spent.count_states(found.states);
+    searches.spent.count_reports(&found);
+    let all = push_found(setting, pasts, rings, from, requests, &found)?;
+    let ring = copy_of(setting.alloc, &from.ring)?;
+    searches.known.push(Searched { ring, found })?;
+    Ok(all)
 }
 
 // Puts the ring that a call between submissions leaves of one, or a refused submission, behind others.
@@ -288,29 +325,23 @@ fn push_call(
     Ok(())
 }
 
-// Whether there is room for more rings, which go as far as states do: with what they printed and their slots.
-fn has_room(setting: &Setting<'_>, count: usize, from: &Reached) -> bool {
-    let each = from
-        .printed
-        .len()
-        .saturating_add(from.ring.slots.at.len().saturating_mul(SLOT_BYTES))
-        .saturating_add(RING_BYTES);
-    count < setting.limits.states && count.saturating_mul(each) < setting.limits.bytes
-}
-
 /// Puts the rings that a command may lead to from one behind others, and says whether these are all of them. No more are put
-/// there where there are as many as states may be met.
+/// there where the limits of the script are reached, but for those of the first ring.
 ///
 /// # Errors
 /// `NoMemory` where memory is refused.
 pub(crate) fn push_next(
     setting: &Setting<'_>,
+    searches: &mut Searches,
     pasts: &mut Vec<Past>,
     rings: &mut Vec<Reached>,
     from: &Reached,
     command: &Command,
 ) -> Result<bool, NoMemory>
-    requires { IsRing (ring_with_slots setting.now.catalogue.now from.now.ring) }
+    requires ring { IsRing (ring_with_slots setting.now.catalogue.now from.now.ring) }
+    requires known { All
+        (IsSearched setting.now.catalogue.now (asked_in (instruction_of command.now)))
+        searches.old.known.items }
     ensures grows { IfOk result (λ _. Grows
         (MayLeadTo setting.now.keeps (stage_of setting.now.catalogue.now from.now)
         (instruction_of command.now)) (stages_of setting.now.catalogue.now rings.old.items)
@@ -318,13 +349,16 @@ pub(crate) fn push_next(
     ensures all { IfOk result (λ all. IsTrue all → HasEachNext setting.now.keeps
         (stage_of setting.now.catalogue.now from.now) (instruction_of command.now)
         (stages_of setting.now.catalogue.now rings.new.items)) }
+    ensures known { IfOk result (λ _. All
+        (IsSearched setting.now.catalogue.now (asked_in (instruction_of command.now)))
+        searches.new.known.items) }
 {
-    if !has_room(setting, rings.len(), from) {
+    if !rings.is_empty() && !searches.spent.has_room(setting.limits, rings.len()) {
         return Ok(false);
     }
     if let Some(requests) = accepted_in(command, from.ring.submissions) {
         if setting.keeps {
-            return push_reports(setting, pasts, rings, from, requests);
+            return push_reports(setting, searches, pasts, rings, from, requests);
         }
         return push_ends(setting, pasts, rings, from, requests);
     }

@@ -8,7 +8,9 @@ ghost use Rattle.fx_texts.specs.Rings.{Stage, stages_of};
 
 use crate::next::{both, push_next};
 use crate::reached::{Past, Reached};
+use crate::searched::Searches;
 use crate::setting::Setting;
+use crate::spent::Spent;
 use fx_base::NoMemory;
 use fx_language::Command;
 use fx_order::{RingSlots, Slots};
@@ -44,12 +46,23 @@ fn start(alloc: Global) -> Result<Vec<Reached>, NoMemory>
     Ok(rings)
 }
 
+// Counts the bytes of the rings and orders that are new.
+fn count_new(spent: &mut Spent, rings: &[Reached], pasts: &[Past]) {
+    for reached in rings {
+        spent.count_ring(reached);
+    }
+    for past in pasts {
+        spent.count_order(past.order.len());
+    }
+}
+
 /// The rings that a command may lead to from some.
 ///
 /// # Errors
 /// `NoMemory` where memory is refused.
 pub(crate) fn after(
     setting: &Setting<'_>,
+    spent: &mut Spent,
     pasts: &mut Vec<Past>,
     rings: &[Reached],
     command: &Command,
@@ -64,10 +77,17 @@ pub(crate) fn after(
 {
     let mut next = Vec::new(setting.alloc);
     let mut are_all = true;
+    spent.begin_command();
+    let mut searches = Searches::none(setting.alloc, *spent);
     for reached in rings {
-        let all = push_next(setting, pasts, &mut next, reached, command)?;
+        let (old_rings, old_pasts) = (next.len(), pasts.len());
+        let all = push_next(setting, &mut searches, pasts, &mut next, reached, command)?;
+        let new_rings = next.as_slice().get(old_rings..).unwrap_or(&[]);
+        let new_pasts = pasts.as_slice().get(old_pasts..).unwrap_or(&[]);
+        count_new(&mut searches.spent, new_rings, new_pasts);
         are_all = both(are_all, all);
     }
+    *spent = searches.spent;
     Ok(Rings {
         rings: next,
         are_all,
@@ -95,8 +115,9 @@ pub(crate) fn after_all(
 {
     let mut rings = start(setting.alloc)?;
     let mut are_all = true;
+    let mut spent = Spent::nothing();
     for command in commands {
-        let next = after(setting, pasts, &rings, command)?;
+        let next = after(setting, &mut spent, pasts, &rings, command)?;
         rings = next.rings;
         are_all = both(are_all, next.are_all);
     }
