@@ -45,7 +45,7 @@ pub struct PossibleReports {
     pub reports: Vec<PossibleReport>,
     /// Whether these were shown to be all.
     pub are_all: bool,
-    /// How many states the search met.
+    /// The number of states that the search met. No contract says anything of it.
     pub states: usize,
 }
 

@@ -325,11 +325,11 @@ fn push_call(
     Ok(())
 }
 
-/// Puts the rings that a command may lead to from one behind others, and says whether these are all of them. No more are put
-/// there where the limits of the script are reached, but for those of the first ring.
+/// Appends the rings that a command may lead to from one, and returns whether these are all of them. Where the limits of the
+/// script are reached, it appends none, unless the list is empty.
 ///
 /// # Errors
-/// `NoMemory` where memory is refused.
+/// `NoMemory` if an allocation fails.
 pub(crate) fn push_next(
     setting: &Setting<'_>,
     searches: &mut Searches,

@@ -92,8 +92,8 @@ fn all_at_end(setting: &Setting<'_>, rings: &[Reached]) -> Result<EachText, NoMe
 }
 
 /// Returns the texts that the plays of a script print in which no allocation fails, each once. Where `are_all` is true there is no
-/// other; else that was not shown within `limits`. The orders are those by which the texts were found, and no contract says
-/// anything of them.
+/// other; else that was not shown within `limits`, which apply to the whole script: to all states that the searches meet, and to
+/// all bytes that are kept. The orders are those by which the texts were found, and no contract says anything of them.
 ///
 /// # Errors
 /// `NoMemory` if an allocation fails.
