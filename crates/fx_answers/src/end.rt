@@ -134,9 +134,9 @@ fn are_all_ends(claimed: &Claimed<'_>, slots: &Slots, ends: &[End]) -> Result<bo
     are_all_states(claimed, slots)
 }
 
-/// Returns the rings that a submission can leave if no allocation fails, starting from `slots` after `submissions` accepted
-/// submissions, each with an order of accesses that leads to it. Where `are_all` is true there is no other; else that was not
-/// shown within `limits`. The caller has checked that no request has a fault ([`fx_chain::check`]).
+/// Returns rings that the submission can leave if no allocation fails, starting from `slots` after `submissions` accepted
+/// submissions. Each has an order of accesses that leads to it. If `are_all` is true, the submission can leave no other ring.
+/// If it is false, that was not shown within the limits. No request may have a fault ([`fx_chain::check`]).
 ///
 /// # Errors
 /// `NoMemory` if an allocation fails.

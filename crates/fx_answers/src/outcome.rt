@@ -115,10 +115,10 @@ fn all_confirmed(
     Ok(answers)
 }
 
-/// Returns the answers that the request at the question's place can give if no allocation fails, starting from `slots` after
-/// `submissions` accepted submissions, each with an order of accesses that gives it. Where `are_all` is true there is no other;
-/// else that was not shown within the question's limits. A place without a request has no answer. The caller has checked that no
-/// request has a fault ([`fx_chain::check`]).
+/// Returns answers that the request at a place of the submission can give if no allocation fails, starting from `slots` after
+/// `submissions` accepted submissions. Each has an order of accesses that yields it. If `are_all` is true, the request can give
+/// no other answer. If it is false, that was not shown within the limits. A place without a request has no answer. No request
+/// may have a fault ([`fx_chain::check`]).
 ///
 /// # Errors
 /// `NoMemory` if an allocation fails.

@@ -215,9 +215,9 @@ fn are_all_reports(
     are_all_states(claimed, slots)
 }
 
-/// Returns the reports that a submission can produce if no allocation fails, starting from `slots` after `submissions` accepted
-/// submissions, each with an order of accesses that gives it. Where `are_all` is true there is no other; else that was not shown
-/// within `limits`. The caller has checked that no request has a fault ([`fx_chain::check`]).
+/// Returns reports that the submission can produce if no allocation fails, starting from `slots` after `submissions` accepted
+/// submissions. Each has an order of accesses that yields it. If `are_all` is true, the submission can produce no other report.
+/// If it is false, that was not shown within the limits. No request may have a fault ([`fx_chain::check`]).
 ///
 /// # Errors
 /// `NoMemory` if an allocation fails.

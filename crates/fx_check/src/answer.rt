@@ -17,7 +17,7 @@ pub(crate) enum Answer {
     Printed(usize, Option<Order>),
     /// It goes on with none that the command may print.
     Broken(Fault),
-    /// It wasn't seen of the submission, for this reason.
+    /// Neither was shown of the submission within the limits. The reason is advice.
     Undecided(Doubt),
 }
 

@@ -36,6 +36,6 @@ pub enum Judgement {
     Legal(Vec<Order>),
     /// It may not.
     NotLegal(Break),
-    /// It wasn't seen of this accepted submission, from 1, for this reason.
+    /// Neither was shown within the limits, of this accepted submission, counted from 1. The reason is advice.
     Undecided(u32, Doubt),
 }

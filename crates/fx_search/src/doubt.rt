@@ -1,10 +1,11 @@
-/// The reason for an undecided submission (this project's own).
+/// The reason that a search gives for leaving a submission undecided. It is advice: no contract says that the search would have
+/// decided it within larger limits (this project's own).
 #[derive(Clone, Copy, Debug, PartialEq, Eq)]
 pub enum Doubt {
-    /// The search met as many states as the limits allow.
+    /// The search stopped at its limit of states.
     TooManyStates,
-    /// The states that the search kept take as many bytes as the limits allow.
+    /// The search stopped at its limit of memory.
     TooMuchMemory,
-    /// The result of the search was not confirmed.
+    /// The search ended, and its result wasn't confirmed.
     NotShown,
 }

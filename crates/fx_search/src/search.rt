@@ -17,7 +17,7 @@ pub enum Found {
     Order(Vec<usize>),
     /// The search met each state that can be reached, and none is an end.
     NoEnd,
-    /// The search reached its limits.
+    /// The search found neither within its limits.
     Stopped(Doubt),
 }
 
