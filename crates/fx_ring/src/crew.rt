@@ -1,4 +1,5 @@
-//! The workers of a submission, gathered before they play and scattered afterwards.
+//! The crew of a submission: its workers are made of passes before they play, and taken apart
+//! afterwards.
 ghost use Rattle.std.specs.Prelude.{◌≡◌, ◌≤◌, [], length, map, reverse, IfOk, vec_capacity};
 ghost use Rattle.fx_chain.specs.Accepted.{IsAccepted};
 ghost use Rattle.fx_chain.specs.Operation.{all_asked};
@@ -10,7 +11,8 @@ use fx_base::NoMemory;
 use fx_chain::Request;
 use std::alloc::Global;
 
-/// The lists that a submission fills, with their room. It is no `Drop` where a pass is none.
+/// The lists that a submission fills, with room for all that it can produce. It must be consumed if
+/// a pass must be.
 pub(crate) struct Room<P> {
     pub(crate) crew: Vec<Worker<P>>,
     pub(crate) outcomes: Vec<Outcome>,
@@ -18,7 +20,7 @@ pub(crate) struct Room<P> {
 }
 
 impl<P> Room<P> {
-    /// Room for the requests and so many workers.
+    /// Makes room for the requests and for `workers` workers.
     pub(crate) fn new(
         alloc: Global,
         requests: &[Request],
@@ -37,7 +39,7 @@ impl<P> Room<P> {
         })
     }
 
-    /// Gives the room up, with nobody in it.
+    /// Releases the room, which has no worker in it.
     pub(crate) fn give_up(self)
         requires { self.crew.items ≡ [] }
     {
@@ -50,7 +52,7 @@ impl<P> Room<P> {
     }
 }
 
-/// Makes a worker of each pass, which comes to an outcome of its own.
+/// Makes a worker of each pass, with an outcome of its own.
 pub(crate) fn gather<P>(passes: &mut Vec<P>, outcomes: &mut Vec<Outcome>, crew: &mut Vec<Worker<P>>)
     requires count { length outcomes.old.items ≡ length passes.old.items }
     requires empty { crew.old.items ≡ [] }
@@ -69,7 +71,7 @@ pub(crate) fn gather<P>(passes: &mut Vec<P>, outcomes: &mut Vec<Outcome>, crew: 
     }
 }
 
-/// The passes of the workers again, and what each came to.
+/// Takes the workers apart: returns their passes and outcomes to the lists.
 pub(crate) fn scatter<P>(
     crew: &mut Vec<Worker<P>>,
     passes: &mut Vec<P>,

@@ -1,5 +1,13 @@
-//! The ring: a catalogue, the file table that is registered with it, and what was counted. Between
-//! submissions, lists are registered and slots are updated.
+//! A ring in memory: a catalogue, the registered file table, and the calls on them, which are
+//! registrations, updates and submissions.
+//!
+//! The contract that other crates use is the one of [`Ring::submit`], clause `one_history`: the report of a
+//! submission and the table afterwards are those of one legal history of a table of one thread, on
+//! any number of workers (`IsOneHistory` in `specs/Submission.antt`). Contracts see a ring by
+//! `ring_of` (`specs/Ring.antt`).
+//!
+//! Begin with `ring.rt` (the type), then `registration.rt` (calls between submissions),
+//! `submission.rt` (`submit`) and `laws.rt` (what the history of a submission says about files).
 #![tactic(auto)]
 
 mod crew;

@@ -1,4 +1,4 @@
-//! Lists of numbers, each for a slot, and their tags.
+//! Lists of numbers, one for each slot, and their tags.
 ghost use Rattle.std.specs.Prelude.{◌≡◌, ◌+◌, ◌<◌, ◌≤◌, ℕ, ℤ, pos, List, false, true, length, slice_index_or};
 ghost use Rattle.std.specs.List.{list_any, zip};
 ghost use Rattle.fx_plain.specs.State.{IsSettled};
@@ -24,7 +24,8 @@ fn is_bad_file(entries: u32, number: i32) -> bool
     number as u32 >= entries
 }
 
-/// Whether a list has a number that is neither an empty slot nor an entry of the catalogue.
+/// Checks whether `list` has a number that is neither -1, an empty slot, nor one of the catalogue's
+/// `entries` entries (io_uring_register(2), "EBADF").
 pub fn has_bad_file(entries: u32, list: &[i32]) -> bool
     ensures { result ≡ list_any (is_bad_file entries) list.now }
 {
@@ -47,8 +48,8 @@ fn has_bad_tag(list: &[i32], tags: &[u64]) -> bool
         .any(|(number, tag)| is_bad_tag(*number, *tag))
 }
 
-/// Whether there are more tags than numbers, or fewer, or one of a number that opens no file. Where
-/// none are given, every number has tag 0.
+/// Checks whether `tags` and `list` differ in length, or a number below 0, which opens no file, has
+/// a tag other than 0. `None` stands for tag 0 at each number (this project's own).
 #[tactic(auto, using(crate::proofs::NoTags::no_bad_tags))]
 pub fn are_bad_tags(list: &[i32], tags: Option<&[u64]>) -> bool
     ensures { result ≡ are_bad_tags list.now (tags_for list.now tags.entry) }
@@ -59,7 +60,8 @@ pub fn are_bad_tags(list: &[i32], tags: Option<&[u64]>) -> bool
     list.len() != tags.len() || has_bad_tag(list, tags)
 }
 
-/// The tag of a place of a list, from 0: 0 where none are given or there is no such place.
+/// Returns the tag at a place of a list, counted from 0: 0 if `tags` is `None` or has no such place
+/// (this project's own).
 #[tactic(auto, using(crate::proofs::NoTags::no_tag_at))]
 pub fn tag_at(tags: Option<&[u64]>, place: usize) -> u64
     ensures { (list : List ℤ) → result ≡ tag_at (tags_for list tags.entry) place }
@@ -70,8 +72,8 @@ pub fn tag_at(tags: Option<&[u64]>, place: usize) -> u64
     tags.get(place).copied().unwrap_or(0)
 }
 
-/// The k-th list, which applies to the slots from `off` on, with tags 0 where none are given. Its
-/// files get the numbers of the table from `first` on.
+/// The list of registration or update number `k`, for the slots from `off` on. Its files get the
+/// table's numbers from `first` on, and tag 0 if `tags` is `None`.
 #[derive(Drop)]
 pub(crate) struct NumberList<'a> {
     pub(crate) catalogue: &'a Catalogue,
@@ -120,8 +122,7 @@ fn apply_number(table: &mut PlainTable, numbers: &NumberList<'_>, i: usize, clos
     }
 }
 
-/// Applies a list to a table. The numbers of the table from its `first` on are fresh, one for each
-/// number of the list.
+/// Applies a list to a table that has a fresh number for each number of the list, from `first` on.
 pub(crate) fn apply_list(table: &mut PlainTable, numbers: &NumberList<'_>, closes: &mut CloseList)
     requires settled { IsSettled (state_of table.old) }
     requires slots { numbers.now.off + length numbers.now.list.now ≤ (state_of table.old).size }

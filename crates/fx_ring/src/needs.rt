@@ -1,4 +1,4 @@
-//! What the chains of a submission need of a table: a number for each file that they install.
+//! The needs of a submission's chains: a file number for each file that they install.
 ghost use Rattle.std.specs.Prelude.{◌≡◌, ◌≤◌, ℕ, All};
 ghost use Rattle.fx_table.specs.declared.limits.TheConstants.{CHAIN_NUMBERS};
 ghost use Rattle.fx_chain.specs.Accepted.{IsChain};
@@ -20,7 +20,7 @@ fn installs_of_chain(members: &[Request]) -> u32
     installs
 }
 
-/// The most files that one of these chains installs.
+/// Returns the most files that one of these chains installs.
 pub(crate) fn most_installs(requests: &[Request], chains: &[Chain]) -> u32
     requires { All (IsChain (all_asked requests.now)) chains.now }
     ensures few { result ≤ CHAIN_NUMBERS }

@@ -1,4 +1,4 @@
-//! What the chains of a submission come to: those of one worker, or all of them.
+//! The completions and closes of a submission's chains, of one worker or of all.
 ghost use Rattle.std.specs.Prelude.{◌≡◌, ◌+◌, ◌*◌, ◌≤◌, [], ◌++◌, length, flat_map, sum_by, reverse, All, IfOk, IsPermutation, vec_len, vec_capacity};
 ghost use Rattle.std.specs.List.Sorted.{IsNonDecreasingBy};
 ghost use Rattle.fx_base.specs.CloseList.{IsInOrderOfMark};
@@ -14,7 +14,7 @@ use fx_base::{CloseList, NoMemory};
 use fx_chain::{Completion, Place, Request};
 use std::alloc::Global;
 
-/// What some chains come to: those of a worker, or all of a submission.
+/// The completions and closes of some chains: those of one worker, or all of a submission.
 #[derive(Drop)]
 pub(crate) struct Outcome {
     pub(crate) completions: Vec<Completion>,
@@ -41,8 +41,8 @@ fn weight_of_all(requests: &[Request]) -> u32
 }
 
 impl Outcome {
-    /// Nothing yet, with room for a completion of each request and for all files that the requests
-    /// may close.
+    /// Makes an empty outcome with room for a completion of each request and for all files that the
+    /// requests can close.
     pub(crate) fn with_room(alloc: Global, requests: &[Request]) -> Result<Outcome, NoMemory>
         requires { IsAccepted (all_asked requests.now) }
         ensures { IfOk result (HasRoomFor (all_asked requests.now)) }
@@ -55,7 +55,7 @@ impl Outcome {
         })
     }
 
-    /// One for each of so many workers.
+    /// Makes an empty outcome for each of `workers` workers.
     pub(crate) fn for_each(
         alloc: Global,
         requests: &[Request],
@@ -95,9 +95,8 @@ impl Outcome {
         }
     }
 
-    /// What all of these came to together. What one alone came to is answered as it is, and what
-    /// several came to goes into lists in which nothing is yet, and which have room for it. It
-    /// can't run out of memory.
+    /// Joins the outcomes of all workers. A single one is returned as it is. Several are appended to
+    /// the lists of `self`, which are empty and have room for them, so no memory is needed.
     pub(crate) fn joined(mut self, mut others: Vec<Outcome>) -> Outcome
         requires nothing_yet { (self.completions.items ≡ []) × (self.closes.files ≡ []) }
         requires completions { sum_by (λ other. length other.completions.items) others.items
@@ -119,7 +118,7 @@ impl Outcome {
         only
     }
 
-    /// Puts the completions in order of place, and the closes in order of mark.
+    /// Sorts the completions by place and the closes by mark.
     pub(crate) fn sort(&mut self)
         ensures completions { IsPermutation (all_completed self.old.completions.items)
             (all_completed self.new.completions.items) }
@@ -132,7 +131,7 @@ impl Outcome {
         self.closes.sort();
     }
 
-    /// The report of the submission that came to this.
+    /// Returns the report of submission number `submission` with this outcome.
     pub(crate) fn report(self, submission: u32) -> Report
         ensures { reported result ≡ record {
           submission = submission;

@@ -1,3 +1,4 @@
+//! The values that stay the same while a submission is played.
 ghost use Rattle.std.specs.Prelude.{◌≡◌, ◌<◌, length, map, All};
 ghost use Rattle.fx_chain.specs.Accepted.{IsAccepted, IsChain, members_of};
 ghost use Rattle.fx_chain.specs.Operation.{all_asked};
@@ -11,13 +12,13 @@ use fx_chain::{Chain, Request};
 use fx_table::FileTable;
 use std::alloc::Global;
 
-/// An accepted submission, and what it is played with.
+/// An accepted submission with the values that playing it needs.
 #[derive(Drop)]
 pub(crate) struct Submission<'a, R, G> {
     pub(crate) rt: &'a R,
     pub(crate) alloc: Global,
     pub(crate) catalogue: &'a Catalogue,
-    // How many submissions the ring accepted before this one, whose number is one more.
+    // The number of submissions that the ring accepted before, one less than the number of this one.
     pub(crate) earlier: u32,
     pub(crate) requests: &'a [Request],
     pub(crate) gate: &'a G,
@@ -25,8 +26,8 @@ pub(crate) struct Submission<'a, R, G> {
     pub ghost accepted: { IsAccepted (all_asked requests.now) },
 }
 
-/// What doesn't change while the workers of a submission play: its chains, on a table that was
-/// opened for so many, each with a number for all that it installs.
+/// The values that all workers of a submission share: its chains, and a table that was opened for
+/// that number of chains, with a number for each file that a chain installs.
 #[derive(Drop)]
 pub(crate) struct Play<'a, T: FileTable, R, G> {
     pub(crate) submission: &'a Submission<'a, R, G>,

@@ -1,4 +1,4 @@
-//! The calls between submissions.
+//! The calls between submissions: registrations, updates, the allocation range.
 ghost use Rattle.std.specs.Prelude.{◌≡◌, ◌+◌, ◌<◌, ◌≤◌, ℕ, [], false, length, Ok, Err, IfSome, IfNone, IfOk, OnOk, OnErr, IsOkUnless};
 ghost use Rattle.std.specs.List.{list_any};
 ghost use Rattle.fx_base.specs.declared.errno.Errno.TheVariants.{ENOMEM};
@@ -114,17 +114,19 @@ impl Ring {
         }
     }
 
-    /// Registers a table with a slot for each number of the list, all of them in the allocation
-    /// range: -1 is an empty slot, and a number of 0 or more the catalogue entry to open there
-    /// (io_uring_register(2), "IORING_REGISTER_FILES"). The k of the files' marks is the number of
-    /// this call among the accepted calls of `register`, `register_tagged`, `update` and
-    /// `update_tagged`, from 1, and their i the place in the list, from 0. The files have no tags:
-    /// it is [`Ring::register_tagged`] with a 0 for each number.
+    /// Registers a table with a slot for each number of the list (io_uring_register(2),
+    /// "IORING_REGISTER_FILES"). -1 is an empty slot, and a number from 0 on is the catalogue entry
+    /// to open there. The allocation range is the whole table. The files have no tags:
+    /// [`Ring::register_tagged`] gives them.
+    ///
+    /// The `k` of a file's mark is the number of this call among the accepted calls of `register`,
+    /// `register_tagged`, `update` and `update_tagged`, from 1. Its `i` is the place in the list,
+    /// from 0.
     ///
     /// # Errors
-    /// In this order: EBUSY where there is a table, EINVAL for an empty list, EMFILE for more than
-    /// 256 numbers, EBADF for a number below -1 or past the catalogue, EAGAIN after 65,535 accepted
-    /// calls of these four, and ENOMEM where memory is refused. The ring is then as before.
+    /// In this order: EBUSY if the ring has a table, EINVAL for an empty list, EMFILE for more than
+    /// 256 numbers, EBADF for a number below -1 or outside the catalogue, EAGAIN after 65,535
+    /// accepted calls of these four, and ENOMEM if memory is refused. The ring is then as before.
     pub fn register(&mut self, alloc: Global, list: &[i32]) -> Result<(), Errno>
         ensures refused { IfSome (register_refusal (ring_of self.old) list.now (no_tags list.now))
             (λ errno. result ≡ Err errno) }
@@ -138,14 +140,13 @@ impl Ring {
         self.register_list(alloc, list, None)
     }
 
-    /// Registers a table as [`Ring::register`] does, and gives each of its files the tag of the
-    /// same place, 0 for none (io_uring_register(2), "IORING_REGISTER_FILES2"). Once a file with a
-    /// tag is closed, the list of closes that has it gives the completion of its tag
-    /// ([`CloseList::tags`]).
+    /// Registers a table as [`Ring::register`] does, and gives each file the tag at the same place,
+    /// 0 for none (io_uring_register(2), "IORING_REGISTER_FILES2"). Once a file with a tag is
+    /// closed, the list that names it returns the completion of its tag ([`CloseList::tags`]).
     ///
     /// # Errors
-    /// Those of [`Ring::register`], in their order. EINVAL comes at its place also where there are
-    /// more tags than numbers, or fewer, and where a number below 0 has a tag other than 0. The
+    /// Those of [`Ring::register`], in the same order. EINVAL is also returned, in its place in that
+    /// order, if `tags` and `list` differ in length or a number below 0 has a tag other than 0. The
     /// ring is then as before.
     pub fn register_tagged(
         &mut self,
@@ -164,12 +165,13 @@ impl Ring {
         self.register_list(alloc, list, Some(tags))
     }
 
-    /// Registers a table of `n` empty slots, all of them in the allocation range
-    /// (io_uring_register_files(3), `io_uring_register_files_sparse`). It isn't counted.
+    /// Registers a table of `n` empty slots (io_uring_register_files(3),
+    /// `io_uring_register_files_sparse`). The allocation range is the whole table. The call doesn't
+    /// count as a registration.
     ///
     /// # Errors
-    /// In this order: EBUSY where there is a table, EINVAL for no slots, EMFILE for more than 256,
-    /// and ENOMEM where memory is refused. The ring is then as before.
+    /// In this order: EBUSY if the ring has a table, EINVAL for no slots, EMFILE for more than 256,
+    /// and ENOMEM if memory is refused. The ring is then as before.
     pub fn register_sparse(&mut self, alloc: Global, n: u32) -> Result<(), Errno>
         ensures refused { IfSome (sparse_refusal (ring_of self.old) n)
             (λ errno. result ≡ Err errno) }
@@ -190,11 +192,11 @@ impl Ring {
         }
     }
 
-    /// Unregisters the table. The list has all of its files, in order of mark
+    /// Unregisters the table and closes its files. The list has all of them, in order of mark
     /// (io_uring_register(2), "IORING_UNREGISTER_FILES").
     ///
     /// # Errors
-    /// ENXIO where there is no table, and else ENOMEM where the memory of the list is refused. The
+    /// ENXIO if the ring has no table, and else ENOMEM if the memory of the list is refused. The
     /// ring is then as before.
     pub fn unregister(&mut self, alloc: Global) -> Result<CloseList, Errno>
         ensures refused { IfSome (unregister_refusal (ring_of self.old))
@@ -221,7 +223,7 @@ impl Ring {
     /// 0 is permitted.
     ///
     /// # Errors
-    /// EINVAL where `off + len`, as whole numbers, is above the size. The ring is then as before.
+    /// EINVAL if `off + len`, without overflow, is above the size. The ring is then as before.
     pub fn alloc_range(&mut self, off: u32, len: u32) -> Result<(), Errno>
         ensures refused { IfSome (range_refusal (ring_of self.old) off len)
             (λ errno. result ≡ Err errno) }
@@ -284,17 +286,17 @@ impl Ring {
         Ok((len, closes))
     }
 
-    /// Updates the slots from `off` on by a list: -1 empties its slot, -2 leaves it, and a number
-    /// of 0 or more opens that catalogue entry there (io_uring_register(2),
-    /// "IORING_REGISTER_FILES_UPDATE"). The answer is the length of the list, and the files that
-    /// were replaced or removed, in order of mark. Marks are those of [`Ring::register`]. The new
-    /// files have no tags: it is [`Ring::update_tagged`] with a 0 for each number.
+    /// Updates the slots from `off` on by a list (io_uring_register(2),
+    /// "IORING_REGISTER_FILES_UPDATE"): -1 empties a slot, -2 leaves it, and a number from 0 on
+    /// opens that catalogue entry there. Returns the length of the list, and the files that were
+    /// replaced or removed, in order of mark. Marks are made as by [`Ring::register`]. The new files
+    /// have no tags: [`Ring::update_tagged`] gives them.
     ///
     /// # Errors
-    /// In this order: ENXIO where there is no table, EINVAL for an empty list or one that ends past
-    /// the last slot, EBADF for a number below -2 or past the catalogue, EAGAIN after 65,535
-    /// accepted calls of `register`, `register_tagged`, `update` and `update_tagged`, and ENOMEM
-    /// where memory is refused. The ring is then as before.
+    /// In this order: ENXIO if the ring has no table, EINVAL for an empty list or one that ends
+    /// after the last slot, EBADF for a number below -2 or outside the catalogue, EAGAIN after
+    /// 65,535 accepted calls of `register`, `register_tagged`, `update` and `update_tagged`, and
+    /// ENOMEM if memory is refused. The ring is then as before.
     pub fn update(
         &mut self,
         alloc: Global,
@@ -317,13 +319,13 @@ impl Ring {
         self.update_list(alloc, off, list, None)
     }
 
-    /// Updates slots as [`Ring::update`] does, and gives each new file the tag of the same place, 0
-    /// for none (io_uring_register(2), "IORING_REGISTER_FILES_UPDATE2"). The tags of the files that
-    /// were replaced or removed are those that they were installed with ([`CloseList::tags`]).
+    /// Updates slots as [`Ring::update`] does, and gives each new file the tag at the same place, 0
+    /// for none (io_uring_register(2), "IORING_REGISTER_FILES_UPDATE2"). A file that was replaced or
+    /// removed is listed with the tag that it was installed with ([`CloseList::tags`]).
     ///
     /// # Errors
-    /// Those of [`Ring::update`], in their order. EINVAL comes at its place also where there are
-    /// more tags than numbers, or fewer, and where a number below 0 has a tag other than 0. The
+    /// Those of [`Ring::update`], in the same order. EINVAL is also returned, in its place in that
+    /// order, if `tags` and `list` differ in length or a number below 0 has a tag other than 0. The
     /// ring is then as before.
     pub fn update_tagged(
         &mut self,

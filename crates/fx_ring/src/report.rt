@@ -1,11 +1,12 @@
+//! The answers of a submission: a report or a fault.
 use fx_base::CloseList;
 use fx_chain::{Completion, CutFault};
 
-/// Why a submission was refused, in the order in which the faults are looked for. The ring is then
-/// as before (this project's own).
+/// The reason why a submission is refused. The first that applies is reported, in this order. The
+/// ring is then as before (this project's own).
 #[derive(Clone, Copy, Debug, PartialEq, Eq)]
 pub enum SubmitFault {
-    /// There are not 1 to 16 workers.
+    /// The number of workers is not from 1 to 16.
     Workers,
     /// A request has a fault.
     Cut(CutFault),
@@ -15,12 +16,12 @@ pub enum SubmitFault {
     NoMemory,
 }
 
-/// What a submission came to (io_uring_enter(2), "CQE").
+/// The result of an accepted submission (io_uring_enter(2), "CQE").
 #[derive(Debug, Drop)]
 pub struct Report {
-    /// Which of the ring's accepted submissions it was, from 1.
+    /// The number of the submission among those that the ring accepted, from 1.
     pub submission: u32,
-    /// A completion for each request, in order of place.
+    /// One completion for each request, in order of place.
     pub completions: Vec<Completion>,
     /// The files that were closed, in order of mark.
     pub closes: CloseList,

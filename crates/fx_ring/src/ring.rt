@@ -1,3 +1,4 @@
+//! The type of a ring: how one is made, read and ended.
 ghost use Rattle.std.specs.Prelude.{◌≡◌, IfOk, IfErr};
 ghost use Rattle.fx_ring.specs.Ring.{AreEntries, HasClosed, IsRing, files_of, new_ring, ring_of};
 
@@ -6,19 +7,19 @@ use fx_plain::PlainTable;
 use std::alloc::Global;
 use std::marker::Model;
 
-/// How many submissions a ring accepts.
+/// The most submissions that a ring accepts (this project's own).
 pub const MOST_SUBMISSIONS: u32 = 65_535;
 
-/// How many registrations and updates a ring accepts together.
+/// The most registrations and updates that a ring accepts together (this project's own).
 pub const MOST_REGISTRATIONS: u32 = 65_535;
 
-/// A ring (io_uring_setup(2)): the files that can be opened, the registered file table, and how
-/// many submissions and registrations were accepted. It is no `Drop`: a program that drops one
-/// without closing its files is not accepted.
+/// A ring (io_uring_setup(2)): the catalogue, the registered file table, and the numbers of
+/// accepted submissions and registrations. It must be consumed: the compiler rejects a program that
+/// drops a ring without [`Ring::tear_down`] or [`Ring::abandon`].
 ///
-/// A ring without a table is one whose table has no slots. Contracts see it by `ring_of`, in which
-/// the numbers of its files are left out. Its files are of the catalogue, no two of them have one
-/// mark, and no mark is of a registration or a submission that the ring has not counted.
+/// A ring without a table has a table of no slots. Contracts see a ring by `ring_of`, which leaves
+/// out the numbers of its files. Each file is an entry of the catalogue. No two files have the same
+/// mark, and no mark names a registration or submission that the ring has not counted.
 pub struct Ring {
     pub(crate) catalogue: Catalogue,
     pub(crate) table: PlainTable,
@@ -47,7 +48,7 @@ impl Model for Ring {
 }
 
 impl Ring {
-    /// A ring without a table. It can't run out of memory (io_uring_setup(2)).
+    /// Makes a ring without a table. It needs no memory (io_uring_setup(2)).
     pub fn new(alloc: Global, catalogue: Catalogue) -> Ring
         ensures { ring_of result ≡ new_ring catalogue }
     {
@@ -59,14 +60,14 @@ impl Ring {
         }
     }
 
-    /// The files that can be opened.
+    /// Returns the catalogue: the files that can be opened.
     pub fn catalogue(&self) -> &Catalogue
         ensures { result.now ≡ (ring_of self.now).catalogue }
     {
         &self.catalogue
     }
 
-    /// How many slots there are: 1 to 256, or 0 without a table.
+    /// Returns the number of slots: 1 to 256, or 0 without a table.
     pub fn size(&self) -> u32
         ensures value { result ≡ (ring_of self.now).size }
         ensures sound { IsRing (ring_of self.now) }
@@ -74,32 +75,34 @@ impl Ring {
         self.table.size()
     }
 
-    /// The allocation range: the first slot and the number of slots; (0, 0) without a table.
+    /// Returns the allocation range as its first slot and its number of slots, or (0, 0) without a
+    /// table.
     pub fn range(&self) -> (u32, u32)
         ensures { result ≡ (ring_of self.now).range }
     {
         self.table.range()
     }
 
-    /// How many submissions were accepted, at most 65,535.
+    /// Returns the number of accepted submissions, at most 65,535.
     pub fn submissions(&self) -> u32
         ensures { result ≡ (ring_of self.now).submissions }
     {
         self.submissions
     }
 
-    /// How many calls of [`Ring::register`], [`Ring::register_tagged`], [`Ring::update`] and
-    /// [`Ring::update_tagged`] were accepted, at most 65,535.
+    /// Returns the number of accepted calls of [`Ring::register`], [`Ring::register_tagged`],
+    /// [`Ring::update`] and [`Ring::update_tagged`], at most 65,535.
     pub fn registrations(&self) -> u32
         ensures { result ≡ (ring_of self.now).registrations }
     {
         self.registrations
     }
 
-    /// Ends the ring. The list has all files of its table, in order of mark (close(2) of the ring).
+    /// Ends the ring and closes its files. The list has all files of the table, in order of mark
+    /// (close(2) of the ring).
     ///
     /// # Errors
-    /// `NoMemory` where the memory of the list is refused. The ring comes back as it was.
+    /// `NoMemory` if the memory of the list is refused. The ring is returned as it was.
     pub fn tear_down(self, alloc: Global) -> Result<CloseList, (Ring, NoMemory)>
         ensures closes { IfOk result (λ closes. HasClosed (files_of (ring_of self)) closes) }
         ensures entries { IfOk result (λ closes. AreEntries (ring_of self) closes.files) }
@@ -120,8 +123,8 @@ impl Ring {
         Ok(closes)
     }
 
-    /// Drops every file of the ring, in no list. It is the way out after a fault, and can't run out
-    /// of memory (this project's own).
+    /// Ends the ring and drops its files without listing them. It is the way out after a fault, and
+    /// needs no memory (this project's own).
     pub fn abandon(self) {
         let Ring {
             catalogue: _,

@@ -1,4 +1,4 @@
-//! A slot of a settled table gets another file, or none, and the file that was there is closed.
+//! Updates of one slot of a settled table: the old file is closed.
 ghost use Rattle.std.specs.Prelude.{◌≡◌, ◌+◌, ◌<◌, ◌≤◌, ◌++◌, ℕ, true, length, Some, None};
 ghost use Rattle.std.specs.Option.{option_to_list};
 ghost use Rattle.fx_plain.specs.State.{IsSettled};
@@ -29,7 +29,7 @@ fn close_removed(table: &mut PlainTable, removed: Option<u32>, closes: &mut Clos
     }
 }
 
-/// Empties a slot.
+/// Empties a slot and closes its file.
 pub(crate) fn clear_slot(table: &mut PlainTable, slot: u32, closes: &mut CloseList)
     requires settled { IsSettled (state_of table.old) }
     requires slot { slot < (state_of table.old).size }
@@ -42,7 +42,7 @@ pub(crate) fn clear_slot(table: &mut PlainTable, slot: u32, closes: &mut CloseLi
     close_removed(table, removed, closes);
 }
 
-/// Puts a file at a slot, under a fresh number.
+/// Puts a file at a slot, under a fresh number, and closes the file that it replaces.
 pub(crate) fn fill_slot(
     table: &mut PlainTable,
     slot: u32,

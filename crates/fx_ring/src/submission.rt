@@ -1,4 +1,4 @@
-//! Submissions.
+//! Submissions, played by several workers on a table that is opened for each of them.
 ghost use Rattle.std.specs.Prelude.{◌≡◌, ◌<◌, ◌≤◌, ◌+◌, ℕ, length, All, map, IfSome, IfNone, IfOk, IfErr, OnErr, Err, IsOkUnless};
 ghost use Rattle.fx_plain.specs.State.{IsSettled};
 ghost use Rattle.fx_plain.specs.Contents.{state_of};
@@ -105,7 +105,7 @@ fn play<T: FileTable, R: Threads + Wait + Sync, G: Gate>(
     }
 }
 
-// Why a submission is refused, except when out of memory, where so many were accepted before.
+// Returns the reason to refuse a submission after `submissions` accepted ones, memory aside.
 pub(crate) fn refusal_behind(
     submissions: u32,
     requests: &[Request],
@@ -130,32 +130,31 @@ pub(crate) fn refusal_behind(
 }
 
 impl Ring {
-    /// Plays a submission on the ring's table (io_uring_enter(2)). Requests that are linked with
-    /// each other make a chain, whose members start one after another; a request that isn't linked
-    /// is a chain of its own. Each worker draws a chain, plays it and draws the next one, and every
-    /// chain is played once. Which table `T` the workers share, and how many they are, makes no
-    /// difference to what is said here; there are no more of them than chains.
+    /// Plays a submission on the ring's table (io_uring_enter(2)). Linked requests make a chain,
+    /// whose members start one after another. A request that isn't linked is a chain of its own.
+    /// Each worker draws a chain, plays it and draws the next one. The promises hold for every table
+    /// `T` and every number of workers. There are at most as many workers as chains.
     ///
-    /// The workers are threads where threads can be made, and else they work one after another,
-    /// with a report of which the same holds. One worker starts no thread. The gate is called in
-    /// front of each request that starts, and behind its completion.
+    /// The workers are threads. If no thread can be started, they work one after another, and the
+    /// same promises hold. One worker starts no thread. The gate is called before each request that
+    /// starts, and after its completion.
     ///
-    /// The report and the table afterwards are those of one history of a table of one thread, which
-    /// goes on from the files of the ring. The completions of each chain are explained by the steps
-    /// of its own members, in their order; there is one for each request, in order of place. The
-    /// closes are the files that the history closed, in order of mark, and all of them are of the
-    /// catalogue.
+    /// The report and the table afterwards are those of one legal history of a table of one thread,
+    /// which begins with the files of the ring. The completions of each chain are explained by the
+    /// steps of its own members, in their order. The report has one completion for each request, in
+    /// order of place. The closes are the files that the history closed, in order of mark. Each of
+    /// them is an entry of the catalogue.
     ///
-    /// The submission is counted, also where each of its requests fails. The catalogue, the size,
-    /// the range and the count of the registrations stay as they are.
+    /// The submission is counted even if each of its requests fails. The catalogue, the size, the
+    /// range and the number of registrations stay as they are.
     ///
     /// # Errors
-    /// In this order: `Workers` where there are not 1 to [`MAX_PASSES`], `Cut` with the first
-    /// request that has a fault ([`fx_chain::check`]), `TooMany` after [`MOST_SUBMISSIONS`]
-    /// accepted submissions, and `NoMemory` where memory is refused. Then the ring has the files,
-    /// the size, the range and the counts that it had. That no request has started is tested.
-    /// Memory for the bytes of a read is taken while it is played: where that is refused, the read
-    /// completes with ENOMEM.
+    /// In this order: `Workers` if the number of workers is not from 1 to [`MAX_PASSES`], `Cut` with
+    /// the first request that has a fault ([`fx_chain::check`]), `TooMany` after
+    /// [`MOST_SUBMISSIONS`] accepted submissions, and `NoMemory` if memory is refused. The ring then
+    /// has the files, size, range and counts that it had. A test checks that no request has started.
+    /// The memory for the bytes of a read is allocated while the read is played. If it is refused,
+    /// the read completes with ENOMEM.
     pub fn submit<T: FileTable, G: Gate>(
         &mut self,
         rt: &(impl Threads + Wait + Sync),

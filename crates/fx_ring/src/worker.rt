@@ -1,3 +1,4 @@
+//! The workers of a submission, each with a pass of the shared table.
 ghost use Rattle.std.specs.Prelude.{◌≡◌, ℕ, ◌<◌, ◌≤◌, length, map, All};
 ghost use Rattle.fx_chain.specs.Accepted.{IsChain, IsShortRun, members_of};
 ghost use Rattle.fx_chain.specs.Operation.{all_asked};
@@ -15,16 +16,16 @@ use std::sync::Wait;
 use std::thread;
 use std::thread::Threads;
 
-/// A pass of a shared table, with what its chains came to. It is no `Drop`, as the pass is none.
-/// What is used of two workers that lie side by side in a list is 64 bytes apart, so that threads
-/// that have one each share no cache line.
+/// A pass of a shared table with the outcome of its chains. It must be consumed, as the pass must.
+/// The used parts of two neighbors in a list are 64 bytes apart, so that two threads share no cache
+/// line.
 pub(crate) struct Worker<P> {
     pub(crate) pass: P,
     pub(crate) outcome: Outcome,
     pub(crate) spacing: Spacing,
 }
 
-// What keeps a worker away from the next one.
+// The padding between a worker and the next one.
 #[derive(Drop)]
 pub(crate) struct Spacing {
     unused: [u64; 8],
@@ -43,7 +44,7 @@ impl<P> Worker<P> {
     }
 }
 
-// The members of a chain, the first of which is 1.
+// Returns the members of chain number `chain`, counted from 1.
 pub(crate) fn members_of_chain<'a>(
     requests: &'a [Request],
     chains: &[Chain],
@@ -114,7 +115,7 @@ fn work_all<T: FileTable, R: Threads + Wait + Sync, G: Gate>(
     );
 }
 
-/// The workers of a submission play its chains.
+/// Plays the chains of a submission on its workers.
 pub(crate) fn work_crew<T: FileTable, R: Threads + Wait + Sync, G: Gate>(
     play: &Play<'_, T, R, G>,
     crew: &mut Vec<Worker<T::Pass>>,
