@@ -1,4 +1,4 @@
-//! Opens files at any slot until none is free.
+//! Opens files at any slot until no slot is free.
 ghost use Rattle.std.specs.Prelude.{◌<◌, length};
 ghost use Rattle.fx_table.specs.Pass.{IsIdle};
 
@@ -6,8 +6,8 @@ use fx_base::{Catalogue, Mark};
 use fx_table::FileTable;
 use std::sync::Wait;
 
-/// Opens the first file of the catalogue at any slot, as often as a chain may install one, and gives how often that went: the
-/// open behind these found every slot of the range full (`ENFILE`).
+/// Opens entry 0 of the catalogue at any slot, until every slot of the range is full (`ENFILE`) or the chain has no number for a
+/// new file left. Returns the number of files that were installed: 0 if there is no chain left.
 pub fn open_until_full<T: FileTable, R: Wait>(
     rt: &R,
     catalogue: &Catalogue,

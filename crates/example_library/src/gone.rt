@@ -1,5 +1,5 @@
-//! Learns by a tag that a file is gone. One thread reads the file that it holds, and another one replaces it meanwhile: the
-//! reader is the last user, so the reader closes it, and then its tag is told.
+//! Learns by a tag that a file is closed. One thread reads the file that it holds, and another thread replaces the file meanwhile.
+//! The reader is the last user, so the reader closes the file, and its list of closes returns the tag.
 ghost use Rattle.std.specs.Prelude.{◌<◌, length};
 ghost use Rattle.std.specs.Thread.{IsSync};
 ghost use Rattle.fx_table.specs.Opening.{size_of};
@@ -13,14 +13,14 @@ use std::alloc::Global;
 use std::sync::Wait;
 use std::thread::{Threads, join_mut};
 
-/// What the reader read, and what its release and the writer's update handed out to be closed.
+/// The bytes that the reader read, and the files that its release and the writer's update returned, to be closed.
 pub struct Gone {
     pub bytes: Result<Vec<u8>, NoMemory>,
     pub released: Option<OpenFile>,
     pub retired: Option<OpenFile>,
 }
 
-/// Reads the file at slot 0 by one thread, and replaces it by another one. `None` where the slot is empty.
+/// Reads the file at slot 0 in one thread, and replaces it in another. Returns `None` if the slot is empty.
 pub fn read_while_replaced<T: FileTable, R: Threads + Wait + Sync>(
     rt: &R,
     alloc: Global,

@@ -1,4 +1,4 @@
-//! Replaces a file again and again while another thread reads it.
+//! Replaces a file 1,000 times while another thread reads it.
 ghost use Rattle.std.specs.Prelude.{◌<◌, ◌≡◌, All, length};
 ghost use Rattle.fx_table.specs.Opening.{size_of};
 ghost use Rattle.fx_table.specs.Pass.{IsIdle};
@@ -11,7 +11,7 @@ use std::sync::atomic::AtomicU32;
 use std::thread;
 use std::thread::Threads;
 
-/// Each of two passes works in a thread of its own.
+/// Runs each of two passes in a thread of its own, and adds the files that came out to `closed`.
 pub fn replace_under_load<T: FileTable, R: Threads + Wait + Sync>(
     rt: &R,
     catalogue: &Catalogue,

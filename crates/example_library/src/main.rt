@@ -1,4 +1,6 @@
-//! The table as a library: three things that a server does with it, each in a file of its own.
+//! Shares a table between two threads, and does three things that a server does, each in a file of its own: it learns that a
+//! file is closed (`gone.rt`), opens files until the table is full (`full.rt`) and replaces a file under load (`load.rt`). A
+//! smaller program is `example_first`. Begin with `replace.rt`.
 #![tactic(auto)]
 
 ghost use Rattle.std.specs.Prelude.{◌≡◌, ◌<◌, All, IfOk, length};
@@ -24,21 +26,21 @@ use std::sync::Wait;
 use std::sync::atomic::{AtomicU32, Ordering};
 use std::thread::Threads;
 
-// The tag of the file that is there at first.
+// The tag of the first file at slot 0.
 const TAG: u64 = 7;
 
-// How many chains there are: each gives its pass numbers for 64 new files.
+// The number of chains. Each gives its pass numbers for 64 new files.
 const CHAINS: u32 = 20;
 
-// What came of it: the file that was replaced while it was held, how many opens found a slot, and how many files were closed
-// under load.
+// The results: the file that was replaced while it was held, the number of opens that found a slot, and the number of files that
+// were closed under load.
 struct Served {
     gone: Option<Gone>,
     opened: u32,
     closed: u32,
 }
 
-// A table of one file that two threads share, each by a pass.
+// Makes a table of one file that two threads share, each by a pass.
 fn shared_table<T: FileTable>(
     alloc: Global,
     catalogue: &Catalogue,
@@ -60,7 +62,7 @@ fn shared_table<T: FileTable>(
     }
 }
 
-// The file is read while it is replaced, and then files are opened until the table is full.
+// Reads the file while it is replaced, and then opens files until the table is full.
 fn serve_by_name<T: FileTable, R: Threads + Wait + Sync>(
     rt: &R,
     alloc: Global,
@@ -69,7 +71,7 @@ fn serve_by_name<T: FileTable, R: Threads + Wait + Sync>(
     requires { 1 < length catalogue.now }
 {
     let (table, mut passes) = shared_table::<T>(alloc, catalogue)?;
-    // Passes that are used by name leave the list, and go back into it: the table is closed with all of them.
+    // A pass that is used by name leaves the list and returns to it, since the table is closed with all passes.
     let Some(mut reader) = passes.pop() else {
         unreachable!()
     };
@@ -84,7 +86,7 @@ fn serve_by_name<T: FileTable, R: Threads + Wait + Sync>(
     Ok((gone, opened))
 }
 
-// The file is replaced under load. How many files were closed.
+// Replaces the file under load. Returns the number of closed files.
 fn serve_under_load<T: FileTable, R: Threads + Wait + Sync>(
     rt: &R,
     alloc: Global,
@@ -99,7 +101,7 @@ fn serve_under_load<T: FileTable, R: Threads + Wait + Sync>(
     Ok(closed.load(Ordering::SeqCst))
 }
 
-// Two threads share a table, and do the three things with it, the last one with a table of its own.
+// Does the three things, the last one with a table of its own.
 fn serve<T: FileTable, R: Threads + Wait + Sync>(
     rt: &R,
     alloc: Global,
@@ -148,13 +150,13 @@ fn main(rt: HostRuntime) -> Result<(), Fault> {
         bytes?.len()
     );
     let _ = println!(rt; "files closed by the writer: {writer}, by the reader: {reader}");
-    for told in &by_reader.tags(alloc)? {
+    for tag in &by_reader.tags(alloc)? {
         let _ = println!(rt;
-            "told by the reader: the file with tag {} is gone",
-            told.user_data
+            "reported by the reader: the file with tag {} is closed",
+            tag.user_data
         );
     }
-    let _ = println!(rt; "files opened at any slot until none was free: {opened}");
+    let _ = println!(rt; "files opened at any slot until no slot was free: {opened}");
     let _ = println!(rt; "files that were replaced and closed under load: {closed}");
     Ok(())
 }

@@ -7,8 +7,9 @@ use fx_base::{Catalogue, Mark, OpenFile};
 use fx_table::FileTable;
 use std::sync::Wait;
 
-/// Puts the second file of the catalogue at slot 0. What comes out is to be closed now: the file that was there, if nobody
-/// holds it. `None` too where there are no more chains, whose numbers new files get, or where they have none.
+/// Puts entry 1 of the catalogue at slot 0. Returns the old file, to be closed, if nobody holds it. Returns `None` if it is
+/// still held, or if slot 0 was empty. Returns `None` and replaces nothing if the pass has no number for a new file and can't
+/// draw one.
 pub fn replace<T: FileTable, R: Wait>(
     rt: &R,
     catalogue: &Catalogue,

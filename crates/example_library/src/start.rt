@@ -1,4 +1,4 @@
-//! What the examples begin with: a catalogue of two files, a table with one of them, and a read.
+//! The start of each example: a catalogue of two files, a table with one of them, and a read.
 ghost use Rattle.std.specs.Prelude.{◌≡◌, ◌<◌, IfOk, length};
 ghost use Rattle.fx_plain.specs.State.{IsSettled};
 ghost use Rattle.fx_plain.specs.Contents.{state_of};
@@ -7,12 +7,12 @@ use fx_base::{AddFault, Catalogue, Mark, NoMemory};
 use fx_plain::PlainTable;
 use std::alloc::Global;
 
-/// Why the program ends early.
+/// The reason why the program ends early.
 #[derive(Clone, Copy, Debug, PartialEq, Eq)]
 pub enum Fault {
     /// A file was not added to the catalogue.
     Add(AddFault),
-    /// There was no memory.
+    /// Memory was refused.
     Memory(NoMemory),
 }
 
@@ -28,7 +28,7 @@ impl From<NoMemory> for Fault {
     }
 }
 
-/// A catalogue of two files: the first one has five bytes.
+/// Makes a catalogue of two files. The first has five bytes, the second none.
 pub fn two_files(alloc: Global) -> Result<Catalogue, AddFault>
     ensures { IfOk result (λ catalogue. length catalogue ≡ 2) }
 {
@@ -40,7 +40,7 @@ pub fn two_files(alloc: Global) -> Result<Catalogue, AddFault>
     Ok(catalogue)
 }
 
-/// A table of four slots, with the first file of the catalogue, under a tag, at slot 0.
+/// Makes a table of four slots, with entry 0 of the catalogue at slot 0, under a tag.
 pub fn one_file(alloc: Global, catalogue: &Catalogue, tag: u64) -> Result<PlainTable, NoMemory>
     requires { 0 < length catalogue.now }
     ensures settled { IfOk result (λ plain. IsSettled (state_of plain)) }
@@ -55,7 +55,7 @@ pub fn one_file(alloc: Global, catalogue: &Catalogue, tag: u64) -> Result<PlainT
     Ok(plain)
 }
 
-/// The first five bytes of an entry.
+/// Returns the first five bytes of an entry, or fewer if the entry is shorter.
 pub fn read(alloc: Global, catalogue: &Catalogue, entry: u8) -> Result<Vec<u8>, NoMemory> {
     let mut bytes = Vec::with_capacity(alloc, 5)?;
     catalogue.read_into(entry, 0, 5, &mut bytes);

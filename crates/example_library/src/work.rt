@@ -1,4 +1,4 @@
-//! What a thread does with the table under load.
+//! The work of one thread under load: it replaces the file or reads it.
 ghost use Rattle.std.specs.Prelude.{◌<◌, length};
 ghost use Rattle.fx_table.specs.Opening.{size_of};
 ghost use Rattle.fx_table.specs.Pass.{IsIdle};
@@ -9,10 +9,10 @@ use fx_table::FileTable;
 use std::sync::Wait;
 use std::sync::atomic::{AtomicU32, Ordering};
 
-// How often a thread replaces the file, or reads it.
+// The number of times that a thread replaces the file, or reads it.
 const TIMES: u32 = 1000;
 
-// Looks the file at slot 0 up, and releases it. It comes out, to be closed, if it was replaced and this was its last user.
+// Looks the file at slot 0 up, and releases it. Returns the file, to be closed, if it was replaced and this was its last user.
 fn visit<T: FileTable, R: Wait>(rt: &R, table: &T, pass: &mut T::Pass) -> Option<OpenFile>
     requires ready { T.fits table.now pass.old × IsIdle (T.view pass.old) }
     requires slot { 0 < size_of (T.opening table.now) }
@@ -24,8 +24,8 @@ fn visit<T: FileTable, R: Wait>(rt: &R, table: &T, pass: &mut T::Pass) -> Option
     table.release(rt, pass, hold)
 }
 
-/// The first thread replaces the file again and again, and the others read it. Each discards what comes out, where a server
-/// would close it, and counts it.
+/// Replaces the file 1,000 times in the first thread, and reads it 1,000 times in any other. Discards the files that come out,
+/// which a server would close, and adds their number to `closed`.
 pub fn work<T: FileTable, R: Wait>(
     rt: &R,
     catalogue: &Catalogue,

@@ -1,12 +1,13 @@
+//! The reasons why the server ends early.
 use fx_base::{AddFault, NoMemory};
 use std::alloc::AllocError;
 
-/// Why the server ends early.
+/// The reason why the server ends early.
 #[derive(Clone, Copy, Debug)]
 pub enum Fault {
     /// A file was not added to the catalogue.
     Add(AddFault),
-    /// There was no memory.
+    /// Memory was refused.
     NoMemory,
 }
 

@@ -1,16 +1,16 @@
-//! The clients: they put requests into the queue, and wait where it is full.
+//! The clients: they put requests into the queue, and wait while it is full.
 use crate::desk::Job;
 use crate::rounds::SLOTS;
 use crossbeam_channel::Sender;
 use std::sync::Wait;
 
-// More replacements than one opening of a table has numbers for, which are 65,472.
+// The number of replacements, more than the 65,472 new files that one opening of a table supports.
 const REPLACEMENTS: u32 = 70_000;
 
-// A read stands behind so many replacements.
+// One read follows this number of replacements.
 const REPLACEMENTS_PER_READ: u32 = 7;
 
-/// Sends all requests, and closes the queue behind the last one.
+/// Sends all requests, and closes the queue after the last one.
 pub fn feed<R: Wait>(rt: &R, clients: &mut Option<Sender<Job>>) {
     let Some(queue) = clients.take() else {
         return;

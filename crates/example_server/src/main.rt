@@ -1,5 +1,6 @@
-//! A server over the lock-free table: requests come in through a bounded queue, and four threads serve them, each by a pass of its own.
-//! When a table has given out all its numbers for new files, it is closed and opened again.
+//! A server over the lock-free table. Requests arrive in a bounded queue, and four threads serve them, each by a pass of its own.
+//! When a table has no number for a new file left, it is closed and opened again. Begin with `serve.rt`, the work of a thread, and
+//! `rounds.rt`, the life of the table.
 #![tactic(auto)]
 
 ghost use Rattle.std.specs.Prelude.{◌≡◌, IfOk, length};
@@ -22,10 +23,10 @@ use std::alloc::Global;
 use std::sync::Wait;
 use std::thread::{Threads, join_mut};
 
-// How many requests wait in the queue at most.
+// The most requests that wait in the queue.
 const WAITING: usize = 64;
 
-// Two files that are opened in turn.
+// Makes a catalogue of two files, which are opened in turn.
 fn two_files(alloc: Global) -> Result<Catalogue, AddFault>
     ensures { IfOk result (λ catalogue. length catalogue ≡ 2) }
 {
@@ -37,7 +38,7 @@ fn two_files(alloc: Global) -> Result<Catalogue, AddFault>
     Ok(catalogue)
 }
 
-// The clients ask, and the server answers beside them. How often the table was opened.
+// Runs the clients and the server beside each other. Returns the number of openings of the table.
 fn serve_clients<R: Threads + Wait + Sync>(
     rt: &R,
     alloc: Global,
@@ -64,9 +65,9 @@ fn main(rt: HostRuntime) -> Result<(), Fault> {
     let _ = println!(&rt; "requests served: {}", desk.served());
     let _ = println!(&rt; "openings of the table: {openings}");
     let _ = println!(&rt;
-        "files closed: {}, and told by their tags: {}",
+        "files closed: {}, reported by their tags: {}",
         desk.closed(),
-        desk.told()
+        desk.reported()
     );
     Ok(())
 }

@@ -1,4 +1,4 @@
-//! The table's life: opened, served by four threads, closed, and opened again as long as there are requests.
+//! The life of the table: it is opened, served by four threads and closed, as long as there are requests.
 ghost use Rattle.std.specs.Prelude.{All, IfOk};
 ghost use Rattle.fx_plain.specs.State.{IsSettled};
 ghost use Rattle.fx_plain.specs.Contents.{state_of};
@@ -14,16 +14,16 @@ use std::sync::Wait;
 use std::thread;
 use std::thread::Threads;
 
-/// How many slots the table has.
+/// The number of slots of the table.
 pub const SLOTS: u32 = 4;
 
-/// How many threads serve, each by a pass.
+/// The number of threads that serve, each by a pass.
 pub const PASSES: u32 = 4;
 
-// How many chains an opening has: each gives its pass numbers for 64 new files.
+// The number of chains of an opening. Each gives its pass numbers for 64 new files.
 const CHAINS: u32 = 1_023;
 
-// Each of the passes serves in a thread of its own, until all are done or worn out.
+// Serves by each pass in a thread of its own, until all are done or worn out.
 fn serve_by_threads<T: FileTable, R: Threads + Wait + Sync>(
     rt: &R,
     alloc: Global,
@@ -67,7 +67,7 @@ fn round<T: FileTable, R: Threads + Wait + Sync>(
     }
 }
 
-// Closes the files that are left.
+// Closes the files that are left, and spends the table.
 fn end(alloc: Global, desk: &Desk<'_>, plain: PlainTable) -> Result<(), NoMemory>
     requires { IsSettled (state_of plain) }
 {
@@ -76,7 +76,7 @@ fn end(alloc: Global, desk: &Desk<'_>, plain: PlainTable) -> Result<(), NoMemory
         Ok(mut closes) => {
             plain.empty_into(&mut closes);
             plain.dismiss();
-            desk.tell(&closes);
+            desk.report(&closes);
             Ok(())
         }
         Err(refused) => {
@@ -86,10 +86,10 @@ fn end(alloc: Global, desk: &Desk<'_>, plain: PlainTable) -> Result<(), NoMemory
     }
 }
 
-/// Serves until there are no more requests. How often the table was opened.
+/// Serves until there are no more requests. Returns the number of openings of the table.
 ///
 /// # Errors
-/// Where there is no memory for a table; its files are given up then, in no list.
+/// `NoMemory` if the memory of a table or of its last closes is refused. The files are then dropped without listing them.
 pub fn serve_all<T: FileTable, R: Threads + Wait + Sync>(
     rt: &R,
     alloc: Global,

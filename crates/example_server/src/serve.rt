@@ -1,4 +1,4 @@
-//! What a thread of the server does with its pass.
+//! The work of one thread of the server, by its pass.
 ghost use Rattle.fx_table.specs.Pass.{IsIdle};
 
 use crate::desk::{Desk, Job};
@@ -7,21 +7,21 @@ use fx_table::{FileTable, LookFault};
 use std::alloc::Global;
 use std::sync::Wait;
 
-// For how many closed files a thread has room before it tells their tags.
+// The number of closed files after which a thread reports their tags.
 const ROOM: u32 = 64;
 
-// How many bytes a client reads.
+// The number of bytes that a client reads.
 const LENGTH: u32 = 5;
 
-/// What came of a request.
+/// The result of a request.
 enum Outcome {
-    /// It was answered, and this file is to be closed by whoever served it.
+    /// It was served, and the thread that served it closes this file.
     Answered(Option<OpenFile>),
-    /// The pass has no number for a new file any more, or no look-up.
+    /// The pass has no number for a new file left, or no look-up.
     WornOut,
 }
 
-// Reads the first bytes of the file at a slot. Its last user gets it to be closed.
+// Reads the first bytes of the file at a slot. Its last user gets the file, to be closed.
 fn read<T: FileTable, R: Wait>(
     rt: &R,
     alloc: Global,
@@ -50,7 +50,7 @@ fn read<T: FileTable, R: Wait>(
     }
 }
 
-// Puts a file at a slot. The file that was there is to be closed here, if nobody reads it any more.
+// Puts a file at a slot. The outcome has the old file, to be closed, if nobody reads it.
 fn replace<T: FileTable, R: Wait>(
     rt: &R,
     desk: &Desk<'_>,
@@ -81,7 +81,7 @@ fn replace<T: FileTable, R: Wait>(
     }
 }
 
-// Does what a client asks for.
+// Serves a request.
 fn answer<T: FileTable, R: Wait>(
     rt: &R,
     alloc: Global,
@@ -99,8 +99,8 @@ fn answer<T: FileTable, R: Wait>(
     }
 }
 
-/// Serves requests until there are none any more, or one finds the pass worn out: that one is put aside. The thread closes what its
-/// own requests hand out, into a list of its own.
+/// Serves requests until there are no more, or until the pass is worn out: the last request is then put aside. The thread closes
+/// the files that its requests return, into a list of its own.
 pub fn serve<T: FileTable, R: Wait>(
     rt: &R,
     alloc: Global,
@@ -116,7 +116,7 @@ pub fn serve<T: FileTable, R: Wait>(
     };
     for _ in rt.forever() {
         if closes.room() == 0 {
-            desk.tell(&closes);
+            desk.report(&closes);
             let Ok(empty) = CloseList::with_room(alloc, ROOM) else {
                 return;
             };
@@ -138,5 +138,5 @@ pub fn serve<T: FileTable, R: Wait>(
             }
         }
     }
-    desk.tell(&closes);
+    desk.report(&closes);
 }
