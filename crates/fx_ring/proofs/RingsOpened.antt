@@ -3,7 +3,7 @@ use Rattle.fx_ring.proofs.Words.{◌≡◌, ℕ, ◌+◌, ◌<◌, ◌≤◌, Li
 use Rattle.fx_ring.proofs.Words.{Contents, state_of, identity_of, Opening, state_at, PassView, IsIdle, new_pass, new_passes, slice_index_or, Asked}
 use Rattle.fx_ring.proofs.Words.{Reported, IsOneHistory, AreEntries, MOST_SUBMISSIONS, ClosesTable, IsRing, IsAtRest, ring_of, ring_with, slice_set}
 use Rattle.fx_ring.proofs.Words.{same_size, MOST_SLOTS, MAX_CHAINS, IsOpenedFor, HasSameFiles, start_of, IsSettledSoFar, contains_none, same_identity}
-use Rattle.fx_ring.proofs.Words.{ring_led_by, ring_shown, IsKeptOpen, IsAloneAt}
+use Rattle.fx_ring.proofs.Words.{ring_led_by, ring_shown, IsKeptOpen, IsAloneAt, ◌*◌, MOST_MEMBERS}
 use Rattle.fx_ring.proofs.SubmittedRing.{submitted_at_rest, submitted_entries}
 use Rattle.fx_ring.proofs.LoneHistories.{at_rest_of}
 use Rattle.fx_ring.proofs.TableOfState.{told_at, size_there, table_settled}
@@ -94,14 +94,26 @@ module _ {P : Type 0} (V : P → PassView) (Fits : P → Type 0) (catalogue : Li
               few_given = omega (arith, none);
               few_chains = few_chains;
               installs = opened.numbers.0;
+              looks = let all = ap (λ (v : PassView). v.looks_left) is in omega (arith, all);
             },
             assumption (table_settled (state_at o (V p).own), subst IsRing (sym same) was.ring, was),
           ),
         )
 
+  -- the chains that are left have a look-up for each of their members
+  pub looks_suffice : {old : P} (count : ℕ) {asked : ℕ} → drawn + count ≤ chains → asked ≤ count * MOST_MEMBERS → (items : List P)
+      → IsKeptOpen V Fits catalogue o size chains drawn most submissions registrations items
+      → old ≡ slice_index_or items 0 old → asked ≤ (V old).looks_left
+  looks_suffice count few short [] kept first = absurd kept
+  looks_suffice count few short (p ∷ others) (alone, at, room, rest) first =
+      let same = ap (λ (z : P). (V z).looks_left) first in
+      let looks = room.looks in
+      let few_chains = room.few_chains in omega (arith, same, looks, few_chains, few, short)
+
   -- behind a submission of the pass
   module _ {old pass : P} (count : ℕ) {requests : List Asked} {report : Reported} (after : IsAloneAt V Fits o pass) (few : drawn + count ≤ chains)
       (few_submissions : submissions < MOST_SUBMISSIONS) (chain : (V pass).chain ≡ (V old).chain + count)
+      (looked : (V old).looks_left ≤ (V pass).looks_left + count * MOST_MEMBERS)
       (one : IsOneHistory (ring_led_by catalogue o (V old) submissions registrations) requests report
       (ring_led_by catalogue o (V pass) (submissions + 1) registrations)) where
     pub kept_behind : (items : List P) → IsKeptOpen V Fits catalogue o size chains drawn most submissions registrations items
@@ -122,6 +134,7 @@ module _ {P : Type 0} (V : P → PassView) (Fits : P → Type 0) (catalogue : Li
               few_given = few;
               few_chains = room.few_chains;
               installs = room.installs;
+              looks = let looks = room.looks in let same = ap (λ (z : P). (V z).looks_left) first in omega (arith, looks, looked, same);
             },
             submitted_at_rest was one (table_settled (state_at o (V pass).own)) few_submissions,
           ),

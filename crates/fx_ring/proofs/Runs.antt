@@ -40,6 +40,14 @@ chains_install asked chains {most} members all = each_all (λ chain. all_install
     (λ chain h. All-contains (λ run. all_installs run ≤ most) (runs_of asked) (members_of asked chain) all
     (subst (λ (l : List (List Asked)). Contains l (members_of asked chain)) members (contains_mapped (members_of asked) chains chain h)))
 
+-- what no chain installs more than, no run does
+pub runs_install : (asked : List Asked) (chains : List Chain) {most more : ℕ} → map (members_of asked) chains ≡ runs_of asked
+    → InstallAtMost asked most chains → most ≤ more → All (λ run. all_installs run ≤ more) (runs_of asked)
+runs_install asked chains {most} {more} members each le = subst (All (λ run. all_installs run ≤ more)) members
+    (All-map (λ run. all_installs run ≤ more) (members_of asked) chains
+    (All-weaker (λ chain. all_installs (members_of asked chain) ≤ most) (λ chain. all_installs (members_of asked chain) ≤ more)
+    (λ chain few. omega (arith, few, le)) chains each))
+
 -- the runs of chains within the limits are short
 pub runs_within : {requests : List Asked} (chains : List Chain) → map (members_of requests) chains ≡ runs_of requests
     → All (IsChain requests) chains → All IsShortRun (runs_of requests)

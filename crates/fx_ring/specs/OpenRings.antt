@@ -13,7 +13,7 @@ use Rattle.fx_plain.specs.declared.event.Event.{Event}
 use Rattle.fx_plain.specs.declared.node.Node.{Node}
 use Rattle.fx_plain.specs.declared.node.Node.TheVariants.{At, Gone}
 use Rattle.fx_plain.specs.declared.table.TheConstants.{MOST_SLOTS}
-use Rattle.fx_table.specs.declared.limits.TheConstants.{MAX_CHAINS}
+use Rattle.fx_table.specs.declared.limits.TheConstants.{MAX_CHAINS, PASS_LOOKS}
 use Rattle.fx_table.specs.Opening.{Opening, size_of, state_at}
 use Rattle.fx_table.specs.Pass.{PassView, IsIdle, new_pass}
 use Rattle.fx_table.specs.Settling.{IsSettledSoFar}
@@ -22,6 +22,7 @@ use Rattle.fx_chain.specs.Completed.{Completed}
 use Rattle.fx_chain.specs.Operation.{Asked}
 use Rattle.fx_chain.specs.Runs.{runs_of}
 use Rattle.fx_chain.specs.Weights.{all_installs}
+use Rattle.fx_chain.specs.declared.fault.TheConstants.{MOST_MEMBERS}
 use Rattle.fx_ring.specs.Ring.{RingContents, HasClosed, IsAtRest, ring_with}
 use Rattle.fx_ring.specs.Submission.{IsOneHistory}
 use Rattle.fx_ring.specs.Work.{HasWorked, requests_behind, worker_state}
@@ -57,25 +58,21 @@ ring_led_by catalogue o v submissions registrations =
 -- what callers know of a ring whose table is open: the ring, and for what its table has room
 pub record OpenRingContents : Type 0 where
   pub ring : RingContents
-  -- how many chains it can play yet, how many files each of them may install, and how often it can
-  -- be looked up yet
+  -- the number of chains that it can still play, and the most files that each of them may install
   pub chains_left : ℕ
   pub most : ℕ
-  pub looks_left : ℕ
 
--- there is room for the requests: a chain for each of their runs, none of which installs more files
--- than a chain may, and a look-up for each request
+-- the open table has a chain for each run of the requests, and no run installs more files than a
+-- chain may
 pub record IsRoomFor (requests : List Asked) (opened : OpenRingContents) : Type 0 where
   pub chains : length (runs_of requests) ≤ opened.chains_left
   pub installs : All (λ run. all_installs run ≤ opened.most) (runs_of requests)
-  pub looks : length requests ≤ opened.looks_left
 
--- a chain less for each run of the requests, and at most a look-up less for each request
+-- each run of the requests uses one chain
 pub record HasUsed (old : OpenRingContents) (requests : List Asked) (new : OpenRingContents)
     : Type 0 where
   pub chains : new.chains_left + length (runs_of requests) ≡ old.chains_left
   pub most : new.most ≡ old.most
-  pub looks : old.looks_left ≤ new.looks_left + length requests
 
 -- an event, with the chains counted from another one on
 abbrev pub chain_less : ℕ → Event → Event
@@ -120,8 +117,8 @@ pub record IsAloneAt {P : Type 0} (V : P → PassView) (Fits : P → Type 0) (o 
   pub more : (V pass).no_chains_left ≡ false
   pub settled : IsSettledSoFar o (V pass)
 
--- what is kept beside an open table: how many slots it has, for how many chains it was opened, how
--- many of them were drawn, and how many files each may install
+-- what is kept beside an open table: its number of slots, the chains that it was opened for, how
+-- many of them were drawn, and the most files that each may install
 pub record HasRoomLeft (o : Opening) (v : PassView) (size chains drawn most : ℕ) : Type 0 where
   pub slots : size ≡ size_of o
   pub all : chains ≡ o.chains
@@ -129,6 +126,8 @@ pub record HasRoomLeft (o : Opening) (v : PassView) (size chains drawn most : �
   pub few_given : drawn ≤ chains
   pub few_chains : chains ≤ MAX_CHAINS
   pub installs : most ≤ o.numbers
+  -- the pass has used at most one look-up for each member of a drawn chain, so it never lacks one
+  pub looks : PASS_LOOKS ≤ v.looks_left + drawn * MOST_MEMBERS
 
 -- a ring with a list of passes, of which one is meant
 abbrev pub ring_shown : {P : Type 0} → (P → PassView) → List FileEntry → Opening → ℕ → ℕ → List P
@@ -137,11 +136,6 @@ ring_shown V catalogue o submissions registrations [] =
     ring_led_by catalogue o (new_pass 1) submissions registrations
 ring_shown V catalogue o submissions registrations (pass ∷ others) =
     ring_led_by catalogue o (V pass) submissions registrations
-
--- how often the pass that is meant can look up yet
-abbrev pub looks_shown : {P : Type 0} → (P → PassView) → List P → ℕ
-looks_shown V [] = 0
-looks_shown V (pass ∷ others) = (V pass).looks_left
 
 -- what a ring with an open table keeps
 abbrev pub IsKeptOpen : {P : Type 0} → (P → PassView) → (P → Type 0) → List FileEntry → Opening

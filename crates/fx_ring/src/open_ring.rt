@@ -1,7 +1,7 @@
-//! A ring whose table stays open from one submission to the next, for one worker.
+//! Rings whose table stays open from one submission to the next, for one worker.
 ghost use Rattle.std.specs.Prelude.{IfOk, IfErr, IfSome, IfNone, OnErr, Err, IsOkUnless, MatchOption, ◌≡◌, ◌+◌, ◌≤◌, ℕ, false, length, map, All};
 ghost use Rattle.fx_table.specs.Pass.{IsIdle};
-ghost use Rattle.fx_table.specs.declared.limits.TheConstants.{CHAIN_NUMBERS, MAX_CHAINS, PASS_LOOKS};
+ghost use Rattle.fx_table.specs.declared.limits.TheConstants.{CHAIN_NUMBERS, MAX_CHAINS};
 ghost use Rattle.fx_chain.specs.Accepted.{IsChain, members_of};
 ghost use Rattle.fx_chain.specs.Completed.{all_completed};
 ghost use Rattle.fx_chain.specs.Operation.{all_asked};
@@ -27,18 +27,18 @@ use std::alloc::Global;
 use std::marker::Model;
 use std::sync::Wait;
 
-/// A ring whose table is open for one worker, and stays so from one submission to the next: none of them opens or closes it.
-/// It is no `Drop`, as a ring is none.
+/// A ring whose table stays open for one worker, so that no submission opens or closes it. [`Ring::open`] makes one. It must
+/// be consumed: the compiler rejects a program that drops it without [`OpenRing::close`], which returns the ring.
 ///
-/// Contracts see the ring, and for what its table has room yet: so many chains, each of which may install so many files, and
-/// so many look-ups.
+/// Contracts see the ring, the number of chains that the table can still play, and the most files that each of them may
+/// install.
 pub struct OpenRing<T: FileTable> {
     catalogue: Catalogue,
     table: T,
     // The only pass.
     passes: Vec<T::Pass>,
     size: u32,
-    // For how many chains it was opened, how many of them were drawn, and how many files each may install.
+    // The number of chains that it was opened for, those that were drawn, and the most files that each may install.
     chains: u32,
     drawn: u32,
     most: u32,
@@ -48,7 +48,7 @@ pub struct OpenRing<T: FileTable> {
 
 impl<T: FileTable> Model for OpenRing<T> {
     ghost use Rattle.std.specs.Prelude.{◌-◌};
-    ghost use Rattle.fx_ring.specs.OpenRings.{OpenRingContents, ring_shown, looks_shown, IsKeptOpen};
+    ghost use Rattle.fx_ring.specs.OpenRings.{OpenRingContents, ring_shown, IsKeptOpen};
 
     ghost Value = { OpenRingContents };
 
@@ -57,7 +57,6 @@ impl<T: FileTable> Model for OpenRing<T> {
           s.passes.items;
       chains_left = s.chains - s.drawn;
       most = s.most;
-      looks_left = looks_shown T.view s.passes.items;
     } };
 
     ghost invariant = { λ s. IsKeptOpen T.view (T.fits s.table) s.catalogue (T.opening s.table) s.size
@@ -65,11 +64,12 @@ impl<T: FileTable> Model for OpenRing<T> {
 }
 
 impl Ring {
-    /// Opens the ring's table for one worker, for so many chains, at most [`fx_table::MAX_CHAINS`], of which none installs
-    /// more than `most` files, at most [`fx_table::CHAIN_NUMBERS`]. It may renumber files (this project's own).
+    /// Opens the ring's table for one worker and for `chains` chains, at most [`fx_table::MAX_CHAINS`]. Each of them may
+    /// install at most `most` files, and `most` is at most [`fx_table::CHAIN_NUMBERS`]. Contracts see the same ring, whose
+    /// files may have other numbers (this project's own).
     ///
     /// # Errors
-    /// `NoMemory` where memory is refused. The ring comes back with its files.
+    /// `NoMemory` if memory is refused. The ring is returned with its files.
     pub fn open<T: FileTable>(
         self,
         alloc: Global,
@@ -81,7 +81,6 @@ impl Ring {
         ensures opened { IfOk result (λ opened. ring_of opened.ring ≡ ring_of self) }
         ensures chains_left { IfOk result (λ opened. opened.chains_left ≡ chains) }
         ensures each { IfOk result (λ opened. opened.most ≡ most) }
-        ensures looks_left { IfOk result (λ opened. opened.looks_left ≡ PASS_LOOKS) }
         ensures refused { IfErr result (λ back. ring_of back.0 ≡ ring_of self) }
     {
         let Ring {
@@ -117,29 +116,29 @@ impl Ring {
 }
 
 impl<T: FileTable> OpenRing<T> {
-    /// The files that can be opened.
+    /// Returns the catalogue: the files that can be opened.
     pub fn catalogue(&self) -> &Catalogue
         ensures { result.now ≡ (ring_of self.now.ring).catalogue }
     {
         &self.catalogue
     }
 
-    /// How many slots there are.
+    /// Returns the number of slots.
     pub fn size(&self) -> u32
         ensures { result ≡ (ring_of self.now.ring).size }
     {
         self.size
     }
 
-    /// Plays a submission on the open table, as [`Ring::submit`] does by one worker. `None` where the table has no room for
-    /// it: fewer chains are left of those that it was opened for, or a chain installs more files than it was opened for, or
-    /// fewer look-ups are left than there are requests, of [`fx_table::PASS_LOOKS`] at first. Then nothing was done:
-    /// [`OpenRing::close`] gives a ring that plays it.
+    /// Plays a submission on the open table, as [`Ring::submit`] does with one worker (io_uring_enter(2)). Each chain of the
+    /// submission uses one of the table's chains.
     ///
-    /// Each chain uses one of the chains that are left, and each request at most one look-up.
+    /// Returns `None`, and changes nothing, exactly if the table has no room for the submission: it has fewer chains left than
+    /// the submission, or a chain installs more files than the table was opened for. [`OpenRing::close`] then returns a ring
+    /// that can play it.
     ///
     /// # Errors
-    /// Those of [`Ring::submit`] with one worker. The ring is then as it was.
+    /// Those of [`Ring::submit`] with one worker. The ring is then as before.
     pub fn submit<G: Gate>(
         &mut self,
         rt: &impl Wait,
@@ -158,6 +157,8 @@ impl<T: FileTable> OpenRing<T> {
             self.new.ring)) }
         ensures entries { IfOk result (λ played. IfSome played
             (λ report. AreEntries (ring_of self.new.ring) report.closes.files)) }
+        ensures room { IfOk result (λ played. IfSome played
+            (λ _. IsRoomFor (all_asked requests.now) self.old)) }
         ensures no_room { IfOk result (λ played. IfNone played
             (IsRoomFor (all_asked requests.now) self.old → ⊥)) }
         ensures used { IfOk result (λ played. IfSome played
@@ -176,9 +177,6 @@ impl<T: FileTable> OpenRing<T> {
             return Ok(None);
         }
         if most_installs(requests, chains) > self.most {
-            return Ok(None);
-        }
-        if requests.len() > self.table.looks_left(&self.passes[0]) as usize {
             return Ok(None);
         }
         let Ok(outcome) = Outcome::with_room(alloc, requests) else {
@@ -204,7 +202,7 @@ impl<T: FileTable> OpenRing<T> {
         Ok(Some(report))
     }
 
-    /// The ring again, with its own table. It can't run out of memory.
+    /// Closes the table and returns the ring. It needs no memory (this project's own).
     pub fn close(self) -> Ring
         ensures { ring_of result ≡ ring_of self.ring }
     {
@@ -228,7 +226,7 @@ impl<T: FileTable> OpenRing<T> {
     }
 }
 
-// A pass alone plays a submission on its table, which stays open.
+// Plays a submission by the only pass of a table, which stays open.
 fn submit_alone<T: FileTable, R: Wait, G: Gate>(
     submission: &Submission<'_, R, G>,
     chains: &[Chain],
@@ -262,7 +260,7 @@ fn submit_alone<T: FileTable, R: Wait, G: Gate>(
     outcome.report(submission.earlier + 1)
 }
 
-// A pass alone plays the chains of a submission, one after another.
+// Plays the chains of a submission one after another, by the only pass of a table.
 fn play_alone<T: FileTable, R: Wait, G: Gate>(
     submission: &Submission<'_, R, G>,
     chains: &[Chain],

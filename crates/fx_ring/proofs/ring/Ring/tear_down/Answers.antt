@@ -1,9 +1,6 @@
 use Rattle.fx_ring.proofs.Words.{rules}
-use Rattle.fx_ring.proofs.Rings.{all_closed, emptied_settled}
+use Rattle.fx_ring.proofs.Rings.{all_closed}
 use Rattle.fx_ring.proofs.ring.Ring.tear_down.Goals as goal
-
-pub dismiss-requires-clause-settled : goal.dismiss-requires-clause-settled
-dismiss-requires-clause-settled c = emptied_settled c.empty_into.ensures.empty
 
 pub returns-clause-closes : goal.returns-clause-closes
 returns-clause-closes c =

@@ -1,5 +1,5 @@
 use Rattle.fx_ring.proofs.Words.{ap, rules, State, identity_of}
-use Rattle.fx_ring.proofs.Rings.{all_closed, emptied_settled, none_rings}
+use Rattle.fx_ring.proofs.Rings.{all_closed, none_rings}
 use Rattle.fx_ring.proofs.ring.Ring.unregister.Goals as goal
 
 pub returns-clause-closes : goal.returns-clause-closes
@@ -12,7 +12,7 @@ returns-clause-entries c =
 
 pub invariant_of-self : goal.invariant_of-self
 invariant_of-self c = record {
-  settled = emptied_settled c.empty_into.ensures.empty;
+  settled = c.empty_into.ensures.settled;
   ring = none_rings _ (ap (λ (st : State). (λ slot. identity_of (st.at slot))) c.empty_into.ensures.empty);
   few_submissions = c.self.invariant.few_submissions;
   few_registrations = c.self.invariant.few_registrations;
