@@ -64,7 +64,7 @@ help-all: help
 	@echo '  make meetings                 runs random scripts on threads that take turns of a few instructions, and judges the texts'
 	@echo '  make refused-growths          runs scripts and makes calls, failing each allocation in turn'
 	@echo '  make growths                  counts allocations in the calls that must make none'
-	@echo '  make steps                    runs small programs on the lock-free table's steps in every order'
+	@echo '  make steps                    runs small programs on the lock-free table, its steps in every order'
 	@echo '  make mistakes                 makes the mistakes that a user may make, and expects an answer to each'
 	@echo '  make checks                   tests the test scripts: each must catch a deliberately broken program'
 	@echo 'Measure, further:'
