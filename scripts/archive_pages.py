@@ -32,6 +32,12 @@ def command_of(name, variables):
     return COMMANDS[name](given) if name in COMMANDS else None
 
 
+def aligned(line, new):
+    """Returns a new line of code with its comment where that of the line is."""
+    code, mark, comment = new.partition("  # ")
+    return code.ljust(line.find("  # ")) + mark + comment if mark else new
+
+
 def with_commands(text):
     """Replaces the commands of make. A line of code with a command that the archive doesn't have is left out, and in a sentence such a
     command is said to be in the repository."""
@@ -40,7 +46,7 @@ def with_commands(text):
         found = MAKE.search(line) if line.startswith("    make ") else None
         if found and command_of(*found.groups()) is None:
             continue
-        lines.append(MAKE.sub(lambda it: command_of(*it.groups()) or it[0], line) if found else line)
+        lines.append(aligned(line, MAKE.sub(lambda it: command_of(*it.groups()) or it[0], line)) if found else line)
     text = "\n".join(lines)
 
     def replaced(found):

@@ -63,4 +63,4 @@ def told(seconds, is_least=False):
     """Returns some seconds in words: an estimate, or a lower bound."""
     minutes = max(round(seconds / 60), 1)
     amount = "a minute" if minutes == 1 else f"{minutes} minutes"
-    return f"at least {amount}" if is_least else "less than a minute" if seconds < 50 else f"some {amount}"
+    return f"at least {amount}" if is_least else "less than a minute" if seconds < 50 else f"about {amount}"
