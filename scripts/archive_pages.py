@@ -35,7 +35,7 @@ def command_of(name, variables):
 def aligned(line, new):
     """Returns a new line of code with its comment where that of the line is."""
     code, mark, comment = new.partition("  # ")
-    return code.ljust(line.find("  # ")) + mark + comment if mark else new
+    return code.rstrip().ljust(line.find("  # ")) + mark + comment if mark else new
 
 
 def with_commands(text):
