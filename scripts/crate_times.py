@@ -59,7 +59,7 @@ def expected(left, running, below, lanes):
     return clock
 
 
-def told(seconds, is_least=False):
+def in_words(seconds, is_least=False):
     """Returns some seconds in words: an estimate, or a lower bound."""
     minutes = max(round(seconds / 60), 1)
     amount = "a minute" if minutes == 1 else f"{minutes} minutes"

@@ -18,7 +18,7 @@ import tempfile
 import time
 
 import refusals
-from crate_times import KEPT, UNMEASURED, behind, crates, expected, measured, needed, told
+from crate_times import KEPT, UNMEASURED, behind, crates, expected, in_words, measured, needed
 from proved import copy_below, take_back
 from repository import ROOT, SOURCES, files_of
 
@@ -151,7 +151,7 @@ class Lanes:
         for it in self.jobs:
             running[it.name], is_late = it.left(self.seconds[it.name] * scale)
             is_least |= is_late
-        return told(expected({it: self.seconds[it] * scale for it in self.left}, running, self.below, self.lanes), is_least)
+        return in_words(expected({it: self.seconds[it] * scale for it in self.left}, running, self.below, self.lanes), is_least)
 
     def words(self, name, jobs):
         """Returns the command that proves a crate with that many jobs. Of a library the statements are kept and not the proofs, as in the
