@@ -1,16 +1,25 @@
 """Checks conflicts: that lines which fixcheck names as having no order have none, and that each of them is needed. Every order of the
 requests of a submission is tried on scripts/model.py, one step at a time.
 
-A line that isn't named, or is left out, puts no condition on its request: it may answer anything that leaves the following requests
-of its chain canceled, or not, as in the text; and a file may be closed or not. Lines of opens at any slot are never left out. If the
-lines are those of one slot, requests at the others are left out, and none of their lines may be named."""
+In `complaint_of`, for lines that a search of fixcheck found, a line that isn't named, or is left out, puts no condition on its request:
+it may answer anything that leaves the following requests of its chain canceled, or not, as in the text; and a file may be closed or
+not. Lines of opens at any slot are never left out. If the lines are those of one slot, requests at the others are left out, and none
+of their lines may be named.
+
+`order_of_named` looks at the lines that any verdict names: the named lines alone must have no order, whatever the other requests
+answer and whichever of them are canceled. An open at any slot still takes the slot that its line says."""
 import re
 
 from model import ECANCELED, Player, chains_of, severs, submitted, text_of_mark
 from orders import Search, TooManyOrders, completion_of, pieces_of, reached
 
-SAYS, OF_SLOT = "no order of the requests gives ", re.compile(r"which tells? of slot (\d+)")
-CLOSES_NO_OTHER, FEWER = "and closes no other file", "fewer of them may contradict"
+SAYS, OF_SLOT = "no order of the requests gives ", re.compile(r"which concerns? slot (\d+)")
+CLOSES_NO_OTHER, FEWER = "and closes no other file", re.compile("fewer of them may contradict|there may be none without it")
+NO_MEMORY = -12
+CANCELS = "and cancels the same requests"
+# reasons that rest on the files that have no line, and those that a line's place alone shows to be wrong
+NO_LINE = re.compile(r"has no `closed` line|files from there with a `closed` line|" + CLOSES_NO_OTHER)
+PLACE_ALONE = re.compile(r"a file is closed once|closed files are in order")
 
 
 class Step:
@@ -107,7 +116,10 @@ class Submission:
         return {it for nth, it in self.closed.items() if nth in named} <= closed and (not closes_no_other or closed <= set(self.closed.values()))
 
     def strange(self, named):
-        """Those of the lines that tell nothing of the slot, or of what is at the slots."""
+        """Those of the lines that tell nothing of the slot, or of what is at the slots. Where all are of requests that install or remove
+        files, these alone have no order."""
+        if named and named <= {step.line for chain in self.chains for step in chain if not step.may_be_left_out()}:
+            return set()
         return named - {step.line for chain in self.chains for step in chain if step.tells()} - set(self.closed)
 
     def optional(self, named):
@@ -128,9 +140,95 @@ def complaint_of(script, text, said, most=20_000):
         return f"line {line + 1} says nothing about it"
     if submission.has_order(named, closes_no_other, most):
         return f"an order results in the lines {sorted(it + 1 for it in named)}"
-    if FEWER in said[0]:
+    if FEWER.search(said[0]):
         return None
     for line in submission.optional(named):
         if not submission.has_order(named - {line}, closes_no_other, most):
             return f"line {line + 1} may be left out"
     return None
+
+
+class Free:
+    """A submission of a text, by its command, of which some lines are named. The others may be any that an order gives."""
+
+    def __init__(self, script, lines, command, named):
+        search, self.player, at = Search(lines, splits=True), Player(script.files), 0
+        for earlier in script.commands[: command - 1]:
+            self.player, at = next(search.after(self.player, earlier, at))
+        self.player.submissions += 1
+        self.named, self.chains, self.told, self.first = named, chains_of(script.commands[command - 1][1]), [], []
+        for nth, chain in enumerate(self.chains, 1):
+            self.first.append(at)
+            self.told.append([completion_of(lines[at + it], (self.player.submissions, nth, it + 1)) for it in range(len(chain))])
+            at += len(chain)
+        self.closed = {}
+        while at < len(lines) and lines[at].startswith("closed "):
+            self.closed[at] = lines[at]
+            at += 1
+
+    def fits(self, nth, member, answer):
+        """Whether a request may answer this: where its line is named, what the line says."""
+        return self.first[nth] + member not in self.named or self.told[nth][member] == answer
+
+    def answers(self, player, nth, member, entry):
+        """Each player that a member of a chain, or the next entry of its list, may leave, with what it answers."""
+        request, _ = self.chains[nth][member]
+        place, (res, _) = (self.player.submissions, nth + 1, member + 1), self.told[nth][member]
+        piece = request if entry is None else ("update", request[1] + entry, [request[2][entry]], entry)
+        slots = [None]
+        if request[0] == "open" and request[2] is None and request[1] in player.names and player.free_slots():
+            slots = player.free_slots() if res < 0 else [it for it in player.free_slots() if it == res]
+        for slot in slots:
+            after = player.copy()
+            after.wanted = slot
+            yield after, after.perform(place, piece)
+        if request[0] == "read" and request[3] > 0:
+            yield player.copy(), (NO_MEMORY, b"")
+
+    def after_member(self, nth, member, answer):
+        """Where a chain is after a member that answered this, or None where that isn't what named lines say."""
+        if not self.fits(nth, member, answer):
+            return None
+        request, linked_by = self.chains[nth][member]
+        if not severs(request, linked_by, answer[0]):
+            return member + 1, 0
+        rest = range(member + 1, len(self.chains[nth]))
+        return (len(self.chains[nth]), 0) if all(self.fits(nth, it, (-ECANCELED, b"")) for it in rest) else None
+
+    def moves(self, player, at):
+        places, _ = at
+        for nth, (member, entry) in enumerate(places):
+            if member == len(self.chains[nth]):
+                continue
+            request, _ = self.chains[nth][member]
+            is_list = request[0] == "update" and not player.refusal_of_list(*request[1:3])
+            for after, answer in self.answers(player, nth, member, entry if is_list else None):
+                if is_list and entry + 1 < len(request[2]):
+                    step = member, entry + 1
+                else:
+                    step = self.after_member(nth, member, (len(request[2]), b"") if is_list else answer)
+                if step:
+                    yield after, ((*places[:nth], step, *places[nth + 1 :]), frozenset(after.closed))
+
+    def has_order(self, closes_no_other, most):
+        goal, seen = tuple((len(chain), 0) for chain in self.chains), 0
+        for player, (places, _) in reached((self.player.copy(), (((0, 0),) * len(self.chains), frozenset())), self.moves):
+            seen += 1
+            if seen > most:
+                raise TooManyOrders
+            if places == goal:
+                closed = {it for it in player.copy().closed_lines() if it.startswith("closed ")}
+                named = {it for nth, it in self.closed.items() if nth in self.named}
+                if named <= closed and (not closes_no_other or closed <= set(self.closed.values())):
+                    return True
+        return False
+
+
+def order_of_named(script, text, said, most=20_000):
+    """Whether there is an order that gives the lines that a verdict, `said`, names, None where it names none or its reason needs no
+    order. TooManyOrders where that isn't looked at."""
+    if len(said) < 2 or not said[0].startswith("not legal: ") or PLACE_ALONE.search(said[0]) or CANCELS in said[0]:
+        return None
+    lines, command = text.split("\n")[:-1], int(re.search(r"command (\d+)", said[0])[1])
+    named = {int(re.match(r" +(\d+): ", it)[1]) - 1 for it in said[1:]}
+    return Free(script, lines, command, named).has_order(bool(NO_LINE.search(said[0])), most)

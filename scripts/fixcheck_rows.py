@@ -53,7 +53,7 @@ def parts():
     told = ["1.6.1 0", "1.6.2 1 63", "1.7.1 0", "1.7.2 1 63"]
     opened = ["closed 1.6.1.0 a", "closed 1.7.1.0 b"]
     yield "a later part", *case(crossed, told, both, rest, opened), NOT_LEGAL, "lines 13 and 15 of the text: no order of the requests gives all of these"
-    yield "the fifth slot of a part", *fifth_slot(), NOT_LEGAL, "lines 6 and 7 of the text: no order of the requests gives all of these, which tell of slot 4"
+    yield "the fifth slot of a part", *fifth_slot(), NOT_LEGAL, "lines 6 and 7 of the text: no order of the requests gives all of these, which concern slot 4"
     yield from range_without_slots()
 
 

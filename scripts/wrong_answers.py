@@ -36,7 +36,9 @@ NO_ORDERS = (
     "order 2: 2.1.1.0 2.1.2.0 2.1.2.1 2.1.2.2 2.1.2.3", "order 2: 2.1.1.0 2.2.1", "order 2: 2.1.0",
 )
 # kept texts with lines that have no order, each of which is needed for that; and how many lines these texts have
-UNORDERED, UNORDERED_LINES = "examples/judged/submissions.judged", 44
+UNORDERED, UNORDERED_LINES = "examples/judged/submissions.judged", 54
+# kept texts whose closed files need a request that empties their slot; and how many lines are named there
+EMPTIED, EMPTIED_LINES = ("examples/judged/explained.judged", "examples/judged/submissions.judged"), 4
 
 
 def kinds(fixcheck):
@@ -50,6 +52,7 @@ def kinds(fixcheck):
     yield "verdicts", VERDICTS, verdicts
     yield "names in verdicts", NAMES, names_told
     yield "lines that have no order", UNORDERED_LINES, lambda: unordered(fixcheck)
+    yield "lines of slots that nothing empties", EMPTIED_LINES, emptied
 
 
 def examples():
@@ -180,11 +183,11 @@ def names_told():
     wrong = Spoiled([], [3], 2, 3, ("1.1.1.0 a",))
     at = "not legal: command {}, line {} of the script; "
     rows = [
-        (at.format(2, 6) + "line 3 of the text: wanted x, found y", (True, True)), (at.format(2, 3) + "submission 1: no order", (True, False)),
-        (at.format(1, 3) + "line 4 of the text: wanted x, found y", (False, False)), (at.format(3, 3) + "line 2 of the text: x; line 3 is y", (True, True)),
+        (at.format(2, 6) + "line 3 of the text: expected x, found y", (True, True)), (at.format(2, 3) + "submission 1: no order", (True, False)),
+        (at.format(1, 3) + "line 4 of the text: expected x, found y", (False, False)), (at.format(3, 3) + "line 2 of the text: x; line 3 is y", (True, True)),
         (at.format(3, 9) + "lines 2, 3 and 13 of the text: x", (True, True)), (at.format(3, 9) + "lines 2, 13 and 30 of the text: x", (False, False)),
         (at.format(2, 9) + "lines 1, 2, 3, 4 and 5 of the text: x", (True, False)), ("not legal: the end of the script; line 4 of the text: x", (False, False)),
-        ("not legal: the end of the script; line 4 of the text: wanted x, found y; 1.1.1.0 a is at slot 0", (True, True)),
+        ("not legal: the end of the script; line 4 of the text: expected x, found y; 1.1.1.0 a is at slot 0", (True, True)),
     ]
     return len(rows), [f"{said!r} isn't taken to name {wanted}" for said, wanted in rows if wrong.is_named(said) != wanted]
 
@@ -195,7 +198,7 @@ def unordered(fixcheck):
     for script, text, *_ in module("check-verdicts").verdicts_of(os.path.join(ROOT, UNORDERED)):
         text = text.decode()
         said = verdict(fixcheck, script, text)[1]
-        if contradictions.SAYS not in said[0] or contradictions.FEWER in said[0]:
+        if contradictions.SAYS not in said[0] or contradictions.FEWER.search(said[0]):
             continue
         if contradictions.complaint_of(Script(script), text, said) is not None:
             missed.append(f"{said}, which is right")
@@ -205,4 +208,19 @@ def unordered(fixcheck):
             wrong = [it for it in said if it != named] if named in said else [*said, named]
             if contradictions.complaint_of(Script(script), text, wrong) is None:
                 missed.append(f"{wrong}")
+    return seen, missed
+
+
+def emptied():
+    """Where no request empties a slot whose files are all closed, each line that is named left out: an order gives the others."""
+    seen, missed = 0, []
+    for path in EMPTIED:
+        for script, text, _, _, block in module("check-verdicts").verdicts_of(os.path.join(ROOT, path)):
+            said = block.decode().splitlines()
+            if "so one of its files stays there" not in said[0]:
+                continue
+            for line in said[1:]:
+                seen += 1
+                if not contradictions.order_of_named(Script(script), text.decode(), [it for it in said if it != line]):
+                    missed.append(f"{said} without {line}")
     return seen, missed

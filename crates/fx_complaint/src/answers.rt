@@ -1,25 +1,25 @@
-//! What a request may answer, whatever the others answer (docs/MODEL.md, "What a request answers").
+//! The answers that a request may give, whatever the other requests answer (docs/MODEL.md, "What a request answers").
 use crate::may_be::MayBe;
 use fx_base::{Errno, NoMemory};
 use fx_chain::{Completion, Op, Request, Target, has_bad_entry};
 use fx_report::{Case, name_of};
 use std::alloc::{AllocError, Global};
 
-/// How many answers, and how many bytes of a file, are shown.
+/// The largest number of answers, and of bytes of a file, that are shown.
 const SHOWN: usize = 16;
 
 /// An answer that a request may give.
 #[derive(Clone, Copy)]
 pub enum Answer {
-    /// This result.
+    /// A result without bytes.
     Result(i32),
-    /// One of so many slots from this one on.
+    /// One of the slots of a range: its first slot, and the number of its slots, which is at least 1.
     Slots(u32, u32),
-    /// The part that a read asks for, of a file of this catalogue entry.
+    /// The bytes of a file of this catalogue entry, as far as the read asks for them.
     Bytes(u8),
 }
 
-// Why an open doesn't come to the table, or doesn't where that has no such slot.
+// Returns the error of an open that is refused whatever is at the slots.
 fn open_refusal(case: &Case<'_>, name: &str, target: Target) -> Option<Errno> {
     if case.catalogue.find(name).is_none() {
         return Some(Errno::ENOENT);
@@ -31,7 +31,7 @@ fn open_refusal(case: &Case<'_>, name: &str, target: Target) -> Option<Errno> {
     }
 }
 
-// Why a close, or an open at a slot, doesn't come to the table.
+// Returns the error of a close, or of an open at a slot, that is refused whatever is at the slots.
 fn close_refusal(case: &Case<'_>, slot: u32) -> Option<Errno> {
     if case.size() == 0 {
         Some(Errno::ENXIO)
@@ -42,7 +42,7 @@ fn close_refusal(case: &Case<'_>, slot: u32) -> Option<Errno> {
     }
 }
 
-// Why an update is refused.
+// Returns the error of an update that is refused.
 fn update_refusal(case: &Case<'_>, off: u32, list: &[i32]) -> Option<Errno> {
     let end = list.len().saturating_add(off as usize);
     if case.size() == 0 {
@@ -56,7 +56,7 @@ fn update_refusal(case: &Case<'_>, off: u32, list: &[i32]) -> Option<Errno> {
     }
 }
 
-/// Why a request doesn't come to the table, and answers this error whatever is at the slots.
+/// Returns the error of a request that is refused whatever is at the slots, or `None` if the slots decide.
 pub fn refusal_of(case: &Case<'_>, request: &Request) -> Option<Errno> {
     match &request.op {
         Op::Open { name, target } => open_refusal(case, name.as_str(), *target),
@@ -67,7 +67,7 @@ pub fn refusal_of(case: &Case<'_>, request: &Request) -> Option<Errno> {
     }
 }
 
-// Puts what a read or a close of a slot may answer behind others, but for the slot's being empty.
+// Appends the answers of a read or a close of a slot, but for -12.
 fn push_found(answers: &mut Vec<Answer>, op: &Op, may: &MayBe) -> Result<(), AllocError> {
     if let Op::Read { .. } = op {
         for entry in &may.entries {
@@ -82,10 +82,10 @@ fn push_found(answers: &mut Vec<Answer>, op: &Op, may: &MayBe) -> Result<(), All
     Ok(())
 }
 
-/// What a request may answer that isn't canceled.
+/// Returns the answers that a request may give unless it is canceled.
 ///
 /// # Errors
-/// Where memory is refused.
+/// `NoMemory` if an allocation fails.
 pub fn answers_of(
     alloc: Global,
     case: &Case<'_>,
@@ -107,7 +107,9 @@ pub fn answers_of(
             ..
         } => {
             let (first, count) = case.slots.range;
-            answers.push(Answer::Slots(first, count))?;
+            if count > 0 {
+                answers.push(Answer::Slots(first, count))?;
+            }
             answers.push(Answer::Result(-Errno::ENFILE.code()))?;
         }
         Op::Read { slot, .. } | Op::Close { slot } => {
@@ -125,10 +127,10 @@ pub fn answers_of(
     Ok(answers)
 }
 
-/// Whether a completion is one of some answers.
+/// Checks whether a completion is one of some answers.
 ///
 /// # Errors
-/// Where memory is refused.
+/// `NoMemory` if an allocation fails.
 pub fn is_among(
     alloc: Global,
     case: &Case<'_>,
@@ -157,10 +159,10 @@ pub fn is_among(
     Ok(false)
 }
 
-/// Puts the number of a read's bytes behind others, and the first of them.
+/// Appends the number of a read's bytes, and the first 16 of them.
 ///
 /// # Errors
-/// Where memory is refused.
+/// `AllocError` if an allocation fails.
 pub fn push_bytes(told: &mut String, bytes: &[u8]) -> Result<(), AllocError> {
     let count = bytes.len();
     write!(told, "{count}")?;
@@ -176,7 +178,7 @@ pub fn push_bytes(told: &mut String, bytes: &[u8]) -> Result<(), AllocError> {
     Ok(())
 }
 
-// Puts an answer behind others.
+// Appends an answer.
 fn push_answer(
     alloc: Global,
     told: &mut String,
@@ -205,10 +207,10 @@ fn push_answer(
     Ok(())
 }
 
-/// Puts the first of some answers behind others.
+/// Appends the first 16 of some answers.
 ///
 /// # Errors
-/// Where memory is refused.
+/// `NoMemory` if an allocation fails.
 pub fn push_answers(
     alloc: Global,
     told: &mut String,

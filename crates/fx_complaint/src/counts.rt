@@ -1,19 +1,20 @@
-//! The lines of a submission that contradict each other by the number of files at a slot.
+//! Lines of a submission that contradict each other by the number of files at a slot.
+use crate::canceled::push_canceled;
 use fx_base::{Errno, NoMemory};
 use fx_chain::Op;
 use fx_report::{Case, Complaint, Installed, Report, push_file};
 use std::alloc::{AllocError, Global};
 
-/// What the lines tell of a slot.
+/// The number of files at a slot, by the lines.
 #[derive(Clone, Copy)]
 struct Count {
-    /// How many files were there, and how many of them are told closed.
+    /// The number of files that were there, and of those with a `closed` line.
     files: usize,
     closed: usize,
-    /// The first two files that aren't told closed, by their places among the report's.
+    /// The first two files without a `closed` line, by their places among the report's.
     left: Option<usize>,
     second: Option<usize>,
-    /// How many closes took a file away, and how many entries of updates empty the slot.
+    /// The number of closes that took a file away, and of entries of updates that empty the slot.
     taken: usize,
     cleared: usize,
 }
@@ -53,7 +54,7 @@ fn count_removals(counts: &mut [Count], case: &Case<'_>, report: &Report) {
     }
 }
 
-// What the lines tell of each slot.
+// Returns the number of files at each slot.
 fn counts_of(alloc: Global, case: &Case<'_>, report: &Report) -> Result<Vec<Count>, AllocError> {
     let mut counts = Vec::new(alloc);
     for _ in 0..case.size() {
@@ -76,7 +77,7 @@ fn counts_of(alloc: Global, case: &Case<'_>, report: &Report) -> Result<Vec<Coun
     Ok(counts)
 }
 
-// Puts one of the report's files behind others, if it has that one.
+// Appends one of the report's files, if it has that one.
 fn push_installed(
     told: &mut String,
     case: &Case<'_>,
@@ -88,7 +89,7 @@ fn push_installed(
     }
 }
 
-// That two files are left at a slot.
+// Returns the complaint that two files are left at one slot.
 fn two_left(
     alloc: Global,
     case: &Case<'_>,
@@ -117,7 +118,7 @@ fn two_left(
     Ok(Complaint::Lines(lines, why))
 }
 
-// Puts the lines of closed files behind others that were at a slot.
+// Appends the `closed` lines of the files that were at a slot.
 fn push_closes(lines: &mut Vec<usize>, report: &Report, slot: usize) -> Result<(), AllocError> {
     for i in &report.closes {
         if let Some(it) = report.files.get(*i) {
@@ -129,7 +130,7 @@ fn push_closes(lines: &mut Vec<usize>, report: &Report, slot: usize) -> Result<(
     Ok(())
 }
 
-// The lines of the closes of a slot that have this result.
+// Returns the lines of the closes of a slot that have this result.
 fn closes_with(
     alloc: Global,
     case: &Case<'_>,
@@ -153,7 +154,7 @@ fn closes_with(
     Ok(lines)
 }
 
-// The first read of a slot that found it empty.
+// Returns the line of the first read that found a slot empty.
 fn empty_read(case: &Case<'_>, report: &Report, slot: usize) -> Option<usize> {
     for (at, (request, it)) in case
         .requests
@@ -170,7 +171,7 @@ fn empty_read(case: &Case<'_>, report: &Report, slot: usize) -> Option<usize> {
     None
 }
 
-// That a slot that always has a file was found empty.
+// Returns the complaint that a slot which always has a file was found empty.
 fn never_empty(
     alloc: Global,
     case: &Case<'_>,
@@ -184,13 +185,15 @@ fn never_empty(
     if lines.is_empty() {
         return Ok(None);
     }
+    push_canceled(&mut lines, case, report, slot, false)?;
+    lines.sort_unstable_by_key(|line| *line);
     let why = format!(in alloc;
         "slot {slot} has a file before the submission, and no request empties it"
     )?;
     Ok(Some(Complaint::Lines(lines, why)))
 }
 
-// That closes took more files from a slot than are told closed.
+// Returns the complaint that closes took more files from a slot than have a `closed` line.
 fn too_few_closed(
     alloc: Global,
     case: &Case<'_>,
@@ -212,7 +215,22 @@ fn too_few_closed(
     Ok(Complaint::Lines(lines, why))
 }
 
-// What the number of files at a slot contradicts.
+// Returns the complaint that all files of a slot are closed, though no request empties the slot.
+fn none_left(
+    alloc: Global,
+    case: &Case<'_>,
+    report: &Report,
+    slot: usize,
+) -> Result<Complaint, AllocError> {
+    let mut lines = closes_with(alloc, case, report, slot, -Errno::EBADF.code())?;
+    push_canceled(&mut lines, case, report, slot, true)?;
+    lines.sort_unstable_by_key(|line| *line);
+    push_closes(&mut lines, report, slot)?;
+    let why = format!(in alloc; "no request empties slot {slot}, so one of its files stays there")?;
+    Ok(Complaint::Lines(lines, why))
+}
+
+// Returns the complaint about the number of files at a slot, if there is one.
 fn complaint_of(
     alloc: Global,
     case: &Case<'_>,
@@ -230,12 +248,7 @@ fn complaint_of(
         return Ok(None);
     }
     if count.files > 0 && count.left.is_none() {
-        let mut lines = Vec::new(alloc);
-        push_closes(&mut lines, report, slot)?;
-        let why = format!(in alloc;
-            "no request empties slot {slot}, so one of its files stays there"
-        )?;
-        return Ok(Some(Complaint::Lines(lines, why)));
+        return Ok(Some(none_left(alloc, case, report, slot)?));
     }
     let before = case.slots.at.get(slot).copied().flatten();
     if before.is_some() {
@@ -244,10 +257,10 @@ fn complaint_of(
     Ok(None)
 }
 
-/// The lines of the first slot whose files are too many or too few, where each line by itself is right.
+/// Returns a complaint about the first slot that has too many or too few files, if each line by itself is valid.
 ///
 /// # Errors
-/// Where memory is refused.
+/// `NoMemory` if an allocation fails.
 pub fn wrong_count(
     alloc: Global,
     case: &Case<'_>,

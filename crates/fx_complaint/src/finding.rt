@@ -1,5 +1,6 @@
-//! What is wrong with a submission's lines, each by itself or by what others tell of its chain and its slot.
+//! The first complaint about a submission's lines: about one by itself, or beside others of its chain or its slot.
 use crate::counts::wrong_count;
+use crate::removed::removed_file;
 use crate::wrong_answer::wrong_answer;
 use crate::wrong_close::wrong_close;
 use crate::wrong_place::wrong_place;
@@ -7,19 +8,19 @@ use fx_base::NoMemory;
 use fx_report::{Case, Complaint, Report};
 use std::alloc::Global;
 
-/// What there is to say of a submission's lines.
+/// The result of looking through a submission's lines.
 #[derive(Drop)]
 pub enum Finding {
-    /// The first of them can't stand there.
+    /// Some of them are invalid.
     Wrong(Complaint),
-    /// Nothing is wrong with them but that they may have no order. They tell this.
+    /// Each is valid, though they may have no order together. The files and completions that they report.
     Fits(Report),
 }
 
-/// Looks for the first lines of a submission's that can't stand there.
+/// Looks for the first invalid lines of a submission.
 ///
 /// # Errors
-/// Where memory is refused.
+/// `NoMemory` if an allocation fails.
 pub fn look_through(alloc: Global, case: &Case<'_>) -> Result<Finding, NoMemory> {
     if let Some(complaint) = wrong_place(alloc, case)? {
         return Ok(Finding::Wrong(complaint));
@@ -32,7 +33,10 @@ pub fn look_through(alloc: Global, case: &Case<'_>) -> Result<Finding, NoMemory>
     if let Some(complaint) = wrong_close(alloc, case, &mut report)? {
         return Ok(Finding::Wrong(complaint));
     }
-    Ok(match wrong_count(alloc, case, &report)? {
+    if let Some(complaint) = wrong_count(alloc, case, &report)? {
+        return Ok(Finding::Wrong(complaint));
+    }
+    Ok(match removed_file(alloc, case, &report)? {
         Some(complaint) => Finding::Wrong(complaint),
         None => Finding::Fits(report),
     })

@@ -1,11 +1,13 @@
-//! What is wrong with a submission's lines in a text, for a person: which line, what may stand there, and why. It is advice, on which
-//! no verdict rests; of these functions only that they are safe and end is proved.
+//! Complaints about a submission's lines in a text, for a person: the wrong line, the lines that would be valid there, and the reason.
+//! No verdict rests on this advice. Of these functions it is proved only that they are memory-safe and terminate.
 #![tactic(auto)]
 
 mod answers;
+mod canceled;
 mod counts;
 mod finding;
 mod may_be;
+mod removed;
 mod why;
 mod wrong_answer;
 mod wrong_close;

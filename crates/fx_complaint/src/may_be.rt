@@ -1,10 +1,10 @@
-//! What may be at the slots of a table during a submission, whatever its requests answer.
+//! The files that may be at the slots of a table during a submission, whatever its requests answer.
 use fx_base::NoMemory;
 use fx_chain::{Op, Target};
 use fx_report::Case;
 use std::alloc::{AllocError, Global};
 
-/// What may be at a slot at some time.
+/// The possible contents of a slot.
 #[derive(Drop)]
 pub struct MayBe {
     /// Whether the slot may be empty.
@@ -13,7 +13,7 @@ pub struct MayBe {
     pub entries: Vec<u8>,
 }
 
-// A file of an entry may be at a slot.
+// Records that a file of an entry may be at a slot.
 fn add(slots: &mut [MayBe], slot: u32, entry: u8) -> Result<(), AllocError> {
     if let Some(it) = slots.get_mut(slot as usize) {
         if !it.entries.contains(&entry) {
@@ -23,14 +23,14 @@ fn add(slots: &mut [MayBe], slot: u32, entry: u8) -> Result<(), AllocError> {
     Ok(())
 }
 
-// A slot may be empty.
+// Records that a slot may be empty.
 fn add_empty(slots: &mut [MayBe], slot: u32) {
     if let Some(it) = slots.get_mut(slot as usize) {
         it.empty = true;
     }
 }
 
-// A file of an entry may be opened at a slot, or at any slot of the range.
+// Records that a file of an entry may be opened at a slot, or at any slot of the range.
 fn add_open(
     slots: &mut [MayBe],
     case: &Case<'_>,
@@ -49,7 +49,7 @@ fn add_open(
     }
 }
 
-// What the numbers of a list, which begins at a slot, may leave at the slots.
+// Records the files that a list, which begins at the slot `off`, may leave at the slots.
 fn add_list(slots: &mut [MayBe], off: u32, list: &[i32]) -> Result<(), AllocError> {
     let mut slot = off;
     for number in list {
@@ -63,10 +63,10 @@ fn add_list(slots: &mut [MayBe], off: u32, list: &[i32]) -> Result<(), AllocErro
     Ok(())
 }
 
-/// What may be at each slot.
+/// Returns the possible contents of each slot.
 ///
 /// # Errors
-/// Where memory is refused.
+/// `NoMemory` if an allocation fails.
 pub fn may_be_at(alloc: Global, case: &Case<'_>) -> Result<Vec<MayBe>, NoMemory> {
     let mut slots = Vec::new(alloc);
     for file in &case.slots.at {

@@ -1,11 +1,11 @@
-//! Why a request can't have its completion.
+//! The reason why a request can't have its completion.
 use crate::answers::{push_bytes, refusal_of};
 use fx_base::{Errno, NoMemory};
 use fx_chain::{Completion, Op, Request, Target};
 use fx_report::{Case, name_of};
 use std::alloc::{AllocError, Global};
 
-// Puts behind others why a request doesn't come to the table.
+// Appends the reason why a request is refused.
 fn push_refusal(
     told: &mut String,
     case: &Case<'_>,
@@ -27,7 +27,7 @@ fn push_refusal(
     }
 }
 
-// How many bytes two texts have in common, place by place.
+// Returns the number of places at which two byte strings are equal.
 fn shared(one: &[u8], other: &[u8]) -> usize {
     one.iter()
         .zip(other.iter())
@@ -35,7 +35,7 @@ fn shared(one: &[u8], other: &[u8]) -> usize {
         .count()
 }
 
-// The entry of whose bytes a read's have most in common, and how many that are.
+// Returns the entry whose bytes are nearest to those of a read, and at how many places they are equal: `usize::MAX` if all are.
 fn nearest(
     alloc: Global,
     case: &Case<'_>,
@@ -61,7 +61,7 @@ fn nearest(
     Ok(best)
 }
 
-// Puts behind others of which file the bytes of a read are, or which file has most of them.
+// Appends the file that has the bytes of a read, or the one that is nearest to them.
 fn push_nearest(
     alloc: Global,
     told: &mut String,
@@ -91,10 +91,10 @@ fn push_nearest(
     Ok(())
 }
 
-/// Puts behind others why a request can't have a completion; where there is none, its line can't be read.
+/// Appends the reason why a request can't have a completion. It is `None` if the request's line can't be read.
 ///
 /// # Errors
-/// Where memory is refused.
+/// `NoMemory` if an allocation fails.
 pub fn push_why(
     alloc: Global,
     told: &mut String,
@@ -110,14 +110,19 @@ pub fn push_why(
     }
     let count = got.len();
     match &request.op {
-        Op::Read { .. } if count > 0 && usize::try_from(*res).ok() != Some(count) => {
-            write!(told, "the number is {res}, and {count} bytes follow")?;
-        }
+        Op::Read { .. } if (count > 0 || *res >= 0) && usize::try_from(*res).ok() != Some(count) =>
+            {
+                write!(told, "the number is {res}, and {count} bytes follow")?;
+            }
         Op::Read { .. } if *res >= 0 => push_nearest(alloc, told, case, request, got)?,
         Op::Read { slot, .. } | Op::Close { slot } if *res == -Errno::EBADF.code() => {
             write!(told, "slot {slot} is never empty")?;
         }
         Op::Close { slot } if *res == 0 => write!(told, "slot {slot} never has a file")?,
+        Op::Open {
+            target: Target::Any,
+            ..
+        } if case.slots.range.1 == 0 => told.push_str("the range has no slot")?,
         Op::Open {
             target: Target::Any,
             ..

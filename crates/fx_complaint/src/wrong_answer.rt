@@ -8,7 +8,7 @@ use fx_chain::{Completion, Op, Place, Request, SqeFlags, Target};
 use fx_report::{Case, Complaint, next_place, push_place};
 use std::alloc::{AllocError, Global};
 
-// The place of a request, and its chain up to there: the lines of its first member and of the one that severed it, if one did.
+// The place of a request, and its chain so far: the line of its first member, and that of the member that severed it, if one did.
 #[derive(Clone, Copy)]
 struct Front {
     place: Place,
@@ -16,7 +16,7 @@ struct Front {
     severed: Option<usize>,
 }
 
-// That a member behind the one that severed its chain isn't canceled.
+// Returns the complaint that a member isn't canceled, though an earlier one severed its chain.
 fn not_canceled(
     alloc: Global,
     completions: &[Completion],
@@ -36,7 +36,7 @@ fn not_canceled(
     Ok(Complaint::Lines(lines, why))
 }
 
-// Whether a request may both fail and not fail, by what is at a slot when it runs.
+// Checks whether a request may fail or not, depending on the slots when it runs.
 fn may_fail(case: &Case<'_>, request: &Request) -> bool {
     let depends = match &request.op {
         Op::Open { target, .. } => *target == Target::Any,
@@ -46,7 +46,8 @@ fn may_fail(case: &Case<'_>, request: &Request) -> bool {
     depends && refusal_of(case, request).is_none()
 }
 
-// That a member is canceled, though none in front of it severs its chain: the lines of those that could, and its own.
+// Returns the complaint that a member is canceled, though no earlier one severs its chain: the lines of those that could, and its
+// own.
 fn not_severed(
     alloc: Global,
     case: &Case<'_>,
@@ -63,13 +64,11 @@ fn not_severed(
     }
     lines.push(at)?;
     let mut why = String::new(alloc);
-    why.push_str(
-        "-125 stands behind a request that fails, and none in front of it in its chain does",
-    )?;
+    why.push_str("-125 follows a request that fails, and no request before it in its chain fails")?;
     Ok(Complaint::Lines(lines, why))
 }
 
-// What should stand in the line of a request: its place, and one of its answers.
+// Returns the expected line of a request in words: its place, and its possible answers.
 fn wanted_of(
     alloc: Global,
     case: &Case<'_>,
@@ -84,7 +83,7 @@ fn wanted_of(
     Ok(wanted)
 }
 
-// What is wrong with the completion of a request, the next one of a chain.
+// Returns the complaint about the completion of a chain's next request, if there is one.
 fn complaint_of(
     alloc: Global,
     case: &Case<'_>,
@@ -126,11 +125,11 @@ fn complaint_of(
     Ok(Some(Complaint::Line(at, wanted, why)))
 }
 
-/// The first completion that its request can't have, or that contradicts those in front of it in its chain, where each line
-/// has the place of its request.
+/// Returns a complaint about the first completion that its request can't have, or that contradicts an earlier one of its chain. Each
+/// line must have the place of its request.
 ///
 /// # Errors
-/// Where memory is refused.
+/// `NoMemory` if an allocation fails.
 pub fn wrong_answer(
     alloc: Global,
     case: &Case<'_>,

@@ -1,4 +1,4 @@
-//! Lines of closed files and of tags that can't stand behind a submission's completions.
+//! Invalid lines of closed files and of tags after a submission's completions.
 use fx_base::{Mark, NoMemory};
 use fx_lines::{ClosedLine, read_report};
 use fx_report::{
@@ -6,12 +6,12 @@ use fx_report::{
 };
 use std::alloc::{AllocError, Global};
 
-// That a line should be another, for a reason that needs no more words.
+// Returns the complaint that a line is wrong, in fixed words.
 fn another(alloc: Global, at: usize, wanted: &str, why: &str) -> Result<Complaint, AllocError> {
     Ok(Complaint::Line(at, wanted.to_owned(alloc)?, why.to_owned(alloc)?))
 }
 
-// That two lines contradict each other.
+// Returns the complaint that two lines contradict each other.
 fn two_lines(alloc: Global, one: usize, other: usize, why: &str) -> Result<Complaint, AllocError> {
     let mut lines = Vec::new(alloc);
     lines.push(one)?;
@@ -19,7 +19,7 @@ fn two_lines(alloc: Global, one: usize, other: usize, why: &str) -> Result<Compl
     Ok(Complaint::Lines(lines, why.to_owned(alloc)?))
 }
 
-// Which of the files, from 0, has a mark; those from one on are looked at first.
+// Returns the number, from 0, of the file with a mark. The files from `from` on are tried first.
 fn file_marked(files: &[Installed], from: usize, mark: Mark) -> Option<usize> {
     let later = files.get(from..).unwrap_or(files);
     if let Some(at) = later.iter().position(|it| it.file.mark == mark) {
@@ -28,7 +28,7 @@ fn file_marked(files: &[Installed], from: usize, mark: Mark) -> Option<usize> {
     files.iter().position(|it| it.file.mark == mark)
 }
 
-// That a file was closed which wasn't there.
+// Returns the complaint that a closed file was never there.
 fn unknown(alloc: Global, case: &Case<'_>, at: usize, mark: Mark) -> Result<Complaint, AllocError> {
     let mut why = String::new(alloc);
     match mark {
@@ -53,7 +53,7 @@ fn unknown(alloc: Global, case: &Case<'_>, at: usize, mark: Mark) -> Result<Comp
     Ok(Complaint::Line(at, wanted, why))
 }
 
-// That a closed file has another name.
+// Returns the complaint that a closed file has another name.
 fn misnamed(alloc: Global, at: usize, mark: Mark, name: &str) -> Result<Complaint, AllocError> {
     let mut wanted = format!(in alloc; "closed ")?;
     push_mark(&mut wanted, mark)?;
@@ -61,7 +61,7 @@ fn misnamed(alloc: Global, at: usize, mark: Mark, name: &str) -> Result<Complain
     Ok(Complaint::Line(at, wanted, format!(in alloc; "the file has that name")?))
 }
 
-// What is wrong with a line of a closed file; it is then told closed.
+// Returns the complaint about a line of a closed file, if there is one. Else the file is recorded as closed.
 fn complaint_of(
     alloc: Global,
     case: &Case<'_>,
@@ -88,7 +88,7 @@ fn complaint_of(
     }
     if let Some(before) = before {
         if before.file.mark > line.mark {
-            let why = "closed files stand in order of their marks";
+            let why = "closed files are in order of their marks";
             return Ok(Some(two_lines(alloc, at.saturating_sub(1), at, why)?));
         }
     }
@@ -97,7 +97,7 @@ fn complaint_of(
     Ok(None)
 }
 
-// The line of a closed file that a text begins with.
+// Reads a line of a closed file.
 fn closed_in(alloc: Global, line: &[u8]) -> Result<Option<ClosedLine>, NoMemory> {
     match read_report(alloc, line, 0)? {
         Some((mut lines, _)) => Ok(lines.closed.pop()),
@@ -105,7 +105,7 @@ fn closed_in(alloc: Global, line: &[u8]) -> Result<Option<ClosedLine>, NoMemory>
     }
 }
 
-// What is wrong behind the last closed file: a completion too many, or another tag.
+// Returns the complaint about the lines after the last closed file, if there is one: a completion too many, or a wrong tag.
 fn complaint_behind(
     alloc: Global,
     case: &Case<'_>,
@@ -140,16 +140,17 @@ fn complaint_behind(
         at = at.saturating_add(1);
     }
     if rest.starts_with(b"tag ") || rest.starts_with(b"closed ") {
-        let why = "the closed files stand in front, and have no further tag";
+        let why = "the closed files come first, and have no further tag";
         return Ok(Some(another(alloc, at, "the next command's line", why)?));
     }
     Ok(None)
 }
 
-/// The first line behind a submission's completions that is wrong by itself, or with the one in front of it.
+/// Returns a complaint about the first line after a submission's completions that is wrong by itself, or beside an earlier one. It
+/// records the closed files in the report.
 ///
 /// # Errors
-/// Where memory is refused.
+/// `NoMemory` if an allocation fails.
 pub fn wrong_close(
     alloc: Global,
     case: &Case<'_>,

@@ -1,10 +1,10 @@
-//! Lines that don't have the place of the request whose turn it is.
+//! Lines that don't have the place of their request.
 use fx_base::NoMemory;
 use fx_chain::{Place, Request};
 use fx_report::{Case, Complaint, behind, line_at, next_place, push_place, push_request};
 use std::alloc::{AllocError, Global};
 
-// A place and the blank behind it, as the line of its completion begins.
+// Returns the beginning of a completion's line: its place and a blank.
 fn front_of(alloc: Global, place: Place) -> Result<String, AllocError> {
     let mut front = String::new(alloc);
     push_place(&mut front, place)?;
@@ -12,7 +12,7 @@ fn front_of(alloc: Global, place: Place) -> Result<String, AllocError> {
     Ok(front)
 }
 
-// Which of so many lines of a text, from 0, is the first that begins so.
+// Returns the number, from 0, of the first line of a text, among its first `lines`, that begins so.
 fn line_with(text: &[u8], lines: usize, front: &[u8]) -> Option<usize> {
     let mut rest = text;
     for at in 0..lines {
@@ -25,7 +25,7 @@ fn line_with(text: &[u8], lines: usize, front: &[u8]) -> Option<usize> {
     None
 }
 
-// The word that a line begins with, and the blank behind it.
+// Returns the first word of a line, and the blank after it.
 fn first_word(line: &[u8]) -> &[u8] {
     match line.iter().position(|byte| *byte == b' ') {
         Some(at) => line.get(..at.saturating_add(1)).unwrap_or(line),
@@ -33,7 +33,7 @@ fn first_word(line: &[u8]) -> &[u8] {
     }
 }
 
-// Why a line is wrong that should begin with a place and begins otherwise: another line has the place, or none has.
+// Returns the reason why a line that should begin with a place doesn't: another line has the place, or none has it.
 fn why_of(
     alloc: Global,
     case: &Case<'_>,
@@ -59,7 +59,7 @@ fn why_of(
     Ok(why)
 }
 
-// That a line should have a place.
+// Returns the complaint that a line should have a place.
 fn complaint_of(
     alloc: Global,
     case: &Case<'_>,
@@ -75,10 +75,10 @@ fn complaint_of(
     Ok(Complaint::Line(at, wanted, why))
 }
 
-/// The first of the lines of a submission's completions that doesn't begin with its request's place.
+/// Returns a complaint about the first line of a completion that doesn't begin with its request's place.
 ///
 /// # Errors
-/// Where memory is refused.
+/// `NoMemory` if an allocation fails.
 pub fn wrong_place(alloc: Global, case: &Case<'_>) -> Result<Option<Complaint>, NoMemory> {
     let mut place = case.first_place();
     let mut rest = case.text;

@@ -1,14 +1,16 @@
-//! The lines of a submission that have no order together, where each of them is right by itself.
+//! Lines of a submission that have no order together, though each of them is valid by itself.
+use crate::chains::{may_change, rests_on_others};
 use crate::contradiction::Cause;
 use fx_base::{Errno, NoMemory};
 use fx_chain::{Completion, Op, Request, Target};
 use fx_report::{Case, Complaint, Report};
 use std::alloc::{AllocError, Global};
 
-// With more lines than this nobody is helped by them.
+// More lines than this help nobody.
 const MOST_LINES: usize = 16;
 
-// Whether the result of a request depends on what is at the slots that are looked at, one of which may be of the allocation range.
+// Checks whether a request's result depends on the slots that are looked at. `has_range`: whether one of these is in the allocation
+// range.
 fn depends_on(cause: &Cause<'_>, has_range: bool, request: &Request, it: &Completion) -> bool {
     if it.res == -Errno::ECANCELED.code() {
         return false;
@@ -26,7 +28,7 @@ fn depends_on(cause: &Cause<'_>, has_range: bool, request: &Request, it: &Comple
     }
 }
 
-// The lines of the requests whose results depend on the slots that are looked at.
+// Returns the lines of the requests whose results depend on the slots that are looked at.
 fn completions_at(
     alloc: Global,
     cause: &Cause<'_>,
@@ -48,7 +50,7 @@ fn completions_at(
     Ok(lines)
 }
 
-// The lines of the files that were closed from there.
+// Returns the `closed` lines of the files that were at these slots.
 fn closes_at(alloc: Global, cause: &Cause<'_>, report: &Report) -> Result<Vec<usize>, AllocError> {
     let mut lines = Vec::new(alloc);
     for i in &report.closes {
@@ -61,7 +63,7 @@ fn closes_at(alloc: Global, cause: &Cause<'_>, report: &Report) -> Result<Vec<us
     Ok(lines)
 }
 
-// Those of the lines that may be left out: an open at any slot could have come to another one.
+// Returns those of the lines that may be left out. That of an open at any slot says which slot it took, so it may not.
 fn optional(alloc: Global, case: &Case<'_>, lines: &[usize]) -> Result<Vec<usize>, AllocError> {
     let mut those = Vec::new(alloc);
     for line in lines {
@@ -74,7 +76,7 @@ fn optional(alloc: Global, case: &Case<'_>, lines: &[usize]) -> Result<Vec<usize
     Ok(those)
 }
 
-// Adds the lines that weren't left out.
+// Appends those of the lines that weren't left out.
 fn push_left(
     lines: &mut Vec<usize>,
     cause: &Cause<'_>,
@@ -88,37 +90,67 @@ fn push_left(
     Ok(())
 }
 
-// That these lines have no order together.
+// Returns the lines of the opens and updates that came to a slot that is looked at.
+fn installs_at(
+    alloc: Global,
+    cause: &Cause<'_>,
+    case: &Case<'_>,
+    report: &Report,
+) -> Result<Vec<usize>, AllocError> {
+    let mut lines = Vec::new(alloc);
+    for (at, (request, it)) in case
+        .requests
+        .iter()
+        .zip(report.completions.iter())
+        .enumerate()
+    {
+        let is_close = matches!(request.op, Op::Close { .. });
+        if it.res >= 0 && !is_close && may_change(cause, request) {
+            lines.push(at)?;
+        }
+    }
+    Ok(lines)
+}
+
+// Returns the reason that lines have no order together, in words.
 fn why_of(
     alloc: Global,
     cause: &Cause<'_>,
     is_one: bool,
     slot: Option<u32>,
+    rests_on_chains: bool,
 ) -> Result<String, AllocError> {
     let mut why = String::new(alloc);
     why.push_str("no order of the requests gives ")?;
     why.push_str(if is_one { "this one" } else { "all of these" })?;
     if let Some(slot) = slot {
         why.push_str(if is_one {
-            ", which tells"
+            ", which concerns"
         } else {
-            ", which tell"
+            ", which concern"
         })?;
         write!(why, " of slot {slot}")?;
     }
     if cause.are_all() {
         why.push_str(", and closes no other file")?;
     }
-    if !is_one && !cause.is_sure() {
-        why.push_str("; fewer of them may contradict each other")?;
+    if rests_on_chains {
+        why.push_str(", and cancels the same requests")?;
+    }
+    if !cause.is_sure() {
+        why.push_str(if is_one {
+            "; there may be none without it"
+        } else {
+            "; fewer of them may contradict each other"
+        })?;
     }
     Ok(why)
 }
 
-/// Lines that have no order together, as a search found of a slot or of all; none where these are too many to be told.
+/// Returns lines that have no order together, if a search found that a slot, or all slots, have none; `None` if they are more than 16.
 ///
 /// # Errors
-/// Where memory is refused.
+/// `NoMemory` if an allocation fails.
 pub fn no_order(
     alloc: Global,
     case: &Case<'_>,
@@ -136,7 +168,10 @@ pub fn no_order(
         push_left(&mut lines, &cause, &completions)?;
         push_left(&mut lines, &cause, &closes)?;
     }
-    if lines.is_empty() {
+    if is_seen && lines.is_empty() {
+        lines = installs_at(alloc, &cause, case, report)?;
+    }
+    if !is_seen {
         cause.keep_all();
         push_left(&mut lines, &cause, &completions)?;
         push_left(&mut lines, &cause, &closes)?;
@@ -144,6 +179,7 @@ pub fn no_order(
     if lines.is_empty() || lines.len() > MOST_LINES {
         return Ok(None);
     }
-    let why = why_of(alloc, &cause, lines.len() == 1, slot)?;
+    let rests_on_chains = cause.rests_on_chains()? || rests_on_others(&cause, case, report, &lines);
+    let why = why_of(alloc, &cause, lines.len() == 1, slot, rests_on_chains)?;
     Ok(Some(Complaint::Lines(lines, why)))
 }

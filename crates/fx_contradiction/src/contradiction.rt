@@ -1,13 +1,13 @@
-//! Lines that have no order together, and of which none can be left out: lines are left out, and it is searched again.
+//! Lines that have no order together, and of which none can be left out. Lines are left out, and the search is repeated.
 use crate::flags::{flags, is_at, set};
-use crate::told::{Left, claims_told, question_of};
+use crate::told::{Left, claims_told, question_of, tells_of_chain};
 use fx_base::NoMemory;
 use fx_report::{Case, Installed, Report};
 use fx_search::{Found, Limits, Steps, components, explore};
 use std::alloc::{AllocError, Global};
 
-/// How many searches there are at most, how many lines they go through, and how many states they meet in all; how many are met
-/// with each line, and how many where lines are left out.
+/// The largest number of searches, of the lines that they go through, and of the states that they meet in all; of the states of the
+/// first search, and of one that leaves lines out.
 const SEARCHES: usize = 1_000;
 
 const LINES: usize = 4_000_000;
@@ -18,10 +18,10 @@ const FIRST_STATES: usize = 50_000;
 
 const MORE_STATES: usize = 20_000;
 
-/// How many bytes the states of a search take.
+/// The largest number of bytes of a search's states.
 const BYTES: usize = 67_108_864;
 
-/// In how many ways files may stay or be closed of which no line tells it.
+/// The largest number of ways, that are tried, in which files without a line stay or are closed.
 const WAYS: usize = 64;
 
 /// A search for lines that have no order together.
@@ -32,18 +32,18 @@ pub struct Cause<'a> {
     report: &'a Report,
     // The slots that are looked at.
     slots: Vec<bool>,
-    // Whether no other file is closed than those that have a line; and the slots at which one of the others is, so that no
-    // further file stays there.
+    // Whether only files with a `closed` line are closed. `kept`: the slots that have a file without one, so that no further file
+    // stays there.
     are_all: bool,
     kept: Vec<bool>,
     left: Left,
     searches: usize,
     states: usize,
-    // Whether each line that wasn't left out was seen to be needed.
+    // Whether each line that wasn't left out is known to be needed.
     is_sure: bool,
 }
 
-// In how many ways at most one file of each group may stay.
+// Returns the number of ways in which at most one file of each group stays.
 fn ways_of(groups: &[Vec<usize>]) -> usize {
     let mut ways = 1usize;
     for group in groups {
@@ -53,10 +53,10 @@ fn ways_of(groups: &[Vec<usize>]) -> usize {
 }
 
 impl<'a> Cause<'a> {
-    /// A search that leaves no line out yet, and looks at no slot.
+    /// Returns a search that leaves no line out yet, and looks at no slot.
     ///
     /// # Errors
-    /// Where memory is refused.
+    /// `AllocError` if an allocation fails.
     pub fn new(
         alloc: Global,
         case: &'a Case<'a>,
@@ -73,6 +73,7 @@ impl<'a> Cause<'a> {
             out: flags(alloc, lines, false)?,
             stays: flags(alloc, report.files.len(), false)?,
             swept: Vec::new(alloc),
+            is_free: false,
         };
         Ok(Cause {
             alloc,
@@ -88,37 +89,37 @@ impl<'a> Cause<'a> {
         })
     }
 
-    /// Whether a slot is looked at.
+    /// Checks whether a slot is looked at.
     pub fn has_slot(&self, slot: u32) -> bool {
         is_at(&self.slots, slot as usize)
     }
 
-    /// Whether a slot of the allocation range is looked at.
+    /// Checks whether a slot of the allocation range is looked at.
     pub fn has_range(&self) -> bool {
         let mut slots = self.slots.iter().enumerate();
         slots.any(|(slot, is_looked_at)| *is_looked_at && self.case.is_in_range(slot))
     }
 
-    /// Whether a line wasn't left out.
+    /// Checks whether a line wasn't left out.
     pub fn has_line(&self, line: usize) -> bool {
         !is_at(&self.left.out, line)
     }
 
-    /// Whether the lines have no order where no other file is closed than those that have a line.
+    /// Checks whether the lines have no order only if no file without a `closed` line is closed.
     pub fn are_all(&self) -> bool {
         self.are_all
     }
 
-    /// Whether each line that wasn't left out was seen to be needed.
+    /// Checks whether each line that wasn't left out is known to be needed.
     pub fn is_sure(&self) -> bool {
         self.is_sure
     }
 
-    /// Looks at this slot, or at those that chains join and of which it is first seen that the lines have no order there, and
-    /// else at all. It answers whether that was seen.
+    /// Looks at this slot; or, without one, at the first slots that chains join and at which the lines have no order, and else at all
+    /// slots. Returns whether a search showed that the lines have no order there.
     ///
     /// # Errors
-    /// Where memory is refused.
+    /// `NoMemory` if an allocation fails.
     pub fn look_at(&mut self, slot: Option<u32>) -> Result<bool, NoMemory> {
         if let Some(slot) = slot {
             set(&mut self.slots, slot as usize, true);
@@ -143,7 +144,7 @@ impl<'a> Cause<'a> {
         Ok(false)
     }
 
-    // Whether it is seen that the lines have no order, whatever other files are closed, or else where no other one is.
+    // Checks whether a search shows that the lines have no order, whichever other files are closed, or else if none is.
     fn sees_no_order(&mut self) -> Result<bool, NoMemory> {
         for are_all in [false, true] {
             self.are_all = are_all;
@@ -154,7 +155,7 @@ impl<'a> Cause<'a> {
         Ok(false)
     }
 
-    // Whether nothing tells if a file is closed. Where one stays that has no line, each other one is closed.
+    // Checks whether no line says if a file is closed. If a file without a line stays at a slot, each other one there is closed.
     fn is_free(&self, it: &Installed) -> bool {
         match it.closed {
             Some(line) => {
@@ -164,7 +165,7 @@ impl<'a> Cause<'a> {
         }
     }
 
-    // For each slot the files of which nothing tells if they are closed: one of them may stay.
+    // Returns, for each slot, the files of which no line says if they are closed. One of them may stay.
     fn free_files(&self) -> Result<Vec<Vec<usize>>, NoMemory> {
         let mut groups: Vec<Vec<usize>> = Vec::new(self.alloc);
         for (i, it) in self.report.files.iter().enumerate() {
@@ -175,7 +176,7 @@ impl<'a> Cause<'a> {
         Ok(groups)
     }
 
-    // The slot of a group of files.
+    // Returns the slot of a group of files.
     fn slot_of(&self, group: &[usize]) -> Option<u32> {
         let first = group.first()?;
         let it = self.report.files.get(*first)?;
@@ -199,7 +200,8 @@ impl<'a> Cause<'a> {
         Ok(groups.push(group)?)
     }
 
-    // Which file of a group stays first, from 1: the one that has no line. 0 for none.
+    // Returns the number, from 1, of the file of a group that is the first to be tried as the one that stays: that without a line. 0 for
+    // none.
     fn first_choice(&self, group: &[usize]) -> usize {
         for (i, file) in group.iter().enumerate() {
             if matches!(self.report.files.get(*file), Some(it) if it.closed.is_none()) {
@@ -231,8 +233,8 @@ impl<'a> Cause<'a> {
         }
     }
 
-    // Whether the lines that aren't left out have no order, where the files stay that were chosen, and how many states that
-    // took; none if it isn't seen.
+    // Searches for an order of the lines that aren't left out, with the chosen files staying. Returns whether there is none, or `None` if
+    // that isn't seen, and the number of states met.
     fn search(&mut self, most: usize) -> Result<(Option<bool>, usize), NoMemory> {
         let states = most.min(self.states);
         if self.searches == 0 || states == 0 {
@@ -255,8 +257,8 @@ impl<'a> Cause<'a> {
         Ok((seen, rows.len()))
     }
 
-    // The same where none of the files in groups stays, and the last one of each group goes at any time. Where the lines have no
-    // order so, they have none whichever of these files stay.
+    // Searches with no file of a group staying, and the last one of each group going at any time. If the lines have no order then, they
+    // have none whichever of these files stay.
     fn sweep(
         &mut self,
         groups: &[Vec<usize>],
@@ -275,7 +277,7 @@ impl<'a> Cause<'a> {
         Ok(seen)
     }
 
-    // Whether the lines that aren't left out have no order, whatever files are closed of which no line tells it; none if it isn't
+    // Checks whether the lines that aren't left out have no order, whichever files without a line are closed. `None` if that isn't
     // seen.
     fn has_no_order(&mut self, most: usize) -> Result<Option<bool>, NoMemory> {
         let groups = self.free_files()?;
@@ -317,7 +319,7 @@ impl<'a> Cause<'a> {
         Ok(())
     }
 
-    // Leaves lines out, so many at a time, which still stand.
+    // Leaves out lines that aren't left out yet, `size` at a time.
     fn leave_out_by(&mut self, lines: &[usize], size: usize) -> Result<(), NoMemory> {
         let mut own = Vec::new(self.alloc);
         for (i, line) in lines.iter().enumerate() {
@@ -333,10 +335,10 @@ impl<'a> Cause<'a> {
         Ok(())
     }
 
-    /// Leaves out which of some lines it may: halves of them first, and at last each by itself.
+    /// Leaves out those of some lines that aren't needed. It tries halves of them first, and at last each by itself.
     ///
     /// # Errors
-    /// Where memory is refused.
+    /// `NoMemory` if an allocation fails.
     pub fn leave_out_all(&mut self, lines: &[usize]) -> Result<(), NoMemory> {
         let mut size = lines.len();
         for _ in 0..lines.len() {
@@ -349,7 +351,31 @@ impl<'a> Cause<'a> {
         Ok(())
     }
 
-    /// Leaves out no line, where nothing is seen of fewer.
+    // Checks whether a line is left out whose request's chain, by the next line, runs or is severed.
+    fn leaves_chain_open(&self) -> bool {
+        for (line, is_out) in self.left.out.iter().enumerate() {
+            if *is_out && tells_of_chain(self.case, self.report, line) {
+                return true;
+            }
+        }
+        false
+    }
+
+    /// Checks whether the lines may have an order if those that are left out leave open whether their requests sever their chains.
+    ///
+    /// # Errors
+    /// `NoMemory` if an allocation fails.
+    pub fn rests_on_chains(&mut self) -> Result<bool, NoMemory> {
+        if !self.leaves_chain_open() {
+            return Ok(false);
+        }
+        self.left.is_free = true;
+        let seen = self.has_no_order(MORE_STATES)?;
+        self.left.is_free = false;
+        Ok(seen != Some(true))
+    }
+
+    /// Takes all lines back, if no search showed anything about fewer of them.
     pub fn keep_all(&mut self) {
         for line in self.left.out.iter_mut() {
             *line = false;

@@ -1,7 +1,7 @@
 //! Lists of flags.
 use std::alloc::{AllocError, Global};
 
-/// The flag at a place of a list; false behind its end.
+/// Returns the flag at a place of a list, or false past its end.
 pub fn is_at(list: &[bool], place: usize) -> bool {
     matches!(list.get(place), Some(true))
 }
@@ -13,10 +13,10 @@ pub fn set(list: &mut [bool], place: usize, flag: bool) {
     }
 }
 
-/// So many times a flag.
+/// Returns a list of `count` equal flags.
 ///
 /// # Errors
-/// Where memory is refused.
+/// `AllocError` if an allocation fails.
 pub fn flags(alloc: Global, count: usize, flag: bool) -> Result<Vec<bool>, AllocError> {
     let mut list = Vec::new(alloc);
     for _ in 0..count {

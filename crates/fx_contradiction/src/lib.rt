@@ -1,8 +1,9 @@
-//! Lines of a submission that have no order together, as few as can be found. It is advice, on which no verdict rests; of these
-//! functions only that they are safe and end is proved.
+//! Lines of a submission that have no order together, as few as a search finds. No verdict rests on this advice. Of these functions it is
+//! proved only that they are memory-safe and terminate.
 #![tactic(auto)]
 
 mod at_slot;
+mod chains;
 mod contradiction;
 mod flags;
 mod told;

@@ -1,4 +1,4 @@
-//! What the lines of a submission tell of the accesses at some slots, where some lines are left out: claims, for a search.
+//! The claims of a submission's lines about some slots, for a search. Some lines may be left out.
 use crate::flags::is_at;
 use bitflags::Flags;
 use fx_base::{Errno, NoMemory};
@@ -7,36 +7,43 @@ use fx_report::{Case, Report};
 use fx_search::{Cell, Claim, Leaves, Resident, Strand, Wants};
 use std::alloc::{AllocError, Global};
 
-/// Which lines of a submission are left out, and which of its files stay at their slots.
+/// The lines of a submission that are left out, and the files that stay at their slots.
 #[derive(Drop)]
 pub struct Left {
-    /// For each line, from 0, whether it is left out.
+    /// Whether each line, from 0, is left out.
     pub out: Vec<bool>,
-    /// For each file of the report whether it stays; another one is closed.
+    /// Whether each file of the report stays. Each other one is closed.
     pub stays: Vec<bool>,
-    /// Slots that are emptied once, at any time, whoever does it.
+    /// Slots that are emptied once, at any time, by nobody in particular.
     pub swept: Vec<u32>,
+    /// Whether a request whose line is left out may sever its chain or not, whatever the line after it says.
+    pub is_free: bool,
 }
 
-/// What a search is asked: the slots, and the claims of the chains there.
+/// The question for a search: the slots, and the chains' claims there.
 #[derive(Drop)]
 pub struct Question {
     pub cells: Vec<Cell>,
     pub strands: Vec<Strand>,
 }
 
-// What the line behind a request tells of whether it severed its chain.
+// What the line after a request says about whether the request severed its chain.
 #[derive(Clone, Copy, PartialEq, Eq)]
 enum Behind {
     // Nothing.
     Free,
-    // It did not.
+    // The request did not.
     Runs,
-    // It did.
+    // The request did.
     Canceled,
 }
 
-// What the line behind a request tells.
+/// Checks whether the line after a request says whether the request severed its chain.
+pub fn tells_of_chain(case: &Case<'_>, report: &Report, line: usize) -> bool {
+    behind_of(case, report, line) != Behind::Free
+}
+
+// Returns what the line after a request says about whether the request severed its chain.
 fn behind_of(case: &Case<'_>, report: &Report, line: usize) -> Behind {
     let (Some(request), Some(next)) = (
         case.requests.get(line),
@@ -53,7 +60,7 @@ fn behind_of(case: &Case<'_>, report: &Report, line: usize) -> Behind {
     }
 }
 
-// The entries whose files a read may have found, which got these bytes, or as many as it asked for.
+// Returns for each entry whether a read may have found a file of it: it has these bytes, or, without any, as many as the read asks for.
 fn fits_of(
     alloc: Global,
     case: &Case<'_>,
@@ -73,7 +80,7 @@ fn fits_of(
     Ok(fits)
 }
 
-// The lines of a submission as they are gone through, in order.
+// A walk through the lines of a submission, in order.
 #[derive(Drop)]
 struct Reader<'a> {
     alloc: Global,
@@ -82,12 +89,12 @@ struct Reader<'a> {
     left: &'a Left,
     // The slots that are looked at.
     slots: &'a [bool],
-    // The place of the next file among the report's.
+    // The number of the next file among the report's.
     file: usize,
 }
 
 impl Reader<'_> {
-    // The next file, if this line told that it was installed, or none did.
+    // Returns the next file, if this line's request installed it, or, without a line, if none did.
     fn next_file(&mut self, line: Option<usize>) -> Option<(u32, Resident)> {
         let it = self.report.files.get(self.file)?;
         if it.line != line {
@@ -104,7 +111,16 @@ impl Reader<'_> {
         ))
     }
 
-    // The claim of a read.
+    // Returns what the line after a request says of the request, if that is looked at.
+    fn behind(&self, line: usize) -> Behind {
+        if self.left.is_free {
+            Behind::Free
+        } else {
+            behind_of(self.case, self.report, line)
+        }
+    }
+
+    // Returns the claim of a read, if it makes one.
     fn read(
         &self,
         line: usize,
@@ -114,7 +130,7 @@ impl Reader<'_> {
     ) -> Result<Option<Claim>, NoMemory> {
         let (slot, len) = read;
         if is_at(&self.left.out, line) {
-            return Ok(match behind_of(self.case, self.report, line) {
+            return Ok(match self.behind(line) {
                 Behind::Runs => {
                     let fits = fits_of(self.alloc, self.case, request, None, len)?;
                     Some(Claim::At(slot, Wants::Bytes(fits), Leaves::Same))
@@ -141,9 +157,9 @@ impl Reader<'_> {
         Ok(Some(Claim::At(slot, Wants::Bytes(fits), Leaves::Same)))
     }
 
-    // The claim of a close.
+    // Returns the claim of a close.
     fn close(&self, line: usize, slot: u32, completion: &Completion) -> Claim {
-        let is_free = behind_of(self.case, self.report, line) == Behind::Free;
+        let is_free = self.behind(line) == Behind::Free;
         if is_free && is_at(&self.left.out, line) {
             Claim::At(slot, Wants::Anything, Leaves::Empty)
         } else if completion.res == 0 {
@@ -153,7 +169,7 @@ impl Reader<'_> {
         }
     }
 
-    // Adds the claims of an update.
+    // Appends the claims of an update.
     fn push_update(
         &mut self,
         claims: &mut Vec<Claim>,
@@ -175,7 +191,7 @@ impl Reader<'_> {
         Ok(())
     }
 
-    // Adds the claim of an open.
+    // Appends the claim of an open.
     fn push_open(
         &mut self,
         claims: &mut Vec<Claim>,
@@ -197,12 +213,12 @@ impl Reader<'_> {
         Ok(())
     }
 
-    // Whether a slot is looked at.
+    // Checks whether a slot is looked at.
     fn has_slot(&self, slot: u32) -> bool {
         is_at(self.slots, slot as usize)
     }
 
-    // Adds the claims of a request. One that doesn't come to the table has none, nor has a read or a close of another slot.
+    // Appends the claims of a request. A request that is refused has none, nor has a read or a close of another slot.
     fn push_request(
         &mut self,
         claims: &mut Vec<Claim>,
@@ -231,7 +247,7 @@ impl Reader<'_> {
         }
     }
 
-    // The slots as they are before the submission, of those that are looked at.
+    // Returns those of the slots that are looked at, as they are before the submission.
     fn cells(&mut self) -> Result<Vec<Cell>, NoMemory> {
         let mut cells = Vec::new(self.alloc);
         let mut slot = 0u32;
@@ -254,11 +270,11 @@ impl Reader<'_> {
     }
 }
 
-/// Some slots as they are before the submission, and the claims of each chain, the first one's first: those of these slots, and
-/// of others those that open files or are of a list.
+/// Returns some slots as they are before the submission, and the claims of each chain in order: those about these slots, and those
+/// of opens and updates about others.
 ///
 /// # Errors
-/// Where memory is refused.
+/// `NoMemory` if an allocation fails.
 pub fn claims_told(
     alloc: Global,
     case: &Case<'_>,
@@ -293,7 +309,7 @@ pub fn claims_told(
     Ok((cells, chains))
 }
 
-// Whether a claim tells of one of these slots, or of the allocation range where they have one of it.
+// Checks whether a claim is about one of these slots, or about the allocation range if one of them is in it.
 fn is_of(claim: &Claim, slots: &[bool], has_range: bool) -> bool {
     match claim {
         Claim::At(slot, _, _) => is_at(slots, *slot as usize),
@@ -301,10 +317,10 @@ fn is_of(claim: &Claim, slots: &[bool], has_range: bool) -> bool {
     }
 }
 
-/// What the lines tell of some slots, but those that are left out.
+/// Returns the question whether the lines that aren't left out have an order, as far as some slots go.
 ///
 /// # Errors
-/// Where memory is refused.
+/// `NoMemory` if an allocation fails.
 pub fn question_of(
     alloc: Global,
     case: &Case<'_>,
