@@ -7,10 +7,10 @@ use fx_base::{Catalogue, CloseList, Closed, NoMemory};
 use fx_order::Slots;
 use std::alloc::Global;
 
-/// The files at all slots, in order of slot.
+/// Returns the files at all slots, in order of slot.
 ///
 /// # Errors
-/// `NoMemory` where the memory of the list is refused.
+/// `NoMemory` if an allocation fails.
 pub fn files_at(alloc: Global, slots: &Slots) -> Result<Vec<Closed>, NoMemory>
     ensures { IfOk result (λ files. files.items
         ≡ files_in_order (table_of_slots slots.now).at (length slots.now.at.items)) }
@@ -24,10 +24,10 @@ pub fn files_at(alloc: Global, slots: &Slots) -> Result<Vec<Closed>, NoMemory>
     Ok(files)
 }
 
-/// A list of closes of these files, as they stand. Each of them is of the catalogue.
+/// Returns a list of closes of these files, in their order. Each of them is of the catalogue.
 ///
 /// # Errors
-/// `NoMemory` where the memory of the list is refused.
+/// `NoMemory` if an allocation fails.
 pub(crate) fn close_all(
     alloc: Global,
     catalogue: &Catalogue,
@@ -44,10 +44,10 @@ pub(crate) fn close_all(
     Ok(closes)
 }
 
-/// A list of closes of these files, in order of mark. Each of them is of the catalogue.
+/// Returns a list of closes of these files, in order of mark. Each of them is of the catalogue.
 ///
 /// # Errors
-/// `NoMemory` where the memory of the list is refused.
+/// `NoMemory` if an allocation fails.
 pub fn close_in_order(
     alloc: Global,
     catalogue: &Catalogue,

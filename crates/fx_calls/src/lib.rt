@@ -1,5 +1,5 @@
-//! What a call between two submissions comes to, where the files at the slots are known: what it refuses, what it leaves there and
-//! which files it closes.
+//! Calls between two submissions, on slots whose files are known: the errors that a call returns, the files that it leaves at the
+//! slots, and the files that it closes.
 #![tactic(auto)]
 
 mod closes;

@@ -1,4 +1,4 @@
-//! Lists of numbers that change the slots of a model, one after another.
+//! Lists of numbers, applied to the slots of a model one entry after another.
 ghost use Rattle.std.specs.Prelude.{◌≡◌, ◌+◌, ◌^◌, ◌<◌, ◌≤◌, false, IfOk, OnOk, length, None};
 ghost use Rattle.std.specs.List.{list_any};
 ghost use Rattle.std.specs.Option.{option_to_list};
@@ -15,10 +15,10 @@ use fx_order::Slots;
 use fx_ring::tag_at;
 use std::alloc::Global;
 
-/// So many empty slots, all of them in the allocation range.
+/// Returns `n` empty slots, all of them in the allocation range.
 ///
 /// # Errors
-/// `NoMemory` where their memory is refused.
+/// `NoMemory` if an allocation fails.
 pub fn empty_slots(alloc: Global, n: u32) -> Result<Slots, NoMemory>
     ensures { IfOk result (λ slots. table_of_slots slots
         ≡ record { size = n; range = (0, n); at = λ _. None }) }
@@ -53,11 +53,11 @@ fn apply_number(slots: &mut Slots, mark: Mark, tag: u64, slot: u32, number: i32)
     was
 }
 
-/// Applies the k-th list, from the slot `off` on, with tags 0 where none are given. It gives the files that were removed,
-/// in order of slot.
+/// Applies the k-th list, from the slot `off` on, and returns the files that it removed, in order of slot. Without tags, the tag
+/// of each new file is 0.
 ///
 /// # Errors
-/// `NoMemory` where the memory of the list of files is refused.
+/// `NoMemory` if an allocation fails.
 pub fn apply_list(
     alloc: Global,
     slots: &mut Slots,

@@ -1,4 +1,4 @@
-//! Why a call between submissions is refused, in the order in which the faults are looked for.
+//! The errors of calls between submissions. If several apply, the first that the manual's order gives is returned.
 ghost use Rattle.std.specs.Prelude.{◌≡◌, ◌+◌, ◌<◌, ◌≤◌, IfNone, false, length};
 ghost use Rattle.std.specs.List.{list_any};
 ghost use Rattle.fx_base.specs.declared.catalogue.TheConstants.{MOST_ENTRIES};
@@ -15,7 +15,7 @@ use fx_order::RingSlots;
 use fx_plain::MOST_SLOTS;
 use fx_ring::{MOST_REGISTRATIONS, are_bad_tags, has_bad_file};
 
-/// Why a table of so many empty slots can't be registered, except when out of memory.
+/// Returns the error with which a table of `n` empty slots is refused, or `None` if only a failed allocation could refuse it.
 pub fn sparse_refusal(catalogue: &Catalogue, ring: &RingSlots, n: u32) -> Option<Errno>
     ensures value { result ≡ sparse_refusal (ring_with_slots catalogue.now ring.now) n }
     ensures few { IfNone result (n ≤ MOST_SLOTS) }
@@ -32,7 +32,8 @@ pub fn sparse_refusal(catalogue: &Catalogue, ring: &RingSlots, n: u32) -> Option
     None
 }
 
-/// Why a list can't be registered with its tags, if any are given, except when out of memory.
+/// Returns the error with which a list and its optional tags are refused as a table, or `None` if only a failed allocation could
+/// refuse them.
 pub fn register_refusal(
     catalogue: &Catalogue,
     ring: &RingSlots,
@@ -65,7 +66,7 @@ pub fn register_refusal(
     None
 }
 
-/// Why there is no table that could be unregistered, except when out of memory.
+/// Returns the error with which unregistering is refused, or `None` if only a failed allocation could refuse it.
 pub fn unregister_refusal(catalogue: &Catalogue, ring: &RingSlots) -> Option<Errno>
     ensures { result ≡ unregister_refusal (ring_with_slots catalogue.now ring.now) }
 {
@@ -75,7 +76,7 @@ pub fn unregister_refusal(catalogue: &Catalogue, ring: &RingSlots) -> Option<Err
     None
 }
 
-/// Why an allocation range can't be set.
+/// Returns the error with which an allocation range of `len` slots from `off` on is refused, or `None` if it is set.
 pub fn range_refusal(catalogue: &Catalogue, ring: &RingSlots, off: u32, len: u32) -> Option<Errno>
     requires { length ring.now.slots.at.items ≤ MOST_SLOTS }
     ensures { result ≡ range_refusal (ring_with_slots catalogue.now ring.now) off len }
@@ -86,7 +87,8 @@ pub fn range_refusal(catalogue: &Catalogue, ring: &RingSlots, off: u32, len: u32
     None
 }
 
-/// Why the slots from `off` on can't be updated by a list with its tags, if any are given, except when out of memory.
+/// Returns the error with which an update of the slots from `off` on is refused, or `None` if only a failed allocation could refuse
+/// it. Tags are optional.
 pub fn update_refusal(
     catalogue: &Catalogue,
     ring: &RingSlots,

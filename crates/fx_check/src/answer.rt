@@ -10,19 +10,19 @@ use crate::met::Met;
 use fx_order::Order;
 use fx_search::Doubt;
 
-/// What a text says of the next command.
+/// The judge's answer for the next command of a script and the rest of a text.
 #[derive(Debug, Drop)]
 pub(crate) enum Answer {
-    /// It goes on with so many bytes that the command may print; with an order, where that is an accepted submission.
+    /// The text continues with this many bytes that the command may print; of an accepted submission, an order that prints them.
     Printed(usize, Option<Order>),
-    /// It goes on with none that the command may print.
+    /// The text doesn't continue with anything that the command may print.
     Broken(Fault),
     /// Neither was shown of the submission within the limits. The reason is advice.
     Undecided(Doubt),
 }
 
 impl Answer {
-    /// The answer where a command has few texts, and isn't counted as a submission.
+    /// Converts the answer for a command that isn't an accepted submission.
     pub fn of(met: Met) -> Answer
         ensures { (catalogue : List FileEntry) (old new : RingSlots) (command : Instruction)
             (text : List ℕ) → IsStep catalogue old command text met new

@@ -1,4 +1,4 @@
-//! Which line of a report can't be one. Nothing is promised of it: it is advice for a person.
+//! The first invalid line of a report. It is advice for a person, and no contract speaks of it.
 ghost use Rattle.std.specs.Prelude.{◌≤◌, length};
 ghost use Rattle.fx_chain.specs.Accepted.{IsAccepted};
 ghost use Rattle.fx_chain.specs.Operation.{all_asked};
@@ -34,10 +34,10 @@ fn is_close(line: &[u8]) -> bool {
     line.starts_with(b"closed ") || line.starts_with(b"tag ")
 }
 
-/// The first line of a text that isn't one of the report of a submission, where it is known that there is one.
+/// Returns the first line of a text that isn't a line of the submission's report, if the report can't be read.
 ///
 /// # Errors
-/// `NoMemory` where the memory for a line is refused.
+/// `NoMemory` if an allocation fails.
 pub(crate) fn wrong_line(
     alloc: Global,
     submission: u32,

@@ -2,39 +2,39 @@ use fx_judge::Reason;
 use fx_order::{Order, RingSlots};
 use fx_search::Doubt;
 
-/// Why a text is none of a script, where its first commands may have printed what stands in front. It is advice for a
-/// person, and no contract speaks of it.
+/// The reason why a script doesn't print a text after its break. It is advice for a person, and no contract speaks of it.
 #[derive(Debug, Drop)]
 pub enum Fault {
-    /// The text goes on with none of the texts that the next command, or the end, may print; this is the likeliest.
+    /// The text doesn't continue with any text that the next command, or the end, may print; this is the likeliest one.
     Text(String),
-    /// So many lines behind what stands in front there is a line that a submission's report doesn't have there; this should
-    /// stand there, in words.
+    /// A line that the submission's report can't have at its place: its number, from 0, counted from the break, and the line that is
+    /// expected there, in words.
     Line(usize, String),
-    /// What the text tells of this submission comes of no order of its requests.
+    /// No order of the submission's requests gives the text: the submission, from 1, and the reason.
     Order(u32, Reason),
 }
 
-/// Where a text is seen to be none of its script: what stands in front its first commands may print.
+/// The place at which a script is seen not to print a text. The first commands may print the text before it.
 #[derive(Debug, Drop)]
 pub struct Break {
-    /// How many commands may have printed what stands in front. With the next one no play prints a beginning of the text,
-    /// unless a line of a closed file or a tag stands right behind it; where there is none, the end may not print what follows.
+    /// The number of commands that may have printed the text before the break. No play prints a beginning of the text with one more
+    /// command, unless a line of a closed file or a tag follows that beginning. If all commands are counted, the end of the script
+    /// doesn't print the rest.
     pub commands: usize,
-    /// How many bytes of the text stand in front.
+    /// The number of bytes of the text before the break.
     pub at: usize,
-    /// What is kept of the ring that they lead to. It is advice for a person, as the fault is.
+    /// The slots and counts of the ring after these commands. They are advice for a person, as the fault is.
     pub ring: RingSlots,
-    /// Why it isn't.
+    /// The reason.
     pub fault: Fault,
 }
 
-/// Whether a script may print a text.
+/// A verdict: whether a script may print a text.
 #[derive(Debug, Drop)]
 pub enum Judgement {
-    /// It may: for each accepted submission there is this order.
+    /// The script may print the text: an order for each accepted submission.
     Legal(Vec<Order>),
-    /// It may not.
+    /// The script doesn't print the text.
     NotLegal(Break),
     /// Neither was shown within the limits, of this accepted submission, counted from 1. The reason is advice.
     Undecided(u32, Doubt),

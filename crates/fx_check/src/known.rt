@@ -1,4 +1,4 @@
-//! Whether a file that a report closes is known: at a slot before, or installed by a request.
+//! Checks whether each closed file of a report was at a slot before, or was installed by a request.
 ghost use Rattle.std.specs.Prelude.{◌≡◌, IfSome, false};
 ghost use Rattle.fx_chain.specs.Completed.{all_completed, completed_of};
 ghost use Rattle.fx_chain.specs.Operation.{all_asked, asked_of};
@@ -66,8 +66,8 @@ fn is_installed(requests: &[Request], completions: &[Completion], mark: Mark) ->
     false
 }
 
-/// Which of the files that are told closed, from 0, was at no slot and is none that a request of the submission installed;
-/// none where there is no such file. The files are in order of mark.
+/// Returns the number, from 0, of a closed file that was at no slot before and that no request of the submission installed, or
+/// `None` if there is no such file. The files are in order of mark.
 pub(crate) fn unknown_file(slots: &Slots, requests: &[Request], told: &Told) -> Option<usize>
     ensures { IfSome result (λ i. AreFrom slots.now (all_asked requests.now)
         (all_completed told.now.completions.items) told.now.closes.items → ⊥) }

@@ -1,4 +1,4 @@
-//! Whether the rules allow a text for a script: a text of a kernel, of an emulator, of anyone.
+//! The judge: decides whether a script may print a text, whoever wrote the text.
 #![tactic(auto)]
 
 mod answer;

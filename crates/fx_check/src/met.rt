@@ -1,4 +1,4 @@
-//! What a command printed, looked for at the beginning of a text.
+//! Looks for a command's text at the beginning of a text.
 ghost use Rattle.std.specs.Prelude.{◌≡◌, IfOk, string_bytes};
 ghost use Rattle.fx_chain.specs.Completed.{negated};
 ghost use Rattle.fx_check.specs.Met.{IsMet};
@@ -8,16 +8,16 @@ use fx_base::{Errno, NoMemory};
 use fx_script::result_line;
 use std::alloc::Global;
 
-/// Whether a text goes on with what a command prints.
+/// The result of looking for a command's text.
 #[derive(Debug, Drop)]
 pub(crate) enum Met {
-    /// It does, and these are so many bytes.
+    /// The text begins with it; its number of bytes.
     Here(usize),
-    /// It goes on with none of the texts that the command may print, of which this is the likeliest.
+    /// The text begins with nothing that the command may print; the likeliest text of the command.
     Apart(String),
 }
 
-/// Looks for a line, or some, at the beginning of a text.
+/// Looks for one or several lines at the beginning of a text.
 pub(crate) fn meet(text: &[u8], line: String) -> Met
     ensures { IsMet text.now (string_bytes line) result }
 {
@@ -30,17 +30,17 @@ pub(crate) fn meet(text: &[u8], line: String) -> Met
 /// Looks for the line of a command: its word and its result.
 ///
 /// # Errors
-/// `NoMemory` where the memory of the line is refused.
+/// `NoMemory` if an allocation fails.
 pub(crate) fn meet_result(alloc: Global, text: &[u8], word: &str, res: i64) -> Result<Met, NoMemory>
     ensures { IfOk result (IsMet text.now (result_line word.now res)) }
 {
     Ok(meet(text, result_line(alloc, word, res)?))
 }
 
-/// Looks for the line of a refused call: its word, and its error, negated.
+/// Looks for the line of a refused call: its word and its negated error.
 ///
 /// # Errors
-/// `NoMemory` where the memory of the line is refused.
+/// `NoMemory` if an allocation fails.
 pub(crate) fn meet_refusal(
     alloc: Global,
     text: &[u8],

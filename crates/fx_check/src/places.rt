@@ -1,4 +1,4 @@
-//! Which request makes each access of an order.
+//! The places of the requests that make the accesses of an order.
 ghost use Rattle.std.specs.Prelude.{◌≡◌, ◌≤◌, ◌<◌, ◌+◌, ◌++◌, ◌^◌, ℕ, All, IfOk, OnOk, List, length, map, slice_get, Some};
 ghost use Rattle.std.specs.Global.{Vec as Items};
 ghost use Rattle.fx_base.specs.Catalogue.{FileEntry};
@@ -17,7 +17,7 @@ use fx_chain::{Chain, Completion, Op, Place, Request};
 use fx_order::{AccessPlace, ChainAccess, accesses_made, members};
 use std::alloc::Global;
 
-/// The completions of a submission's requests, done at a table of so many slots.
+/// The completions of a submission's requests, done at a table of `size` slots.
 #[derive(Clone, Copy)]
 pub(crate) struct Answered<'a> {
     pub size: u32,
@@ -173,10 +173,10 @@ fn in_order(
     Ok(places)
 }
 
-/// Which request makes each access of an order. Its completions come of the order.
+/// Returns the place of the request that makes each access of an order. The order must give the completions.
 ///
 /// # Errors
-/// `NoMemory` where the memory of the list is refused.
+/// `NoMemory` if an allocation fails.
 pub(crate) fn places_of(
     alloc: Global,
     answered: &Answered<'_>,

@@ -1,4 +1,4 @@
-//! The judge: a script's commands are played against a text, one after another.
+//! The judge: plays the commands of a script against a text, one after another.
 ghost use Rattle.std.specs.Prelude.{◌≡◌, IfNone, IfOk, IfSome, List, OnOk};
 ghost use Rattle.fx_base.specs.Catalogue.{FileEntry};
 ghost use Rattle.fx_ring.specs.Ring.{new_ring};
@@ -110,16 +110,15 @@ fn play_end(
     }
 }
 
-/// Whether a script may print a text. The commands are played against it, one after another, on what is kept of a ring; of
-/// each submission no more states of each part that has slots of its own are looked at, or kept, than the limits say.
+/// Decides whether a script may print a text. It plays the commands against the text, one after another, on the slots and counts
+/// of a ring. For each submission, the limits hold for the states of each part that has slots of its own.
 ///
-/// A text that is legal is one that the script may print, by one play in which each accepted submission comes of its order.
-/// One that isn't legal is none: the commands in front of the one that it breaks at may print what stands in front, and no
-/// other beginning of the text, and with that one they print none. Right behind a beginning stands no line of a closed file
-/// or a tag.
+/// If the text is legal, the script may print it by one play in which each accepted submission is done in its order. If it isn't,
+/// the commands before the break may print the text before the break, and no other beginning of the text; with the next command
+/// they print none. A beginning isn't followed by a line of a closed file or a tag.
 ///
 /// # Errors
-/// `NoMemory` where memory is refused.
+/// `NoMemory` if an allocation fails.
 pub fn judge(
     alloc: Global,
     script: &Script,

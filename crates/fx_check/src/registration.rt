@@ -1,4 +1,4 @@
-//! The calls between submissions, played on a ring against a text.
+//! Plays calls between submissions against a text.
 ghost use Rattle.std.specs.Prelude.{◌≡◌, IfOk, OnOk, option_map};
 ghost use Rattle.fx_base.specs.declared.errno.Errno.TheVariants.{ENOMEM};
 ghost use Rattle.fx_chain.specs.Completed.{negated};
@@ -18,7 +18,7 @@ use fx_order::{RingSlots, Slots};
 use fx_script::{result_line, with_closes};
 use std::alloc::Global;
 
-/// The list that a call is given, with tags where some are given.
+/// The list of a call, with optional tags.
 #[derive(Clone, Copy)]
 pub(crate) struct Tagged<'a> {
     pub list: &'a [i32],
@@ -35,10 +35,10 @@ fn or_no_memory(alloc: Global, text: &[u8], word: &str, likelier: String) -> Res
     }
 }
 
-/// A table of so many empty slots is registered.
+/// Plays the registration of a table of `n` empty slots.
 ///
 /// # Errors
-/// `NoMemory` where the memory of the slots or a line is refused.
+/// `NoMemory` if an allocation fails.
 pub(crate) fn play_sparse(
     alloc: Global,
     catalogue: &Catalogue,
@@ -65,10 +65,10 @@ pub(crate) fn play_sparse(
     }
 }
 
-/// A table of the files of a list is registered, with tags where some are given.
+/// Plays the registration of a table of the files of a list.
 ///
 /// # Errors
-/// `NoMemory` where the memory of the slots or a line is refused.
+/// `NoMemory` if an allocation fails.
 pub(crate) fn play_register(
     alloc: Global,
     catalogue: &Catalogue,
@@ -100,10 +100,10 @@ pub(crate) fn play_register(
     }
 }
 
-/// The table is taken away.
+/// Plays the end of a table, whose files are closed.
 ///
 /// # Errors
-/// `NoMemory` where the memory of the files or a line is refused.
+/// `NoMemory` if an allocation fails.
 pub(crate) fn play_unregister(
     alloc: Global,
     catalogue: &Catalogue,
@@ -136,10 +136,10 @@ pub(crate) fn play_unregister(
     }
 }
 
-/// The allocation range is set.
+/// Plays the setting of the allocation range, given by its first slot and its number of slots.
 ///
 /// # Errors
-/// `NoMemory` where the memory of a line is refused.
+/// `NoMemory` if an allocation fails.
 pub(crate) fn play_range(
     alloc: Global,
     catalogue: &Catalogue,
@@ -166,10 +166,10 @@ pub(crate) fn play_range(
     }
 }
 
-/// The table is updated from a slot on by a list, with tags where some are given.
+/// Plays an update of the slots from `off` on by a list.
 ///
 /// # Errors
-/// `NoMemory` where the memory of the slots, the files or a line is refused.
+/// `NoMemory` if an allocation fails.
 pub(crate) fn play_update(
     alloc: Global,
     catalogue: &Catalogue,

@@ -1,4 +1,4 @@
-//! Submissions, played on what is kept of a ring against a text.
+//! Plays submissions against a text.
 ghost use Rattle.std.specs.Prelude.{◌≡◌, ◌<◌, ◌≤◌, All, IfOk, List, OnOk, length};
 ghost use Rattle.fx_base.specs.Catalogue.{FileEntry};
 ghost use Rattle.fx_plain.specs.declared.table.TheConstants.{MOST_SLOTS};
@@ -170,10 +170,11 @@ fn play_accepted(
     }
 }
 
-/// Requests are submitted. No more states are looked at, or kept, than the limits say.
+/// Plays a submission: refused, or accepted if an order of its requests gives the report that the text begins with. The limits hold
+/// for the states of each part that has slots of its own.
 ///
 /// # Errors
-/// `NoMemory` where the memory of a report, an order, a state or a line is refused.
+/// `NoMemory` if an allocation fails.
 pub(crate) fn play_submission(
     alloc: Global,
     catalogue: &Catalogue,

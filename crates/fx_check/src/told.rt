@@ -1,4 +1,4 @@
-//! What the lines of a report tell of a submission's closes.
+//! The closed files that the lines of a report name.
 ghost use Rattle.std.specs.Prelude.{◌≡◌, ◌==◌, ℕ, All, IfNone, IfOk, IfSome, List, Some, filter, map, not};
 ghost use Rattle.fx_base.specs.Catalogue.{name_at};
 ghost use Rattle.fx_base.specs.CloseList.{IsInOrderOfMark};
@@ -12,7 +12,7 @@ use fx_lines::ClosedLine;
 use fx_order::Slots;
 use std::alloc::Global;
 
-/// The file with this mark at a slot.
+/// Returns the file with this mark at some slot, or `None` if no slot has one.
 pub(crate) fn file_marked(slots: &Slots, mark: Mark) -> Option<Closed>
     ensures mark { IfSome result (λ file. file.mark ≡ mark) }
     ensures there { IfSome result (IsAtSlot slots.now) }
@@ -64,10 +64,10 @@ fn file_told(catalogue: &Catalogue, slots: &Slots, line: &ClosedLine) -> Option<
     }
 }
 
-/// The files that lines of closed files tell, in their order, or else which line, from 0, tells none.
+/// Returns the files that lines of closed files name, in their order, or the number of the first line, from 0, that names no file.
 ///
 /// # Errors
-/// `NoMemory` where the memory of the list is refused.
+/// `NoMemory` if an allocation fails.
 pub(crate) fn files_told(
     alloc: Global,
     catalogue: &Catalogue,
@@ -90,8 +90,8 @@ pub(crate) fn files_told(
     Ok(Ok(files))
 }
 
-/// Which of some files, from 0, is the first whose mark doesn't come behind that of the file in front of it; none where they
-/// are in order of mark, and no two have one mark.
+/// Returns the number, from 0, of the first file whose mark doesn't follow that of the file before it, or `None` if the files are
+/// in order of mark and no two have one mark.
 pub(crate) fn wrong_order(files: &[Closed]) -> Option<usize>
     ensures { IfSome result (λ i. IsInOrderOfMark files.now → HasDistinctMarks files.now → ⊥) }
 {
@@ -103,10 +103,10 @@ pub(crate) fn wrong_order(files: &[Closed]) -> Option<usize>
     None
 }
 
-/// The tags of files, in their order, without those that are 0.
+/// Returns the tags of files, in their order, without those that are 0.
 ///
 /// # Errors
-/// `NoMemory` where the memory of the list is refused.
+/// `NoMemory` if an allocation fails.
 pub(crate) fn tags_told(alloc: Global, files: &[Closed]) -> Result<Vec<u64>, NoMemory>
     ensures { IfOk result (λ tags. tags.items
         ≡ map (λ file. file.tag) (filter (λ file. not (file.tag == 0)) files.now)) }
@@ -115,7 +115,7 @@ pub(crate) fn tags_told(alloc: Global, files: &[Closed]) -> Result<Vec<u64>, NoM
     Ok(tagged.map(|file| file.tag).collect(alloc)?)
 }
 
-/// Which of some tags, from 0, is the first that isn't the one that is wanted there; none where they are the same.
+/// Returns the number, from 0, of the first tag that differs from the expected one, or `None` if the lists are equal.
 pub(crate) fn wrong_tag(wanted: &[u64], tags: &[u64]) -> Option<usize>
     ensures same { IfNone result (wanted.now ≡ tags.now) }
     ensures apart { IfSome result (λ i. wanted.now ≡ tags.now → ⊥) }

@@ -1,4 +1,4 @@
-//! One whole legal history of a script that gives a text.
+//! Prints one whole legal history of a script that gives a text.
 use crate::submission::tell_submission;
 use crate::telling::Telling;
 use fx_base::{Catalogue, Closed, Mark, NoMemory};
@@ -9,17 +9,17 @@ use fx_report::{behind, line_at, push_command, without_end};
 use fx_script::Command;
 use std::alloc::{AllocError, Global};
 
-/// A history that is told command by command, in the order of the script: what is left of the text and of the orders.
+/// A history that is printed command by command, in the order of the script: the rest of the text and of the orders.
 #[derive(Drop)]
 pub struct History<'a> {
     text: &'a [u8],
     orders: &'a [Order],
-    // How many lists were accepted.
+    // The number of accepted lists.
     lists: u32,
     telling: Telling<'a>,
 }
 
-// The tag of a place of a list, 0 where none are given.
+// Returns the tag of a place of a list, or 0 without tags.
 fn tag_at(tags: &Option<Vec<u64>>, place: usize) -> u64 {
     match tags {
         Some(tags) => tags.get(place).copied().unwrap_or(0),
@@ -32,7 +32,7 @@ fn place_of(at: usize) -> u32 {
     u32::try_from(at).unwrap_or(u32::MAX)
 }
 
-// What a line of a call says behind its word.
+// Returns the rest of a call's line after its word.
 fn answer_in(line: &[u8]) -> &[u8] {
     let (line, _) = without_end(line);
     match line.iter().position(|byte| *byte == b' ') {
@@ -42,7 +42,7 @@ fn answer_in(line: &[u8]) -> &[u8] {
 }
 
 impl<'a> History<'a> {
-    /// That of a legal text before the first command, with the orders of its submissions.
+    /// Returns the history of a legal text before the first command, with the orders of its submissions.
     pub fn new(
         alloc: Global,
         catalogue: &'a Catalogue,
@@ -57,12 +57,12 @@ impl<'a> History<'a> {
         }
     }
 
-    /// The lines that aren't printed yet.
+    /// Returns the lines that aren't printed yet.
     pub fn lines(&self) -> &str {
         self.telling.lines()
     }
 
-    /// All lines were printed.
+    /// Discards the lines, once they are printed.
     pub fn clear(&mut self) {
         self.telling.clear();
     }
@@ -194,10 +194,10 @@ impl<'a> History<'a> {
         is_empty || !self.text.starts_with(b"submit ")
     }
 
-    /// Tells the next command.
+    /// Appends the lines of the next command.
     ///
     /// # Errors
-    /// Where memory is refused.
+    /// `NoMemory` if an allocation fails.
     pub fn tell(&mut self, alloc: Global, command: &Command) -> Result<(), NoMemory> {
         match command {
             Command::Submit(requests) if self.is_accepted(requests.as_slice()) => {
@@ -207,10 +207,10 @@ impl<'a> History<'a> {
         }
     }
 
-    /// Tells the end of the script, where the files that are left are closed.
+    /// Appends the lines of the end of the script, where the remaining files are closed.
     ///
     /// # Errors
-    /// Where memory is refused.
+    /// `NoMemory` if an allocation fails.
     pub fn tell_end(&mut self) -> Result<(), NoMemory> {
         self.tell_closes("teardown")?;
         Ok(())

@@ -1,4 +1,4 @@
-//! A legal history of a text, told event by event.
+//! Prints a legal history of a text, event by event.
 #![tactic(auto)]
 
 mod history;

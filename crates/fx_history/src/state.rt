@@ -1,4 +1,4 @@
-//! The state that a history leads to.
+//! The state of a table after a history.
 use fx_base::{Closed, Mark};
 use fx_report::{Event, push_mark};
 use std::alloc::{AllocError, Global};
@@ -15,7 +15,7 @@ pub struct State {
 }
 
 impl State {
-    /// That of a ring without a table.
+    /// Returns the state of a ring without a table.
     pub fn new(alloc: Global) -> State {
         State {
             at: Vec::new(alloc),
@@ -24,20 +24,20 @@ impl State {
         }
     }
 
-    /// How many slots there are.
+    /// Returns the number of slots.
     pub fn size(&self) -> usize {
         self.at.len()
     }
 
-    /// The file at a slot.
+    /// Returns the file at a slot, if there is one.
     pub fn file_at(&self, slot: usize) -> Option<Closed> {
         self.at.get(slot).copied().flatten()
     }
 
-    /// Opens a table of so many empty slots.
+    /// Makes a table of `slots` empty slots.
     ///
     /// # Errors
-    /// Where memory is refused.
+    /// `AllocError` if an allocation fails.
     pub fn open_table(&mut self, alloc: Global, slots: usize) -> Result<(), AllocError> {
         let mut at = Vec::new(alloc);
         for _slot in 0..slots {
@@ -47,7 +47,7 @@ impl State {
         Ok(())
     }
 
-    /// Takes the table away.
+    /// Removes the table.
     pub fn close_table(&mut self, alloc: Global) {
         self.at = Vec::new(alloc);
     }
@@ -59,7 +59,7 @@ impl State {
         }
     }
 
-    /// What an event changes.
+    /// Applies an event.
     pub fn meet(&mut self, event: Event) {
         match event {
             Event::Look(_, found) => self.held = found.map(|it| it.mark),
@@ -78,7 +78,7 @@ impl State {
         }
     }
 
-    // Puts the files at the slots behind others, each with its slot and whether it is held. It tells whether there is one.
+    // Appends the files at the slots, each with its slot and whether it is held. Returns whether there is one.
     fn push_files(&self, told: &mut String) -> Result<bool, AllocError> {
         let mut some = false;
         for (slot, file) in self.at.iter().enumerate() {
@@ -97,10 +97,10 @@ impl State {
         Ok(some)
     }
 
-    /// Puts the state behind others: each slot that has a file, with the mark of the file, and what was removed.
+    /// Appends the state: each slot that has a file, with the file's mark, and the file that was removed.
     ///
     /// # Errors
-    /// Where memory is refused.
+    /// `AllocError` if an allocation fails.
     pub fn push(&self, told: &mut String) -> Result<(), AllocError> {
         if self.at.is_empty() {
             return told.push_str("no table");

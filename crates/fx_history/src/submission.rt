@@ -1,4 +1,4 @@
-//! The part of a history that is a submission's.
+//! The part of a history that belongs to a submission.
 use crate::telling::Telling;
 use fx_base::{Errno, NoMemory};
 use fx_chain::{Completion, Op, Request};
@@ -34,7 +34,7 @@ fn chains_of(alloc: Global, completions: &[Completion]) -> Result<Vec<Waiting>, 
     Ok(chains)
 }
 
-// Whether this is the last access of a request: an update makes one for each entry that isn't a skip.
+// Checks whether an access is the last one of its request. An update makes one for each entry that isn't a skip.
 fn is_last(request: &Request, place: AccessPlace) -> bool {
     let (Op::Update { off: _, list }, Some(entry)) = (&request.op, place.entry) else {
         return true;
@@ -120,10 +120,10 @@ impl<'a> Submission<'a> {
     }
 }
 
-/// Tells a submission whose requests completed so, done one at a time in this order.
+/// Appends the lines of a submission whose requests, done one at a time in this order, completed so.
 ///
 /// # Errors
-/// Where memory is refused.
+/// `NoMemory` if an allocation fails.
 pub fn tell_submission(
     alloc: Global,
     telling: &mut Telling<'_>,

@@ -1,4 +1,4 @@
-//! The lines of a history: an event or an answer each, with the state behind it.
+//! The lines of a history: an event or an answer each, with the state after it.
 use crate::state::State;
 use fx_base::Catalogue;
 use fx_chain::{Completion, Request};
@@ -6,14 +6,14 @@ use fx_order::Access;
 use fx_report::{Event, events_of, push_event, push_request};
 use std::alloc::{AllocError, Global};
 
-/// The column that the state stands in, behind what is shorter.
+/// The column of the state, unless the text before it is longer.
 const COLUMN: usize = 44;
 
-/// What was told of a history and isn't printed yet, and the state that the history has led to.
+/// The lines of a history that aren't printed yet, and the state after them.
 #[derive(Drop)]
 pub struct Telling<'a> {
     catalogue: &'a Catalogue,
-    /// The state behind the last line.
+    /// The state after the last line.
     pub state: State,
     told: String,
     // Where the next line begins.
@@ -21,7 +21,7 @@ pub struct Telling<'a> {
 }
 
 impl<'a> Telling<'a> {
-    /// Of a history without events, on a ring without a table. Files are named as they are in the catalogue.
+    /// Returns no lines, of a history without events on a ring without a table. Files have the catalogue's names.
     pub fn new(alloc: Global, catalogue: &'a Catalogue) -> Telling<'a> {
         Telling {
             catalogue,
@@ -31,26 +31,26 @@ impl<'a> Telling<'a> {
         }
     }
 
-    /// The lines that aren't printed yet.
+    /// Returns the lines that aren't printed yet.
     pub fn lines(&self) -> &str {
         self.told.as_str()
     }
 
-    /// All lines were printed.
+    /// Discards the lines, once they are printed.
     pub fn clear(&mut self) {
         self.told.clear();
         self.line = 0;
     }
 
-    /// The line that is being told.
+    /// Returns the line that is being written.
     pub fn line(&mut self) -> &mut String {
         &mut self.told
     }
 
-    /// Ends the line that is being told: the state stands behind it.
+    /// Ends the line that is being written with the state.
     ///
     /// # Errors
-    /// Where memory is refused.
+    /// `AllocError` if an allocation fails.
     pub fn end_line(&mut self) -> Result<(), AllocError> {
         let width = self.told.len().saturating_sub(self.line);
         for _ in width..COLUMN {
@@ -72,10 +72,10 @@ impl<'a> Telling<'a> {
         self.end_line()
     }
 
-    /// Tells the events of an access, and whose they are.
+    /// Appends the events of an access, and the request that makes them.
     ///
     /// # Errors
-    /// Where memory is refused.
+    /// `AllocError` if an allocation fails.
     pub fn tell_access(&mut self, who: &str, access: Access) -> Result<(), AllocError> {
         let (first, second) = events_of(access);
         self.tell_event(who, first)?;
@@ -85,10 +85,10 @@ impl<'a> Telling<'a> {
         }
     }
 
-    /// Tells what a request answered.
+    /// Appends the result of a request.
     ///
     /// # Errors
-    /// Where memory is refused.
+    /// `AllocError` if an allocation fails.
     pub fn tell_answer(
         &mut self,
         request: &Request,

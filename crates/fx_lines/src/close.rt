@@ -1,4 +1,4 @@
-//! The lines of closed files, and those of their tags.
+//! Lines of closed files and lines of tags.
 ghost use Rattle.std.specs.Prelude.{◌<◌, ◌^◌, IfOk, codes, map, option_map};
 ghost use Rattle.fx_lines.specs.ClosedView.{close_of};
 ghost use Rattle.fx_lines.specs.Front.{close_text, entry_text, lines_before, AreAll, IsFront};
@@ -12,12 +12,12 @@ use fx_base::{Mark, NoMemory};
 use fx_chain::Place;
 use std::alloc::Global;
 
-/// What the line of a closed file says (this project's own).
+/// A line of a closed file, read (this project's own).
 #[derive(Debug, Drop)]
 pub struct ClosedLine {
-    /// Which installation the file was.
+    /// The installation of the file.
     pub mark: Mark,
-    /// The name of its catalogue entry, as it is printed.
+    /// The name of the file's catalogue entry, as it is printed.
     pub name: Vec<u8>,
 }
 

@@ -1,4 +1,4 @@
-//! The lines of completions.
+//! Lines of completions.
 ghost use Rattle.std.specs.Prelude.{◌<◌, IfOk, length, option_map};
 ghost use Rattle.hex.specs.Hex.{encode_lower, IsBytes};
 ghost use Rattle.fx_chain.specs.Completed.{all_completed, completed_of};

@@ -1,4 +1,4 @@
-//! A text cut at a byte, or behind an expected text.
+//! A text cut at a byte, or after an expected beginning.
 ghost use Rattle.std.specs.Prelude.{◌≡◌, ◌++◌, ℕ, List, option_map};
 ghost use Rattle.fx_lines.specs.Front.{cut_text, IsCutPart, parts_of};
 ghost use Rattle.fx_lines.specs.Reads.{Reads};
@@ -15,7 +15,7 @@ pub fn cut(text: &[u8], at: u8) -> Option<(&[u8], &[u8])>
     None
 }
 
-/// What stands behind an expected text, or `None` where the text doesn't begin with it (this project's own).
+/// Returns the rest of a text after an expected beginning, or `None` if the text doesn't begin with it (this project's own).
 pub fn rest_behind<'a>(text: &'a [u8], expected: &[u8]) -> Option<&'a [u8]>
     ensures { Reads (λ (rest : List ℕ). expected.now ++ rest) (λ _. Unit) text.now
         (option_map (λ rest. rest.now) result) }

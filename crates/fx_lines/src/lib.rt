@@ -1,4 +1,4 @@
-//! The printed lines of a submission's report, read back: what was printed is read, and what is read was printed.
+//! Reads the printed lines of a submission's report back. Each report that was printed is read, and each that is read was printed so.
 #![tactic(auto)]
 
 mod close;

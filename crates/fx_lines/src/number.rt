@@ -1,4 +1,4 @@
-//! Numbers as they are printed: decimal, and without a leading zero.
+//! Printed numbers: decimal, without a leading zero.
 ghost use Rattle.std.specs.Prelude.{◌≡◌, ◌<◌, ◌^◌, option_map, decimal};
 ghost use Rattle.std.specs.Fmt.{signed_decimal};
 ghost use Rattle.fx_lines.specs.Front.{number_text, with_rest};
@@ -14,7 +14,7 @@ const LARGEST_NUMBER: u64 = 4_294_967_295;
 /// The largest result.
 const LARGEST_RESULT: u64 = 2_147_483_647;
 
-/// How far below zero a result may be.
+/// The absolute value of the smallest result.
 const FARTHEST_BELOW_ZERO: u64 = 2_147_483_648;
 
 // Parses a word as a tag.

@@ -10,25 +10,24 @@ use fx_base::NoMemory;
 use fx_chain::Completion;
 use std::alloc::Global;
 
-/// What the lines of a submission's report say (this project's own).
+/// The lines of a submission's report, read (this project's own).
 #[derive(Debug, Drop)]
 pub struct ReportLines {
-    /// The completions, as they stand in the text.
+    /// The completions, in the order of the text.
     pub completions: Vec<Completion>,
-    /// The closed files, as they stand in the text.
+    /// The closed files, in the order of the text.
     pub closed: Vec<ClosedLine>,
-    /// The tags, as they stand in the text.
+    /// The tags, in the order of the text.
     pub tags: Vec<u64>,
 }
 
-/// The lines of the report that a text begins with, and what stands behind them: so many lines of completions, then all
-/// lines of closed files that follow, and then all lines of tags. They are the only ones: no other report with numbers in
-/// the ranges of their types, and with names without a line end, is printed so. `None` where the text begins with no such
-/// lines, or where a line of a closed file stands behind those of the tags. Orders, repeated lines, and what the numbers
-/// mean aren't looked at (this project's own).
+/// Reads the report that a text begins with, and returns it with the rest of the text: `count` lines of completions, then all
+/// lines of closed files that follow, then all lines of tags. No other report with numbers in the ranges of their types, and with
+/// names without a line end, is printed so. Returns `None` if the text doesn't begin with such lines, or if a line of a closed file
+/// follows those of the tags. The order of lines, repeated lines and the meaning of numbers aren't checked (this project's own).
 ///
 /// # Errors
-/// `NoMemory` where the memory of the lines is refused.
+/// `NoMemory` if an allocation fails.
 pub fn read_report(
     alloc: Global,
     text: &[u8],

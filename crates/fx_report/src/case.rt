@@ -1,4 +1,4 @@
-//! A submission that a text breaks at.
+//! The submission at which a text breaks.
 use crate::lines::{behind, line_at};
 use fx_base::{Catalogue, NoMemory};
 use fx_chain::{Completion, Op, Place, Request};
@@ -6,30 +6,30 @@ use fx_lines::read_report;
 use fx_order::Slots;
 use std::alloc::{AllocError, Global};
 
-/// A submission of which no request has a fault, and a text that hasn't its report.
+/// A submission without a faulty request, and a text that doesn't begin with a report of it.
 #[derive(Clone, Copy)]
 pub struct Case<'a> {
     /// The files that may be opened.
     pub catalogue: &'a Catalogue,
-    /// What stands at the slots before the submission.
+    /// The slots before the submission.
     pub slots: &'a Slots,
-    /// How many submissions were accepted before it.
+    /// The number of submissions that were accepted before it.
     pub submissions: u32,
     /// Its requests.
     pub requests: &'a [Request],
-    /// The text, from the first line on that should be the submission's.
+    /// The text, from the first line on that should be a line of its report.
     pub text: &'a [u8],
-    /// Which line of the whole text that is, from 1.
+    /// The number of that line in the whole text, from 1.
     pub line: usize,
 }
 
 impl<'a> Case<'a> {
-    /// Which of the accepted submissions it is, from 1.
+    /// Returns its number among the accepted submissions, from 1.
     pub fn number(&self) -> u32 {
         self.submissions.saturating_add(1)
     }
 
-    /// The place of its first request.
+    /// Returns the place of its first request.
     pub fn first_place(&self) -> Place {
         Place {
             submission: self.number(),
@@ -38,26 +38,26 @@ impl<'a> Case<'a> {
         }
     }
 
-    /// Which line of the whole text, from 1, is this one of the submission, from 0.
+    /// Returns the number in the whole text, from 1, of a line of its report, from 0.
     pub fn line_of(&self, at: usize) -> usize {
         self.line.saturating_add(at)
     }
 
-    /// How many slots the table has.
+    /// Returns the number of slots of the table.
     pub fn size(&self) -> usize {
         self.slots.at.len()
     }
 
-    /// Whether a slot is of the allocation range.
+    /// Checks whether a slot is in the allocation range.
     pub fn is_in_range(&self, slot: usize) -> bool {
         let (first, count) = self.slots.range;
         matches!(slot.checked_sub(first as usize), Some(behind) if behind < count as usize)
     }
 
-    /// The completions that its first lines tell, up to one that tells none.
+    /// Reads the completions that its first lines report, up to the first line that isn't a completion.
     ///
     /// # Errors
-    /// Where memory is refused.
+    /// `NoMemory` if an allocation fails.
     pub fn completions(&self, alloc: Global) -> Result<Vec<Completion>, NoMemory> {
         let mut completions = Vec::new(alloc);
         let mut rest = self.text;
@@ -74,10 +74,10 @@ impl<'a> Case<'a> {
         Ok(completions)
     }
 
-    /// The bytes that a request reads of an entry: none where it is no read.
+    /// Returns the bytes that a request reads of a catalogue entry, or no bytes if it isn't a read.
     ///
     /// # Errors
-    /// Where memory is refused.
+    /// `NoMemory` if an allocation fails.
     pub fn bytes_of(
         &self,
         alloc: Global,
@@ -93,7 +93,7 @@ impl<'a> Case<'a> {
     }
 }
 
-/// The place of the request behind one.
+/// Returns the place of the request after `request`, which is at `place`.
 pub fn next_place(place: Place, request: &Request) -> Place {
     if request.links() {
         Place {
@@ -109,10 +109,10 @@ pub fn next_place(place: Place, request: &Request) -> Place {
     }
 }
 
-/// Puts a place behind others, as a text has it.
+/// Appends a place in the form of a text.
 ///
 /// # Errors
-/// Where memory is refused.
+/// `AllocError` if an allocation fails.
 pub fn push_place(told: &mut String, place: Place) -> Result<(), AllocError> {
     let (submission, chain, member) = (place.submission, place.chain, place.member);
     write!(told, "{submission}.{chain}.{member}")

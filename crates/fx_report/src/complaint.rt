@@ -1,10 +1,10 @@
-//! What is wrong with the lines of a submission, for a person. It is advice, on which no verdict rests.
+//! A complaint about the lines of a submission, for a person. It is advice, on which no verdict rests.
 
-/// Lines of a submission's report that can't stand there. They are counted from 0, from its first one on.
+/// Invalid lines of a submission's report, by their numbers, which count from 0 at its first line.
 #[derive(Drop)]
 pub enum Complaint {
-    /// A line should be another: which one, what may stand there, and why, which may be empty.
+    /// One line is wrong: its number, the lines that would be valid there, and the reason, which may be empty.
     Line(usize, String, String),
-    /// Some lines, in order, contradict each other: which ones, and why.
+    /// Some lines contradict each other: their numbers in order, and the reason.
     Lines(Vec<usize>, String),
 }

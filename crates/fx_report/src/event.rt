@@ -7,9 +7,9 @@ use std::alloc::AllocError;
 /// was found there, or none.
 #[derive(Clone, Copy)]
 pub enum Event {
-    /// A request finds what is at a slot, and holds it where that is a file.
+    /// A request looks a slot up, and holds the file that it finds there, if any.
     Look(u32, Option<Closed>),
-    /// A request has done with the file that it holds.
+    /// A request releases the file that it holds.
     Release(Closed),
     /// A file is installed at a slot, and the one that was there is removed.
     Put(u32, Closed, Option<Closed>),
@@ -25,7 +25,7 @@ pub enum Event {
     Close(Closed),
 }
 
-/// The events that an access stands for: what was looked up is released at once, and what was removed is closed at once.
+/// Returns the events of an access. A file that was looked up is released at once, and a removed one is closed at once.
 pub fn events_of(access: Access) -> (Event, Option<Event>) {
     match access {
         Access::Looks(slot, file) => (Event::Look(slot, file), file.map(|it| Event::Release(it))),
@@ -46,10 +46,10 @@ pub fn events_of(access: Access) -> (Event, Option<Event>) {
     }
 }
 
-/// Puts a mark behind others: `rK.I` or `S.C.M.E`, as a text has it.
+/// Appends a mark in the form of a text: `rK.I` or `S.C.M.E`.
 ///
 /// # Errors
-/// Where memory is refused.
+/// `AllocError` if an allocation fails.
 pub fn push_mark(told: &mut String, mark: Mark) -> Result<(), AllocError> {
     match mark {
         Mark::Registered { k, i } => write!(told, "r{k}.{i}"),
@@ -62,7 +62,7 @@ pub fn push_mark(told: &mut String, mark: Mark) -> Result<(), AllocError> {
     }
 }
 
-// Puts the mark of a file behind others, or that there is none.
+// Appends the mark of a file, or `none`.
 fn push_found(told: &mut String, found: Option<Closed>) -> Result<(), AllocError> {
     match found {
         Some(file) => push_mark(told, file.mark),
@@ -70,7 +70,7 @@ fn push_found(told: &mut String, found: Option<Closed>) -> Result<(), AllocError
     }
 }
 
-/// The name of a catalogue entry.
+/// Returns the name of a catalogue entry, or `None` if there is no such entry.
 pub fn name_of(catalogue: &Catalogue, entry: u8) -> Option<&str> {
     if u32::from(entry) < catalogue.len() {
         Some(catalogue.name_of(entry))
@@ -79,10 +79,10 @@ pub fn name_of(catalogue: &Catalogue, entry: u8) -> Option<&str> {
     }
 }
 
-/// Puts a file behind others: its mark and its name.
+/// Appends a file: its mark and its name.
 ///
 /// # Errors
-/// Where memory is refused.
+/// `AllocError` if an allocation fails.
 pub fn push_file(told: &mut String, catalogue: &Catalogue, file: Closed) -> Result<(), AllocError> {
     push_mark(told, file.mark)?;
     if let Some(name) = name_of(catalogue, file.entry) {
@@ -92,7 +92,7 @@ pub fn push_file(told: &mut String, catalogue: &Catalogue, file: Closed) -> Resu
     Ok(())
 }
 
-// Puts an event's word, its slot and what was found there behind others.
+// Appends an event's word, its slot, and the file that was found there.
 fn push_at(
     told: &mut String,
     word: &str,
@@ -104,7 +104,7 @@ fn push_at(
     told.push(')')
 }
 
-// Puts a close behind others, with the tag that it tells.
+// Appends a close, with the file's tag unless that is 0.
 fn push_close(told: &mut String, file: Closed) -> Result<(), AllocError> {
     told.push_str("Close(")?;
     push_mark(told, file.mark)?;
@@ -116,10 +116,10 @@ fn push_close(told: &mut String, file: Closed) -> Result<(), AllocError> {
     Ok(())
 }
 
-/// Puts an event behind others. The name of a file stands where it is installed, and its tag where it is closed.
+/// Appends an event. A file has its name where it is installed, and its tag where it is closed.
 ///
 /// # Errors
-/// Where memory is refused.
+/// `AllocError` if an allocation fails.
 pub fn push_event(
     told: &mut String,
     catalogue: &Catalogue,

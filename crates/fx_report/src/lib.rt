@@ -1,6 +1,6 @@
-//! The lines of a submission in a text, found again for a person: the submission and its first line, the files that its lines tell
-//! of, complaints about them, and the words in which requests, commands and events are shown. It is for advice, on which no
-//! verdict rests; of these functions only that they are safe and end is proved.
+//! The lines of a submission in a text, as a person is shown them: the submission and its first line, the files in its lines,
+//! complaints, and the words for requests, commands and events. No verdict rests on this advice. Of these functions it is proved only
+//! that they are memory-safe and terminate.
 #![tactic(auto)]
 
 mod case;

@@ -1,12 +1,12 @@
-//! Lines of scripts and of texts, found again for a person.
+//! Lines of scripts and texts, by their bytes or their numbers.
 ghost use Rattle.std.specs.Prelude.{◌≤◌, length};
 
 use std::alloc::{AllocError, Global};
 
-/// How many bytes of a line are shown.
+/// The largest number of bytes of a line that are shown.
 const SHOWN: usize = 100;
 
-/// The commands of a script that are played by themselves; the others are files and requests.
+/// The commands of a script. Its other lines are files and requests.
 const COMMANDS: [&[u8]; 6] = [
     b"sparse",
     b"register",
@@ -16,7 +16,7 @@ const COMMANDS: [&[u8]; 6] = [
     b"submit",
 ];
 
-// How many bytes the first line has, its end included.
+// Returns the number of bytes of the first line, its end included.
 fn line_length(text: &[u8]) -> usize
     ensures { result ≤ length text.now }
 {
@@ -28,7 +28,7 @@ fn line_length(text: &[u8]) -> usize
     text.len()
 }
 
-/// The line that begins at a place, its end included; none at the end of the text.
+/// Returns the line that begins at a byte, its end included. It is empty at the end of the text.
 pub fn line_at(text: &[u8], from: usize) -> &[u8] {
     if from >= text.len() {
         return &text[..0];
@@ -37,12 +37,12 @@ pub fn line_at(text: &[u8], from: usize) -> &[u8] {
     &rest[..line_length(rest)]
 }
 
-/// What stands behind a text's first line.
+/// Returns the rest of a text after its first line.
 pub fn behind<'a>(text: &'a [u8], line: &[u8]) -> &'a [u8] {
     text.get(line.len()..).unwrap_or(text)
 }
 
-/// A line without its end, and whether it has one.
+/// Returns a line without its end, and whether it has one.
 pub fn without_end(line: &[u8]) -> (&[u8], bool) {
     match line {
         [front @ .., b'\n'] => (front, true),
@@ -50,13 +50,13 @@ pub fn without_end(line: &[u8]) -> (&[u8], bool) {
     }
 }
 
-/// Which line, from 1, has the byte at a place.
+/// Returns the number, from 1, of the line that has the byte at a place.
 pub fn line_number(text: &[u8], at: usize) -> usize {
     let ends = text.iter().take(at).filter(|byte| **byte == b'\n');
     ends.count().saturating_add(1)
 }
 
-/// The place at which a line begins that stands so many lines behind the one that begins at another place.
+/// Returns the place at which a line begins: `lines` lines after the one that begins at `from`.
 pub fn line_behind(text: &[u8], from: usize, lines: usize) -> usize {
     let mut at = from;
     for _ in 0..lines {
@@ -65,7 +65,8 @@ pub fn line_behind(text: &[u8], from: usize, lines: usize) -> usize {
     at
 }
 
-/// Where the first line begins in which two texts differ, in the first text, looked at from a place on, and in the second.
+/// Returns the places of the first line in which two texts differ: in the first text, which is read from a place on, and in the
+/// second.
 pub fn first_difference(text: &[u8], from: usize, wanted: &[u8]) -> (usize, usize) {
     let (mut at, mut there) = (from, 0usize);
     for _ in 0..wanted.len() {
@@ -79,11 +80,11 @@ pub fn first_difference(text: &[u8], from: usize, wanted: &[u8]) -> (usize, usiz
     (at, there)
 }
 
-/// The line that begins at a place, for a person: at most so many bytes, and what isn't printable as `\xNN`. Where it is
-/// empty, or there is none, it is called so.
+/// Returns the line that begins at a place, as a person is shown it: at most 100 bytes, and each that isn't printable as `\xNN`. For an
+/// empty or missing line it returns `none`.
 ///
 /// # Errors
-/// Where memory is refused.
+/// `AllocError` if an allocation fails.
 pub fn shown_line(
     alloc: Global,
     text: &[u8],
@@ -110,7 +111,7 @@ pub fn shown_line(
     Ok(shown)
 }
 
-// Whether a line of a script is a command that is played by itself.
+// Checks whether a line of a script is a command.
 fn is_command(line: &[u8]) -> bool {
     let (bytes, _) = without_end(line);
     for word in COMMANDS {
@@ -123,7 +124,7 @@ fn is_command(line: &[u8]) -> bool {
     false
 }
 
-/// Which line of a script, from 1, has its nth command, from 0; none where it has fewer.
+/// Returns the number, from 1, of the line of a script that has its nth command, from 0, or `None` if it has fewer commands.
 pub fn line_of_command(script: &[u8], nth: usize) -> Option<usize> {
     let (mut number, mut seen, mut at) = (1usize, 0usize, 0usize);
     for _ in 0..script.len() {

@@ -1,31 +1,31 @@
-//! The files of a submission, as the lines of its report tell them.
+//! The files of a submission, by the lines of its report.
 use crate::case::Case;
 use fx_base::{Closed, Mark, NoMemory};
 use fx_chain::{Completion, Op, Request, Target};
 use std::alloc::Global;
 
-/// A file that was at a slot before a submission, or that a request installed there.
+/// A file that was at a slot before a submission, or that a request of it installed there.
 #[derive(Clone, Copy)]
 pub struct Installed {
     pub file: Closed,
     pub slot: u32,
-    /// Which line tells that it was installed, from 0; none where it was there before.
+    /// The line of the request that installed it, from 0, or `None` if it was there before.
     pub line: Option<usize>,
-    /// Which line tells that it was closed, from 0.
+    /// Its `closed` line, from 0, or `None` if it has none.
     pub closed: Option<usize>,
 }
 
-/// What the lines of a submission tell, as far as they were looked at.
+/// The completions and files of a submission, as far as its lines were read.
 #[derive(Drop)]
 pub struct Report {
     pub completions: Vec<Completion>,
-    /// The files, those at the slots first, and then in order of mark.
+    /// The files: first those that were at the slots, then the others in order of mark.
     pub files: Vec<Installed>,
-    /// Which of the files, from 0, are told closed, in the order of their lines.
+    /// The numbers, from 0, of the files with a `closed` line, in the order of these lines.
     pub closes: Vec<usize>,
 }
 
-// The slot at which an open installed its file.
+// Returns the slot at which an open installed its file.
 fn slot_of(target: Target, res: i32) -> Option<u32> {
     match target {
         Target::Slot(slot) => Some(slot),
@@ -33,7 +33,7 @@ fn slot_of(target: Target, res: i32) -> Option<u32> {
     }
 }
 
-// A file that a line tells installed, and of which none tells yet that it was closed.
+// Returns a file that a line's request installed, and that has no `closed` line yet.
 fn installed_at(mark: Mark, entry: u8, slot: u32, line: usize) -> Installed {
     let tag = 0;
     Installed {
@@ -44,7 +44,7 @@ fn installed_at(mark: Mark, entry: u8, slot: u32, line: usize) -> Installed {
     }
 }
 
-// Puts the files that a request installed behind others.
+// Appends the files that a request installed.
 fn push_installed(
     files: &mut Vec<Installed>,
     case: &Case<'_>,
@@ -79,10 +79,10 @@ fn push_installed(
 }
 
 impl Report {
-    /// What the completions tell, each of which its request may have. No file is told closed yet.
+    /// Returns the files of completions that their requests may have. No file has a `closed` line yet.
     ///
     /// # Errors
-    /// Where memory is refused.
+    /// `NoMemory` if an allocation fails.
     pub fn new(
         alloc: Global,
         case: &Case<'_>,

@@ -5,7 +5,7 @@ use fx_language::Command;
 use std::alloc::AllocError;
 use std::fmt::Display;
 
-// Puts a space and a list behind others.
+// Appends a space and a list.
 fn push_list<T: Display>(told: &mut String, list: &[T]) -> Result<(), AllocError> {
     for (i, number) in list.iter().enumerate() {
         told.push(if i == 0 { ' ' } else { ',' })?;
@@ -14,7 +14,7 @@ fn push_list<T: Display>(told: &mut String, list: &[T]) -> Result<(), AllocError
     Ok(())
 }
 
-// Puts what a request does behind others.
+// Appends a request's operation and its arguments.
 fn push_operation(told: &mut String, op: &Op) -> Result<(), AllocError> {
     match op {
         Op::Open { name, target } => {
@@ -34,10 +34,10 @@ fn push_operation(told: &mut String, op: &Op) -> Result<(), AllocError> {
     }
 }
 
-/// Puts the line of a request behind others.
+/// Appends the line of a request.
 ///
 /// # Errors
-/// Where memory is refused.
+/// `AllocError` if an allocation fails.
 pub fn push_request(told: &mut String, request: &Request) -> Result<(), AllocError> {
     push_operation(told, &request.op)?;
     if request.flags.contains(SqeFlags::IO_HARDLINK) {
@@ -49,7 +49,7 @@ pub fn push_request(told: &mut String, request: &Request) -> Result<(), AllocErr
     }
 }
 
-// Puts tags behind others, where some are given.
+// Appends tags, if there are some.
 fn push_tags(told: &mut String, tags: &Option<Vec<u64>>) -> Result<(), AllocError> {
     match tags {
         Some(tags) => push_list(told, tags.as_slice()),
@@ -57,7 +57,7 @@ fn push_tags(told: &mut String, tags: &Option<Vec<u64>>) -> Result<(), AllocErro
     }
 }
 
-// The word of a command.
+// Returns the word of a command.
 fn word_of(command: &Command) -> &'static str {
     match command {
         Command::Sparse(_) => "sparse",
@@ -69,10 +69,10 @@ fn word_of(command: &Command) -> &'static str {
     }
 }
 
-/// Puts the line of a command behind others.
+/// Appends the line of a command.
 ///
 /// # Errors
-/// Where memory is refused.
+/// `AllocError` if an allocation fails.
 pub fn push_command(told: &mut String, command: &Command) -> Result<(), AllocError> {
     told.push_str(word_of(command))?;
     match command {
