@@ -1,4 +1,4 @@
-//! The command line of the program `fixcheck`, and how the program ends without a verdict.
+//! The command line of the program `fixcheck`, and the ways in which it ends without a verdict.
 #![tactic(auto)]
 
 mod ending;

@@ -1,4 +1,4 @@
-//! What the words of a command line ask to be checked.
+//! The settings that a command line gives.
 use crate::ending::Ending;
 use clap::{Arg, ArgAction, ArgMatches, Command, Error, value_parser};
 use fx_script::PlayFault;
@@ -8,70 +8,68 @@ use std::env;
 use std::io::ErrorKind;
 
 const ABOUT: &str =
-    "Says whether the rules of io_uring's fixed file table allow a text for a script, \
-                     for instance what a kernel answered to it";
+    "Judges whether the rules of io_uring's fixed file table allow a text for a script, \
+                     for instance what a kernel printed for it";
 
 /// The version, as the file VERSION has it.
 const VERSION: &str = "1.0.0";
 
 const STATUSES: &str = "\
-It prints `legal`, and for each accepted submission an order of its requests that gives the
-text; or `not legal`, with the command that the text breaks at; or `undecided`, where a part
-of a submission has more states than it may look at or keep, or what was found isn't
-confirmed. The status is then 0, 1 or 6.
-With --history it prints for a legal text every event of the table, a line each: whose it is,
-what happens, and the files then at the slots. scripts/draw-history draws that.
-With --may it lists what the request at a place, as 1.1.2, may answer where memory is found,
-each answer with orders that give it. With --all it lists every text that the rules allow
-where memory is found, each with orders that give it: N of them, and how many there are.
-A script is what `fixfiles` plays, and a text what `fixfiles`, or a kernel, writes.
+It prints `legal` and an order of requests for each accepted submission that gives the text;
+`not legal` and the command at which the text breaks; or `undecided`, if no order was found or
+ruled out within the limits. The exit status is then 0, 1 or 6.
+With --history it prints, for a legal text, every event of the table on a line: the request,
+the event, and the files then at the slots. scripts/draw-history draws it.
+With --may it lists the answers of the request at a place, as 1.1.2, if no allocation fails.
+With --all it counts the texts that the rules allow if no allocation fails, and lists the first
+N of them. Each answer or text comes with orders that give it.
+A script is what `fixfiles` plays, and a text is what `fixfiles`, or a kernel, prints for it.
 
 An order is a line `order S: 1.1.1 1.2.1.0 1.1.2`: the requests of submission S, done one at a
 time in this order, give the text. Each is named by its submission, its chain and its member,
 from 1, and an update's by the entry of its list too, from 0.
 
 Exit status:
-  0  the text is legal, or all answers or texts are told, or help or the version was asked for
-  1  it is not legal
-  2  an argument is wrong
-  3  the script has a fault, whose line and name are told
+  0  the text is legal, all answers or texts are counted, or help or the version was printed
+  1  the text is not legal
+  2  an argument is invalid
+  3  the script is invalid; its first fault is printed on standard error
   4  the script or the text couldn't be read, or the verdict couldn't be written
-  5  memory was refused
+  5  an allocation failed
   6  the text is undecided, or there may be more answers or texts";
 
-// How many states of a submission are looked at where no number is given.
+// The default of `--states`.
 const STATES: u32 = 1_000_000;
 
-// How many MiB the states of a part of a submission may take where no number is given.
+// The default of `--memory`.
 const MEMORY: u32 = 1_024;
 
-/// How many MiB they may take at most: a TiB.
+/// The largest `--memory`: a TiB.
 const MOST_MEMORY: i64 = 1_048_576;
 
-/// What is to be checked.
+/// The settings of a command line.
 #[derive(Clone, Copy)]
 pub struct Settings<'a> {
-    /// How many states of a submission are looked at.
+    /// The largest number of states of a part of a submission.
     pub states: u32,
-    /// How many MiB the states of a part of a submission may take.
+    /// The largest number of MiB of these states.
     pub memory: u32,
-    /// Whether a whole history is wanted in place of the orders.
+    /// Whether to print a whole history instead of the orders.
     pub history: bool,
-    /// Whether it is asked what a request may answer.
+    /// Whether to list the answers of a request.
     pub may: bool,
-    /// How many texts of the script are wanted, where they are asked for.
+    /// The largest number of texts to list, or `None` if no list is requested.
     pub all: Option<u32>,
-    /// Where the script is: a path, or `-` for standard input.
+    /// The script's path, or `-` for standard input.
     pub script: &'a str,
-    /// Where the text is: a path, or `-` for standard input. Where it is asked what a request may answer, the request's place;
-    /// where every text is asked for, there is none.
+    /// The text's path, or `-` for standard input. With `may` it is the place of a request, and with `all` it is empty.
     pub text: &'a str,
 }
 
-/// The words of the command line, the program's name first.
+/// Returns the words of the command line, the program's name first.
 ///
 /// # Errors
-/// Where memory is refused, or an argument is no text.
+/// `Fault` if an allocation fails, `NoText` if an argument isn't UTF-8.
 pub fn words(rt: &HostRuntime) -> Result<Vec<String>, Ending> {
     match env::args(rt) {
         Ok(args) => Ok(args.collect(rt.alloc())?),
@@ -88,7 +86,7 @@ fn states_argument<'a>(alloc: Global) -> Arg<'a> {
         .value_name("N")
         .value_parser(value_parser!(u32))
         .default_value("1000000")
-        .help("How many states of a part of a submission are looked at before it is undecided")
+        .help("Largest number of states of a part of a submission; with more it is undecided")
 }
 
 fn memory_argument<'a>(alloc: Global) -> Arg<'a> {
@@ -97,7 +95,7 @@ fn memory_argument<'a>(alloc: Global) -> Arg<'a> {
         .value_name("MIB")
         .value_parser(value_parser!(u32).range(1..=MOST_MEMORY))
         .default_value("1024")
-        .help("How many MiB the states of a part of a submission may take before it is undecided")
+        .help("Largest number of MiB of these states; with more it is undecided")
 }
 
 fn history_argument<'a>(alloc: Global) -> Arg<'a> {
@@ -111,7 +109,7 @@ fn may_argument<'a>(alloc: Global) -> Arg<'a> {
     Arg::new(alloc, "may")
         .long("may")
         .action(ArgAction::SetTrue)
-        .help("Lists what the request may answer whose place, as 1.1.2, stands in place of TEXT")
+        .help("Lists the answers of the request whose place, as 1.1.2, follows instead of TEXT")
 }
 
 fn all_argument<'a>(alloc: Global) -> Result<Arg<'a>, AllocError> {
@@ -122,10 +120,9 @@ fn all_argument<'a>(alloc: Global) -> Result<Arg<'a>, AllocError> {
         .num_args(0..=1)
         .require_equals(true)
         .default_missing_value("100")
-        .help("Lists every text of the script, the first N of them, 100 where no number is given")
+        .help("Lists every text of the script, the first N of them; by default 100")
         .conflicts_with("may")?
-        .conflicts_with("history")?
-        .conflicts_with("text")
+        .conflicts_with("history")
 }
 
 fn script_argument<'a>(alloc: Global) -> Arg<'a> {
@@ -139,7 +136,7 @@ fn text_argument<'a>(alloc: Global) -> Result<Arg<'a>, AllocError> {
     Arg::new(alloc, "text")
         .value_name("TEXT")
         .help("The text, or - for standard input; with --may the place of a request")
-        .required_unless_present("all")
+        .required_unless_present_any(&["all", "may"])
 }
 
 fn command<'a>(alloc: Global) -> Result<Command<'a>, AllocError> {
@@ -156,28 +153,46 @@ fn command<'a>(alloc: Global) -> Result<Command<'a>, AllocError> {
         .arg(text_argument(alloc)?)
 }
 
-// The number of states, which has a default.
+// Returns the number of states, which has a default.
 fn states_of(matches: &ArgMatches<'_>) -> u32 {
     matches.get_one::<u32>("states").unwrap_or(STATES)
 }
 
-// The number of MiB, which has a default.
+// Returns the number of MiB, which has a default.
 fn memory_of(matches: &ArgMatches<'_>) -> u32 {
     matches.get_one::<u32>("memory").unwrap_or(MEMORY)
 }
 
-/// What the words of a command line ask to be checked.
+// Checks that the words after the options are those that the options take.
+fn check_words(
+    alloc: Global,
+    matches: &ArgMatches<'_>,
+    script: &str,
+    text: Option<&str>,
+) -> Result<(), Ending> {
+    if matches.contains_id("all") && text.is_some() {
+        return Err(Ending::TextWithAll(format!(in alloc; "{script}")?));
+    }
+    if matches.get_flag("may") && text.is_none() {
+        return Err(Ending::NoPlaceGiven);
+    }
+    if script == "-" && text == Some("-") {
+        return Err(Ending::TwoInputs);
+    }
+    Ok(())
+}
+
+/// Returns what the words of a command line ask for.
 ///
 /// # Errors
-/// Clap's, where help is asked for or the words ask for something else, or there is no memory. `TwoInputs` where both the
-/// script and the text would be standard input.
+/// Those of clap: help or the version is requested, an argument is unknown, missing or invalid, or an allocation fails. Of this
+/// program's own: `TextWithAll` if a text follows the script of `--all`, `NoPlaceGiven` if no place follows that of `--may`, and
+/// `TwoInputs` if both the script and the text are `-`.
 pub fn settings_in<'a, S: AsStr>(alloc: Global, words: &'a [S]) -> Result<Settings<'a>, Ending> {
     let matches = command(alloc)?.try_get_matches_from(words)?;
     let script = matches.get_str("script").unwrap_or("-");
-    let text = matches.get_str("text").unwrap_or("");
-    if script == "-" && text == "-" {
-        return Err(Ending::TwoInputs);
-    }
+    let text = matches.get_str("text");
+    check_words(alloc, &matches, script, text)?;
     Ok(Settings {
         states: states_of(&matches),
         memory: memory_of(&matches),
@@ -185,6 +200,6 @@ pub fn settings_in<'a, S: AsStr>(alloc: Global, words: &'a [S]) -> Result<Settin
         may: matches.get_flag("may"),
         all: matches.get_one::<u32>("all"),
         script,
-        text,
+        text: text.unwrap_or(""),
     })
 }

@@ -1,19 +1,19 @@
-//! What is read: the script and the text.
+//! Reads the script and the text.
 use fx_check_arguments::Ending;
 use fx_report::{line_at, line_behind};
-use fx_script::{PlayFault, Script, ScriptError};
+use fx_script::{Command, PlayFault, Script, ScriptError};
 use std::alloc::{AllocError, Global};
 use std::fs;
 use std::io::{Error, ErrorKind, Read};
 
-// What a path is called in a message.
+// Returns the name of a path in messages.
 fn name_of(alloc: Global, path: &str) -> Result<String, AllocError> {
     let mut name = String::new(alloc);
     name.push_str(if path == "-" { "standard input" } else { path })?;
     Ok(name)
 }
 
-// Why something wasn't read.
+// Returns the ending for a failed read.
 fn unread(alloc: Global, path: &str, error: Error) -> Ending {
     if error.kind() == ErrorKind::OutOfMemory {
         return Ending::Fault(PlayFault::NoMemory);
@@ -24,10 +24,10 @@ fn unread(alloc: Global, path: &str, error: Error) -> Ending {
     }
 }
 
-/// The bytes of a file, or for `-` those of standard input.
+/// Reads the bytes of a file, or those of standard input for `-`.
 ///
 /// # Errors
-/// Where a read fails, or memory is refused.
+/// `Unread` if the read fails, `Fault` if an allocation fails.
 pub fn read_path(rt: &HostRuntime, path: &str) -> Result<Vec<u8>, Ending> {
     let alloc = rt.alloc();
     if path == "-" {
@@ -43,16 +43,58 @@ pub fn read_path(rt: &HostRuntime, path: &str) -> Result<Vec<u8>, Ending> {
     }
 }
 
-// Whether a line, from 1, has a carriage return.
+// Checks whether a line, from 1, has a carriage return.
 fn has_return(source: &[u8], line: u32) -> bool {
     let at = line_behind(source, 0, line.saturating_sub(1) as usize);
     line_at(source, at).contains(&b'\r')
 }
 
-/// The script that bytes are, which were read from a path.
+// Checks whether bytes are a script that has a file or a submission. A text of calls alone may be one without.
+fn is_script(alloc: Global, source: &[u8]) -> Result<bool, Ending> {
+    match Script::read(alloc, source) {
+        Ok(script) => {
+            let mut commands = script.commands().iter();
+            let submits = commands.any(|it| matches!(it, Command::Submit(_)));
+            Ok(submits || script.catalogue().len() > 0)
+        }
+        Err(ScriptError::Fault { .. }) => Ok(false),
+        Err(ScriptError::NoMemory) => Err(Ending::Fault(PlayFault::NoMemory)),
+    }
+}
+
+/// Prints a note on standard error if a text is a script, which only a mistake in the arguments makes it.
 ///
 /// # Errors
-/// Where they are none, or memory is refused.
+/// `Fault` if an allocation fails.
+pub fn note_script(rt: &HostRuntime, path: &str, text: &[u8]) -> Result<(), Ending> {
+    if is_script(rt.alloc(), text)? {
+        let name = name_of(rt.alloc(), path)?;
+        // The verdict holds whether the note is printed or not.
+        let _ = eprintln!(rt; "fixcheck: {name} is a script, and not what a script printed");
+    }
+    Ok(())
+}
+
+/// Returns the ending for a file that isn't a script: if the second path, the text's, leads to a script, that the two are swapped.
+pub fn swapped(rt: &HostRuntime, ending: Ending, path: &str) -> Ending {
+    match ending {
+        Ending::NoScript(script, fault, has_return) => {
+            let Ok(text) = read_path(rt, path) else {
+                return Ending::NoScript(script, fault, has_return);
+            };
+            match (is_script(rt.alloc(), &text), name_of(rt.alloc(), path)) {
+                (Ok(true), Ok(name)) => Ending::Swapped(script, fault, name),
+                _ => Ending::NoScript(script, fault, has_return),
+            }
+        }
+        other => other,
+    }
+}
+
+/// Reads a script from bytes that come from a path.
+///
+/// # Errors
+/// `NoScript` if they aren't a script, with its first fault, and `Fault` if an allocation fails.
 pub fn script_of(alloc: Global, path: &str, source: &[u8]) -> Result<Script, Ending> {
     match Script::read(alloc, source) {
         Ok(script) => Ok(script),

@@ -1,11 +1,12 @@
-//! The program `fixcheck`: says whether the rules allow a text for a script.
+//! The program `fixcheck`: prints whether the rules allow a text for a script.
 #![tactic(auto)]
 
 mod input;
+mod progress;
 mod unexpected;
 mod verdict;
 
-use fx_check::{Judgement, judge};
+use fx_check::Judgement;
 use fx_check_arguments::{Ending, Settings, settings_in, words};
 use fx_history::History;
 use fx_listing::{listing, listing_of_texts, place_of, status_of_answers, status_of_texts};
@@ -13,15 +14,16 @@ use fx_order::Order;
 use fx_script::{PlayFault, Script};
 use fx_search::Limits;
 use fx_texts::{may, texts_of};
-use input::{read_path, script_of};
+use input::{note_script, read_path, script_of, swapped};
+use progress::judged;
 use std::io::{self, Write};
 use std::process::ExitCode;
 use verdict::{status_of, verdict_text};
 
-/// How many bytes of a history are kept before they are written.
+/// The number of bytes of a history that are kept before they are written.
 const KEPT: usize = 65_536;
 
-/// How many bytes a MiB has.
+/// The number of bytes of a MiB.
 const MIB: usize = 1_048_576;
 
 // Writes a text to standard output.
@@ -32,7 +34,7 @@ fn write(rt: &HostRuntime, text: &str) -> Result<(), Ending> {
     }
 }
 
-// Prints a whole history of a legal text, which is written as it is told.
+// Prints a whole history of a legal text, part by part.
 fn print_history(
     rt: &HostRuntime,
     script: &Script,
@@ -53,7 +55,7 @@ fn print_history(
     write(rt, history.lines())
 }
 
-// How far states are looked for.
+// Returns the limits of the search.
 fn limits_of(settings: Settings<'_>) -> Limits {
     Limits {
         states: settings.states as usize,
@@ -61,7 +63,7 @@ fn limits_of(settings: Settings<'_>) -> Limits {
     }
 }
 
-// Prints what the request that the arguments name may answer. It gives the status.
+// Prints the answers of the request that the arguments name. Returns the exit status.
 fn list_answers(rt: &HostRuntime, settings: Settings<'_>, script: &Script) -> Result<u8, Ending> {
     let alloc = rt.alloc();
     let Some(place) = place_of(settings.text) else {
@@ -76,7 +78,7 @@ fn list_answers(rt: &HostRuntime, settings: Settings<'_>, script: &Script) -> Re
     Ok(status_of_answers(&answers))
 }
 
-// Prints the texts of a script, so many of them. It gives the status.
+// Prints the first `most` texts of a script. Returns the exit status.
 fn list_texts(
     rt: &HostRuntime,
     settings: Settings<'_>,
@@ -90,13 +92,17 @@ fn list_texts(
     Ok(status_of_texts(&all))
 }
 
-// Judges what the arguments name, and prints the verdict. It gives the status.
+// Judges the text that the arguments name, and prints the verdict. Returns the exit status.
 fn check(rt: &HostRuntime) -> Result<u8, Ending> {
     let alloc = rt.alloc();
     let words = words(rt)?;
     let settings = settings_in(alloc, words.as_slice())?;
     let source = read_path(rt, settings.script)?;
-    let script = script_of(alloc, settings.script, &source)?;
+    let is_judged = settings.all.is_none() && !settings.may;
+    let script = match script_of(alloc, settings.script, &source) {
+        Err(ending) if is_judged => return Err(swapped(rt, ending, settings.text)),
+        other => other?,
+    };
     if let Some(most) = settings.all {
         return list_texts(rt, settings, most, &script);
     }
@@ -104,13 +110,16 @@ fn check(rt: &HostRuntime) -> Result<u8, Ending> {
         return list_answers(rt, settings, &script);
     }
     let text = read_path(rt, settings.text)?;
-    let judgement = judge(alloc, &script, &text, limits_of(settings))?;
+    let judgement = judged(rt, &script, &text, limits_of(settings))?;
     match &judgement {
         Judgement::Legal(orders) if settings.history => {
             print_history(rt, &script, &text, orders.as_slice())?;
         }
         _ => {
             let told = verdict_text(alloc, &script, &source, &text, &settings, &judgement)?;
+            if matches!(&judgement, Judgement::NotLegal(_)) {
+                note_script(rt, settings.text, &text)?;
+            }
             write(rt, told.as_str())?;
         }
     }
@@ -121,7 +130,7 @@ fn main(rt: HostRuntime) -> ExitCode {
     match check(&rt) {
         Ok(status) => ExitCode::from(status),
         Err(ending) => {
-            // What can't be told changes nothing.
+            // Nothing can be done if standard error fails.
             let _ = ending.tell(&rt);
             ExitCode::from(ending.status())
         }

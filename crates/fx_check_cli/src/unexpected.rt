@@ -1,4 +1,4 @@
-//! Why a line is wrong that stands behind what the commands in front may have printed, or that a call should print.
+//! The reason why a line is wrong that follows the earlier commands' text, or that a call should print.
 use fx_base::{Mark, NoMemory};
 use fx_chain::check;
 use fx_check::Break;
@@ -7,7 +7,7 @@ use fx_report::{behind, line_at, push_mark};
 use fx_script::{Command, Script};
 use std::alloc::{AllocError, Global};
 
-// How many requests the command in front submitted, if it is an accepted submission.
+// Returns the number of requests of the last command before the break, if it is an accepted submission.
 fn requests_in_front(script: &Script, broken: &Break) -> Option<usize> {
     match script.commands().get(broken.commands.checked_sub(1)?) {
         Some(Command::Submit(requests)) if check(requests).is_ok() => Some(requests.len()),
@@ -15,7 +15,7 @@ fn requests_in_front(script: &Script, broken: &Break) -> Option<usize> {
     }
 }
 
-// Puts behind others that a completion is one too many, if it is one of the submission in front.
+// Appends that a completion is one too many, if it has the number of the last submission.
 fn push_one_more(
     alloc: Global,
     why: &mut String,
@@ -38,7 +38,7 @@ fn push_one_more(
     Ok(())
 }
 
-// Which line of a text, from 1, is the same as another one, and begins in front of a place.
+// Returns the number, from 1, of the first line before a place that equals a line.
 fn earlier(text: &[u8], at: usize, line: &[u8]) -> Option<usize> {
     let mut rest = text.get(..at).unwrap_or(text);
     let mut number = 1usize;
@@ -56,7 +56,7 @@ fn earlier(text: &[u8], at: usize, line: &[u8]) -> Option<usize> {
     None
 }
 
-// The mark of the closed file that a line tells.
+// Returns the mark in a line of a closed file.
 fn mark_in(alloc: Global, line: &[u8]) -> Result<Option<Mark>, NoMemory> {
     match read_report(alloc, line, 0)? {
         Some((lines, _)) => Ok(lines.closed.first().map(|it| it.mark)),
@@ -64,7 +64,7 @@ fn mark_in(alloc: Global, line: &[u8]) -> Result<Option<Mark>, NoMemory> {
     }
 }
 
-// The first of the lines that are wanted, or the one behind it where the end begins there, which has no result.
+// Returns the first expected line, or the second one if the first is that of the end, which has no result.
 fn first_close(wanted: &[u8]) -> &[u8] {
     match wanted.strip_prefix(b"teardown\n") {
         Some(behind) => line_at(behind, 0),
@@ -72,7 +72,7 @@ fn first_close(wanted: &[u8]) -> &[u8] {
     }
 }
 
-// Puts behind others at which slot a file is that should be closed there.
+// Appends the slot of the file whose `closed` line is expected.
 fn push_slot(
     alloc: Global,
     why: &mut String,
@@ -93,10 +93,10 @@ fn push_slot(
     Ok(())
 }
 
-/// Why the line at a place of the text is wrong, where these are wanted from there on; it may be empty.
+/// Returns the reason why the line at a place of the text is wrong, where the lines `wanted` are expected. It may be empty.
 ///
 /// # Errors
-/// Where memory is refused.
+/// `NoMemory` if an allocation fails.
 pub fn why_of(
     alloc: Global,
     script: &Script,

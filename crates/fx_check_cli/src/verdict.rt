@@ -1,4 +1,4 @@
-//! The verdict, as it is printed.
+//! Prints verdicts.
 ghost use Rattle.std.specs.Prelude.{◌≡◌};
 ghost use Rattle.fx_check_cli.specs.Status.{status};
 
@@ -17,7 +17,7 @@ use fx_script::{Command, Script};
 use fx_search::Doubt;
 use std::alloc::{AllocError, Global};
 
-/// The status of the program: 0 for a legal text, 1 for another one, 6 where it is undecided.
+/// Returns the exit status of a verdict: 0 for legal, 1 for not legal, 6 for undecided.
 pub fn status_of(judgement: &Judgement) -> u8
     ensures { result ≡ status judgement.now }
 {
@@ -28,7 +28,7 @@ pub fn status_of(judgement: &Judgement) -> u8
     }
 }
 
-// Puts a line behind others: an order's submission, and the requests of its accesses.
+// Appends the line of an order: its submission, and the requests of its accesses.
 fn push_order(told: &mut String, order: &Order) -> Result<(), AllocError> {
     let submission = order.submission;
     write!(told, "order {submission}:")?;
@@ -42,7 +42,7 @@ fn push_order(told: &mut String, order: &Order) -> Result<(), AllocError> {
     told.push_str("\n")
 }
 
-// Puts a line of the text behind others: where it is, what should be there, and what is.
+// Appends a line's number, the lines that are expected there, and the line.
 fn push_found(
     alloc: Global,
     told: &mut String,
@@ -54,11 +54,11 @@ fn push_found(
     let found = shown_line(alloc, text, at, "nothing")?;
     write!(
         told,
-        "line {line} of the text: wanted {wanted}, found {found}"
+        "line {line} of the text: expected {wanted}, found {found}"
     )
 }
 
-// Puts behind others why a line is wrong, where that is known, and ends the line.
+// Appends the reason why a line is wrong, if it is known, and the line end.
 fn push_end(told: &mut String, why: &str) -> Result<(), AllocError> {
     if !why.is_empty() {
         told.push_str("; ")?;
@@ -67,7 +67,7 @@ fn push_end(told: &mut String, why: &str) -> Result<(), AllocError> {
     told.push('\n')
 }
 
-// Puts the numbers of some lines of the text behind others.
+// Appends the numbers of some lines of the text.
 fn push_numbers(told: &mut String, first: usize, lines: &[usize]) -> Result<(), AllocError> {
     told.push_str(if lines.len() == 1 { "line" } else { "lines" })?;
     for (i, at) in lines.iter().enumerate() {
@@ -85,7 +85,7 @@ fn push_numbers(told: &mut String, first: usize, lines: &[usize]) -> Result<(), 
     told.push_str(" of the text")
 }
 
-// Puts what is wrong with a submission's lines behind others; the first one begins at a place.
+// Appends a complaint about a submission's lines, the first of which begins at a place.
 fn push_complaint(
     alloc: Global,
     told: &mut String,
@@ -114,7 +114,7 @@ fn push_complaint(
     }
 }
 
-// Puts what is wrong with a submission behind others.
+// Appends the judge's reason for refusing a submission.
 fn push_reason(told: &mut String, submission: u32, reason: Reason) -> Result<(), AllocError> {
     write!(told, "submission {submission}: ")?;
     match reason {
@@ -132,7 +132,7 @@ fn push_reason(told: &mut String, submission: u32, reason: Reason) -> Result<(),
     }
 }
 
-// Puts behind others which command a text breaks at.
+// Appends the command at which a text breaks.
 fn push_place(told: &mut String, script: &[u8], broken: &Break) -> Result<(), AllocError> {
     let Some(line) = line_of_command(script, broken.commands) else {
         return told.push_str("the end of the script; ");
@@ -141,7 +141,7 @@ fn push_place(told: &mut String, script: &[u8], broken: &Break) -> Result<(), Al
     write!(told, "command {command}, line {line} of the script; ")
 }
 
-// What is wrong with the lines of the submission that a text breaks at, where it is one and that is found.
+// Returns a complaint about the lines of the submission at which a text breaks, if it is one and a complaint is found.
 fn complaint_in(
     alloc: Global,
     script: &Script,
@@ -173,7 +173,7 @@ fn complaint_in(
     }
 }
 
-// Puts behind others why a text breaks.
+// Appends the reason why a text breaks.
 fn push_break(
     alloc: Global,
     told: &mut String,
@@ -204,10 +204,10 @@ fn push_break(
     Ok(())
 }
 
-/// The lines of a verdict.
+/// Returns the lines of a verdict.
 ///
 /// # Errors
-/// Where memory is refused.
+/// `NoMemory` if an allocation fails.
 pub fn verdict_text(
     alloc: Global,
     script: &Script,
