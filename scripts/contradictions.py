@@ -19,7 +19,9 @@ NO_MEMORY = -12
 CANCELS = "and cancels the same requests"
 # reasons that rest on the files that have no line, and those that a line's place alone shows to be wrong
 NO_LINE = re.compile(r"has no `closed` line|files from there with a `closed` line|" + CLOSES_NO_OTHER)
-PLACE_ALONE = re.compile(r"a file is closed once|closed files are in order")
+PLACE_ALONE = re.compile(r"a file is closed once|closed files (stand|are) in order")
+# with more requests than these not all orders are looked at
+LARGEST_SUBMISSION = 24
 
 
 class Step:
@@ -56,14 +58,23 @@ class Step:
         return is_severed == self.behind or self.behind and self.request[0] == "read" and self.request[3] > 0
 
 
+def before(script, lines, command):
+    """The player in front of a command, by its number, and the first line of what it prints. What is at the slots is known by the
+    files that were closed: no line of one is left over by the commands in front, unless an empty submission follows."""
+    search, player, at = Search(lines, splits=True), Player(script.files), 0
+    for earlier in script.commands[: command - 1]:
+        ends = search.after(player, earlier, at)
+        whole = ((it, end) for it, end in ends if not "".join(lines[end : end + 1]).startswith(("closed ", "tag ")))
+        player, at = next(whole, None) or next(search.after(player, earlier, at))
+    return player, at
+
+
 class Submission:
     """A submission of a text, by its command: the player in front of it, the steps of each chain, and the lines of closed files, by
-    their places. What stands at the slots in front of it is known by the files that were closed before."""
+    their places."""
 
     def __init__(self, script, lines, command, slot):
-        search, self.player, at = Search(lines, splits=True), Player(script.files), 0
-        for earlier in script.commands[: command - 1]:
-            self.player, at = next(search.after(self.player, earlier, at))
+        self.player, at = before(script, lines, command)
         self.player.submissions += 1
         self.chains, self.closed = [], {}
         for nth, chain in enumerate(chains_of(script.commands[command - 1][1]), 1):
@@ -152,9 +163,7 @@ class Free:
     """A submission of a text, by its command, of which some lines are named. The others may be any that an order gives."""
 
     def __init__(self, script, lines, command, named):
-        search, self.player, at = Search(lines, splits=True), Player(script.files), 0
-        for earlier in script.commands[: command - 1]:
-            self.player, at = next(search.after(self.player, earlier, at))
+        self.player, at = before(script, lines, command)
         self.player.submissions += 1
         self.named, self.chains, self.told, self.first = named, chains_of(script.commands[command - 1][1]), [], []
         for nth, chain in enumerate(self.chains, 1):
@@ -173,7 +182,9 @@ class Free:
     def answers(self, player, nth, member, entry):
         """Each player that a member of a chain, or the next entry of its list, may leave, with what it answers."""
         request, _ = self.chains[nth][member]
-        place, (res, _) = (self.player.submissions, nth + 1, member + 1), self.told[nth][member]
+        place, told = (self.player.submissions, nth + 1, member + 1), self.told[nth][member]
+        # a canceled open at any slot, and one whose line can't be read, may take any
+        res = told[0] if told else -ECANCELED
         piece = request if entry is None else ("update", request[1] + entry, [request[2][entry]], entry)
         slots = [None]
         if request[0] == "open" and request[2] is None and request[1] in player.names and player.free_slots():
@@ -230,5 +241,7 @@ def order_of_named(script, text, said, most=20_000):
     if len(said) < 2 or not said[0].startswith("not legal: ") or PLACE_ALONE.search(said[0]) or CANCELS in said[0]:
         return None
     lines, command = text.split("\n")[:-1], int(re.search(r"command (\d+)", said[0])[1])
+    if len(script.commands[command - 1][1]) > LARGEST_SUBMISSION:
+        raise TooManyOrders
     named = {int(re.match(r" +(\d+): ", it)[1]) - 1 for it in said[1:]}
     return Free(script, lines, command, named).has_order(bool(NO_LINE.search(said[0])), most)
