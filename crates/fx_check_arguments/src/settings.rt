@@ -136,7 +136,8 @@ fn text_argument<'a>(alloc: Global) -> Result<Arg<'a>, AllocError> {
     Arg::new(alloc, "text")
         .value_name("TEXT")
         .help("The text, or - for standard input; with --may the place of a request")
-        .required_unless_present_any(&["all", "may"])
+        .required_unless_present("all")?
+        .required_unless_present("may")
 }
 
 fn command<'a>(alloc: Global) -> Result<Command<'a>, AllocError> {
