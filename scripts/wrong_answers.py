@@ -36,7 +36,7 @@ NO_ORDERS = (
     "order 2: 2.1.1.0 2.1.2.0 2.1.2.1 2.1.2.2 2.1.2.3", "order 2: 2.1.1.0 2.2.1", "order 2: 2.1.0",
 )
 # kept texts with lines that have no order, each of which is needed for that; and how many lines these texts have
-UNORDERED, UNORDERED_LINES = "examples/judged/submissions.judged", 55
+UNORDERED, UNORDERED_LINES = "examples/judged/submissions.judged", 66
 # kept texts whose closed files need a request that empties their slot; and how many lines are named there
 EMPTIED, EMPTIED_LINES = ("examples/judged/explained.judged", "examples/judged/submissions.judged"), 4
 
@@ -203,8 +203,11 @@ def unordered(fixcheck):
         if contradictions.complaint_of(Script(script), text, said) is not None:
             missed.append(f"{said}, which is right")
         for nth, line in enumerate(text.splitlines(), 1):
-            seen += 1
             named = f"  {nth}: {line}"
+            # an open at any slot may be named without a try
+            if line.endswith(" -23") and named not in said:
+                continue
+            seen += 1
             wrong = [it for it in said if it != named] if named in said else [*said, named]
             if contradictions.complaint_of(Script(script), text, wrong) is None:
                 missed.append(f"{wrong}")
@@ -215,7 +218,7 @@ def emptied():
     """Where no request empties a slot whose files are all closed, each line that is named left out: an order gives the others."""
     seen, missed = 0, []
     for path in EMPTIED:
-        for script, text, _, _, block in module("check-verdicts").verdicts_of(os.path.join(ROOT, path)):
+        for script, text, _, _, block, _ in module("check-verdicts").verdicts_of(os.path.join(ROOT, path)):
             said = block.decode().splitlines()
             if "so one of its files stays there" not in said[0]:
                 continue
