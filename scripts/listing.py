@@ -7,7 +7,7 @@ from repository import read
 
 # the number of texts that are listed if none is given
 MOST = 100
-HEAD = re.compile(r"(at least )?(\d+) texts?, where memory is found(?:: not shown to be all within (\d+) states and (\d+) MiB)?(?:; the first (\d+):)?")
+HEAD = re.compile(r"(at least )?(\d+) texts?, if no allocation fails(?:: not shown to be all within (\d+) states and (\d+) MiB)?(?:; the first (\d+):)?")
 
 
 class Listing(NamedTuple):

@@ -231,9 +231,9 @@ pub fn listing(
         push_orders(alloc, &mut told, script, &may.orders, said.past, "  ")?;
     }
     if may.are_all {
-        told.push_str("these are all, where memory is found\n")?;
+        told.push_str("these are all, if no allocation fails\n")?;
     } else {
-        told.push_str("at least these, where memory is found")?;
+        told.push_str("at least these, if no allocation fails")?;
         push_limits(&mut told, settings)?;
         told.push('\n')?;
     }

@@ -28,7 +28,7 @@ fn push_count(
         told.push_str("at least ")?;
     }
     let noun = if count == 1 { "text" } else { "texts" };
-    write!(told, "{count} {noun}, where memory is found")?;
+    write!(told, "{count} {noun}, if no allocation fails")?;
     if !all.are_all {
         push_limits(told, settings)?;
     }
