@@ -5,7 +5,7 @@ import subprocess
 
 
 class Counted:
-    """How much a check looked at, and how much of it was wrong, which is told under its name."""
+    """The number of cases of a check and of wrong ones, which are printed under its name."""
 
     def __init__(self, name):
         self.name, self.seen, self.wrong = name, 0, 0
@@ -23,7 +23,7 @@ class Counted:
 
 
 def arguments(usage, paths="", flags="", numbers=None, options=None, words=()):
-    """The arguments of a command. Paths stand first, of which those with a `?` may be left out, and
+    """Parses the arguments of a command. Paths come first, of which those with a `?` may be left out, and
     then numbers, each with what it is where it is left out. Flags are there or not; and an option
     has a value, which is a path unless it is a number. An option of `words` has a word, by default ""."""
     parser = argparse.ArgumentParser(usage=usage)
@@ -43,7 +43,7 @@ def arguments(usage, paths="", flags="", numbers=None, options=None, words=()):
 
 
 def status_of(name, main, *given):
-    """The status of main, or 1 where what it ran didn't end in its time, which one line tells."""
+    """Returns the status of main, or prints a line and returns 1 if a program that it ran exceeded its time."""
     try:
         return main(*given)
     except subprocess.TimeoutExpired as hang:

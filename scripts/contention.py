@@ -7,8 +7,8 @@ SECONDS = 40
 
 
 def texts_of(scripts, times, play):
-    """For each name its script and the different texts that `play` gave of it. Each script is played so many times, but none
-    begins once the seconds are over. `play` is told which time it is, and gives None where it failed."""
+    """Returns for each name its script and the different texts that `play` returned. Each script is played `times` times, but none
+    begins once the seconds are over. `play` gets the number of the time, and returns None if it fails."""
     end, found = time.monotonic() + SECONDS, {name: (script, set()) for name, script in scripts}
 
     def played(it):

@@ -32,7 +32,7 @@ class Step:
         self.line, self.place, self.request, self.linked_by, self.told, self.behind = line, place, request, linked_by, told, behind
 
     def slot(self):
-        """The slot that it comes to, or None where it finds all full."""
+        """Returns the slot that it accesses, or None if it finds all full."""
         kind, *words = self.request
         if kind != "open":
             return words[0]
@@ -42,7 +42,7 @@ class Step:
         return self.request[0] in ("read", "close")
 
     def tells(self):
-        """Whether its line tells what is at the slots: a read's or a close's, or that of an open at any slot."""
+        """Returns whether its line depends on what is at the slots: a read's or a close's, or that of an open at any slot."""
         return self.may_be_left_out() or self.request[0] == "open" and self.request[2] is None
 
     def mark(self):
@@ -51,7 +51,7 @@ class Step:
         return text_of_mark(submitted(self.place, words[2] if kind == "update" and len(words) > 2 else 0))
 
     def leaves_chain(self, res):
-        """Whether the rest of the chain is as in the text, where it answers this and its line says nothing. A read may want memory."""
+        """Returns whether the rest of the chain is as in the text if it answers this and its line puts no condition on it. A read may lack memory."""
         if self.behind is None:
             return True
         is_severed = severs(self.request, self.linked_by, res)
@@ -70,7 +70,7 @@ def before(script, lines, command):
 
 
 class Submission:
-    """A submission of a text, by its command: the player in front of it, the steps of each chain, and the lines of closed files, by
+    """A submission of a text, by its command: the player before it, the steps of each chain, and the lines of closed files, by
     their places."""
 
     def __init__(self, script, lines, command, slot):
@@ -103,7 +103,7 @@ class Submission:
         return steps
 
     def has_order(self, named, closes_no_other, most):
-        """Whether the requests have an order that gives the lines that are named."""
+        """Returns whether the requests have an order that results in the named lines."""
         def moves(player, at):
             for nth, chain in enumerate(self.chains):
                 if at[nth] < len(chain):
@@ -127,7 +127,7 @@ class Submission:
         return {it for nth, it in self.closed.items() if nth in named} <= closed and (not closes_no_other or closed <= set(self.closed.values()))
 
     def strange(self, named):
-        """Those of the lines that tell nothing of the slot, or of what is at the slots. Where all are of requests that install or remove
+        """Returns those of the lines that don't depend on the slot, or on what is at the slots. Where all are of requests that install or remove
         files, these alone have no order."""
         if named and named <= {step.line for chain in self.chains for step in chain if not step.may_be_left_out()}:
             return set()

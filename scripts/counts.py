@@ -10,7 +10,7 @@ from typing import NamedTuple
 from checks import Counted
 from programs import built, preloaded, run
 
-# the numbers of count.c, and how many writes it tells of
+# the numbers of count.c, and how many writes it reports
 NUMBERS, WRITES = 4, 64
 
 
@@ -38,7 +38,7 @@ def counted(command, script, refused=0):
 
 
 def spread(count, most):
-    """Which of so many growths are refused: all, or where they are more than `most`, a third of that at the begin, at the end and
+    """Returns which of `count` growths are refused: all, or if they are more than `most`, a third of that at the begin, at the end and
     between, evenly spread."""
     third = most // 3
     if count <= most:
@@ -64,7 +64,7 @@ class Refused(Counted):
 
     def refuse(self, name, command, given, kind_of, whole, wanted=()):
         """Runs a command with one growth refused, each in its turn. `kind_of` names an outcome, beside that of a run where none is
-        refused; it is None where it may not be. Without a refusal it is `whole`, and each that is wanted comes."""
+        refused; it is None if it is not allowed. Without a refusal it is `whole`, and each that is expected comes."""
         kinds, wrong, ran = collections.Counter(), [], counted(command, given)
         count, ended = ran.growths, ran.ended
         if kind_of(ended, ended) != whole or count == 0:
@@ -78,7 +78,7 @@ class Refused(Counted):
                 kinds[kind] += 1
                 if kind is None:
                     wrong.append(f"with allocation {nth} refused: {str(ran.ended)[:600]}")
-        # a refusal of the growth behind the last one is no refusal
+        # a refusal of the growth after the last one refuses nothing
         if len(refused) == count and counted(command, given, count + 1).growths > count + 1:
             wrong.append(f"there are more allocations than {count}")
         wrong += [f"never: {it}" for it in sorted(wanted) if it not in kinds]

@@ -8,9 +8,9 @@ LEGAL, NOT_LEGAL, UNDECIDED = 0, 1, 6
 LEGAL_SIZES = LIMITS - BAD_LIMITS + sum(count for kind, count in KINDS.items() if kind not in ("fault_at", "unsubmitted_from"))
 # how many rows of parts there are
 PARTS = 6
-# so many states are too few for the part of two slots: an order of its ten accesses goes through eleven
+# this many states are too few for the part of two slots: an order of its ten accesses goes through eleven
 FEW_STATES = 10
-# and so many for five slots where so many opens at the first one can be done in any order
+# and this many for five slots, if the opens at the first one can be done in any order
 FIVE_STATES, OPENS = 60, 7
 
 
@@ -22,7 +22,7 @@ def sizes():
 
 
 def contending(chains):
-    """The requests and completions of so many chains at slots 0 and 1, in each of which a file is put at slot 0 and then one at
+    """Returns the requests and completions of `chains` chains at slots 0 and 1, in each of which a file is put at slot 0 and then one at
     slot 1, and a chain that reads at slot 1 what the first chain put there, and then at slot 0 what that one put there; and the
     files that were closed, and those that are left."""
     requests, answers, closed, left = [], [], [], []

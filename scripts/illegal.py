@@ -2,10 +2,10 @@
 
 
 class Illegal(Exception):
-    """A step that may not be taken where it stands, or what is told is none."""
+    """A step that is not allowed there, or text that isn't a step."""
 
 
 def want(holds, complaint, *words):
-    """Words that take their time are put into the complaint where it comes to that."""
+    """Raises the complaint if something doesn't hold. Words that take time to make are put into it only then."""
     if not holds:
         raise Illegal(complaint.format(*words) if words else complaint)

@@ -3,7 +3,7 @@ its own. No state is remembered and no order is left out; a member that doesn't 
 for tiny scripts. Nothing answers -12 here. scripts/check-outcomes compares the lists of fixcheck with it."""
 from model import ECANCELED, Player, Script, chains_of, completion_line, severs
 
-# so many orders are played before a script is given up
+# the most orders of a script; with more it is left out
 MOST_ORDERS = 20_000
 
 

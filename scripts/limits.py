@@ -5,7 +5,7 @@ SCRIPT_BYTES = 4_194_304
 LINE_BYTES = 10_000
 LARGEST, LARGEST_TAG = 2_147_483_647, 18_446_744_073_709_551_615
 SLOTS, CHAINS, MEMBERS, ENTRIES, FILES, BYTES = 256, 1023, 16, 16, 256, 4096
-# how many scripts `limits` gives, and how many of them are bad
+# how many scripts `limits` yields, and how many of them are bad
 LIMITS, BAD_LIMITS = 16, 2
 
 
@@ -51,7 +51,7 @@ def heaviest_submission():
 
 
 def far_reads():
-    """Reads behind the end of a file of 5 bytes, at places that are 0 or 4 where their upper bits are lost."""
+    """Reads past the end of a file of 5 bytes, at places that are 0 or 4 where their upper bits are lost."""
     places = [5, 6, 256, 4096, 65_536, 65_540, 16_777_216, 1_073_741_824, LARGEST - 1, LARGEST]
     script = ["file a.txt 68656c6c6f", "sparse 1", "open a.txt at 0", "submit"]
     text = ["sparse 0", "1.1.1 0"]
@@ -64,7 +64,7 @@ def far_reads():
 
 
 def largest_numbers():
-    """2,147,483,647 at each place where a number stands."""
+    """2,147,483,647 in place of each number."""
     script = ["file a.txt 68656c6c6f", f"sparse {LARGEST}", "sparse 1", f"range {LARGEST} {LARGEST}", f"range 0 {LARGEST}"]
     script += [f"open a.txt at {LARGEST}", f"read {LARGEST} 0 1", f"read 0 {LARGEST} 1", f"close {LARGEST}"]
     script += [f"update {LARGEST} 0", f"update 0 {LARGEST}", f"update 0 -{LARGEST}", "submit", f"read 0 0 {LARGEST}", "submit"]

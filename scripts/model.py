@@ -384,7 +384,7 @@ class Player:
     # commands, each with its lines
 
     def refusal_of_submission(self, requests):
-        """What is printed behind `submit refused`, or None."""
+        """Returns the words after `submit refused`, or None."""
         fault = fault_of(requests)
         if fault:
             return "{} {}".format(*fault)

@@ -8,7 +8,7 @@ import re
 
 from model import Player, chains_of, completion_line, severs
 
-# so many states are looked at before a search is given up
+# the most states of a search
 LARGEST_SEARCH = 200_000
 
 
@@ -17,7 +17,7 @@ class TooManyOrders(Exception):
 
 
 def completion_of(line, place):
-    """The result and the bytes that a line gives for a place, or None."""
+    """Returns the result and the bytes that a line has for a place, or None."""
     found = re.fullmatch(r"([0-9.]+) (-?[0-9]+)(?: ((?:[0-9a-f]{2})+))?", line)
     if not found or found[1] != "{}.{}.{}".format(*place):
         return None
@@ -149,7 +149,7 @@ class Search:
 
 
 def ending_of(script, text, make=Player, splits=False):
-    """The player at the end of a play of the script that writes the text, or None where no order gives it."""
+    """Returns the player at the end of a play of the script that writes the text, or None if no order does."""
     player = make(script.files)
     if player.play(script.commands) == text:
         return player

@@ -17,7 +17,7 @@ def headings(path):
 
 
 def section(text, heading):
-    """What stands under a heading, up to the next one that is as high."""
+    """Returns the text under a heading, up to the next one that is as high."""
     return text.split(f"\n{heading}\n")[1].split(f"\n{heading.split()[0]} ")[0]
 
 

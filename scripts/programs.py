@@ -28,7 +28,7 @@ def run(command, given=b"", seconds=120, **how):
 
 
 def difference(found, wanted):
-    """How a status, a text and a message differ from the wanted ones: nothing where they don't."""
+    """Returns how a status, a text and a message differ from the expected ones: nothing if they don't."""
     if found[0] != wanted[0]:
         return f"ended with status {found[0]}, and not {wanted[0]}, and said {found[2][:300]!r}"
     if found[1] != wanted[1]:
@@ -49,14 +49,14 @@ def kept_script(script):
 
 def verdict(fixcheck, script, text, *options):
     """The status, the lines and the message of fixcheck, asked of a text, which it reads from standard
-    input. In the message stands `script` for the script's path."""
+    input. In the message `script` replaces the script's path."""
     with kept_script(script) as path:
         status, said, message = run([fixcheck, *options, path, "-"], text)
     return status, said.splitlines(), message.replace(path, "script")
 
 
 def built(source):
-    """Builds a library or a program of a source in C of this folder, and gives its path. It is moved
+    """Builds a library or a program of a source in C of this folder, and returns its path. It is moved
     into place, so that two builds at once do no harm."""
     os.makedirs(BUILD, exist_ok=True)
     ending = ".so" if "-shared" in FLAGS[source] else ""
@@ -68,13 +68,13 @@ def built(source):
 
 
 def preloaded(library, **variables):
-    """How a program is run behind a library of build/: beside it, since a space or a colon in the
+    """Returns how a program is run with a library of build/: in its folder, since a space or a colon in the
     library's path would end that for the loader."""
     return {"env": {**os.environ, "LD_PRELOAD": f"./{library}.so", **variables}, "cwd": BUILD}
 
 
 def in_turns(fixfiles, script, seed, turn, *options):
-    """A play whose threads go in turns of at most so many instructions (scripts/step.c), or as they
+    """Plays with threads in turns of at most `turn` instructions (scripts/step.c), or as they
     like where that is 0."""
     how = preloaded("step", SEED=str(seed), TURN=str(turn)) if turn else {}
     return run([fixfiles, *options], script, **how)

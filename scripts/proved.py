@@ -66,7 +66,7 @@ def copy_crates(room, gate=None):
 
 
 def copy_below(room, name, below):
-    """Copies a crate with what earlier checks kept of it, and the crates that it stands on with their libraries. No other crate is
+    """Copies a crate with what earlier checks kept of it, and the crates below it with their libraries. No other crate is
     listed there."""
     those = needed(name, below)
     shutil.copy(f"{ROOT}/HANDLES", room)

@@ -15,7 +15,7 @@ STEADY = ("open", "open", "read", "read", "update")
 
 class Shape(NamedTuple):
     """Of what a script is drawn: how many slots a table may have, submissions there may be, chains of one and members of a chain. Then
-    the requests, the lengths of reads, how often a call stands between two submissions, and how often something is odd; and how many
+    the requests, the lengths of reads, how often a call comes between two submissions, and how often something is odd; and how many
     entries an update has at most."""
 
     slots: tuple
@@ -63,7 +63,7 @@ class Drawn:
         return ",".join(map(str, entries))
 
     def tagged(self, listed):
-        """A list, of which every second has tags behind it; entries that open no file have an odd one."""
+        """A list, of which every second is followed by tags; entries that open no file have an odd one."""
         if self.rng.random() < 0.5:
             return listed
         opens = [not it.startswith("-") or self.is_odd() for it in listed.split(",")]

@@ -18,7 +18,7 @@ GOAL = re.compile(r"note: (src/\S+?:\d+):\d+: it is not proved that (.*?) \(`([^
 
 
 def is_refusal(said):
-    """Whether what stands behind `fn NAME: ` says that this function itself is refused."""
+    """Returns whether the words after `fn NAME: ` say that this function itself is refused."""
     return said.startswith(UNPROVED) and not OF_ANOTHER.search(said)
 
 

@@ -5,7 +5,7 @@ TABLES = ("words", "baton")
 
 
 def ring(slots, start, count, submissions, registrations):
-    """What a ring tells of itself."""
+    """Returns the lines of a ring's state."""
     return [f"ring: {slots} slots, range {start} {count}, submissions {submissions}, registrations {registrations}"]
 
 

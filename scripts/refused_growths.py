@@ -36,7 +36,7 @@ def updates():
 
 
 def hard_links():
-    """Reads by hard links in a chain that goes on whatever they come to, and in one that a soft link severs."""
+    """Reads by hard links in a chain that goes on whatever they answer, and in one that a soft link severs."""
     script = ["file a.txt 68656c6c6f", "sparse 2", "open a.txt at 0 link", "read 0 0 5 hardlink", "read 0 1 4 hardlink"]
     script += ["read 0 0 9 hardlink", "close 0", "open a.txt at 1 hardlink", "read 1 0 5 hardlink", "read 1 0 4 link", "close 1"]
     return lines(*script, "submit")
@@ -57,7 +57,7 @@ def registrations():
 
 def small_submissions():
     """Submissions that follow each other: some for which one table stays open, one that needs far more numbers than they do,
-    others behind it, and some behind an update of the ring."""
+    others after it, and some after an update of the ring."""
     small = ["open a.txt at 0", "submit", "read 0 0 5", "submit"]
     heavy = [*linked(*["open a.txt at 1"] * 8), "submit"]
     return lines("file a.txt 68656c6c6f", "sparse 2", *small, *heavy, *small, "regupdate 0 0", *small)

@@ -21,7 +21,7 @@ def orders_of(lines):
 
 
 class Replayed(Player):
-    """`results` has the result that the text gives for each place: an open at any slot takes the slot that it says."""
+    """`results` has the result in the text for each place: an open at any slot takes the slot that it says."""
 
     def __init__(self, files, orders, results):
         super().__init__(files)
@@ -48,7 +48,7 @@ class Replayed(Player):
 
 
 class Chain:
-    """A chain whose members are done up to one, of whose list so many entries are done."""
+    """A chain whose members are done up to one, and the entries of that one's list that are done."""
 
     def __init__(self, place, members):
         self.place, self.members = place, members

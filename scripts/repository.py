@@ -51,7 +51,7 @@ def text_beside(path):
 
 
 def kept_beside(path, ending):
-    """What another file of a script's name has, or nothing where there is none."""
+    """Returns the text of another file of a script's name, or nothing if it doesn't exist."""
     file = path.removesuffix("script") + ending
     return read(file) if os.path.exists(os.path.join(ROOT, file)) else ""
 

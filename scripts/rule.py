@@ -38,7 +38,7 @@ def number_agrees(history, number, node, place, takes):
 
 
 def control_agrees(table):
-    """The upper half counts the passes in a change; the lower one, less the bias, and what these have yet to tell are the
+    """The upper half counts the passes in a change; the lower one, less the bias, and the slots that these have yet to count are the
     full slots of the range."""
     full = sum(table.history.at[slot] is not None for slot in table.history.allocatable)
     untold = sum(step[1] for step in table.next if step and step[0] == "end")

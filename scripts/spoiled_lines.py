@@ -23,7 +23,7 @@ def named_of(said):
 
 
 class Spoiled:
-    """A text with spoiled lines: all lines, which ones count as spoiled, from 1, the command that the first of them stands in, from 1,
+    """A text with spoiled lines: all lines, which ones count as spoiled, from 1, the command of the first of them, from 1,
     the last command's number, and words that name a lost line."""
 
     def __init__(self, lines, at, command, last, words=()):
@@ -43,7 +43,7 @@ class Spoiled:
 
 
 def owners_of(script, lines):
-    """For each line of a text the command that writes it, from 1; that behind the last one is the end."""
+    """Returns for each line of a text the command that writes it, from 1; the one after the last is the end."""
     owners, at, submissions = [], 0, 0
     for nth, (command, *values) in enumerate(script.commands, 1):
         count = 1
@@ -165,7 +165,7 @@ def lost(pattern):
 
 
 def one_more(rng, lines):
-    """Behind the last completion of a submission stands one of another chain."""
+    """Adds a completion of another chain after the last one of a submission."""
     those = [at for at in places(lines, COMPLETION) if at + 1 == len(lines) or not COMPLETION.match(lines[at + 1])]
     at = rng.choice(those)
     submission, chain, _ = lines[at].split(" ")[0].split(".")

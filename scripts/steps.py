@@ -13,7 +13,7 @@ from illegal import want
 
 # a node word at its birth, a change in flight, and what the count of full slots is raised by
 BORN, ONE_CHANGE, BIAS = 1 << 32, 1 << 32, 65_536
-# what lies in the place of a number's open file; while the place is with a pass, this pass stands there
+# what is in the place of a number's open file; while a pass has the place, that pass is there
 EMPTY, FILE = "nothing", "its file"
 CALLS = ("look", "put", "clear", "take", "put_any", "draw")
 # what a hold and a removed file ask of the pass that has it
@@ -74,7 +74,7 @@ class Table:
         self.draws, self.drawn = passes, (*range(passes), None)
         self.calls, self.chain, self.given = (family.calls,) * passes, tuple(range(passes)), (0,) * passes
         self.told, self.work, self.next, self.rounds = (False,) * passes, ((),) * passes, ((),) * passes, (0,) * passes
-        # the kinds of events that this table or a copy has told
+        # the kinds of events that this table or a copy has added
         self.events = set()
 
     def copy(self):
@@ -304,7 +304,7 @@ class Table:
         return self.round()
 
     def is_in_change(self, who):
-        """Whether a pass is between begin and end or answer: its next step is one that stands there."""
+        """Whether a pass is between begin and end or answer: its next step is one of those."""
         step = self.next[who]
         if not step:
             return False
@@ -330,6 +330,6 @@ class Table:
         return not any(self.next) and not any(self.work)
 
     def ends_well(self):
-        """When all calls are over no file is held or left behind, and each chain was drawn where all passes were told so."""
+        """Checks that after all calls no file is held or left, and that each chain was drawn if all passes were answered so."""
         want(self.history.is_settled(), "a removed file was never closed, or one is held")
         want(None not in self.drawn or not all(self.told), "a chain was never drawn")

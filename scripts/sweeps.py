@@ -45,13 +45,13 @@ def no_tags(first, places):
 
 
 def tags_from(first, places):
-    """The word of tags behind a list, for places that have a file or none, and the lines that tell those of the files."""
+    """Returns the word of tags after a list, for places that have a file or none, and the tag lines of the files."""
     tags = [first + it if has_file else 0 for it, has_file in enumerate(places)]
     return " " + ",".join(map(str, tags)), [f"tag {it}" for it in tags if it]
 
 
 def lists(tags_of=no_tags):
-    """A list of each size is registered, updated between submissions, and unregistered. Each third entry is none. Each file may
+    """A list of each size is registered, updated between submissions, and unregistered. Each third entry has no file. Each file may
     have a tag of its own: those that the update replaces, and those that are left."""
     script, text, k = [A], [], 0
     for count in EACH_SIZE:
@@ -142,7 +142,7 @@ def files():
 
 
 def reads():
-    """Reads of each length of a file of 4,096 bytes, from its begin and from behind it."""
+    """Reads of each length of a file of 4,096 bytes, from its begin and from past its end."""
     script, text = [f"file a.txt {hexed(BYTES)}", "register 0"], ["register 0"]
     for nth, count in enumerate(sizes(BYTES), 1):
         off = BYTES - count

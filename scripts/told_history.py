@@ -40,7 +40,7 @@ class Table:
             self.removed = self.at.pop(slot)
 
     def take(self, who, word, words, tag):
-        """Takes an event. It gives the name and the tag of a file that is closed."""
+        """Takes an event. Returns the name and the tag of a file that is closed."""
         want(self.held is None or (word, who, words[0]) == ("Release", *self.held), f"{self.held} has a hold, and {word} comes")
         if word == "Look":
             self.found(int(words[0]), words[1])
@@ -98,7 +98,7 @@ class Reader:
         self.made = {}
 
     def line(self):
-        """The next line: whose it is, and what it says behind that. An event is taken."""
+        """Returns the next line: whose it is, and the rest. An event is taken."""
         want(self.lines, "the lines end too early")
         line, *self.lines = self.lines
         told, bar, state = line.rpartition(" | ")
@@ -127,7 +127,7 @@ class Reader:
         return [f"closed {mark} {self.table.names[mark]}" for mark, _ in files] + [f"tag {tag}" for _, tag in files if tag]
 
     def answer(self):
-        """The next answer, whose it is and to what, with the events in front of it."""
+        """Returns the next answer, whose it is and to what, with the events before it."""
         while True:
             who, what = self.line()
             if what is not None:
@@ -177,7 +177,7 @@ class Reader:
 
 
 def complaint_of(script, text, lines):
-    """Why the lines are no history that gives the text, or None."""
+    """Returns why the lines aren't a history that results in the text, or None."""
     try:
         want(lines[:1] == ["legal"], "the first line isn't `legal`")
         given = Reader(lines[1:], script).text(Script(script).commands)

@@ -21,7 +21,7 @@ from told_history import complaint_of
 # examples whose histories have each event and each call, and tags
 TOLD = ("open_read_close", "tagged_files_leave_in_each_way", "replaced_between_two_members", "unregister_closes_every_file",
         "allocation_fills_its_range", "ring_update_clears_skips_and_replaces", "tag_at_the_teardown")
-# how many lines their histories have, and how many pairs of steps of one chain stand beside each other in their orders; and how
+# how many lines their histories have, and how many pairs of steps of one chain are adjacent in their orders; and how
 # many rows there are of outcomes, growths, verdicts and what they name
 LINES, PAIRS, OUTCOMES, GROWTHS, VERDICTS, NAMES = 110, 3, 15, 6, 7, 9
 # of examples/questions with n texts each, the sum of n * (n - 1)
@@ -42,7 +42,7 @@ EMPTIED, EMPTIED_LINES = ("examples/judged/explained.judged", "examples/judged/s
 
 
 def kinds(fixcheck):
-    """What each kind of wrong answer is called, how many there are, and what tells them."""
+    """Yields the name of each kind of wrong answers, their number, and the function that tries them."""
     yield "lines of histories", LINES, lambda: histories(fixcheck)
     yield "exchanged steps of orders", PAIRS, lambda: orders(fixcheck)
     yield "orders of another text", OTHER_ORDERS, other_orders
@@ -163,7 +163,7 @@ def growths():
 
 def verdicts():
     """What scripts/agree makes of a text and a verdict of fixcheck: the model's text, another order of it, one with a difference of
-    Linux, and one that nothing gives."""
+    Linux, and one that nothing explains."""
     names = kernels.listed()[0]
     script = read_bytes("examples/replaced_between_two_members.script")
     same = play(script)[0]

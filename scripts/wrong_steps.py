@@ -70,7 +70,7 @@ class FullAfterOneScan(Table):
 
 
 class FullWithOthersInAChange(Table):
-    """An allocation believes the count of full slots, though another pass may have emptied one and not told yet."""
+    """An allocation believes the count of full slots, though another pass may have emptied one and not counted it yet."""
 
     def says_full(self, word, length):
         return word % ONE_CHANGE == control_word(length)
@@ -84,7 +84,7 @@ class ControlWordWithoutBias(Table):
 
 
 class EndBeforeSwap(Table):
-    """An installation or a removal tells what it is going to change, and changes it then."""
+    """An installation or a removal counts its change before it makes it."""
 
     def change(self, slot, event):
         step = super().change(slot, event)
@@ -137,7 +137,7 @@ class DrawRepeatsAChain(Table):
 
 
 class DrawSkipsAChain(Table):
-    """A draw gives the chain behind the next one."""
+    """A draw returns the chain after the next one."""
 
     def given_chain(self, who, old):
         return super().given_chain(who, old + 1)
