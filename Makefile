@@ -28,10 +28,10 @@ endif
 help:
 	@echo 'Use:'
 	@echo '  make run SCRIPT=path          proves and builds fixfiles, then runs a script (default: examples/open_read_close.script)'
-	@echo '  make try SCRIPT=path          runs a script in about two minutes without proving anything'
+	@echo '  make try SCRIPT=path          runs a script in about two minutes without proving anything; with ASK=--all asks fixcheck about it'
 	@echo '  make kernel SCRIPT=path       runs a script on the io_uring of this machine; needs no toolchain'
 	@echo '  make check SCRIPT=a.script    says whether the rules allow a.text for the script, or TEXT=path'
-	@echo '  make conform                  says in KTAP which rules of docs/MODEL.md the kernel of this machine follows'
+	@echo '  make conform                  says in KTAP which rules of docs/MODEL.md the kernel of this machine follows; N=number random scripts'
 	@echo '  make litmus SCRIPT=path       lists the texts that the rules allow, and how often the kernel and fixfiles print each'
 	@echo 'Prove:'
 	@echo '  make prove CRATE=name         proves one crate, and prints what is not proved'
