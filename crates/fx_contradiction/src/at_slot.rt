@@ -129,7 +129,7 @@ fn why_of(
         } else {
             ", which concern"
         })?;
-        write!(why, " of slot {slot}")?;
+        write!(why, " slot {slot}")?;
     }
     if cause.are_all() {
         why.push_str(", and closes no other file")?;
