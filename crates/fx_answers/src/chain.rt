@@ -19,12 +19,12 @@ use fx_order::{Access, Slots};
 use fx_outcomes::{answer, count, next_accesses};
 use std::alloc::Global;
 
-/// How far a chain has come.
+/// The progress of a chain.
 #[derive(Clone, Copy, Debug, PartialEq, Eq)]
 pub struct Progress {
-    /// How many of its members are done: all of them where no access is left.
+    /// The number of its members that are done: all of them if no access is left.
     pub done: usize,
-    /// How many accesses the next member has made.
+    /// The number of accesses that the next member has made.
     pub made: usize,
 }
 

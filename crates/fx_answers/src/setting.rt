@@ -1,7 +1,8 @@
+//! The values that stay the same while the states of a submission are searched.
 use fx_base::Catalogue;
 use std::alloc::Global;
 
-/// What stays while a submission is played: the catalogue, and how many slots the table has.
+/// The values that stay the same while a submission is played: the catalogue, and the number of slots of the table.
 #[derive(Drop)]
 pub(crate) struct Setting<'a> {
     pub(crate) alloc: Global,

@@ -10,10 +10,10 @@ use fx_chain::Completion;
 use fx_order::Access;
 use std::alloc::Global;
 
-/// What was told on the way to a state.
+/// The answers and the removed files on the way to a state.
 #[derive(Debug, Drop)]
 pub struct Telling {
-    /// What each chain answered, the first one first.
+    /// The answers of each chain, in order of chains.
     pub answers: Vec<Vec<Completion>>,
     /// The files that were taken from their slots, in order of mark.
     pub removed: Vec<Closed>,

@@ -1,3 +1,4 @@
+//! The verdict on a text, with the place and the reason of a break.
 use fx_judge::Reason;
 use fx_order::{Order, RingSlots};
 use fx_search::Doubt;

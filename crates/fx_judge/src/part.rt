@@ -16,14 +16,14 @@ use fx_search::{
 };
 use std::alloc::Global;
 
-/// What came of a search.
+/// The result of a search.
 #[derive(Debug, Drop)]
 pub enum Outcome {
     /// An order, which is still to be made.
     Order(Vec<ChainAccess>),
     /// There is no order.
     Refuted(Reason),
-    /// It wasn't seen.
+    /// Neither was shown within the limits.
     Unsettled(Doubt),
 }
 

@@ -1,14 +1,15 @@
+//! The reasons for which a part of a submission has no claims to search.
 use crate::verdict::Reason;
 use std::alloc::{AllocError, AllocFailed};
 
-/// Why there is no answer.
+/// A reason for which there is no answer.
 #[derive(Clone, Copy, Debug, PartialEq, Eq)]
 pub enum Stop {
-    /// What was told comes of no order.
+    /// No order explains the report.
     Refuted(Reason),
-    /// What was told can't be judged.
+    /// The report can't be judged.
     Unknown,
-    /// There was no memory.
+    /// An allocation failed.
     NoMemory,
 }
 

@@ -1,3 +1,4 @@
+//! A report that is to be judged.
 use fx_base::Closed;
 use fx_chain::Completion;
 

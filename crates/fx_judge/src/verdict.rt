@@ -1,3 +1,4 @@
+//! The verdict on the report of a submission.
 use fx_chain::Place;
 use fx_order::ChainAccess;
 use fx_search::Doubt;

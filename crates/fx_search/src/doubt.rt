@@ -1,3 +1,4 @@
+//! The reasons for which a search decides nothing.
 /// The reason that a search gives for leaving a submission undecided. It is advice: no contract says that the search would have
 /// decided it within larger limits (this project's own).
 #[derive(Clone, Copy, Debug, PartialEq, Eq)]

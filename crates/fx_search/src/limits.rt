@@ -1,3 +1,4 @@
+//! The limits of a search.
 /// The limits of a search for the states of a submission, or of a part of one (this project's own).
 #[derive(Clone, Copy, Debug, PartialEq, Eq)]
 pub struct Limits {

@@ -9,15 +9,15 @@ use crate::node::{Node, place_of};
 use fx_base::NoMemory;
 use std::alloc::Global;
 
-/// What the numbers of packed states stand for. A packed state is a list of numbers: the place of each chain, and for each
-/// slot which one of its files is there.
+/// The meaning of the numbers of packed states. A packed state is a list of numbers: the place of each chain, and for each
+/// slot the number of its file.
 #[derive(Debug, Drop)]
 pub struct Packing {
-    /// How many chains there are.
+    /// The number of chains.
     pub chains: usize,
     /// The slots.
     pub cells: Vec<Cell>,
-    /// For each slot what may be there: no file first.
+    /// For each slot the files that may be there, "no file" first.
     pub files: Vec<Vec<Option<Resident>>>,
 }
 

@@ -156,7 +156,7 @@ impl<'a> Steps<'a> {
         Ok(row)
     }
 
-    /// How many chains there are.
+    /// Returns the number of chains.
     pub fn chains(&self) -> usize {
         self.chains.len()
     }
@@ -219,7 +219,7 @@ impl<'a> Steps<'a> {
         }
     }
 
-    /// Whether a slot is of the allocation range.
+    /// Checks whether a slot is in the allocation range.
     pub fn is_in_range(&self, cell: usize) -> bool {
         matches!(self.packing.cells.get(cell), Some(cell) if cell.in_range)
     }

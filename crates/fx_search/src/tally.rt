@@ -150,7 +150,7 @@ impl<'a> Tally<'a> {
         staying > 1 || leaving < self.takes || (self.empties == 0 && staying == 0 && leaving > 0)
     }
 
-    /// Whether no order of the claims leads to an end, as far as these counts tell, where this is at the slot.
+    /// Checks whether these counts show that no order of the claims leads to an end, if `found` is at the slot.
     pub fn is_dead(&self, found: Option<Resident>) -> bool {
         self.is_uneven(found) || self.is_hopeless(found)
     }

@@ -199,12 +199,12 @@ impl Tracks {
         Ok(Tracks { alloc, tracks })
     }
 
-    /// Whether no slot has one.
+    /// Checks whether no slot has a track.
     pub fn are_none(&self) -> bool {
         self.tracks.iter().all(|track| track.moments.is_none())
     }
 
-    /// Whether all claims of a slot can be made from a moment.
+    /// Checks whether all claims of a slot can be made from a moment on.
     pub fn allows(&self, cell: usize, moment: u64) -> bool {
         match self.tracks.get(cell) {
             Some(track) => match &track.moments {

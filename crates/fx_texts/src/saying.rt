@@ -21,7 +21,7 @@ use fx_chain::Completion;
 use fx_language::Command;
 use fx_order::RingSlots;
 
-/// What a request may answer.
+/// An answer that a request may have.
 #[derive(Debug, Drop)]
 pub struct Said {
     /// The answer.
