@@ -73,11 +73,11 @@ def range_without_slots():
     slot, and the chain is of one part all the same. In the second text each of two chains reads what the other one puts later."""
     head = ["file a 61", "file b 62", "register 0,0", "range 2 0", "read 1 0 1 hardlink", "open a any hardlink", "open b at 0"]
     text = ["register 0", "range 0", "1.1.1 1 61", "1.1.2 -23", "1.1.3 0", "closed r1.0 a", "teardown", "closed r1.1 a", "closed 1.1.3.0 b"]
-    yield "a range without slots", lines(*head, "submit").encode(), lines(*text), LEGAL, "legal"
+    yield "a range without slots", lines(*head, "submit").encode(), lines(*text), FEW_STATES, LEGAL, "legal"
     others = ["read 0 0 1 hardlink", "open a any hardlink", "open b at 1"]
     text = [
         "register 0", "range 0", "1.1.1 1 62", "1.1.2 -23", "1.1.3 0", "1.2.1 1 62", "1.2.2 -23", "1.2.3 0", "closed r1.0 a", "closed r1.1 a",
         "teardown", "closed 1.1.3.0 b", "closed 1.2.3.0 b",
     ]
     said = "lines 3 and 6 of the text: no order of the requests gives all of these"
-    yield "a range without slots, crossed", lines(*head, *others, "submit").encode(), lines(*text), NOT_LEGAL, said
+    yield "a range without slots, crossed", lines(*head, *others, "submit").encode(), lines(*text), FEW_STATES, NOT_LEGAL, said
