@@ -1,0 +1,258 @@
+-- The rule of a lasting table: words, places and views agree with the state that one legal history
+-- leads to.
+use Rattle.std.specs.Prelude.{◌≡◌, ℕ, ◌+◌, ◌^◌, ◌<◌, ◌≤◌, ◌⊎◌, Bool, true, false, List, [], length}
+use Rattle.std.specs.Prelude.{Option, Some, None, Contains, sum_by, slice_index}
+use mathlib.Core.Option.{some, none}
+use mathlib.Core.Option as maybe
+use lib.ListN.{get_elem?}
+use Rattle.fx_base.specs.Identity.{Identity}
+use Rattle.fx_plain.specs.History.{IsSeenBy, part_of_pass, held_by}
+use Rattle.fx_plain.specs.declared.event.Event.{Event}
+use Rattle.fx_plain.specs.declared.event.File.{File}
+use Rattle.fx_plain.specs.declared.table.TheConstants.{MOST_SLOTS}
+use Rattle.fx_table.specs.Numbers.{once}
+use Rattle.fx_words.specs.Words.{name_in, entry_in}
+use Rattle.fx_lasting.specs.Control.{ControlCounts}
+use Rattle.fx_lasting.specs.Counts.{tally, owed}
+use Rattle.fx_lasting.specs.Layout.{control_place, slot_place, words_for}
+use Rattle.fx_lasting.specs.Parts.{IsHot, count_in, cold_takes, born, closed_word, announced, mark}
+use Rattle.fx_lasting.specs.Passes.{Shared, slots_of, range_of, nodes_of, IsInBlock}
+use Rattle.fx_lasting.specs.Passes.{word_of}
+use Rattle.fx_lasting.specs.Passes.{hold_of, state_after_all, IsHistory, held_in, held_of, taken_of}
+use Rattle.fx_lasting.specs.Passes.{logs_of, lengths}
+use Rattle.fx_lasting.specs.Phases.{Phase, free, placed, seated, leaving, retired, emptied, file_in}
+use Rattle.fx_lasting.specs.Phases.{removed_in}
+use Rattle.fx_lasting.specs.declared.view.Change.TheVariants.{Outside}
+use Rattle.fx_lasting.specs.declared.view.Glance.{Glance}
+use Rattle.fx_lasting.specs.declared.view.Glance.TheVariants.{None as Nothing, Hot, Cold, Heating}
+use Rattle.fx_lasting.specs.declared.view.Log.{Log}
+use Rattle.fx_lasting.specs.declared.view.Start.{Start}
+use Rattle.fx_lasting.specs.declared.view.View.{View}
+use Rattle.fx_lasting.specs.declared.view.Work.{Work}
+use Rattle.fx_lasting.specs.declared.view.Work.TheVariants.{Idle, Announced, Counted, Guarded}
+use Rattle.fx_lasting.specs.declared.view.Work.TheVariants.{Owing}
+use Rattle.fx_lasting.specs.declared.view.Work.TheVariants.{Yielding, Searching, Placing, Retiring}
+use Rattle.fx_lasting.specs.declared.view.Work.TheVariants.{Emptying}
+
+-- where the numbers of files are
+abbrev pub Nodes : Type 0
+Nodes = ℕ → ℕ
+
+-- what a slot's word says of the file at the slot
+abbrev pub Names : Nodes → ℕ → Option File → Type 0
+Names node_of word None = name_in word ≡ 0
+Names node_of word (Some f) =
+    (name_in word ≡ node_of f.number + 1) × (entry_in word ≡ f.identity.entry)
+
+-- the node of the file at a slot knows its slot
+abbrev pub IsSeated : Start → Nodes → (ℕ → Phase) → ℕ → Option File → Type 0
+IsSeated k node_of phase slot None = Unit {0}
+IsSeated k node_of phase slot (Some f) =
+    (node_of f.number < nodes_of k) × (phase (node_of f.number) ≡ seated slot f)
+
+-- One slot, and its word. A pass is over if it took what the slot names now while the slot had its
+-- takes
+pub record SlotAgrees (k : Start) (node_of : Nodes) (phase : ℕ → Phase) (over : ℕ → Bool)
+    (slot : ℕ) (there : Option File) (word : ℕ) : Type 0 where
+  pub names : Names node_of word there
+  pub seat : IsSeated k node_of phase slot there
+  pub takes : count_in word ≤ cold_takes + tally over k.passes
+
+-- what lies in a node's place: nothing, while the place is with a pass, or else a file or none
+abbrev pub Home : Type 0
+Home = maybe.Option (maybe.Option (Option Identity))
+
+-- the file lies in the node's place, and its number is on this node
+pub record HasFile (node_of : Nodes) (next_number node : ℕ) (home : Home) (f : File) : Type 0 where
+  pub at_home : home ≡ some (some (Some f.identity))
+  pub its_node : node_of f.number ≡ node
+  pub used : f.number < next_number
+
+-- One node: its word, what lies in its place, the takes that it counts, and the marks that are owed
+-- to it
+module _ (at : ℕ → Option File) (size : ℕ) (takes_at : ℕ → ℕ) (node_of : Nodes)
+    (next_number node word taken owing : ℕ) (home : Home) where
+  -- it has no file
+  pub record IsVacant (first : ℕ) (lies : Home) : Type 0 where
+    pub counts : word ≡ first
+    pub at_home : home ≡ lies
+    pub untaken : taken ≡ 0
+    pub unowed : owing ≡ 0
+
+  -- its file is at the slot: nothing is owed to it
+  pub record IsAtSlot (slot : ℕ) (f : File) : Type 0 where
+    pub file : HasFile node_of next_number node home f
+    pub counts : word + takes_at slot ≡ born + taken
+    pub unowed : owing ≡ 0
+    pub inside : slot < size
+    pub there : at slot ≡ Some f
+
+  -- its file was removed: the takes that were found, and the marks that were made
+  pub record IsLeaving (takes next marks : ℕ) (f : File) : Type 0 where
+    pub file : HasFile node_of next_number node home f
+    pub counts : word + takes + marks ≡ born + taken + owing
+    pub few_takes : takes < 2 ^ 31
+    pub few_marks : marks < next
+    pub few_visits : next ≤ 2 ^ 16
+
+  -- its file was retired: the word counts who has still to let it go
+  pub record IsRetired (f : File) : Type 0 where
+    pub file : HasFile node_of next_number node home f
+    pub counts : word ≡ closed_word + taken + owing
+    pub somebody : 0 < taken + owing
+
+  -- what the node's phase says
+  abbrev pub NodeAgrees : Phase → Type 0
+  NodeAgrees free = IsVacant 0 (some (some None))
+  NodeAgrees (placed seat) = IsVacant born (some none)
+  NodeAgrees (seated slot f) = IsAtSlot slot f
+  NodeAgrees (leaving seat takes next marks f) = IsLeaving takes next marks f
+  NodeAgrees (retired f) = IsRetired f
+  NodeAgrees (emptied seat) = IsVacant closed_word (some none)
+
+-- the pass of the seat does this work
+abbrev pub Does : List View → ℕ → Work → Type 0
+Does views seat work = (v : View) × (get_elem? views seat ≡ some v) × (v.work ≡ work)
+
+-- a node that a pass works with alone is known to the pass
+abbrev pub OwnerAgrees : List View → ℕ → Phase → Type 0
+OwnerAgrees views node (placed seat) = Does views seat (Placing node)
+OwnerAgrees views node (leaving seat takes next marks f) =
+    Does views seat (Retiring f node takes next marks)
+OwnerAgrees views node (emptied seat) = Does views seat (Emptying node)
+OwnerAgrees views node _ = Unit {0}
+
+-- the file of the node is open
+abbrev pub HoldsAt : Start → (ℕ → Phase) → File → ℕ → Type 0
+HoldsAt k phase f node = (node < nodes_of k) × (file_in (phase node) ≡ Some f)
+
+-- the node is in this phase
+abbrev pub IsIn : Start → (ℕ → Phase) → ℕ → Phase → Type 0
+IsIn k phase node ph = (node < nodes_of k) × (phase node ≡ ph)
+
+-- what a pass works with is where the pass left it
+abbrev pub WorkAgrees : Start → (ℕ → Phase) → ℕ → Work → Type 0
+WorkAgrees k phase seat Idle = Unit {0}
+WorkAgrees k phase seat (Announced node) = node < nodes_of k
+WorkAgrees k phase seat (Counted f node) = HoldsAt k phase f node
+WorkAgrees k phase seat (Guarded f node) = HoldsAt k phase f node
+WorkAgrees k phase seat (Owing node) = node < nodes_of k
+WorkAgrees k phase seat (Yielding f node) = HoldsAt k phase f node
+WorkAgrees k phase seat (Searching node) = IsIn k phase node free
+WorkAgrees k phase seat (Placing node) = IsIn k phase node (placed seat)
+WorkAgrees k phase seat (Retiring f node takes next marks) =
+    IsIn k phase node (leaving seat takes next marks f)
+WorkAgrees k phase seat (Emptying node) = IsIn k phase node (emptied seat)
+
+-- a pass looks for a free node in its own block
+abbrev pub SearchAgrees : Start → ℕ → Work → Type 0
+SearchAgrees k pass (Searching node) = IsInBlock k pass node
+SearchAgrees k pass _ = Unit {0}
+
+-- a hold word names the node, and nothing is owed; or it is marked, and so much is owed
+abbrev pub NamesNode : ℕ → ℕ → ℕ → Type 0
+NamesNode word debt node = ((word ≡ announced node) × (debt ≡ 0))
+    ⊎ ((word ≡ announced node + mark) × (debt ≡ node + 1))
+
+-- the hold word of a pass, and the debt of the pass: a node plus 1, or 0
+abbrev pub HoldAgrees : ℕ → ℕ → Work → Type 0
+HoldAgrees word debt (Announced node) = NamesNode word debt node
+HoldAgrees word debt (Guarded f node) = NamesNode word debt node
+HoldAgrees word debt (Owing node) = (word ≡ 0) × (debt ≡ node + 1)
+HoldAgrees word debt (Yielding f node) = (word ≡ 0) × (debt ≡ node + 1)
+HoldAgrees word debt _ = (word ≡ 0) × (debt ≡ 0)
+
+-- a file may be held by a hold word that isn't marked at a hot slot, or until the pass is visited
+abbrev pub MayBeUnmarked : (ℕ → ℕ) → ℕ → Phase → Type 0
+MayBeUnmarked slot_word pass (seated slot f) = IsHot (slot_word slot)
+MayBeUnmarked slot_word pass (leaving seat takes next marks f) = next ≤ pass
+MayBeUnmarked slot_word pass _ = ⊥
+
+abbrev pub GuardAgrees : (ℕ → ℕ) → (ℕ → Phase) → ℕ → ℕ → Work → Type 0
+GuardAgrees slot_word phase pass debt (Guarded f node) =
+    debt ≡ 0 → MayBeUnmarked slot_word pass (phase node)
+GuardAgrees slot_word phase pass debt _ = Unit {0}
+
+-- the progress of a look-up: the slot has still what it saw, or the pass isn't over
+abbrev pub GlanceAgrees : Start → (ℕ → ℕ) → (ℕ → Bool) → Glance → Type 0
+GlanceAgrees k slot_word over Nothing = Unit {0}
+GlanceAgrees k slot_word over (Hot slot node) = (slot < slots_of k) × (node < nodes_of k)
+    × (((name_in (slot_word slot) ≡ node + 1) × IsHot (slot_word slot)) ⊎ (over slot ≡ false))
+GlanceAgrees k slot_word over (Cold slot) = (slot < slots_of k) × (over slot ≡ false)
+GlanceAgrees k slot_word over (Heating slot) = slot < slots_of k
+
+-- a slot where a pass is over is hot, or the pass is about to make it so
+abbrev pub Heats : Start → (ℕ → ℕ) → (ℕ → Bool) → Glance → Type 0
+Heats k slot_word over glance = (slot : ℕ) → slot < slots_of k → over slot ≡ true
+    → IsHot (slot_word slot) ⊎ (glance ≡ Heating slot)
+
+-- one pass of a seat that does this work
+pub record LogAgrees (k : Start) (h : List Event) (words : List ℕ) (phase : ℕ → Phase)
+    (debt : ℕ → ℕ) (over : ℕ → ℕ → Bool) (work : Work) (glance : Glance) (x : Log) : Type 0 where
+  -- it has seen a beginning of the history, and all that it did itself
+  pub seen : IsSeenBy x.front h
+  pub own : part_of_pass x.number h ≡ part_of_pass x.number x.front
+  pub held : held_by h x.number ≡ held_in work
+  pub search : SearchAgrees k x.number work
+  pub hold : HoldAgrees (slice_index words (hold_of k x.number)) (debt x.number) work
+  pub guarded : GuardAgrees (λ s. slice_index words (slot_place s)) phase x.number
+      (debt x.number) work
+  pub sees : GlanceAgrees k (λ s. slice_index words (slot_place s)) (λ s. over s x.number) glance
+  pub heats : Heats k (λ s. slice_index words (slot_place s)) (λ s. over s x.number) glance
+
+-- one seat, and its view
+pub record ViewAgrees (k : Start) (h : List Event) (words : List ℕ) (phase : ℕ → Phase)
+    (debt : ℕ → ℕ) (over : ℕ → ℕ → Bool) (seat : ℕ) (v : View) : Type 0 where
+  pub logs : (x : Log) → Contains v.logs x → LogAgrees k h words phase debt over v.work v.glance x
+  pub work : WorkAgrees k phase seat v.work
+  pub empty : v.logs ≡ [] → (v.work ≡ Idle) × (v.glance ≡ Nothing) × (v.change ≡ Outside)
+  pub start : (v.logs ≡ []) ⊎ (v.start ≡ k)
+
+-- how large everything is
+pub record HasShape (k : Start) (s : Shared) : Type 0 where
+  pub slots : slots_of k ≤ MOST_SLOTS
+  pub range : (range_of k).0 + (range_of k).1 ≤ slots_of k
+  pub passes : k.passes ≤ 1024
+  pub nodes : nodes_of k ≤ 16777214
+  pub words : length s.words ≡ words_for (slots_of k) k.passes (nodes_of k)
+  pub homes : length s.homes ≡ nodes_of k
+
+-- what holds between any two steps
+pub record Agrees (k : Start) (s : Shared) : Type 0 where
+  pub shape : HasShape k s
+  pub history : List Event
+  pub phase : ℕ → Phase
+  -- on which node a number is, and from where on no number is used
+  pub node_of : Nodes
+  pub next_number : ℕ
+  -- which node a pass owes a mark to, plus 1, or 0
+  pub debt : ℕ → ℕ
+  -- by slot and pass, who took what the slot names now while the slot had its takes
+  pub over : ℕ → ℕ → Bool
+  pub legal : IsHistory k history
+  pub each_slot : (slot : ℕ) → slot < slots_of k
+      → SlotAgrees k node_of phase (over slot) slot ((state_after_all k history).at slot)
+      (slice_index s.words (slot_place slot))
+  pub each_node : (n : ℕ) → n < nodes_of k
+      → NodeAgrees (state_after_all k history).at (slots_of k)
+      (λ slot. count_in (slice_index s.words (slot_place slot))) node_of next_number n
+      (slice_index s.words (word_of k n)) (sum_by (taken_of n) s.views) (owed debt k.passes n)
+      (get_elem? s.homes n) (phase n)
+  pub each_owner : (n : ℕ) → n < nodes_of k → OwnerAgrees s.views n (phase n)
+  -- what was removed and isn't closed is what nodes have that aren't at a slot
+  pub removed : (number : ℕ)
+      → (state_after_all k history).removed number ≡ removed_in number (phase (node_of number))
+  pub unborn : (n : ℕ) → nodes_of k ≤ n → phase n ≡ free
+  pub fresh : (number : ℕ) → next_number ≤ number
+      → (state_after_all k history).fresh number ≡ true
+  pub each_view : (seat : ℕ) (v : View) → get_elem? s.views seat ≡ some v
+      → ViewAgrees k history s.words phase debt over seat v
+  -- the holds of a file are the passes that hold it
+  pub holds : (number : ℕ)
+      → (state_after_all k history).holds number ≡ sum_by (held_of number) s.views
+  -- each pass is in one view, and nobody else did anything
+  pub passes : (p : ℕ) → sum_by (logs_of p) s.views ≡ once k.passes p
+  pub whole : sum_by lengths s.views ≡ k.passes
+  pub authors : (p : ℕ) → once k.passes p ≡ 0 → part_of_pass p history ≡ []
+  pub control : ControlCounts (state_after_all k history).at (range_of k) s.views
+      (slice_index s.words control_place)

@@ -1,0 +1,45 @@
+-- The bounds of a lasting table's words.
+use Rattle.std.specs.Prelude.{◌≡◌, ℕ, ◌+◌, ◌/◌, ◌%◌, ◌<◌, ◌≤◌, slice_index}
+use mathlib.Core.Option.{some}
+use lib.ListN.{get_elem?}
+use Rattle.fx_plain.specs.declared.event.File.{File}
+use Rattle.fx_words.specs.Words.{name_in, one_change}
+use Rattle.fx_lasting.specs.Agrees.{Agrees}
+use Rattle.fx_lasting.specs.Layout.{control_place, slot_place}
+use Rattle.fx_lasting.specs.Parts.{count_in}
+use Rattle.fx_lasting.specs.Passes.{Shared, slots_of, word_of}
+use Rattle.fx_lasting.specs.declared.view.Start.{Start}
+use Rattle.fx_lasting.specs.declared.view.View.{View}
+use Rattle.fx_lasting.specs.declared.view.Work.TheVariants.{Retiring}
+
+-- the word of a slot
+abbrev pub slot_word_in : Shared → ℕ → ℕ
+slot_word_in s slot = slice_index s.words (slot_place slot)
+
+-- the word of a node
+abbrev pub node_word_in : Start → Shared → ℕ → ℕ
+node_word_in k s node = slice_index s.words (word_of k node)
+
+-- the control word
+abbrev pub control_word_in : Shared → ℕ
+control_word_in s = slice_index s.words control_place
+
+-- the bounds of a table's words
+pub record AreBounded (k : Start) (s : Shared) : Type 0 where
+  -- a slot has at most 16 takes, and one more for each pass: 31 bits have room for them
+  pub takes : (slot : ℕ) → slot < slots_of k → count_in (slot_word_in s slot) ≤ 16 + k.passes
+  -- no drop finds 2 while a slot names the node
+  pub named : (slot node : ℕ) → slot < slots_of k → name_in (slot_word_in s slot) ≡ node + 1
+      → 2 < node_word_in k s node
+  -- nor after its file's removal, until the file is retired
+  pub leaving : (seat node takes next marks : ℕ) (v : View) (f : File)
+      → get_elem? s.views seat ≡ some v → v.work ≡ Retiring f node takes next marks
+      → 2 < node_word_in k s node
+  -- each pass is in at most one change, and has at most one of at most 256 full slots to report
+  pub changes : control_word_in s / one_change ≤ 1024
+  pub least : 64512 ≤ control_word_in s % one_change
+  pub most : control_word_in s % one_change ≤ 66816
+
+-- the bounds hold between any two steps
+abbrev pub WordsAreBounded : Type 0
+WordsAreBounded = (k : Start) (s : Shared) → Agrees k s → AreBounded k s

@@ -1,0 +1,53 @@
+-- The control word: how many slots of the allocation range are full, and how many passes are about
+-- to change that.
+use Rattle.std.specs.Prelude.{◌≡◌, ℕ, zero, suc, ◌+◌, ◌/◌, ◌%◌, List, Option, Some, None, sum_by}
+use Rattle.fx_plain.specs.declared.event.File.{File}
+use Rattle.fx_words.specs.Words.{one_change, bias}
+use Rattle.fx_lasting.specs.declared.view.Change.{Change}
+use Rattle.fx_lasting.specs.declared.view.Change.TheVariants.{Outside, More, Less}
+use Rattle.fx_lasting.specs.declared.view.View.{View}
+
+-- 1 between begin and end, and else 0
+abbrev pub in_change : Change → ℕ
+in_change Outside = 0
+in_change _ = 1
+
+-- the full slots that a pass has added since its last report
+abbrev pub added : Change → ℕ
+added More = 1
+added _ = 0
+
+-- the full slots that it has removed since then
+abbrev pub removed_by : Change → ℕ
+removed_by Less = 1
+removed_by _ = 0
+
+-- the changes of a view's pass
+abbrev pub changes_of : View → ℕ
+changes_of v = in_change v.change
+
+-- what a view's pass has added
+abbrev pub added_of : View → ℕ
+added_of v = added v.change
+
+-- what a view's pass has removed
+abbrev pub removed_of : View → ℕ
+removed_of v = removed_by v.change
+
+-- 1 for a slot with a file, and else 0
+abbrev pub if_full : Option File → ℕ
+if_full None = 0
+if_full (Some f) = 1
+
+-- the full slots among the `len` slots from `off` on
+abbrev pub full_in : (ℕ → Option File) → ℕ → ℕ → ℕ
+full_in at off zero = 0
+full_in at off (suc len) = full_in at off len + if_full (at (off + len))
+
+-- The upper half counts the passes in a change. The lower half, less the bias, and what these
+-- passes have yet to report are the full slots of the range
+pub record ControlCounts (at : ℕ → Option File) (range : ℕ × ℕ)
+    (views : List View) (word : ℕ) : Type 0 where
+  pub upper : word / one_change ≡ sum_by changes_of views
+  pub lower : word % one_change + sum_by added_of views
+      ≡ bias + full_in at range.0 range.1 + sum_by removed_of views

@@ -1,0 +1,224 @@
+-- The kinds of step keep the rule, whatever the table and the other passes are. A law takes the
+-- place of its word as a premise.
+use Rattle.std.specs.Prelude.{◌≡◌, ◌≢◌, ℕ, ◌+◌, ◌-◌, ◌%◌, ◌^◌, ◌<◌, ◌≤◌, ◌==◌, ◌⊎◌, [], ◌∷◌, Some}
+use Rattle.std.specs.Prelude.{None}
+use Rattle.std.specs.Prelude.{bit_or}
+use mathlib.Core.Option.{none}
+use prog.Atomic.{either}
+use Rattle.atomic_table.specs.Table.{step, Splits, Joins, Allows}
+use Rattle.fx_base.specs.Identity.{Identity}
+use Rattle.fx_plain.specs.declared.event.File.{File}
+use Rattle.fx_words.specs.Words.{name_in, one_change, slot_word_of}
+use Rattle.fx_lasting.specs.Agrees.{Agrees}
+use Rattle.fx_lasting.specs.Control.{in_change, added, removed_by}
+use Rattle.fx_lasting.specs.Layout.{control_place, slot_place}
+use Rattle.fx_lasting.specs.Parts.{hot_bit, born, announced, mark, retire_amount_of}
+use Rattle.fx_lasting.specs.Passes.{Sat, slots_of, range_of, word_of, hold_of, IsInBlock}
+use Rattle.fx_lasting.specs.Tells.{At}
+use Rattle.fx_lasting.specs.declared.view.Change.{Change}
+use Rattle.fx_lasting.specs.declared.view.Change.TheVariants.{Outside, Same}
+use Rattle.fx_lasting.specs.declared.view.Glance.TheVariants.{None as Nothing, Hot, Cold, Heating}
+use Rattle.fx_lasting.specs.declared.view.Log.{Log}
+use Rattle.fx_lasting.specs.declared.view.Start.{Start}
+use Rattle.fx_lasting.specs.declared.view.View.{View}
+use Rattle.fx_lasting.specs.declared.view.Work.{Work}
+use Rattle.fx_lasting.specs.declared.view.Work.TheVariants.{Idle, Announced, Counted, Guarded}
+use Rattle.fx_lasting.specs.declared.view.Work.TheVariants.{Owing}
+use Rattle.fx_lasting.specs.declared.view.Work.TheVariants.{Yielding, Searching, Placing, Retiring}
+use Rattle.fx_lasting.specs.declared.view.Work.TheVariants.{Emptying}
+
+-- the effect of a kind of step on its pass
+abbrev pub Kind : Type 1
+Kind = At → Sat → ℕ → Sat → Type 0
+
+-- the seat has one pass of the table
+abbrev pub HasPass : Start → Sat → Log → Type 0
+HasPass k m x = (m.0.start ≡ k) × (m.0.logs ≡ x ∷ [])
+
+-- the pass does nothing at all
+abbrev pub DoesNothing : Sat → Type 0
+DoesNothing m = (m.0.work ≡ Idle) × (m.0.glance ≡ Nothing)
+
+-- the pass is about to let the file of the node go
+abbrev pub HasToLetGo : Work → ℕ → Type 0
+HasToLetGo w node = (w ≡ Owing node)
+    ⊎ (((f : File) × (w ≡ Yielding f node)) ⊎ ((f : File) × (w ≡ Counted f node)))
+
+-- a pass loads a slot's word, to look it up
+abbrev pub GlancesKeep : Kind → Type 0
+GlancesKeep tells = (k : Start) (slots id i slot : ℕ) (m : Sat) (x : Log) → HasPass k m x
+    → DoesNothing m → slot < slots_of k → i ≡ slot_place slot
+    → Allows (Agrees k) slots id m i (λ word. word) (tells (step slots i 0 0 none) m)
+
+-- a pass that saw a hot slot stores its node's name in its hold word
+abbrev pub AnnouncesKeep : Kind → Type 0
+AnnouncesKeep tells = (k : Start) (slots id i slot node : ℕ) (m : Sat) (x : Log) → HasPass k m x
+    → m.0.work ≡ Idle → m.0.glance ≡ Hot slot node → i ≡ hold_of k x.number
+    → Allows (Agrees k) slots id m i (λ _. announced node)
+    (λ _. tells (step slots i (announced node) 0 none) m (announced node))
+
+-- it loads the slot's word again
+abbrev pub ConfirmsKeep : Kind → Type 0
+ConfirmsKeep tells = (k : Start) (slots id i slot node : ℕ) (m : Sat) (x : Log) → HasPass k m x
+    → m.0.work ≡ Announced node → m.0.glance ≡ Hot slot node → i ≡ slot_place slot
+    → Allows (Agrees k) slots id m i (λ word. word) (tells (step slots i 0 0 none) m)
+
+-- it swaps its announcement for 0
+abbrev pub WithdrawsKeep : Kind → Type 0
+WithdrawsKeep tells = (k : Start) (slots id i node : ℕ) (m : Sat) (x : Log) → HasPass k m x
+    → m.0.work ≡ Announced node → i ≡ hold_of k x.number
+    → Allows (Agrees k) slots id m i (λ _. 0) (tells (step slots i 0 0 none) m)
+
+-- a pass adds a take to the word of a slot
+abbrev pub TakesOnceKeep : Kind → Type 0
+TakesOnceKeep tells = (k : Start) (slots id i slot : ℕ) (m : Sat) (x : Log) → HasPass k m x
+    → m.0.work ≡ Idle → m.0.glance ≡ Cold slot → i ≡ slot_place slot
+    → Allows (Agrees k) slots id m i (λ word. (word + 1) % 2 ^ 64) (tells (step slots i 1 0 none) m)
+
+-- a pass makes a slot hot that had its takes
+abbrev pub HeatsKeep : Kind → Type 0
+HeatsKeep tells = (k : Start) (slots id i slot : ℕ) (m : Sat) (x : Log) → HasPass k m x
+    → m.0.glance ≡ Heating slot → i ≡ slot_place slot
+    → Allows (Agrees k) slots id m i (λ word. bit_or word hot_bit)
+    (tells (step slots i hot_bit 0 none) m)
+
+-- a pass swaps 0 for the name of the node whose file it holds
+abbrev pub StepsDownKeep : Kind → Type 0
+StepsDownKeep tells = (k : Start) (slots id i node : ℕ) (f : File) (m : Sat) (x : Log)
+    → HasPass k m x → m.0.work ≡ Guarded f node → i ≡ hold_of k x.number
+    → Allows (Agrees k) slots id m i (λ _. 0) (tells (step slots i 0 0 none) m)
+
+-- a pass subtracts the mark that it owes, or the take by which it holds a file
+abbrev pub LettingGoKeeps : Kind → Type 0
+LettingGoKeeps tells = (k : Start) (slots id i node : ℕ) (m : Sat) (x : Log) → HasPass k m x
+    → HasToLetGo m.0.work node → i ≡ word_of k node
+    → Allows (Agrees k) slots id m i (λ word. (word + (2 ^ 64 - 1)) % 2 ^ 64)
+    (tells (step slots i 1 0 none) m)
+
+-- a pass loads the word of a node of its block, to find a free one
+abbrev pub SeeksKeep : Kind → Type 0
+SeeksKeep tells = (k : Start) (slots id i node : ℕ) (m : Sat) (x : Log) → HasPass k m x
+    → (m.0.work ≡ Idle) ⊎ ((n : ℕ) × (m.0.work ≡ Searching n))
+    → x.number ≤ k.installing → IsInBlock k x.number node → i ≡ word_of k node
+    → Allows (Agrees k) slots id m i (λ word. word) (tells (step slots i 0 0 none) m)
+
+-- a pass stores the first word of a file in that of a node that is free
+abbrev pub BirthsKeep : Kind → Type 0
+BirthsKeep tells = (k : Start) (slots id i node : ℕ) (m : Sat) (x : Log) → HasPass k m x
+    → m.0.work ≡ Searching node → i ≡ word_of k node
+    → Allows (Agrees k) slots id m i (λ _. born) (λ _. tells (step slots i born 0 none) m born)
+
+-- a pass stores 0 in the word of a node whose file is closed, or which was placed in vain
+abbrev pub RestsKeep : Kind → Type 0
+RestsKeep tells = (k : Start) (slots id i n : ℕ) (m : Sat) (x : Log) → HasPass k m x
+    → (m.0.work ≡ Emptying n) ⊎ (m.0.work ≡ Placing n) → m.1 ≡ (n, None) ∷ [] → i ≡ word_of k n
+    → Allows (Agrees k) slots id m i (λ _. 0) (λ _. tells (step slots i 0 0 none) m 0)
+
+-- a pass that removed a hot file loads the hold word of the next pass but itself
+abbrev pub VisitsKeep : Kind → Type 0
+VisitsKeep tells = (k : Start) (slots id i node takes next marks pass : ℕ) (f : File) (m : Sat)
+    (x : Log) → HasPass k m x → m.0.work ≡ Retiring f node takes next marks
+    → next ≤ pass → pass ≤ k.passes → pass ≢ x.number
+    → ((p : ℕ) → next ≤ p → p < pass → p ≡ x.number) → i ≡ hold_of k pass
+    → Allows (Agrees k) slots id m i (λ word. word) (tells (step slots i 0 0 none) m)
+
+-- it marks the hold word of that pass, if it names the node still
+abbrev pub MarksKeep : Kind → Type 0
+MarksKeep tells = (k : Start) (slots id i node takes next marks pass : ℕ) (f : File) (m : Sat)
+    (x : Log) → HasPass k m x → m.0.work ≡ Retiring f node takes next marks
+    → next ≤ pass → pass ≤ k.passes → pass ≢ x.number
+    → ((p : ℕ) → next ≤ p → p < pass → p ≡ x.number) → i ≡ hold_of k pass
+    → Allows (Agrees k) slots id m i
+    (λ word. either (word == announced node) (announced node + mark) word)
+    (tells (step slots i (announced node) (announced node + mark) none) m)
+
+-- it subtracts 2^32 less the takes and the marks, when it has visited all passes but itself
+abbrev pub RetiresKeep : Kind → Type 0
+RetiresKeep tells = (k : Start) (slots id i node takes next marks amount : ℕ) (f : File) (m : Sat)
+    (x : Log) → HasPass k m x → m.0.work ≡ Retiring f node takes next marks
+    → ((p : ℕ) → next ≤ p → p ≤ k.passes → p ≡ x.number) → i ≡ word_of k node
+    → amount ≡ retire_amount_of takes marks
+    → Allows (Agrees k) slots id m i (λ word. (word + (2 ^ 64 - amount)) % 2 ^ 64)
+    (tells (step slots i amount 0 none) m)
+
+-- the slot is in the allocation range
+abbrev pub IsInRange : Start → ℕ → Type 0
+IsInRange k slot = let range = range_of k in (range.0 ≤ slot) × (slot < range.0 + range.1)
+
+-- the slot is not in it
+abbrev pub IsOutOfRange : Start → ℕ → Type 0
+IsOutOfRange k slot = let range = range_of k in (slot < range.0) ⊎ (range.0 + range.1 ≤ slot)
+
+-- a pass changes a slot of the range in a change, and another one outside
+abbrev pub MayChange : Start → ℕ → Change → Type 0
+MayChange k slot change =
+    (IsInRange k slot × (change ≡ Same)) ⊎ (IsOutOfRange k slot × (change ≡ Outside))
+
+-- the first pass of an idle seat goes to a seat of its own
+abbrev pub SplitsKeep : (View → View) → (View → View) → Type 0
+SplitsKeep left right = (k : Start) (id : ℕ) (v : View)
+    → v.work ≡ Idle → v.glance ≡ Nothing → v.change ≡ Outside
+    → Splits (Agrees k) id v (left v) (right v)
+
+-- an idle seat takes in the passes of another
+abbrev pub JoinsKeep : (View → View → View) → View → Type 0
+JoinsKeep both spent = (k : Start) (id : ℕ) (v : View)
+    → v.start ≡ k → v.work ≡ Idle → v.glance ≡ Nothing → v.change ≡ Outside
+    → (other : ℕ) (w : View) → w.work ≡ Idle → w.glance ≡ Nothing → w.change ≡ Outside
+    → Joins (Agrees k) id v other w (both v w) spent
+
+-- a pass outside a change adds 2^32 to the control word
+abbrev pub BeginsKeep : Kind → Type 0
+BeginsKeep tells = (k : Start) (slots id i : ℕ) (m : Sat) (x : Log) → HasPass k m x
+    → m.0.change ≡ Outside → i ≡ control_place
+    → Allows (Agrees k) slots id m i (λ word. (word + one_change) % 2 ^ 64)
+    (tells (step slots i one_change 0 none) m)
+
+-- a pass in a change subtracts 2^32 from it, less the difference that the pass made
+abbrev pub EndsKeep : Kind → Type 0
+EndsKeep tells = (k : Start) (slots id i amount : ℕ) (m : Sat) (x : Log) → HasPass k m x
+    → in_change m.0.change ≡ 1 → amount + added m.0.change ≡ one_change + removed_by m.0.change
+    → i ≡ control_place
+    → Allows (Agrees k) slots id m i (λ word. (word + (2 ^ 64 - amount)) % 2 ^ 64)
+    (tells (step slots i amount 0 none) m)
+
+-- a pass loads the control word, and reads whether every slot of the range is full
+abbrev pub AsksKeep : Kind → Type 0
+AsksKeep tells = (k : Start) (slots id i : ℕ) (m : Sat) (x : Log) → HasPass k m x
+    → i ≡ control_place
+    → Allows (Agrees k) slots id m i (λ word. word) (tells (step slots i 0 0 none) m)
+
+-- a pass loads a word, and learns nothing
+abbrev pub PeeksKeep : Kind → Type 0
+PeeksKeep tells = (k : Start) (slots id i : ℕ) (m : Sat) (x : Log) → HasPass k m x
+    → Allows (Agrees k) slots id m i (λ word. word) (tells (step slots i 0 0 none) m)
+
+-- a pass swaps the word of the file that it places into a slot
+abbrev pub InstallsKeep : Kind → Type 0
+InstallsKeep tells = (k : Start) (slots id i slot n new : ℕ) (file : Identity) (m : Sat) (x : Log)
+    → HasPass k m x → m.0.work ≡ Placing n → m.1 ≡ (n, Some file) ∷ []
+    → file.entry < 2 ^ 8 → slot < slots_of k → MayChange k slot m.0.change
+    → i ≡ slot_place slot → new ≡ slot_word_of n file.entry
+    → Allows (Agrees k) slots id m i (λ _. new) (tells (step slots i new 0 none) m)
+
+-- an idle pass swaps 0 into a slot's word, for an update
+abbrev pub ClearsKeep : Kind → Type 0
+ClearsKeep tells = (k : Start) (slots id i slot : ℕ) (m : Sat) (x : Log) → HasPass k m x
+    → m.0.work ≡ Idle → slot < slots_of k → MayChange k slot m.0.change → i ≡ slot_place slot
+    → Allows (Agrees k) slots id m i (λ _. 0) (tells (step slots i 0 0 none) m)
+
+-- an idle pass swaps 0 into a slot's word, for a close
+abbrev pub TakesOutKeep : Kind → Type 0
+TakesOutKeep tells = (k : Start) (slots id i slot : ℕ) (m : Sat) (x : Log) → HasPass k m x
+    → m.0.work ≡ Idle → slot < slots_of k → MayChange k slot m.0.change → i ≡ slot_place slot
+    → Allows (Agrees k) slots id m i (λ _. 0) (tells (step slots i 0 0 none) m)
+
+-- a pass in a change exchanges a word that names no file, at a slot of the range, for the word of
+-- the file that it places
+abbrev pub ExchangesKeep : Kind → Type 0
+ExchangesKeep tells = (k : Start) (slots id i slot n old new : ℕ) (file : Identity) (m : Sat)
+    (x : Log) → HasPass k m x → m.0.work ≡ Placing n → m.1 ≡ (n, Some file) ∷ []
+    → file.entry < 2 ^ 8 → m.0.change ≡ Same → IsInRange k slot → i ≡ slot_place slot
+    → name_in old ≡ 0 → new ≡ slot_word_of n file.entry
+    → Allows (Agrees k) slots id m i (λ word. either (word == old) new word)
+    (tells (step slots i old new none) m)

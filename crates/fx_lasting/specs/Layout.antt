@@ -1,0 +1,35 @@
+-- Where the words and the open files of a lasting table are.
+use Rattle.std.specs.Prelude.{ℕ, ◌+◌, ◌-◌, ◌*◌}
+
+-- The control word, each slot and each pass have a cache line of their own.
+-- Here is the control word
+abbrev pub control_place : ℕ
+control_place = 0
+
+-- the word of a slot
+abbrev pub slot_place : ℕ → ℕ
+slot_place slot = 8 + 8 * slot
+
+-- the hold word of a pass, from 1
+abbrev pub hold_place : ℕ → ℕ → ℕ
+hold_place size pass = 8 * size + 8 * pass
+
+-- the word of a node: these follow all others, side by side
+abbrev pub node_place : ℕ → ℕ → ℕ → ℕ
+node_place size passes node = 8 + 8 * size + 8 * passes + node
+
+-- the number of words of a table with `nodes` nodes
+abbrev pub words_for : ℕ → ℕ → ℕ → ℕ
+words_for size passes nodes = 8 + 8 * size + 8 * passes + nodes
+
+-- the number of nodes in a pass's block: one of them is free whenever the pass does nothing
+abbrev pub block_for : ℕ → ℕ → ℕ
+block_for size passes = 2 * (size + passes)
+
+-- the first node of a pass's block: the nodes of the files that were there come before all blocks
+abbrev pub block_start : ℕ → ℕ → ℕ → ℕ
+block_start size passes pass = size + (pass - 1) * block_for size passes
+
+-- the number of nodes of a table in which `installing` passes install
+abbrev pub nodes_for : ℕ → ℕ → ℕ → ℕ
+nodes_for size passes installing = size + installing * block_for size passes

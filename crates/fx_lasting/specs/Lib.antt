@@ -1,0 +1,13 @@
+pub mod Layout
+pub mod Parts
+pub mod Phases
+pub mod Counts
+pub mod Passes
+pub mod Control
+pub mod Agrees
+pub mod Cuts
+pub mod Tells
+pub mod Laws
+pub mod Opens
+pub mod Runs
+pub mod Bounds

@@ -1,0 +1,64 @@
+-- The words and places with which a lasting table begins.
+use Rattle.std.specs.Prelude.{◌≡◌, ℕ, ◌+◌, ◌<◌, ◌≤◌, List, length, slice_index, Option, Some, None}
+use Rattle.std.specs.Prelude.{[]}
+use mathlib.Core.Option.{some}
+use lib.ListN.{get_elem?}
+use Rattle.atomic_table.specs.Table.{opening}
+use Rattle.fx_base.specs.Identity.{Identity}
+use Rattle.fx_plain.specs.declared.event.File.{File}
+use Rattle.fx_plain.specs.declared.table.TheConstants.{MOST_SLOTS}
+use Rattle.fx_words.specs.Words.{slot_word_of, control_word_of}
+use Rattle.fx_lasting.specs.Control.{full_in}
+use Rattle.fx_lasting.specs.Layout.{control_place, slot_place, words_for}
+use Rattle.fx_lasting.specs.Parts.{born}
+use Rattle.fx_lasting.specs.Passes.{Shared, slots_of, range_of, nodes_of, word_of, hold_of}
+use Rattle.fx_lasting.specs.Passes.{state_after_all}
+use Rattle.fx_lasting.specs.declared.view.Start.{Start}
+use Rattle.fx_lasting.specs.declared.view.View.{View}
+
+-- the word of a slot: the file there has the slot's number, and the node of that number
+abbrev pub word_for : Option File → ℕ
+word_for None = 0
+word_for (Some f) = slot_word_of f.number f.identity.entry
+
+-- the word of the node
+abbrev pub node_for : Option File → ℕ
+node_for None = 0
+node_for (Some f) = born
+
+-- what lies in its place
+abbrev pub home_for : Option File → Option Identity
+home_for None = None
+home_for (Some f) = Some f.identity
+
+-- the file at a slot when no pass has done anything
+abbrev pub first_file : Start → ℕ → Option File
+first_file k slot = (state_after_all k []).at slot
+
+-- Words and places of a table that begins so: no file has been looked up, no pass announces
+-- anything
+-- or is in a change
+pub record OpensWith (k : Start) (words : List ℕ) (homes : List (Option Identity)) : Type 0 where
+  pub slots : slots_of k ≤ MOST_SLOTS
+  pub range : (range_of k).0 + (range_of k).1 ≤ slots_of k
+  pub passes : k.passes ≤ 1024
+  pub nodes : nodes_of k ≤ 16777214
+  pub entries : (slot : ℕ) (f : File) → first_file k slot ≡ Some f → f.identity.entry < 256
+  pub words_length : length words ≡ words_for (slots_of k) k.passes (nodes_of k)
+  pub homes_length : length homes ≡ nodes_of k
+  pub control : slice_index words control_place
+      ≡ control_word_of (full_in (first_file k) (range_of k).0 (range_of k).1)
+  pub slot_words : (slot : ℕ) → slot < slots_of k
+      → slice_index words (slot_place slot) ≡ word_for (first_file k slot)
+  pub node_words : (slot : ℕ) → slot < slots_of k
+      → slice_index words (word_of k slot) ≡ node_for (first_file k slot)
+  pub files : (slot : ℕ) → slot < slots_of k
+      → get_elem? homes slot ≡ some (home_for (first_file k slot))
+  pub free_words : (n : ℕ) → slots_of k ≤ n → n < nodes_of k → slice_index words (word_of k n) ≡ 0
+  pub free_places : (n : ℕ) → slots_of k ≤ n → n < nodes_of k → get_elem? homes n ≡ some None
+  pub hold_words : (p : ℕ) → 0 < p → p ≤ k.passes → slice_index words (hold_of k p) ≡ 0
+
+-- a table that begins so keeps the rule, with one seat that has all passes
+abbrev pub OpeningKeeps : (Start → Shared → Type 0) → (Start → View) → Type 0
+OpeningKeeps holds first = (k : Start) (words : List ℕ) (homes : List (Option Identity))
+    → OpensWith k words homes → holds k (opening words homes (first k))

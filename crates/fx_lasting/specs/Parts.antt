@@ -1,0 +1,40 @@
+-- The parts of words, as numbers.
+use Rattle.std.specs.Prelude.{◌≡◌, ℕ, ◌+◌, ◌-◌, ◌/◌, ◌%◌, ◌^◌}
+
+-- the name, the entry and the node of a slot's word are those of `fx_words`. Bit 31 says whether
+-- the slot is hot, and the lower ones count its takes
+abbrev pub hot_bit : ℕ
+hot_bit = 2 ^ 31
+
+abbrev pub count_in : ℕ → ℕ
+count_in word = word % 2 ^ 31
+
+abbrev pub hot_in : ℕ → ℕ
+hot_in word = word / 2 ^ 31 % 2
+
+-- the slot is hot
+abbrev pub IsHot : ℕ → Type 0
+IsHot word = hot_in word ≡ 1
+
+-- the takes from which on a slot becomes hot
+abbrev pub cold_takes : ℕ
+cold_takes = 16
+
+-- the word of a node: 0 while it is free; from its birth on this, less what was dropped; 1 and the
+-- holds that are left, when its file was retired; 1 when its file is closed
+abbrev pub born : ℕ
+born = 2 ^ 32 + 1
+
+abbrev pub closed_word : ℕ
+closed_word = 1
+
+-- the number that a retirement subtracts, from the takes and the marks
+abbrev pub retire_amount_of : ℕ → ℕ → ℕ
+retire_amount_of takes marks = 2 ^ 32 - (takes + marks)
+
+-- the hold word of a pass that announces a node, and what a retirement adds to it
+abbrev pub announced : ℕ → ℕ
+announced node = node + 1
+
+abbrev pub mark : ℕ
+mark = 2 ^ 32

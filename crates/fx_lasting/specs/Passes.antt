@@ -1,0 +1,102 @@
+-- Views of passes, and their sums.
+use Rattle.std.specs.Prelude.{ℕ, ◌+◌, ◌<◌, ◌≤◌, ◌==◌, not, nat_lt, List, [], ◌∷◌, map, Option}
+use Rattle.std.specs.Prelude.{Some, None}
+use Rattle.std.specs.Prelude.{length, count_by, if◌then◌else◌}
+use Rattle.atomic_table.specs.Table.{State as TableState, Me}
+use Rattle.fx_base.specs.Identity.{Identity}
+use Rattle.fx_plain.specs.Contents.{state_of}
+use Rattle.fx_plain.specs.History.{state_after, action_of, IsLegal}
+use Rattle.fx_plain.specs.State.{State, opening}
+use Rattle.fx_plain.specs.declared.event.Event.{Event}
+use Rattle.fx_plain.specs.declared.event.File.{File}
+use Rattle.fx_lasting.specs.Layout.{block_for, block_start, nodes_for, hold_place, node_place}
+use Rattle.fx_lasting.specs.declared.view.Log.{Log}
+use Rattle.fx_lasting.specs.declared.view.Start.{Start}
+use Rattle.fx_lasting.specs.declared.view.View.{View}
+use Rattle.fx_lasting.specs.declared.view.Work.{Work}
+use Rattle.fx_lasting.specs.declared.view.Work.TheVariants.{Counted, Guarded, Yielding}
+
+-- the table as steps see it: a place has an open file or none
+abbrev pub Shared : Type 0
+Shared = TableState (Option Identity) View
+
+-- a seat's view, and the places that are with it
+abbrev pub Sat : Type 0
+Sat = Me (Option Identity) View
+
+-- the state that passes begin with: the file at a slot has the slot's number, and every number
+-- after those of the slots is fresh
+abbrev pub start_of : Start → State
+start_of k = record (opening (state_of k.plain.value) 0) {
+  fresh = λ number. not (nat_lt number (state_of k.plain.value).size);
+}
+
+abbrev pub slots_of : Start → ℕ
+slots_of k = (state_of k.plain.value).size
+
+abbrev pub range_of : Start → ℕ × ℕ
+range_of k = (state_of k.plain.value).range
+
+-- how many nodes it has
+abbrev pub nodes_of : Start → ℕ
+nodes_of k = nodes_for (slots_of k) k.passes k.installing
+
+-- the node is one of the pass's block
+abbrev pub IsInBlock : Start → ℕ → ℕ → Type 0
+IsInBlock k pass node = let first = block_start (slots_of k) k.passes pass in
+    (first ≤ node) × (node < first + block_for (slots_of k) k.passes)
+
+-- where the word of a node is, and the hold word of a pass
+abbrev pub word_of : Start → ℕ → ℕ
+word_of k node = node_place (slots_of k) k.passes node
+
+abbrev pub hold_of : Start → ℕ → ℕ
+hold_of k pass = hold_place (slots_of k) pass
+
+-- the state that a history leads to
+abbrev pub state_after_all : Start → List Event → State
+state_after_all k h = state_after (start_of k) (map action_of h)
+
+abbrev pub IsHistory : Start → List Event → Type 0
+IsHistory k h = IsLegal (start_of k) h (state_after_all k h)
+
+-- a pass that has seen and done nothing
+abbrev pub new_log : ℕ → Log
+new_log p = record { number = p; front = []; steps = 0 }
+
+-- the one pass of a seat
+abbrev pub first_log : List Log → Log
+first_log [] = new_log 0
+first_log (x ∷ xs) = x
+
+-- the file that the pass holds
+abbrev pub held_in : Work → Option File
+held_in (Counted f node) = Some f
+held_in (Guarded f node) = Some f
+held_in (Yielding f node) = Some f
+held_in _ = None
+
+-- 1 where the file has the number, and else 0
+abbrev pub if_file : ℕ → Option File → ℕ
+if_file number None = 0
+if_file number (Some f) = if f.number == number then 1 else 0
+
+-- 1 where a view's pass holds the file of the number, and else 0
+abbrev pub held_of : ℕ → View → ℕ
+held_of number v = if_file number (held_in v.work)
+
+-- 1 where the pass holds the file of the node by a take, and else 0
+abbrev pub taking : ℕ → Work → ℕ
+taking node (Counted f n) = if n == node then 1 else 0
+taking node _ = 0
+
+abbrev pub taken_of : ℕ → View → ℕ
+taken_of node v = taking node v.work
+
+-- how many of a view's passes have the number
+abbrev pub logs_of : ℕ → View → ℕ
+logs_of p v = count_by (λ x. x.number == p) v.logs
+
+-- how many passes a seat has
+abbrev pub lengths : View → ℕ
+lengths v = length v.logs

@@ -1,0 +1,43 @@
+-- Where each node is in its life.
+use Rattle.std.specs.Prelude.{ℕ, ◌+◌, ◌==◌, if◌then◌else◌, Option, Some, None}
+use Rattle.fx_plain.specs.declared.event.File.{File}
+
+-- where a node is
+pub data Phase : Type 0 where
+  -- it has no file
+  free : Phase
+  -- the pass at the seat is about to install its file
+  placed : ℕ → Phase
+  -- its file is at the slot
+  seated : ℕ → File → Phase
+  -- its file was removed by the pass at the seat, which found `takes` takes, has visited the
+  -- hold words before `next`, and made `marks` marks
+  leaving : (seat takes next marks : ℕ) → File → Phase
+  -- its file was removed and retired, and somebody has still to let it go
+  retired : File → Phase
+  -- its file is closed, and the pass at the seat is about to take it out
+  emptied : ℕ → Phase
+
+-- the seat that alone may go on with it, plus 1, or 0
+abbrev pub owner : Phase → ℕ
+owner (placed seat) = seat + 1
+owner (leaving seat takes next marks f) = seat + 1
+owner (emptied seat) = seat + 1
+owner _ = 0
+
+-- its file, while it is open
+abbrev pub file_in : Phase → Option File
+file_in (seated slot f) = Some f
+file_in (leaving seat takes next marks f) = Some f
+file_in (retired f) = Some f
+file_in _ = None
+
+-- the file, if it has the number
+abbrev pub if_numbered : ℕ → File → Option File
+if_numbered number f = if f.number == number then Some f else None
+
+-- its file, if it was removed and has the number
+abbrev pub removed_in : ℕ → Phase → Option File
+removed_in number (leaving seat takes next marks f) = if_numbered number f
+removed_in number (retired f) = if_numbered number f
+removed_in number _ = None

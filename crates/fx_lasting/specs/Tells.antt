@@ -1,0 +1,279 @@
+-- Each kind of step: its effect on the pass that makes it.
+use Rattle.std.specs.Prelude.{◌≡◌, ◌≢◌, ℕ, zero, suc, ◌+◌, ◌-◌, ◌*◌, ◌/◌, ◌<◌, ◌==◌, nat_lt}
+use Rattle.std.specs.Prelude.{if◌then◌else◌}
+use Rattle.std.specs.Prelude.{List, []}
+use Rattle.std.specs.Prelude.{◌∷◌, ◌++◌, map, Option, Some, None}
+use Rattle.atomic_table.specs.Table.{Step, rest}
+use Rattle.fx_base.specs.Identity.{Identity}
+use Rattle.fx_plain.specs.History.{◌▷◌, IsSeenBy, part_of_pass}
+use Rattle.fx_plain.specs.Table.{numbered}
+use Rattle.fx_plain.specs.declared.event.File.{File}
+use Rattle.fx_plain.specs.declared.event.Event.{Event}
+use Rattle.fx_plain.specs.declared.event.Action.{Action}
+use Rattle.fx_plain.specs.declared.event.Action.TheVariants.{Look, Release, Put, Allocate, Full}
+use Rattle.fx_plain.specs.declared.event.Action.TheVariants.{Close}
+use Rattle.fx_words.specs.Words.{name_in, entry_in, bias}
+use Rattle.fx_lasting.specs.Parts.{hot_in, IsHot, count_in, cold_takes, announced}
+use Rattle.fx_lasting.specs.Control.{if_full}
+use Rattle.fx_lasting.specs.Passes.{Sat, slots_of, nodes_of, range_of, IsInBlock, word_of}
+use Rattle.fx_lasting.specs.Passes.{IsHistory}
+use Rattle.fx_lasting.specs.Passes.{first_log, state_after_all}
+use Rattle.fx_lasting.specs.declared.view.Change.{Change}
+use Rattle.fx_lasting.specs.declared.view.Change.TheVariants.{Outside, Same, More, Less}
+use Rattle.fx_lasting.specs.declared.view.Glance.{Glance}
+use Rattle.fx_lasting.specs.declared.view.Glance.TheVariants.{None as Nothing, Hot, Cold, Heating}
+use Rattle.fx_lasting.specs.declared.view.Log.{Log}
+use Rattle.fx_lasting.specs.declared.view.Start.{Start}
+use Rattle.fx_lasting.specs.declared.view.Work.{Work}
+use Rattle.fx_lasting.specs.declared.view.Work.TheVariants.{Idle, Announced, Counted, Guarded}
+use Rattle.fx_lasting.specs.declared.view.Work.TheVariants.{Owing}
+use Rattle.fx_lasting.specs.declared.view.Work.TheVariants.{Yielding, Searching, Placing, Retiring}
+use Rattle.fx_lasting.specs.declared.view.Work.TheVariants.{Emptying}
+
+-- a step of a table whose places have an open file or none
+abbrev pub At : Type 0
+At = Step (Option Identity)
+
+-- the slot whose word is there
+abbrev pub slot_of : ℕ → ℕ
+slot_of place = (place - 8) / 8
+
+-- the pass whose hold word is there
+abbrev pub pass_at : Start → ℕ → ℕ
+pass_at k place = (place - 8 * slots_of k) / 8
+
+-- an action of a pass: a lasting table knows no chains
+abbrev pub event_of : Log → Action → Event
+event_of x action = record { pass = x.number; chain = 0; action = action }
+
+-- the pass of a seat
+abbrev pub pass_in : Sat → Log
+pass_in m = first_log m.0.logs
+
+-- the nodes that a pass works with are the table's
+abbrev pub IsInside : Start → Work → Type 0
+IsInside k Idle = Unit {0}
+IsInside k (Announced node) = node < nodes_of k
+IsInside k (Counted f node) = node < nodes_of k
+IsInside k (Guarded f node) = node < nodes_of k
+IsInside k (Owing node) = node < nodes_of k
+IsInside k (Yielding f node) = node < nodes_of k
+IsInside k (Searching node) = node < nodes_of k
+IsInside k (Placing node) = node < nodes_of k
+IsInside k (Retiring f node takes next marks) = node < nodes_of k
+IsInside k (Emptying node) = node < nodes_of k
+
+-- One step of a seat with one pass: it saw more of the history and took these actions, and now it
+-- does this work
+pub record Stepped (m : Sat) (actions : List Action) (w : Work) (g : Glance) (c : Change)
+    (m' : Sat) : Type 0 where
+  pub one : (y : Log) × (m'.0.logs ≡ y ∷ [])
+  pub number : (pass_in m').number ≡ (pass_in m).number
+  pub seen : IsSeenBy (pass_in m).front (pass_in m').front
+  pub legal : IsHistory m.0.start (pass_in m').front
+  pub own : part_of_pass (pass_in m).number (pass_in m').front
+      ≡ map (event_of (pass_in m)) actions ++ part_of_pass (pass_in m).number (pass_in m).front
+  pub steps : (pass_in m').steps ≡ (pass_in m).steps + 1
+  pub work : m'.0.work ≡ w
+  pub inside : IsInside m.0.start w
+  pub glance : m'.0.glance ≡ g
+  pub change : m'.0.change ≡ c
+  pub start : m'.0.start ≡ m.0.start
+
+-- a step that moves no place
+pub record Goes (m : Sat) (actions : List Action) (w : Work) (g : Glance) (m' : Sat) : Type 0 where
+  pub stepped : Stepped m actions w g m.0.change m'
+  pub carried : m'.1 ≡ m.1
+
+-- Glance: an empty slot is looked up at once. A cold one is to be taken, and of a hot one the node
+-- is to be announced
+pub record Glances (st : At) (m : Sat) (found : ℕ) (m' : Sat) : Type 0 where
+  pub empty : name_in found ≡ 0 → Goes m ([] ▷ Look (slot_of st.word) None) Idle Nothing m'
+  pub cold : (node : ℕ) → name_in found ≡ node + 1 → (IsHot found → ⊥)
+      → Goes m [] Idle (Cold (slot_of st.word)) m'
+  pub hot : (node : ℕ) → name_in found ≡ node + 1 → IsHot found
+      → Goes m [] Idle (Hot (slot_of st.word) node) m' × (node < nodes_of m.0.start)
+
+-- Announce: the hold word names the node
+pub record Announces (st : At) (m : Sat) (found : ℕ) (m' : Sat) : Type 0 where
+  pub goes : (slot node : ℕ) → m.0.glance ≡ Hot slot node
+      → Goes m [] (Announced node) m.0.glance m'
+
+-- the word of a slot says of the file what its taker needs
+abbrev pub Shows : ℕ → File → Type 0
+Shows found f = entry_in found ≡ f.identity.entry
+
+-- Confirm: where the slot is hot and names the node still, its file is held; else the announcement
+-- is to be withdrawn, and what the slot names now is to be taken
+pub record Confirms (st : At) (m : Sat) (found : ℕ) (m' : Sat) : Type 0 where
+  pub holds : (slot node : ℕ) → m.0.glance ≡ Hot slot node → m.0.work ≡ Announced node
+      → name_in found ≡ node + 1 → IsHot found
+      → (f : File) × Shows found f × Goes m ([] ▷ Look slot (Some f)) (Guarded f node) Nothing m'
+  pub moved : (slot node : ℕ) → m.0.glance ≡ Hot slot node → m.0.work ≡ Announced node
+      → ((name_in found ≡ node + 1) × IsHot found → ⊥)
+      → Goes m [] (Announced node) (Cold slot) m'
+
+-- Withdraw: a mark that was found is owed
+pub record Withdraws (st : At) (m : Sat) (found : ℕ) (m' : Sat) : Type 0 where
+  pub clean : (node : ℕ) → m.0.work ≡ Announced node → found ≡ announced node
+      → Goes m [] Idle m.0.glance m'
+  pub marked : (node : ℕ) → m.0.work ≡ Announced node → found ≢ announced node
+      → Goes m [] (Owing node) m.0.glance m'
+
+-- how far a look-up is that took what a slot named, whose word it found so
+abbrev pub glance_after : ℕ → ℕ → Glance
+glance_after slot found = if nat_lt (count_in found) cold_takes then Nothing else Heating slot
+
+-- Take: the file that the slot names is held by a take, if there is one
+pub record Takes (st : At) (m : Sat) (found : ℕ) (m' : Sat) : Type 0 where
+  pub empty : (slot : ℕ) → m.0.glance ≡ Cold slot → name_in found ≡ 0
+      → Goes m ([] ▷ Look slot None) Idle (glance_after slot found) m'
+  pub holds : (slot node : ℕ) → m.0.glance ≡ Cold slot → name_in found ≡ node + 1
+      → (f : File) × Shows found f
+      × Goes m ([] ▷ Look slot (Some f)) (Counted f node) (glance_after slot found) m'
+
+-- Heat: the slot is hot
+pub record HeatTells (st : At) (m : Sat) (found : ℕ) (m' : Sat) : Type 0 where
+  pub goes : Goes m [] m.0.work Nothing m'
+
+-- Step down: a hold by the hold word ends at once where it wasn't marked
+pub record StepsDown (st : At) (m : Sat) (found : ℕ) (m' : Sat) : Type 0 where
+  pub clean : (f : File) (node : ℕ) → m.0.work ≡ Guarded f node → found ≡ announced node
+      → Goes m ([] ▷ Release f) Idle m.0.glance m'
+  pub marked : (f : File) (node : ℕ) → m.0.work ≡ Guarded f node → found ≢ announced node
+      → Goes m [] (Yielding f node) m.0.glance m'
+
+-- the file is closed, and with the pass
+pub record TakesOut (m : Sat) (actions : List Action) (f : File) (node : ℕ)
+    (m' : Sat) : Type 0 where
+  pub stepped : Stepped m (actions ▷ Close f) (Emptying node) m.0.glance m.0.change m'
+  pub carried : m'.1 ≡ (node, Some f.identity) ∷ m.1
+
+-- where the word was 2, nobody else had still to let the file go
+abbrev pub LetsGo : Sat → List Action → ℕ → ℕ → Sat → Type 0
+LetsGo m actions node found m' = (found ≢ 2 → Goes m actions Idle m.0.glance m')
+    × (found ≡ 2 → (f : File) × TakesOut m actions f node m')
+
+-- Drop, of a mark or of a take
+pub record LettingGo (st : At) (m : Sat) (found : ℕ) (m' : Sat) : Type 0 where
+  pub owed : (node : ℕ) → m.0.work ≡ Owing node → LetsGo m [] node found m'
+  pub yielded : (f : File) (node : ℕ) → m.0.work ≡ Yielding f node
+      → (found ≢ 2 → Goes m ([] ▷ Release f) Idle m.0.glance m')
+      × (found ≡ 2 → TakesOut m ([] ▷ Release f) f node m')
+  pub counted : (f : File) (node : ℕ) → m.0.work ≡ Counted f node
+      → (found ≢ 2 → Goes m ([] ▷ Release f) Idle m.0.glance m')
+      × (found ≡ 2 → TakesOut m ([] ▷ Release f) f node m')
+
+-- Seek, of a node's word: where it is 0 the node is free, and the pass may use it; else another
+-- node of its block is free
+pub record Seeks (st : At) (m : Sat) (found : ℕ) (m' : Sat) : Type 0 where
+  pub node : ℕ
+  pub goes : Goes m [] (Searching node) m.0.glance m'
+  pub block : IsInBlock m.0.start (pass_in m).number node
+  pub here : found ≡ 0 → st.word ≡ word_of m.0.start node
+  pub other : found ≢ 0 → st.word ≢ word_of m.0.start node
+
+-- Birth: the place of the node is with the pass
+pub record Births (st : At) (m : Sat) (found : ℕ) (m' : Sat) : Type 0 where
+  pub goes : (node : ℕ) → m.0.work ≡ Searching node
+      → Stepped m [] (Placing node) m.0.glance m.0.change m' × (m'.1 ≡ (node, None) ∷ m.1)
+
+-- Rest: the place is home, without a file
+pub record Rests (st : At) (m : Sat) (found : ℕ) (m' : Sat) : Type 0 where
+  pub stepped : Stepped m [] Idle m.0.glance m.0.change m'
+  pub carried : m'.1 ≡ rest m.1
+
+-- Visit, of a hold word: one that doesn't name the node isn't marked
+pub record Visits (st : At) (m : Sat) (found : ℕ) (m' : Sat) : Type 0 where
+  pub other : (f : File) (node takes next marks : ℕ) → m.0.work ≡ Retiring f node takes next marks
+      → found ≢ announced node
+      → Goes m [] (Retiring f node takes (pass_at m.0.start st.word + 1) marks) m.0.glance m'
+  pub names : (f : File) (node takes next marks : ℕ) → m.0.work ≡ Retiring f node takes next marks
+      → found ≡ announced node → Goes m [] (Retiring f node takes next marks) m.0.glance m'
+
+-- Mark: it is counted where it was made
+pub record Marks (st : At) (m : Sat) (found : ℕ) (m' : Sat) : Type 0 where
+  pub made : (f : File) (node takes next marks : ℕ) → m.0.work ≡ Retiring f node takes next marks
+      → found ≡ announced node
+      → Goes m [] (Retiring f node takes (pass_at m.0.start st.word + 1) (marks + 1)) m.0.glance m'
+  pub missed : (f : File) (node takes next marks : ℕ) → m.0.work ≡ Retiring f node takes next marks
+      → found ≢ announced node
+      → Goes m [] (Retiring f node takes (pass_at m.0.start st.word + 1) marks) m.0.glance m'
+
+-- Retire: where the word was 1 more than what was subtracted, nobody has still to let the file go
+pub record Retires (st : At) (m : Sat) (found : ℕ) (m' : Sat) : Type 0 where
+  pub waits : (f : File) (node takes next marks : ℕ) → m.0.work ≡ Retiring f node takes next marks
+      → found ≢ st.first + 1
+      → Goes m [] Idle m.0.glance m'
+      × ((state_after_all m.0.start (pass_in m').front).removed f.number ≡ Some f)
+  pub closes : (f : File) (node takes next marks : ℕ) → m.0.work ≡ Retiring f node takes next marks
+      → found ≡ st.first + 1 → TakesOut m [] f node m'
+
+-- the report of a pass in a change, when a slot had `old` files and has `new` now
+abbrev pub changed : ℕ → ℕ → Change
+changed zero zero = Same
+changed zero (suc new) = More
+changed (suc old) zero = Less
+changed (suc old) (suc new) = Same
+
+-- only a pass in a change has to report
+abbrev pub turned : Change → ℕ → ℕ → Change
+turned Outside old new = Outside
+turned Same old new = changed old new
+turned More old new = More
+turned Less old new = Less
+
+-- where the visits of a retirement begin: a file of a slot that wasn't hot is held by takes alone
+abbrev pub first_visit : ℕ → ℕ → ℕ
+first_visit passes found = if hot_in found == 1 then 1 else passes + 1
+
+-- what a pass does that removed this file, or found none
+abbrev pub retiring : Start → ℕ → Option File → Work
+retiring k found None = Idle
+retiring k found (Some f) =
+    Retiring f (name_in found - 1) (count_in found) (first_visit k.passes found) 0
+
+-- what a swap found
+abbrev pub Found : ℕ → Option File → Type 0
+Found found None = name_in found ≡ 0
+Found found (Some f) = (name_in found ≢ 0) × Shows found f
+
+-- Swap, to the word of the file that the pass places: the file has a number that none had before
+pub record Installs (st : At) (m : Sat) (found : ℕ) (m' : Sat) : Type 0 where
+  pub replaced : Option File
+  pub names : Found found replaced
+  pub stepped : (n : ℕ) (file : Identity) → m.0.work ≡ Placing n → m.1 ≡ (n, Some file) ∷ []
+      → (number : ℕ) × Stepped m ([] ▷ Put (slot_of st.word) (numbered number file) replaced)
+      (retiring m.0.start found replaced) m.0.glance (turned m.0.change (if_full replaced) 1) m'
+  pub carried : m'.1 ≡ rest m.1
+
+-- Swap, to an empty slot's word, by a clear or by a take
+pub record Removes (action : ℕ → Option File → Action)
+    (st : At) (m : Sat) (found : ℕ) (m' : Sat) : Type 0 where
+  pub file : Option File
+  pub names : Found found file
+  pub stepped : Stepped m ([] ▷ action (slot_of st.word) file) (retiring m.0.start found file)
+      m.0.glance (turned m.0.change (if_full file) 0) m'
+  pub carried : m'.1 ≡ m.1
+
+-- Begin and End
+pub record Turns (change : Change) (st : At) (m : Sat) (found : ℕ) (m' : Sat) : Type 0 where
+  pub stepped : Stepped m [] m.0.work m.0.glance change m'
+  pub carried : m'.1 ≡ m.1
+
+-- Ask: where the word says so, every slot of the range is full
+pub record Asks (st : At) (m : Sat) (found : ℕ) (m' : Sat) : Type 0 where
+  pub full : found ≡ bias + (range_of m.0.start).1 → Goes m ([] ▷ Full) m.0.work m.0.glance m'
+  pub not_full : found ≢ bias + (range_of m.0.start).1 → Goes m [] m.0.work m.0.glance m'
+
+-- Peek: the pass learns nothing
+pub record Peeks (st : At) (m : Sat) (found : ℕ) (m' : Sat) : Type 0 where
+  pub goes : Goes m [] m.0.work m.0.glance m'
+
+-- Exchange: the file that the pass places is at the slot, which was empty; or nothing changed
+pub record Exchanges (st : At) (m : Sat) (found : ℕ) (m' : Sat) : Type 0 where
+  pub wins : (n : ℕ) (file : Identity) → m.0.work ≡ Placing n → m.1 ≡ (n, Some file) ∷ []
+      → found ≡ st.first
+      → (number : ℕ) × Stepped m ([] ▷ Allocate (slot_of st.word) (numbered number file)) Idle
+      m.0.glance More m' × (m'.1 ≡ rest m.1)
+  pub loses : found ≢ st.first → Goes m [] m.0.work m.0.glance m'

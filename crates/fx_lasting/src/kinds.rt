@@ -1,0 +1,240 @@
+//! The rule of a lasting table, and its kinds of step.
+use crate::view::{Start, View};
+use atomic_table::{Join, Play, Split, TableRule};
+use fx_base::OpenFile;
+
+/// The rule: words, places and passes agree with the state that one legal history leads to.
+pub struct OneHistory;
+
+impl TableRule<Option<OpenFile>, View, Start> for OneHistory {
+    ghost use Rattle.fx_lasting.specs.Agrees.{Agrees};
+    ghost use Rattle.fx_lasting.specs.Cuts.{first_view};
+
+    ghost holds = { Agrees };
+
+    ghost first = { first_view };
+}
+
+/// Split: the first pass of a seat goes to a seat of its own.
+pub struct Deal;
+
+impl Split<View> for Deal {
+    ghost use Rattle.fx_lasting.specs.Cuts.{without_first, first_alone};
+
+    ghost left = { without_first };
+
+    ghost right = { first_alone };
+}
+
+/// Join: a seat takes in the passes of another.
+pub struct Gather;
+
+impl Join<View> for Gather {
+    ghost use Rattle.fx_lasting.specs.Cuts.{together, spent};
+
+    ghost both = { together };
+
+    ghost spent = { spent };
+}
+
+/// Glance: a pass loads a slot's word, to look it up.
+pub struct Glancing;
+
+impl Play<Option<OpenFile>, View> for Glancing {
+    ghost use Rattle.fx_lasting.specs.Tells.{Glances};
+
+    ghost then = { Glances };
+}
+
+/// Announce: the hold word of a pass names the node of a hot slot.
+pub struct Announcing;
+
+impl Play<Option<OpenFile>, View> for Announcing {
+    ghost use Rattle.fx_lasting.specs.Tells.{Announces};
+
+    ghost then = { Announces };
+}
+
+/// Confirm: a pass that announced a node holds its file, if the slot is hot and names the node still.
+pub struct Confirming;
+
+impl Play<Option<OpenFile>, View> for Confirming {
+    ghost use Rattle.fx_lasting.specs.Tells.{Confirms};
+
+    ghost then = { Confirms };
+}
+
+/// Withdraw: an announcement ends, and a mark that it got is owed.
+pub struct Withdrawing;
+
+impl Play<Option<OpenFile>, View> for Withdrawing {
+    ghost use Rattle.fx_lasting.specs.Tells.{Withdraws};
+
+    ghost then = { Withdraws };
+}
+
+/// Take: one take more in the slot's word, and one hold more of its file.
+pub struct Taking;
+
+impl Play<Option<OpenFile>, View> for Taking {
+    ghost use Rattle.fx_lasting.specs.Tells.{Takes};
+
+    ghost then = { Takes };
+}
+
+/// Heat: a slot that had its takes is hot for the rest of its file's stay.
+pub struct HeatingUp;
+
+impl Play<Option<OpenFile>, View> for HeatingUp {
+    ghost use Rattle.fx_lasting.specs.Tells.{HeatTells};
+
+    ghost then = { HeatTells };
+}
+
+/// Step down: a hold by the hold word ends, or its mark is owed.
+pub struct SteppingDown;
+
+impl Play<Option<OpenFile>, View> for SteppingDown {
+    ghost use Rattle.fx_lasting.specs.Tells.{StepsDown};
+
+    ghost then = { StepsDown };
+}
+
+/// Drop: a mark or a take less in the word of a node. Where none is left of a retired file, the file goes to the pass.
+pub struct Letting;
+
+impl Play<Option<OpenFile>, View> for Letting {
+    ghost use Rattle.fx_lasting.specs.Tells.{LettingGo};
+
+    ghost then = { LettingGo };
+}
+
+/// Seek: a pass reads whether a node of its block is free.
+pub struct Seeking;
+
+impl Play<Option<OpenFile>, View> for Seeking {
+    ghost use Rattle.fx_lasting.specs.Tells.{Seeks};
+
+    ghost then = { Seeks };
+}
+
+/// Birth: the place of a free node goes to the pass.
+pub struct Birth;
+
+impl Play<Option<OpenFile>, View> for Birth {
+    ghost use Rattle.fx_lasting.specs.Tells.{Births};
+
+    ghost then = { Births };
+}
+
+/// Rest: the place of a node goes home without a file.
+pub struct Resting;
+
+impl Play<Option<OpenFile>, View> for Resting {
+    ghost use Rattle.fx_lasting.specs.Tells.{Rests};
+
+    ghost then = { Rests };
+}
+
+/// Visit: a pass that removed a hot file reads whether another pass announces its node.
+pub struct Visiting;
+
+impl Play<Option<OpenFile>, View> for Visiting {
+    ghost use Rattle.fx_lasting.specs.Tells.{Visits};
+
+    ghost then = { Visits };
+}
+
+/// Mark: the announcement of another pass is counted, and that pass owes it.
+pub struct Marking;
+
+impl Play<Option<OpenFile>, View> for Marking {
+    ghost use Rattle.fx_lasting.specs.Tells.{Marks};
+
+    ghost then = { Marks };
+}
+
+/// Retire: takes and marks turn the word of a removed file's node into what is still to be dropped. Where nothing is left, the file goes to the pass.
+pub struct Retire;
+
+impl Play<Option<OpenFile>, View> for Retire {
+    ghost use Rattle.fx_lasting.specs.Tells.{Retires};
+
+    ghost then = { Retires };
+}
+
+/// Install: the file that the pass places goes to a slot, in place of what was there.
+pub struct Installing;
+
+impl Play<Option<OpenFile>, View> for Installing {
+    ghost use Rattle.fx_lasting.specs.Tells.{Installs};
+
+    ghost then = { Installs };
+}
+
+/// Exchange: the file that the pass places goes to a slot that is still empty.
+pub struct Exchanging;
+
+impl Play<Option<OpenFile>, View> for Exchanging {
+    ghost use Rattle.fx_lasting.specs.Tells.{Exchanges};
+
+    ghost then = { Exchanges };
+}
+
+/// Ask: a pass reads whether every slot of the range is full.
+pub struct Asking;
+
+impl Play<Option<OpenFile>, View> for Asking {
+    ghost use Rattle.fx_lasting.specs.Tells.{Asks};
+
+    ghost then = { Asks };
+}
+
+/// Peek: a pass reads a slot's word, and learns nothing.
+pub struct Peeking;
+
+impl Play<Option<OpenFile>, View> for Peeking {
+    ghost use Rattle.fx_lasting.specs.Tells.{Peeks};
+
+    ghost then = { Peeks };
+}
+
+/// Swap: a slot is emptied for an update.
+pub struct Clearing;
+
+impl Play<Option<OpenFile>, View> for Clearing {
+    ghost use Rattle.fx_plain.specs.declared.event.Action.TheVariants.{Clear};
+    ghost use Rattle.fx_lasting.specs.Tells.{Removes};
+
+    ghost then = { Removes Clear };
+}
+
+/// Swap: a slot is emptied for a close.
+pub struct TakingOut;
+
+impl Play<Option<OpenFile>, View> for TakingOut {
+    ghost use Rattle.fx_plain.specs.declared.event.Action.TheVariants.{Take};
+    ghost use Rattle.fx_lasting.specs.Tells.{Removes};
+
+    ghost then = { Removes Take };
+}
+
+/// Begin: the pass is about to change a slot of the range.
+pub struct Beginning;
+
+impl Play<Option<OpenFile>, View> for Beginning {
+    ghost use Rattle.fx_lasting.specs.declared.view.Change.TheVariants.{Same};
+    ghost use Rattle.fx_lasting.specs.Tells.{Turns};
+
+    ghost then = { Turns Same };
+}
+
+/// End: the pass reports how its change has changed the number of full slots.
+pub struct Ending;
+
+impl Play<Option<OpenFile>, View> for Ending {
+    ghost use Rattle.fx_lasting.specs.declared.view.Change.TheVariants.{Outside};
+    ghost use Rattle.fx_lasting.specs.Tells.{Turns};
+
+    ghost then = { Turns Outside };
+}

@@ -1,0 +1,152 @@
+//! The law of each kind of step: where the rule holds before the step, it holds after it, whatever the table and the
+//! other passes are.
+ghost use Rattle.fx_lasting.specs.Bounds.{WordsAreBounded};
+ghost use Rattle.fx_lasting.specs.Opens.{OpeningKeeps};
+ghost use Rattle.fx_lasting.specs.Laws.{GlancesKeep, AnnouncesKeep, ConfirmsKeep, WithdrawsKeep, TakesOnceKeep, HeatsKeep, StepsDownKeep, LettingGoKeeps, SeeksKeep, BirthsKeep, RestsKeep, VisitsKeep, MarksKeep, RetiresKeep, BeginsKeep, EndsKeep, AsksKeep, PeeksKeep, SplitsKeep, JoinsKeep, ClearsKeep, TakesOutKeep, InstallsKeep, ExchangesKeep};
+
+use crate::kinds::{
+    Announcing, Asking, Beginning, Birth, Clearing, Confirming, Deal, Ending, Exchanging, Gather,
+    Glancing, HeatingUp, Installing, Letting, Marking, OneHistory, Peeking, Resting, Retire,
+    Seeking, SteppingDown, Taking, TakingOut, Visiting, Withdrawing,
+};
+use crate::view::{Start, View};
+use atomic_table::{Join, Play, Split, TableRule};
+use fx_base::OpenFile;
+
+/// A table that begins with the words and places of its opening keeps the rule, with one seat that has all passes.
+pub fn opening_keeps_rule()
+    ensures { OpeningKeeps ⟦<OneHistory as TableRule<Option<OpenFile>, View, Start>>⟧.holds ⟦<OneHistory as TableRule<Option<OpenFile>, View, Start>>⟧.first }
+{}
+
+/// A pass that does nothing and loads a slot's word keeps the rule.
+pub fn glance_keeps_rule()
+    ensures { GlancesKeep ⟦<Glancing as Play<Option<OpenFile>, View>>⟧.then }
+{}
+
+/// A pass that stores the name of a hot slot's node in its hold word keeps the rule.
+pub fn announce_keeps_rule()
+    ensures { AnnouncesKeep ⟦<Announcing as Play<Option<OpenFile>, View>>⟧.then }
+{}
+
+/// A pass that announced a node and loads the slot's word again keeps the rule. Where the slot is hot and names the
+/// node still, it holds the file.
+pub fn confirm_keeps_rule()
+    ensures { ConfirmsKeep ⟦<Confirming as Play<Option<OpenFile>, View>>⟧.then }
+{}
+
+/// A pass that swaps its announcement for 0 keeps the rule, and owes the mark that it found.
+pub fn withdraw_keeps_rule()
+    ensures { WithdrawsKeep ⟦<Withdrawing as Play<Option<OpenFile>, View>>⟧.then }
+{}
+
+/// A pass that adds 1 to a slot's word keeps the rule, and holds the file that the word names.
+pub fn take_keeps_rule()
+    ensures { TakesOnceKeep ⟦<Taking as Play<Option<OpenFile>, View>>⟧.then }
+{}
+
+/// A pass that sets the hot bit of a slot's word keeps the rule.
+pub fn heat_keeps_rule()
+    ensures { HeatsKeep ⟦<HeatingUp as Play<Option<OpenFile>, View>>⟧.then }
+{}
+
+/// A pass that swaps the name of the node that it guards for 0 keeps the rule.
+pub fn step_down_keeps_rule()
+    ensures { StepsDownKeep ⟦<SteppingDown as Play<Option<OpenFile>, View>>⟧.then }
+{}
+
+/// A pass that subtracts a mark or a take from the word of a node keeps the rule. Where it finds 2, the file is
+/// closed and with the pass.
+pub fn let_go_keeps_rule()
+    ensures { LettingGoKeeps ⟦<Letting as Play<Option<OpenFile>, View>>⟧.then }
+{}
+
+/// A pass that loads the word of a node of its block keeps the rule, and one of the block is free.
+pub fn seek_keeps_rule()
+    ensures { SeeksKeep ⟦<Seeking as Play<Option<OpenFile>, View>>⟧.then }
+{}
+
+/// A pass that stores the first word of a file in that of a free node of its block keeps the rule, and has its place.
+pub fn birth_keeps_rule()
+    ensures { BirthsKeep ⟦<Birth as Play<Option<OpenFile>, View>>⟧.then }
+{}
+
+/// A pass that stores 0 in the word of a node whose file is closed keeps the rule.
+pub fn rest_keeps_rule()
+    ensures { RestsKeep ⟦<Resting as Play<Option<OpenFile>, View>>⟧.then }
+{}
+
+/// A pass that removed a hot file and loads the hold word of another pass keeps the rule.
+pub fn visit_keeps_rule()
+    ensures { VisitsKeep ⟦<Visiting as Play<Option<OpenFile>, View>>⟧.then }
+{}
+
+/// A pass that removed a hot file and marks an announcement of its node keeps the rule.
+pub fn mark_keeps_rule()
+    ensures { MarksKeep ⟦<Marking as Play<Option<OpenFile>, View>>⟧.then }
+{}
+
+/// A pass that subtracts 2^32 less the takes and marks of the file that it removed keeps the rule. Where 1 is left
+/// nobody has still to let the file go: it is closed and with the pass.
+pub fn retire_keeps_rule()
+    ensures { RetiresKeep ⟦<Retire as Play<Option<OpenFile>, View>>⟧.then }
+{}
+
+/// A pass outside a change that adds 2^32 to the control word keeps the rule.
+pub fn begin_keeps_rule()
+    ensures { BeginsKeep ⟦<Beginning as Play<Option<OpenFile>, View>>⟧.then }
+{}
+
+/// A pass in a change that subtracts 2^32 from the control word, less the difference that it made, keeps the rule.
+pub fn end_keeps_rule()
+    ensures { EndsKeep ⟦<Ending as Play<Option<OpenFile>, View>>⟧.then }
+{}
+
+/// A pass that loads the control word keeps the rule. Where the word says so, every slot of the range is full.
+pub fn ask_keeps_rule()
+    ensures { AsksKeep ⟦<Asking as Play<Option<OpenFile>, View>>⟧.then }
+{}
+
+/// A pass that loads a word and learns nothing keeps the rule.
+pub fn peek_keeps_rule()
+    ensures { PeeksKeep ⟦<Peeking as Play<Option<OpenFile>, View>>⟧.then }
+{}
+
+/// A pass that is split off an idle seat keeps the rule.
+pub fn split_keeps_rule()
+    ensures { SplitsKeep ⟦<Deal as Split<View>>⟧.left ⟦<Deal as Split<View>>⟧.right }
+{}
+
+/// An idle seat that takes in the passes of another keeps the rule.
+pub fn join_keeps_rule()
+    ensures { JoinsKeep ⟦<Gather as Join<View>>⟧.both ⟦<Gather as Join<View>>⟧.spent }
+{}
+
+/// An idle pass that swaps 0 into a slot's word for an update keeps the rule, and has the file that was there to
+/// retire.
+pub fn clear_keeps_rule()
+    ensures { ClearsKeep ⟦<Clearing as Play<Option<OpenFile>, View>>⟧.then }
+{}
+
+/// An idle pass that swaps 0 into a slot's word for a close keeps the rule, and has the file that was there to
+/// retire.
+pub fn take_out_keeps_rule()
+    ensures { TakesOutKeep ⟦<TakingOut as Play<Option<OpenFile>, View>>⟧.then }
+{}
+
+/// A pass that swaps the word of the file that it places into a slot keeps the rule, and has the file that was there
+/// to retire.
+pub fn install_keeps_rule()
+    ensures { InstallsKeep ⟦<Installing as Play<Option<OpenFile>, View>>⟧.then }
+{}
+
+/// A pass that exchanges a word that names no file for that of the file that it places keeps the rule.
+pub fn exchange_keeps_rule()
+    ensures { ExchangesKeep ⟦<Exchanging as Play<Option<OpenFile>, View>>⟧.then }
+{}
+
+/// While the rule holds, no word overflows. A slot has at most 16 takes, and one more for each pass. The word of a node
+/// is above 2 until its file is retired, so no drop finds 2 before that. At most 1,024 changes are in flight, and the
+/// lower half of the control word is between 64,512 and 66,816.
+pub fn words_are_bounded()
+    ensures { WordsAreBounded }
+{}

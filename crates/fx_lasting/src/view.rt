@@ -1,0 +1,90 @@
+use fx_plain::{Event, File, PlainTable};
+use std::collections::LinkedList;
+use std::snapshot::Snapshot;
+
+/// The opening of a lasting table, for contracts alone: the table that was opened, the number of passes, and the number
+/// of those that install files.
+#[derive(Drop)]
+pub struct Start {
+    /// The table as it was opened.
+    pub plain: Snapshot<PlainTable>,
+    /// The passes are 1 to this number.
+    pub passes: u32,
+    /// Those from 1 to this number install files.
+    pub installing: u32,
+}
+
+/// The log of one pass, as contracts see it. No value of it is made.
+pub struct Log {
+    /// The number of the pass, from 1.
+    pub number: u32,
+    /// The history that the pass has seen, the newest event first.
+    pub front: LinkedList<Event>,
+    /// The number of atomic steps that the pass has made.
+    pub steps: u64,
+}
+
+/// The work of a seat's pass between two steps, as contracts see it. A node is named by its number. No value of it is
+/// made.
+pub enum Work {
+    /// Nothing.
+    Idle,
+    /// Its hold word names the node, and it holds nothing yet.
+    Announced(u32),
+    /// It holds the file of the node by a take.
+    Counted(File, u32),
+    /// It holds the file of the node by its hold word.
+    Guarded(File, u32),
+    /// Its announcement of the node was marked and withdrawn, and it has still to subtract the mark.
+    Owing(u32),
+    /// Its hold of the file of the node was marked, and it has still to subtract the mark, which is its release.
+    Yielding(File, u32),
+    /// It looks for a free node of its block, and this one is free.
+    Searching(u32),
+    /// It has the place of the node, whose file it is about to install.
+    Placing(u32),
+    /// It removed the file of the node with this many takes. It has visited the hold words before `next`, and made this
+    /// many marks.
+    Retiring(File, u32, u32, u32, u32),
+    /// It has the place of the node, whose file is closed.
+    Emptying(u32),
+}
+
+/// The progress of a pass's look-up, as contracts see it. No value of it is made.
+pub enum Glance {
+    /// It looks nothing up.
+    None,
+    /// It saw the slot name the node, and hot.
+    Hot(u32, u32),
+    /// It is about to take what the slot names.
+    Cold(u32),
+    /// It took what the slot named when the slot had its takes, and has still to make the slot hot.
+    Heating(u32),
+}
+
+/// The change of a pass that is about to change a slot of the allocation range: the difference in the number of full
+/// slots since its last report, as contracts see it. No value of it is made.
+pub enum Change {
+    /// The pass is not about to change a slot of the range.
+    Outside,
+    /// As many slots are full.
+    Same,
+    /// One slot more is full.
+    More,
+    /// One slot less is full.
+    Less,
+}
+
+/// The knowledge of a seat at the table, as contracts see it. No value of it is made.
+pub struct View {
+    /// The opening of the table.
+    pub start: Start,
+    /// The passes of the seat: one, but while the table is opened and closed.
+    pub logs: LinkedList<Log>,
+    /// The present work of the seat's pass.
+    pub work: Work,
+    /// The progress of its look-up.
+    pub glance: Glance,
+    /// The difference that it has to report of the full slots.
+    pub change: Change,
+}
