@@ -1,0 +1,278 @@
+-- A pass finds a free node of its block, takes its place, and lays a node to rest.
+use Rattle.fx_lasting.proofs.Words.{◌≡◌, ◌≢◌, ℕ, ◌+◌, ◌-◌, ◌*◌, ◌<◌, ◌≤◌, List, [], ◌∷◌, set, sym, refl, ap, ◌∙◌, subst, arith, Option, Some, None}
+use Rattle.fx_lasting.proofs.Words.{none, some, keeps, takes, gives, rest, set_here, set_else, Closed, WorkAgrees, MayBeUnmarked, IsInBlock, slots_of}
+use Rattle.fx_lasting.proofs.Words.{nodes_of, word_of, hold_of, held_in, if_file, taken_of, taking, owed, Phase, free, placed, seated, leaving}
+use Rattle.fx_lasting.proofs.Words.{retired, emptied, owner, file_in, removed_in, changed_here, Log, Work, Idle, Searching, Placing, Emptying, Seeks}
+use Rattle.fx_lasting.proofs.Words.{Births, Rests, SeeksKeep, BirthsKeep, RestsKeep, born, step, inl, inr, ⊎_elim, ◌⊎◌, dite, ℕ_discrete, sum_by}
+use Rattle.fx_lasting.proofs.Words.{sum_set, length-set, block_for, block_start, Start, mul-le-mul_right, Agrees, zero, suc, first_log}
+use Rattle.fx_lasting.proofs.Histories.{grows_none, each_changed}
+use Rattle.fx_lasting.proofs.Frames.{busy, does_now}
+use Rattle.fx_lasting.proofs.Keeping.{Turn, turn_of, After, Homes, word_at, slot_word, Made, by_turn, its_log, its_work, in_range, tells, w, end}
+use Rattle.fx_lasting.proofs.NodeSteps.{after, node_kept, own_keeps, guards_else}
+use Rattle.fx_lasting.proofs.Places.{node_words, node_here, node_else, node_slot, node_hold, node_control}
+use Rattle.fx_lasting.proofs.Calm.{read_after, Reads, read_kept}
+use Rattle.fx_lasting.proofs.FreeNodes.{some_free}
+use Rattle.fx_lasting.proofs.Unheld.{NodeNow, in_phase}
+use Rattle.std.proofs.Common.{suc-mul}
+
+-- the nodes of a pass's block are the table's
+block_inside : (k : Start) {p n : ℕ} → 0 < p → p ≤ k.installing → IsInBlock k p n → n < nodes_of k
+block_inside k {p} {n} low high block = let m : p * block_for (slots_of k) k.passes ≤ k.installing * block_for (slots_of k) k.passes =
+    mul-le-mul_right (block_for (slots_of k) k.passes) high in
+    let e : block_start (slots_of k) k.passes p + block_for (slots_of k) k.passes ≡ slots_of k + p * block_for (slots_of k) k.passes = ends p low in
+    let a = block.1 in omega arith
+  where
+    ends : (p : ℕ) → 0 < p → block_start (slots_of k) k.passes p + block_for (slots_of k) k.passes ≡ slots_of k + p * block_for (slots_of k) k.passes
+    ends zero low = absurd (omega arith)
+    ends (suc p) low = let e : suc p - 1 ≡ p = omega arith in let f = ap (λ (q : ℕ). q * block_for (slots_of k) k.passes) e in
+        let g = suc-mul p (block_for (slots_of k) k.passes) in omega (arith, f, g)
+
+module _ (turn : Turn) where
+  open turn use {st, v, r, id, x, here, one}
+
+  -- a node whose word is 0 is free
+  zero_free : {n : ℕ} → n < nodes_of v.start → word_at st.words (word_of v.start n) ≡ 0 → r.phase n ≡ free
+  zero_free {n} l is = go (r.phase n) refl (r.each_node n l)
+    where
+      go : (ph : Phase) → r.phase n ≡ ph → NodeNow turn n ph → r.phase n ≡ free
+      go free at o = at
+      go (placed j) at o = let a = o.counts in absurd (omega arith)
+      go (seated s f) at o = let a = o.counts in absurd (omega arith)
+      go (leaving j t nx m f) at o = let a = o.counts in let b = o.few_takes in let c = o.few_marks in let d = o.few_visits in absurd (omega arith)
+      go (retired f) at o = let a = o.counts in absurd (omega arith)
+      go (emptied j) at o = let a = o.counts in absurd (omega arith)
+
+  free_zero : {n : ℕ} → n < nodes_of v.start → r.phase n ≡ free → word_at st.words (word_of v.start n) ≡ 0
+  free_zero l is = (in_phase turn l is).counts
+
+  -- a pass that looks for a node
+  module _ (searches : (v.work ≡ Idle) ⊎ ((n : ℕ) × (v.work ≡ Searching n))) (installs : x.number ≤ v.start.installing) where
+    -- some node of its block is free
+    one_free : (e : ℕ) × (e < nodes_of v.start) × (r.phase e ≡ free) × IsInBlock v.start x.number e
+    one_free = let p = (in_range turn).0 in let h = (in_range turn).1 in
+        let first = block_start (slots_of v.start) v.start.passes x.number in let many = block_for (slots_of v.start) v.start.passes in
+        let last = block_inside v.start {p = x.number} {n = first + (many - 1)} p installs (omega arith, omega arith) in
+        let z = some_free r first many (omega arith) (omega arith) in
+        (z.0, (let a = z.2 in omega arith), z.3, (z.1, z.2))
+
+    searching : (e : ℕ) → e < nodes_of v.start → r.phase e ≡ free → IsInBlock v.start x.number e → Reads turn (Searching e) v.glance r.history
+    searching e l is block = let o = its_log turn in record {
+      grows = grows_none x.number r.history;
+      legal = r.legal;
+      at = refl;
+      fresh = refl;
+      removed = refl;
+      taken = λ n. ⊎_elim (λ i. sym (ap (taking n) i)) (λ s. sym (ap (taking n) s.1)) searches;
+      owners = inr (⊎_elim (λ i. ap busy i) (λ s. ap busy s.1) searches);
+      held = o.held ∙ ⊎_elim (λ i. ap held_in i) (λ s. ap held_in s.1) searches;
+      search = block;
+      its = record {
+        hold = ⊎_elim (λ (i : v.work ≡ Idle). rw i at o.hold) (λ (s : (n : ℕ) × (v.work ≡ Searching n)). rw s.1 at o.hold) searches;
+        guarded = tt;
+        sees = o.sees;
+        heats = o.heats;
+        work = (l, is);
+      };
+      holds = λ n. let a = ⊎_elim (λ (i : v.work ≡ Idle). ap (λ (d : Work). if_file n (held_in d)) i)
+          (λ (s : (n : ℕ) × (v.work ≡ Searching n)). ap (λ (d : Work). if_file n (held_in d)) s.1) searches in omega arith;
+    }
+
+    -- the node that the pass settles on, after a load of this one
+    module _ (n : ℕ) (block : IsInBlock v.start x.number n) where
+      abbrev found : ℕ
+      found = word_at st.words (word_of v.start n)
+
+      abbrev Choice : ℕ → Type 0
+      Choice e = (e < nodes_of v.start) × (r.phase e ≡ free) × IsInBlock v.start x.number e × (found ≡ 0 → e ≡ n) × (found ≢ 0 → e ≢ n)
+
+      inside : n < nodes_of v.start
+      inside = block_inside v.start (in_range turn).0 installs block
+
+      choice : (e : ℕ) × Choice e
+      choice = dite (ℕ_discrete found 0)
+          (λ is. (n, (inside, zero_free inside is, block, λ _. refl, λ not_so. absurd (not_so is))))
+          (λ not_so. let apart : (e : ℕ) → e < nodes_of v.start → r.phase e ≡ free → e ≢ n =
+          λ e l is same. not_so (ap (λ (i : ℕ). word_at st.words (word_of v.start i)) (sym same) ∙ free_zero l is) in ⊎_elim
+          (λ idle. let z = one_free in (z.0, (z.1, z.2, z.3, λ is. absurd (not_so is), λ _. apart z.0 z.1 z.2)))
+          (λ s. let o = subst (WorkAgrees v.start r.phase id) s.1 (its_work turn) in
+          let b : IsInBlock v.start x.number s.0 = rw s.1 at (its_log turn).search in
+          (s.0, (o.0, o.1, b, λ is. absurd (not_so is), λ _. apart s.0 o.0 o.1))) searches)
+
+      pub seek : (slots : ℕ) (carried : List (ℕ × Option Closed))
+          → Made turn carried (word_of v.start n) (λ word. word) (Seeks (step slots (word_of v.start n) 0 0 none) (v, carried))
+      seek slots carried = let e = choice in (
+        w turn (read_after turn (Searching e.0) v.glance r.history),
+        keeps,
+        tt,
+        read_kept turn (Searching e.0) v.glance (word_of v.start n) (searching e.0 e.1.0 e.1.1 e.1.2),
+        record {
+          node = e.0;
+          goes = record {
+            stepped = tells turn (read_after turn (Searching e.0) v.glance r.history) carried carried [] (grows_none x.number r.history) r.legal refl e.1.0;
+            carried = refl;
+          };
+          block = subst (λ (p : ℕ). IsInBlock v.start p e.0) (sym (ap (λ (l : List Log). (first_log l).number) one)) e.1.2;
+          here = λ is. ap (word_of v.start) (sym (e.1.3 is));
+          other = λ not_so same. e.1.4 not_so (omega arith);
+        },
+      )
+
+  -- a birth
+  module _ (n : ℕ) (works : v.work ≡ Searching n) where
+    its : (n < nodes_of v.start) × (r.phase n ≡ free)
+    its = subst (WorkAgrees v.start r.phase id) works (its_work turn)
+
+    abbrev homes₁ : Homes
+    homes₁ = set st.homes n none
+
+    abbrev words₁ : List ℕ
+    words₁ = node_words turn n its.0 born
+
+    abbrev born_after : After turn
+    born_after = after turn n its.0 (placed id) r.history words₁ homes₁ r.debt (Placing n) v.glance
+
+    birth : Agrees v.start (end turn born_after)
+    birth = let o = its_log turn in let h = rw works at o.hold in let node = in_phase turn its.0 its.1 in let same = node_slot turn n its.0 born in
+        node_kept turn n its.0 (placed id) r.history words₁ homes₁ r.debt (Placing n) v.glance record {
+          words = length-set st.words (word_of v.start n) born;
+          homes = length-set st.homes n none;
+          grows = grows_none x.number r.history;
+          legal = r.legal;
+          at = refl;
+          fresh = refl;
+          removed = λ m. r.removed m ∙ sym (each_changed (λ i z. removed_in m z ≡ removed_in m (r.phase i)) r.phase
+              (λ is. sym (ap (λ (i : ℕ). removed_in m (r.phase i)) is ∙ ap (removed_in m) its.1)) (λ _. refl));
+          slot_words = same;
+          control_word = node_control turn n its.0 born;
+          node_words = λ m l other. node_else turn n its.0 born m other;
+          home_else = λ m l other. set_else st.homes n m none other;
+          owed_else = λ m other. refl;
+          taken_else = λ m other. sym (ap (taking m) works);
+          free_else = λ m other bad. let a = ap busy works in omega arith;
+          may = inr (inl (ap owner its.1));
+          its_block = λ _. rw works at o.search;
+          at_slot = λ s f is. cc (sym its.1 ∙ is);
+          open_file = λ j u f other there holds is. let bad : None ≡ Some f = sym (ap file_in its.1) ∙ is in cc bad;
+          guards = λ p e other range. guards_else turn n its.0 (placed id) r.history words₁ homes₁ r.debt (Placing n) v.glance same p e
+              (node_hold turn n its.0 born p range.1) refl (λ may. rw its.1 at may);
+          node = let t = sum_set (taken_of n) st.views id v (w turn born_after) here in let a = ap (taking n) works in let b = node.untaken in
+              rw (node_here turn n its.0 born) record {
+                counts = refl;
+                at_home = set_here st.homes n none (let a = r.shape.homes in let b = its.0 in omega arith);
+                untaken = omega arith;
+                unowed = node.unowed;
+              };
+          known = does_now st.views id v (w turn born_after) (Placing n) here refl;
+          held = o.held ∙ ap held_in works;
+          search = tt;
+          its_own = own_keeps turn n its.0 (placed id) r.history words₁ homes₁ r.debt (Placing n) v.glance same refl
+              (node_hold turn n its.0 born x.number (in_range turn).1 ∙ h.0, h.1) tt (its.0, changed_here r.phase n (placed id) n refl);
+          holds = λ m. let a = ap (λ (d : Work). if_file m (held_in d)) works in omega arith;
+        }
+
+    pub births : (slots : ℕ) (carried : List (ℕ × Option Closed))
+        → Made turn carried (word_of v.start n) (λ _. born) (λ _. Births (step slots (word_of v.start n) born 0 none) (v, carried) born)
+    births slots carried = (
+      w turn born_after,
+      takes n None,
+      (in_phase turn its.0 its.1).at_home,
+      birth,
+      record {
+        goes = λ m works'. let same : n ≡ m = cc (sym works ∙ works') in rw (← same)
+            (tells turn born_after carried ((n, None) ∷ carried) [] (grows_none x.number r.history) r.legal refl its.0, refl);
+      },
+    )
+
+  -- a rest, of a node whose file is closed, or which was placed in vain
+  module _ (n : ℕ) (works : (v.work ≡ Emptying n) ⊎ (v.work ≡ Placing n)) where
+    its_node : (n < nodes_of v.start) × (owner (r.phase n) ≡ id + 1) × (file_in (r.phase n) ≡ None) × ((m : ℕ) → removed_in m (r.phase n) ≡ None)
+        × ((p : ℕ) → MayBeUnmarked (slot_word st.words) p (r.phase n) → ⊥) × (sum_by (taken_of n) st.views ≡ 0) × (owed r.debt v.start.passes n ≡ 0)
+        × (r.phase n ≢ free)
+    its_node = ⊎_elim
+        (λ e. let o = subst (WorkAgrees v.start r.phase id) e (its_work turn) in let z = in_phase turn o.0 o.1 in
+        (o.0, ap owner o.1, ap file_in o.1, λ m. ap (removed_in m) o.1, λ p may. rw o.1 at may, z.untaken, z.unowed, λ bad. cc (sym o.1 ∙ bad)))
+        (λ e. let o = subst (WorkAgrees v.start r.phase id) e (its_work turn) in let z = in_phase turn o.0 o.1 in
+        (o.0, ap owner o.1, ap file_in o.1, λ m. ap (removed_in m) o.1, λ p may. rw o.1 at may, z.untaken, z.unowed, λ bad. cc (sym o.1 ∙ bad))) works
+
+    -- what the pass does has nothing to do with files
+    its_calm : (held_in v.work ≡ None) × (busy v.work ≡ n + 1) × ((m : ℕ) → taking m v.work ≡ 0)
+        × (word_at st.words (hold_of v.start x.number) ≡ 0) × (r.debt x.number ≡ 0)
+    its_calm = let o = its_log turn in ⊎_elim
+        (λ (e : v.work ≡ Emptying n). let h = rw e at o.hold in (ap held_in e, ap busy e, λ m. ap (taking m) e, h.0, h.1))
+        (λ (e : v.work ≡ Placing n). let h = rw e at o.hold in (ap held_in e, ap busy e, λ m. ap (taking m) e, h.0, h.1)) works
+
+    abbrev homes₀ : Homes
+    homes₀ = set st.homes n (some None)
+
+    abbrev words₀ : List ℕ
+    words₀ = node_words turn n its_node.0 0
+
+    abbrev rest_after : After turn
+    rest_after = after turn n its_node.0 free r.history words₀ homes₀ r.debt Idle v.glance
+
+    resting : Agrees v.start (end turn rest_after)
+    resting = let o = its_log turn in let q = its_node in let c = its_calm in let same = node_slot turn n q.0 0 in
+        node_kept turn n q.0 free r.history words₀ homes₀ r.debt Idle v.glance record {
+          words = length-set st.words (word_of v.start n) 0;
+          homes = length-set st.homes n (some None);
+          grows = grows_none x.number r.history;
+          legal = r.legal;
+          at = refl;
+          fresh = refl;
+          removed = λ m. r.removed m ∙ sym (each_changed (λ i z. removed_in m z ≡ removed_in m (r.phase i)) r.phase
+              (λ is. sym (ap (λ (i : ℕ). removed_in m (r.phase i)) is ∙ q.3 m)) (λ _. refl));
+          slot_words = same;
+          control_word = node_control turn n q.0 0;
+          node_words = λ m l other. node_else turn n q.0 0 m other;
+          home_else = λ m l other. set_else st.homes n m (some None) other;
+          owed_else = λ m other. refl;
+          taken_else = λ m other. sym (c.2 m);
+          free_else = λ m other bad. let a = c.1 in other (omega arith);
+          may = inr (inr q.1);
+          its_block = λ bad. absurd (q.7 bad);
+          at_slot = λ s f is. let bad : None ≡ Some f = sym q.2 ∙ ap file_in is in absurd (cc bad);
+          open_file = λ j u f other there holds is. let bad : None ≡ Some f = sym q.2 ∙ is in cc bad;
+          guards = λ p e other range. guards_else turn n q.0 free r.history words₀ homes₀ r.debt Idle v.glance same p e
+              (node_hold turn n q.0 0 p range.1) refl (λ may. q.4 p may);
+          node = let t = sum_set (taken_of n) st.views id v (w turn rest_after) here in let a = c.2 n in let b = q.5 in
+              rw (node_here turn n q.0 0) record {
+                counts = refl;
+                at_home = set_here st.homes n (some None) (let a = r.shape.homes in let b = q.0 in omega arith);
+                untaken = omega arith;
+                unowed = q.6;
+              };
+          known = tt;
+          held = o.held ∙ c.0;
+          search = tt;
+          its_own = own_keeps turn n q.0 free r.history words₀ homes₀ r.debt Idle v.glance same refl
+              (node_hold turn n q.0 0 x.number (in_range turn).1 ∙ c.3, c.4) tt tt;
+          holds = λ m. let a = ap (if_file m) c.0 in omega arith;
+        }
+
+    pub rests : (slots : ℕ) (carried : List (ℕ × Option Closed)) → carried ≡ (n, None) ∷ []
+        → Made turn carried (word_of v.start n) (λ _. 0) (λ _. Rests (step slots (word_of v.start n) 0 0 none) (v, carried) 0)
+    rests slots carried has = (
+      w turn rest_after,
+      gives,
+      tt,
+      rw has resting,
+      record {
+        stepped = tells turn rest_after carried (rest carried) [] (grows_none x.number r.history) r.legal refl tt;
+        carried = refl;
+      },
+    )
+
+pub seeks_keep : SeeksKeep Seeks
+seeks_keep k slots id i n m x has searches installs block place = by_turn slots (λ (k : Start). (x.number ≤ k.installing) × IsInBlock k x.number n)
+    (λ k. word_of k n) (λ word. word) (λ i. Seeks (step slots i 0 0 none) m) has (installs, block) place
+    (λ st r here so fits. seek (turn_of m x has.1 id st r here) searches so.0 n so.1 slots m.1)
+
+pub births_keep : BirthsKeep Births
+births_keep k slots id i n m x has works place = by_turn slots (λ _. Unit {0}) (λ k. word_of k n) (λ _. born)
+    (λ i _. Births (step slots i born 0 none) m born) has tt place
+    (λ st r here _ fits. births (turn_of m x has.1 id st r here) n works slots m.1)
+
+pub rests_keep : RestsKeep Rests
+rests_keep k slots id i n m x has works carries place = by_turn slots (λ _. Unit {0}) (λ k. word_of k n) (λ _. 0)
+    (λ i _. Rests (step slots i 0 0 none) m 0) has tt place
+    (λ st r here _ fits. rests (turn_of m x has.1 id st r here) n works slots m.1 carries)

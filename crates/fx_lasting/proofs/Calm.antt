@@ -1,0 +1,183 @@
+-- Steps at which no slot and no node changes: they change the pass alone, and perhaps its hold word or the control word.
+use Rattle.fx_lasting.proofs.Words.{◌≡◌, ◌≢◌, ℕ, ◌+◌, ◌<◌, List, set, length, refl, ap, ◌∙◌, subst, arith, Option, Bool, held_by, File, Event}
+use Rattle.fx_lasting.proofs.Words.{range_of, NodeAgrees, SearchAgrees, Agrees, ControlCounts, slots_of, nodes_of, IsHistory, state_after_all}
+use Rattle.fx_lasting.proofs.Words.{held_in, held_of, taken_of, taking, Work, Glance, Change, ⊎_elim, ◌⊎◌, inr, control_place, word_of, hold_of}
+use Rattle.fx_lasting.proofs.Words.{count_in, name_in, HoldAgrees, GuardAgrees, WorkAgrees, sum_set, sum_by, get_elem?, length-set, set-get_or}
+use Rattle.fx_lasting.proofs.Words.{owed, seated}
+use Rattle.fx_lasting.proofs.Histories.{Grows}
+use Rattle.fx_lasting.proofs.Frames.{busy, owner_stays, owner_same, slot_same, node_same, control_same, Leaves, keeps_other, guards_same, covers_same}
+use Rattle.fx_lasting.proofs.Frames.{sees_same, heats_same}
+use Rattle.fx_lasting.proofs.Keeping.{Turn, After, Keeps, word_at, slot_word, step_kept, w, end, its_log, in_range}
+use Rattle.fx_lasting.proofs.Places.{hold_words, hold_here, hold_node, hold_slot, hold_else, hold_control}
+
+module _ (turn : Turn) (h' : List Event) (words' : List ℕ) (d : Work) (g : Glance) (c : Change) where
+  open turn use {st, v, r, id, x, here, one}
+
+  abbrev pub calm_after : After turn
+  calm_after = record {
+    h = h';
+    words = words';
+    homes = st.homes;
+    phase = r.phase;
+    node_of = r.node_of;
+    next_number = r.next_number;
+    debt = r.debt;
+    over = r.over;
+    work = d;
+    glance = g;
+    change = c;
+  }
+
+  pub record Calm : Type 0 where
+    pub words : length words' ≡ length st.words
+    pub grows : Grows x.number r.history h'
+    pub legal : IsHistory v.start h'
+    pub at : (state_after_all v.start h').at ≡ (state_after_all v.start r.history).at
+    pub fresh : (state_after_all v.start h').fresh ≡ (state_after_all v.start r.history).fresh
+    pub removed : (state_after_all v.start h').removed ≡ (state_after_all v.start r.history).removed
+    pub slot_words : (s : ℕ) → s < slots_of v.start → slot_word words' s ≡ slot_word st.words s
+    pub node_words : (n : ℕ) → word_at words' (word_of v.start n) ≡ word_at st.words (word_of v.start n)
+    pub hold_words : (p : ℕ) → p ≢ x.number → 0 < p → word_at words' (hold_of v.start p) ≡ word_at st.words (hold_of v.start p)
+    pub control : ControlCounts (state_after_all v.start r.history).at (range_of v.start) (set st.views id (w turn calm_after)) (word_at words' control_place)
+    pub taken : (n : ℕ) → taking n d ≡ taking n v.work
+    pub owners : (d ≡ v.work) ⊎ (busy v.work ≡ 0)
+    pub held : held_by h' x.number ≡ held_in d
+    pub search : SearchAgrees v.start x.number d
+    pub its : Keeps turn calm_after id x.number d g
+    pub holds : (n : ℕ) → (state_after_all v.start h').holds n + held_of n v ≡ (state_after_all v.start r.history).holds n + held_of n (w turn calm_after)
+
+  pub calm_kept : Calm → Agrees v.start (end turn calm_after)
+  calm_kept s = let at_is : (i : ℕ) → (state_after_all v.start h').at i ≡ (state_after_all v.start r.history).at i =
+      λ i. ap (λ (f : ℕ → Option File). f i) s.at in step_kept turn calm_after record {
+        words = s.words;
+        homes = refl;
+        grows = s.grows;
+        legal = s.legal;
+        slots = λ i l. slot_same (s.slot_words i l) (at_is i) refl (λ f there seat. (refl, refl)) (r.each_slot i l);
+        nodes = λ n l. node_same (slots_of v.start) n (omega arith) (λ m u. refl) (s.node_words n)
+            (let t = sum_set (taken_of n) st.views id v (w turn calm_after) here in let e = s.taken n in omega arith)
+            refl refl (r.phase n) (λ i f is there. (at_is i, ap count_in (s.slot_words i (inside n l i f is)))) (r.each_node n l);
+        owners = λ n l. ⊎_elim (λ same. owner_same st.views id v (w turn calm_after) here same n (r.phase n) (r.each_owner n l))
+            (λ none. owner_stays st.views id v (w turn calm_after) here n (λ bad. omega arith) (r.phase n) (r.each_owner n l)) s.owners;
+        removed = λ number. ap (λ (f : ℕ → Option File). f number) s.removed ∙ r.removed number;
+        unborn = r.unborn;
+        fresh = λ number l. ap (λ (f : ℕ → Bool). f number) s.fresh ∙ r.fresh number l;
+        others = λ j u z other there at n range o work. keeps_other turn calm_after leaves j u z other there n range o work;
+        held = s.held;
+        search = s.search;
+        its = s.its;
+        holds = s.holds;
+        control = rw s.at s.control;
+      }
+    where
+      inside : (n : ℕ) → n < nodes_of v.start → (i : ℕ) (f : File) → r.phase n ≡ seated i f → i < slots_of v.start
+      inside n l i f is = (subst (NodeAgrees (state_after_all v.start r.history).at (slots_of v.start) (λ s. count_in (slot_word st.words s)) r.node_of
+          r.next_number n (word_at st.words (word_of v.start n)) (sum_by (taken_of n) st.views) (owed r.debt v.start.passes n)
+          (get_elem? st.homes n)) is (r.each_node n l)).inside
+
+      leaves : Leaves turn calm_after
+      leaves = record {
+        guards = λ p e other range. guards_same turn calm_after p e (s.hold_words p other range.0) refl (covers_same turn words' s.slot_words p);
+        owned = λ n some not_mine. refl;
+        spare = λ n p is low block other. is;
+        open_file = λ j u f n other there holds at. at;
+        slots = λ i p l other. inr (refl, ap name_in (s.slot_words i l), λ hot. rw (s.slot_words i l) hot);
+      }
+
+-- A step on the pass's own hold word
+module _ (turn : Turn) (new : ℕ) (d : Work) where
+  open turn use {st, v, r, id, x, here, one}
+
+  abbrev pub own_words : List ℕ
+  own_words = hold_words turn x.number (in_range turn).0 (in_range turn).1 new
+
+  abbrev pub own_after : (h' : List Event) → After turn
+  own_after h' = calm_after turn h' own_words d v.glance v.change
+
+  pub record Own (h' : List Event) : Type 0 where
+    pub grows : Grows x.number r.history h'
+    pub legal : IsHistory v.start h'
+    pub at : (state_after_all v.start h').at ≡ (state_after_all v.start r.history).at
+    pub fresh : (state_after_all v.start h').fresh ≡ (state_after_all v.start r.history).fresh
+    pub removed : (state_after_all v.start h').removed ≡ (state_after_all v.start r.history).removed
+    pub taken : (n : ℕ) → taking n d ≡ taking n v.work
+    pub owners : busy v.work ≡ 0
+    pub held : held_by h' x.number ≡ held_in d
+    pub search : SearchAgrees v.start x.number d
+    pub hold : HoldAgrees new (r.debt x.number) d
+    pub guarded : GuardAgrees (slot_word own_words) r.phase x.number (r.debt x.number) d
+    pub work : WorkAgrees v.start r.phase id d
+    pub holds : (n : ℕ) → (state_after_all v.start h').holds n + held_of n v
+        ≡ (state_after_all v.start r.history).holds n + held_of n (w turn (own_after h'))
+
+  pub own_kept : {h' : List Event} → Own h' → Agrees v.start (end turn (own_after h'))
+  own_kept {h'} s = let low = (in_range turn).0 in let high = (in_range turn).1 in let same = hold_slot turn x.number low high new in
+      let o = its_log turn in calm_kept turn h' own_words d v.glance v.change record {
+        words = length-set st.words (hold_of v.start x.number) new;
+        grows = s.grows;
+        legal = s.legal;
+        at = s.at;
+        fresh = s.fresh;
+        removed = s.removed;
+        slot_words = same;
+        node_words = hold_node turn x.number low high new;
+        hold_words = λ p other more. hold_else turn x.number low high new p other;
+        control = control_same st.views id v (w turn (own_after h')) here refl (hold_control turn x.number low high new) refl r.control;
+        taken = s.taken;
+        owners = inr s.owners;
+        held = s.held;
+        search = s.search;
+        its = record {
+          hold = rw (hold_here turn x.number low high new) s.hold;
+          guarded = s.guarded;
+          sees = sees_same v.start (λ s. r.over s x.number) same v.glance o.sees;
+          heats = heats_same v.start (λ s. r.over s x.number) same v.glance o.heats;
+          work = s.work;
+        };
+        holds = s.holds;
+      }
+
+-- A step that reads a word
+module _ (turn : Turn) (d : Work) (g : Glance) where
+  open turn use {st, v, r, id, x, here, one}
+
+  abbrev pub read_after : (h' : List Event) → After turn
+  read_after h' = calm_after turn h' st.words d g v.change
+
+  pub record Reads (h' : List Event) : Type 0 where
+    pub grows : Grows x.number r.history h'
+    pub legal : IsHistory v.start h'
+    pub at : (state_after_all v.start h').at ≡ (state_after_all v.start r.history).at
+    pub fresh : (state_after_all v.start h').fresh ≡ (state_after_all v.start r.history).fresh
+    pub removed : (state_after_all v.start h').removed ≡ (state_after_all v.start r.history).removed
+    pub taken : (n : ℕ) → taking n d ≡ taking n v.work
+    pub owners : (d ≡ v.work) ⊎ (busy v.work ≡ 0)
+    pub held : held_by h' x.number ≡ held_in d
+    pub search : SearchAgrees v.start x.number d
+    pub its : Keeps turn (read_after h') id x.number d g
+    pub holds : (n : ℕ) → (state_after_all v.start h').holds n + held_of n v
+        ≡ (state_after_all v.start r.history).holds n + held_of n (w turn (read_after h'))
+
+  pub read_kept : {h' : List Event} (i : ℕ) → Reads h' → Agrees v.start record {
+    words = set st.words i (word_at st.words i);
+    homes = st.homes;
+    views = set st.views id (w turn (read_after h'));
+  }
+  read_kept {h'} i s = rw (set-get_or st.words i 0) (calm_kept turn h' st.words d g v.change record {
+    words = refl;
+    grows = s.grows;
+    legal = s.legal;
+    at = s.at;
+    fresh = s.fresh;
+    removed = s.removed;
+    slot_words = λ s l. refl;
+    node_words = λ n. refl;
+    hold_words = λ p other more. refl;
+    control = control_same st.views id v (w turn (read_after h')) here refl refl refl r.control;
+    taken = s.taken;
+    owners = s.owners;
+    held = s.held;
+    search = s.search;
+    its = s.its;
+    holds = s.holds;
+  })

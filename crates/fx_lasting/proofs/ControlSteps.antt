@@ -1,0 +1,244 @@
+-- Steps on the control word keep the rule: begin, end and ask.
+use Rattle.fx_lasting.proofs.Words.{◌≡◌, ◌≢◌, ℕ, zero, suc, ◌+◌, ◌-◌, ◌/◌, ◌%◌, ◌^◌, ◌<◌, ◌≤◌, List, [], ◌∷◌, set, length, sym, refl, ap, ◌∙◌, subst}
+use Rattle.fx_lasting.proofs.Words.{arith, get_or-set_other, get_or-set_same, Option, IsSome, dite, some, none, some-injective, some-ne-none}
+use Rattle.fx_lasting.proofs.Words.{ℕ_discrete, get_elem?, keeps, step, sum_by, sum_by-cons, Closed, File, Full, ◌▷◌, Event, event_of, sum_set}
+use Rattle.fx_lasting.proofs.Words.{sum_at, sum_le_at, one_change, bias, range_of, Agrees, ControlCounts, WorkAgrees, lengths, in_change, added}
+use Rattle.fx_lasting.proofs.Words.{removed_by, changes_of, added_of, removed_of, full_in, control_place, slot_place, word_of, hold_of, slots_of}
+use Rattle.fx_lasting.proofs.Words.{state_after_all, IsHistory, Change, Outside, Same, Log, Start, View, Work, Shared, IsInside, Turns, Asks, Stepped}
+use Rattle.fx_lasting.proofs.Words.{BeginsKeep, EndsKeep, AsksKeep, length-set, inl, held_by, Idle, Announced, Counted, Guarded, Owing, Yielding}
+use Rattle.fx_lasting.proofs.Words.{Searching, Placing, Retiring, Emptying, State, Phase}
+use Rattle.fx_lasting.proofs.Histories.{Grows, grows_none, grows_one, legal_more, part_mine, held_mine, same_shape}
+use Rattle.fx_lasting.proofs.Frames.{control_same, sees_same, heats_same, guards_same, covers_same}
+use Rattle.fx_lasting.proofs.Keeping.{Turn, turn_of, After, word_at, slot_word, Made, by_turn, its_log, its_work, in_range, tells, w, end}
+use Rattle.fx_lasting.proofs.Calm.{calm_after, calm_kept}
+use Rattle.fx_lasting.proofs.FullSlots.{full_few, full_all}
+use Rattle.fx_lasting.proofs.LettingGo.{sub_wraps}
+
+-- what one of them adds to the gap between two totals
+pub total_gap : {X : Type 0} {f g : X → ℕ} (xs : List X) (i : ℕ) {v : X} → get_elem? xs i ≡ some v
+    → ((j : ℕ) (x : X) → get_elem? xs j ≡ some x → f x ≤ g x) → sum_by f xs + g v ≤ sum_by g xs + f v
+total_gap [] i {v} e each = absurd (some-ne-none v (sym e))
+total_gap {f} {g} (x ∷ xs) zero {v} e each = let p : f x ≡ f v = ap f (some-injective x v e) in
+    let q : g x ≡ g v = ap g (some-injective x v e) in let c = sum_by-cons f x xs in let d = sum_by-cons g x xs in
+    let b = sum_le_at f g xs (λ j y d. each (suc j) y d) in omega arith
+total_gap {f} {g} (x ∷ xs) (suc i) {v} e each = let a = each 0 x refl in let c = sum_by-cons f x xs in
+    let d = sum_by-cons g x xs in let b = total_gap xs i e (λ j y d. each (suc j) y d) in omega arith
+
+-- a pass has something to report in a change alone, and one slot at most
+pub at_most_one : (c : Change) → (in_change c ≤ 1) × (added c ≤ in_change c) × (removed_by c ≤ in_change c)
+at_most_one Outside = (omega arith, omega arith, omega arith)
+at_most_one _ = (omega arith, omega arith, omega arith)
+
+pub is_inside : (k : Start) (phase : ℕ → Phase) (seat : ℕ) (d : Work) → WorkAgrees k phase seat d → IsInside k d
+is_inside k phase seat Idle o = tt
+is_inside k phase seat (Announced n) o = o
+is_inside k phase seat (Owing n) o = o
+is_inside k phase seat (Counted f n) o = o.0
+is_inside k phase seat (Guarded f n) o = o.0
+is_inside k phase seat (Yielding f n) o = o.0
+is_inside k phase seat (Searching n) o = o.0
+is_inside k phase seat (Placing n) o = o.0
+is_inside k phase seat (Retiring f n t nx m) o = o.0
+is_inside k phase seat (Emptying n) o = o.0
+
+module _ (k : Start) (s : Shared) (r : Agrees k s) where
+  -- a seat without a pass is in no change
+  pub few_changes : (j : ℕ) (u : View) → get_elem? s.views j ≡ some u → changes_of u ≤ lengths u
+  few_changes j u there = go u.logs refl
+    where
+      go : (l : List Log) → u.logs ≡ l → in_change u.change ≤ length u.logs
+      go [] is = let a = ap in_change ((r.each_view j u there).empty is).2 in omega arith
+      go (z ∷ l) is = let a = at_most_one u.change in let b = ap (length {A = Log}) is in omega arith
+
+  pub few_full : full_in (state_after_all k r.history).at (range_of k).0 (range_of k).1 ≤ 256
+  few_full = let a = full_few (state_after_all k r.history).at (range_of k).0 (range_of k).1 in
+      let b = r.shape.range in let c = r.shape.slots in omega arith
+
+  pub few_removed : sum_by removed_of s.views ≤ sum_by changes_of s.views
+  few_removed = sum_le_at removed_of changes_of s.views (λ j u e. (at_most_one u.change).2)
+
+  pub few_added : sum_by added_of s.views ≤ sum_by changes_of s.views
+  few_added = sum_le_at added_of changes_of s.views (λ j u e. (at_most_one u.change).1)
+
+-- A step that leaves the pass at its work
+module _ (turn : Turn) where
+  open turn use {st, v, r, id, x, here, one}
+
+  abbrev pub word : ℕ
+  word = word_at st.words control_place
+
+  abbrev at_now : ℕ → Option File
+  at_now = (state_after_all v.start r.history).at
+
+  abbrev pub range : ℕ × ℕ
+  range = range_of v.start
+
+  pub its_inside : IsInside v.start v.work
+  its_inside = is_inside v.start r.phase id v.work (its_work turn)
+
+  -- nothing is learned, or that the range is full
+  record Quiet (h' : List Event) : Type 0 where
+    grows : Grows x.number r.history h'
+    legal : IsHistory v.start h'
+    state : state_after_all v.start h' ≡ state_after_all v.start r.history
+    held : held_by h' x.number ≡ held_by r.history x.number
+
+  no_event : Quiet r.history
+  no_event = record { grows = grows_none x.number r.history; legal = r.legal; state = refl; held = refl }
+
+  abbrev h₁ : List Event
+  h₁ = event_of x Full ∷ r.history
+
+  told_full : ((slot : ℕ) → range.0 ≤ slot → slot < range.0 + range.1 → IsSome (at_now slot)) → Quiet h₁
+  told_full each = record {
+    grows = grows_one x.number r.history _ refl;
+    legal = legal_more v.start r.legal (λ slot small in_range. let z = (same_shape v.start r.history).1 in
+        let a = ap (λ (p : ℕ × ℕ). p.0) z in let b = ap (λ (p : ℕ × ℕ). p.1) z in
+        each slot (omega (arith, a, b, in_range.0)) (omega (arith, a, b, in_range.1))) tt;
+    state = refl;
+    held = held_mine (event_of x Full) r.history refl;
+  }
+
+  -- the word becomes y
+  module _ (y : ℕ) (c : Change) (h' : List Event) where
+    abbrev words' : List ℕ
+    words' = set st.words control_place y
+
+    read_else : (place : ℕ) → place ≢ control_place → word_at words' place ≡ word_at st.words place
+    read_else place other = get_or-set_other st.words control_place place y 0 other
+
+    abbrev turn_after : After turn
+    turn_after = calm_after turn h' words' v.work v.glance c
+
+    wrote : Quiet h' → ControlCounts at_now range (set st.views id (w turn turn_after)) y → Agrees v.start (end turn turn_after)
+    wrote q counts = let o = its_log turn in let same : (s : ℕ) → s < slots_of v.start → slot_word words' s ≡ slot_word st.words s =
+        λ s l. read_else (slot_place s) (λ bad. omega arith) in
+        let own = guards_same turn turn_after x.number v.work (read_else (hold_of v.start x.number) (λ bad. let a = (in_range turn).0 in omega arith)) refl
+        (covers_same turn words' same x.number) o.hold o.guarded in calm_kept turn h' words' v.work v.glance c record {
+          words = length-set st.words control_place y;
+          grows = q.grows;
+          legal = q.legal;
+          at = ap (λ (z : State). z.at) q.state;
+          fresh = ap (λ (z : State). z.fresh) q.state;
+          removed = ap (λ (z : State). z.removed) q.state;
+          slot_words = same;
+          node_words = λ n. read_else (word_of v.start n) (λ bad. omega arith);
+          hold_words = λ p other low. read_else (hold_of v.start p) (λ bad. omega arith);
+          control = subst (ControlCounts at_now range (set st.views id (w turn turn_after)))
+              (sym (get_or-set_same st.words control_place y 0 (let a = r.shape.words in omega arith))) counts;
+          taken = λ n. refl;
+          owners = inl refl;
+          held = q.held ∙ o.held;
+          search = o.search;
+          its = record {
+            hold = own.0;
+            guarded = own.1;
+            sees = sees_same v.start (λ s. r.over s x.number) same v.glance o.sees;
+            heats = heats_same v.start (λ s. r.over s x.number) same v.glance o.heats;
+            work = its_work turn;
+          };
+          holds = λ n. let e = ap (λ (z : State). z.holds n) q.state in omega arith;
+        }
+
+  -- fewer passes than there are numbers in half a word are in a change beside this one
+  few_others : sum_by changes_of st.views + 1 ≤ 1024 + in_change v.change
+  few_others = omega (arith, total_gap st.views id here (few_changes v.start st r), r.whole, r.shape.passes, ap (length {A = Log}) one)
+
+  module _ (fits : word < 18446744073709551616) where
+    begin_counts : v.change ≡ Outside
+        → ControlCounts at_now range (set st.views id (w turn (turn_after ((word + one_change) % 2 ^ 64) Same r.history))) ((word + one_change) % 2 ^ 64)
+    begin_counts out = let w' = w turn (turn_after ((word + one_change) % 2 ^ 64) Same r.history) in
+        let a = sum_set changes_of st.views id v w' here in let b = sum_set added_of st.views id v w' here in
+        let d = sum_set removed_of st.views id v w' here in
+        let a' = ap in_change out in let b' = ap added out in let d' = ap removed_by out in let s = few_others in
+        let u = r.control.upper in let l = r.control.lower in
+        let sum : (word + 4294967296) % 2 ^ 64 ≡ word + 4294967296 = omega arith in
+        record { upper = omega arith; lower = omega arith }
+
+    -- the difference is reported: amount is 2^32 less it
+    end_counts : (amount : ℕ) → in_change v.change ≡ 1 → amount + added v.change ≡ one_change + removed_by v.change
+        → ControlCounts at_now range (set st.views id (w turn (turn_after ((word + (2 ^ 64 - amount)) % 2 ^ 64) Outside r.history)))
+        ((word + (2 ^ 64 - amount)) % 2 ^ 64)
+    end_counts amount in_now amount_is = let w' = w turn (turn_after ((word + (2 ^ 64 - amount)) % 2 ^ 64) Outside r.history) in
+        let a = sum_set changes_of st.views id v w' here in let b = sum_set added_of st.views id v w' here in
+        let d = sum_set removed_of st.views id v w' here in
+        let s = few_others in let u = r.control.upper in let l = r.control.lower in let ff = few_full v.start st r in
+        let fr = few_removed v.start st r in let fa = few_added v.start st r in
+        let o1 = sum_at added_of st.views id v here in let l1 = sum_at removed_of st.views id v here in
+        let f1 = sum_at changes_of st.views id v here in
+        let x1 = at_most_one v.change in
+        let big : amount ≤ word = omega arith in
+        let diff : (word + (2 ^ 64 - amount)) % 2 ^ 64 ≡ word - amount = sub_wraps big fits (omega arith) in
+        record { upper = omega arith; lower = omega arith }
+
+  -- a word that says so: nobody is in a change, and every slot of the range is full
+  says_so : word ≡ bias + range.1 → (slot : ℕ) → range.0 ≤ slot → slot < range.0 + range.1 → IsSome (at_now slot)
+  says_so is = let a = few_added v.start st r in let b = few_removed v.start st r in
+      let u = r.control.upper in let l = r.control.lower in let few = r.shape.range in let few' = r.shape.slots in
+      let up : word / 4294967296 ≡ 0 = omega arith in let low : word % 4294967296 ≡ 65536 + range.1 = omega arith in
+      full_all at_now range.0 range.1 (omega arith)
+
+  goes_on : (y : ℕ) (c : Change) (carried : List (ℕ × Option Closed)) → Stepped (v, carried) [] v.work v.glance c (w turn (turn_after y c r.history), carried)
+  goes_on y c carried = tells turn (turn_after y c r.history) carried carried [] (grows_none x.number r.history) r.legal refl its_inside
+
+  begin : (slots : ℕ) (carried : List (ℕ × Option Closed)) → word < 18446744073709551616 → v.change ≡ Outside
+      → Made turn carried control_place (λ word. (word + one_change) % 2 ^ 64) (Turns Same (step slots control_place one_change 0 none) (v, carried))
+  begin slots carried fits out = let y = (word + one_change) % 2 ^ 64 in (
+    w turn (turn_after y Same r.history),
+    keeps,
+    tt,
+    wrote y Same r.history no_event (begin_counts fits out),
+    record { stepped = goes_on y Same carried; carried = refl },
+  )
+
+  ending : (slots amount : ℕ) (carried : List (ℕ × Option Closed)) → word < 18446744073709551616 → in_change v.change ≡ 1
+      → amount + added v.change ≡ one_change + removed_by v.change
+      → Made turn carried control_place (λ word. (word + (2 ^ 64 - amount)) % 2 ^ 64) (Turns Outside (step slots control_place amount 0 none) (v, carried))
+  ending slots amount carried fits in_now amount_is = let y = (word + (2 ^ 64 - amount)) % 2 ^ 64 in (
+    w turn (turn_after y Outside r.history),
+    keeps,
+    tt,
+    wrote y Outside r.history no_event (end_counts fits amount in_now amount_is),
+    record { stepped = goes_on y Outside carried; carried = refl },
+  )
+
+  same_counts : (h' : List Event) → ControlCounts at_now range (set st.views id (w turn (turn_after word v.change h'))) word
+  same_counts h' = control_same st.views id v (w turn (turn_after word v.change h')) here refl refl refl r.control
+
+  ask : (slots : ℕ) (carried : List (ℕ × Option Closed))
+      → Made turn carried control_place (λ word. word) (Asks (step slots control_place 0 0 none) (v, carried))
+  ask slots carried = dite (ℕ_discrete word (bias + range.1))
+      (λ is. let q = told_full (says_so is) in (
+        w turn (turn_after word v.change h₁),
+        keeps,
+        tt,
+        wrote word v.change h₁ q (same_counts h₁),
+        record {
+          full = λ _. record {
+            stepped = tells turn (turn_after word v.change h₁) carried carried ([] ▷ Full) q.grows q.legal (part_mine r.history refl) its_inside;
+            carried = refl;
+          };
+          not_full = λ not_so. absurd (not_so is);
+        },
+      ))
+      (λ not_so. (
+        w turn (turn_after word v.change r.history),
+        keeps,
+        tt,
+        wrote word v.change r.history no_event (same_counts r.history),
+        record { full = λ is. absurd (not_so is); not_full = λ _. record { stepped = goes_on word v.change carried; carried = refl } },
+      ))
+
+pub begins_keep : BeginsKeep (Turns Same)
+begins_keep k slots id i m x has out place = by_turn slots (λ _. Unit {0}) (λ _. control_place) (λ word. (word + one_change) % 2 ^ 64)
+    (λ i. Turns Same (step slots i one_change 0 none) m) has tt place
+    (λ st r here _ fits. begin (turn_of m x has.1 id st r here) slots m.1 fits out)
+
+pub ends_keep : EndsKeep (Turns Outside)
+ends_keep k slots id i amount m x has in_now amount_is place = by_turn slots (λ _. Unit {0}) (λ _. control_place)
+    (λ word. (word + (2 ^ 64 - amount)) % 2 ^ 64) (λ i. Turns Outside (step slots i amount 0 none) m) has tt place
+    (λ st r here _ fits. ending (turn_of m x has.1 id st r here) slots amount m.1 fits in_now amount_is)
+
+pub asks_keep : AsksKeep Asks
+asks_keep k slots id i m x has place = by_turn slots (λ _. Unit {0}) (λ _. control_place) (λ word. word)
+    (λ i. Asks (step slots i 0 0 none) m) has tt place (λ st r here _ fits. ask (turn_of m x has.1 id st r here) slots m.1)

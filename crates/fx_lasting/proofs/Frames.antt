@@ -1,0 +1,252 @@
+-- A step of one seat leaves other seats, slots, nodes and the control word as they were.
+use Rattle.fx_lasting.proofs.Words.{◌≡◌, ◌≢◌, ℕ, ◌+◌, ◌-◌, ◌*◌, ◌<◌, ◌≤◌, List, set, sym, refl, ap, ◌∙◌, subst, arith, Option, Some, None, File, inl}
+use Rattle.fx_lasting.proofs.Words.{inr, some, some-injective, get_elem?, set_here, set_else, stands_at, Bool, true, false, ⊎_elim, ◌⊎◌, dite}
+use Rattle.fx_lasting.proofs.Words.{ℕ_discrete, sum_set, mul-le-mul_right, dec_le, SlotAgrees, NodeAgrees, OwnerAgrees, WorkAgrees, LogAgrees}
+use Rattle.fx_lasting.proofs.Words.{ControlCounts, HoldAgrees, GuardAgrees, Does, GlanceAgrees, Heats, MayBeUnmarked, IsInBlock, IsHot, HoldsAt, Home}
+use Rattle.fx_lasting.proofs.Words.{HasFile, IsVacant, name_in, count_in, word_of, hold_of, slots_of, nodes_of, state_after_all, held_in, Nodes}
+use Rattle.fx_lasting.proofs.Words.{block_for, block_start, Start, tally, Phase, free, placed, seated, leaving, retired, emptied, owner, Glance, Log}
+use Rattle.fx_lasting.proofs.Words.{View, Work, Idle, Announced, Counted, Guarded, Owing, Yielding, Searching, Placing, Retiring, Emptying, Nothing}
+use Rattle.fx_lasting.proofs.Words.{Hot, Cold, Heating, taken_of, owed, sum_by, suc, changes_of, added_of, removed_of, in_change, added, removed_by}
+use Rattle.fx_lasting.proofs.Words.{full_in}
+use Rattle.fx_lasting.proofs.Keeping.{Turn, After, Keeps, w, word_at, slot_word}
+
+-- the node that a pass alone works with, plus 1, or 0
+abbrev pub busy : Work → ℕ
+busy (Placing n) = n + 1
+busy (Retiring f n takes next marks) = n + 1
+busy (Emptying n) = n + 1
+busy _ = 0
+
+-- two blocks have no node together
+pub one_block : (k : Start) {p q n : ℕ} → 0 < p → 0 < q → IsInBlock k p n → IsInBlock k q n → p ≡ q
+one_block k {p} {q} {n} low low' a b = dite (ℕ_discrete p q) (λ same. same) (λ other. absurd (dite (dec_le p q)
+    (λ l. let m = before p q (omega (arith, l, other)) low in omega (arith, a.1, b.0, m))
+    (λ g. let m = before q p (omega (arith, g)) low' in omega (arith, a.0, b.1, m))))
+  where
+    -- a later block begins after an earlier one
+    before : (p q : ℕ) → p < q → 0 < p → block_start (slots_of k) k.passes p + block_for (slots_of k) k.passes
+        ≤ block_start (slots_of k) k.passes q
+    before p q l low = let m : suc (p - 1) * block_for (slots_of k) k.passes ≤ (q - 1) * block_for (slots_of k) k.passes =
+        mul-le-mul_right (block_for (slots_of k) k.passes) (omega (arith, l, low)) in omega (arith, m)
+
+-- the pass of a node is known in other views too, if what is done with it is
+pub owner_map : (views others : List View) (n : ℕ)
+    → ((j : ℕ) (d : Work) → busy d ≡ n + 1 → Does views j d → Does others j d) → (ph : Phase) → OwnerAgrees views n ph
+    → OwnerAgrees others n ph
+owner_map views others n f (placed j) o = f j (Placing n) refl o
+owner_map views others n f (leaving j t next marks g) o = f j (Retiring g n t next marks) refl o
+owner_map views others n f (emptied j) o = f j (Emptying n) refl o
+owner_map views others n f _ o = tt
+
+pub does_now : (views : List View) (id : ℕ) (v w : View) (d : Work) → get_elem? views id ≡ some v → w.work ≡ d → Does (set views id w) id d
+does_now views id v w d here is = (w, set_here views id w (stands_at views id v here).0, is)
+
+module _ (views : List View) (id : ℕ) (v w : View) (here : get_elem? views id ≡ some v) where
+  does_else : {j : ℕ} {d : Work} → j ≢ id → Does views j d → Does (set views id w) j d
+  does_else {j} other o = (o.0, set_else views id j w other ∙ o.1, o.2)
+
+  work_of : {j : ℕ} {d : Work} → j ≡ id → Does views j d → v.work ≡ d
+  work_of same o = ap (λ (u : View). u.work) (some-injective v o.0 (sym here ∙ (ap (get_elem? views) (sym same) ∙ o.1))) ∙ o.2
+
+  -- a node that the pass was not busy with
+  pub owner_stays : (n : ℕ) → busy v.work ≢ n + 1 → (ph : Phase) → OwnerAgrees views n ph → OwnerAgrees (set views id w) n ph
+  owner_stays n idle = owner_map views (set views id w) n (λ j d is o. does_else (λ same. idle (ap busy (work_of same o) ∙ is)) o)
+
+  -- any node, after a step that leaves the pass at its work
+  pub owner_same : w.work ≡ v.work → (n : ℕ) (ph : Phase) → OwnerAgrees views n ph → OwnerAgrees (set views id w) n ph
+  owner_same same n = owner_map views (set views id w) n (λ j d is o. dite (ℕ_discrete j id)
+      (λ (e : j ≡ id). subst (λ (i : ℕ). Does (set views id w) i d) (sym e) (does_now views id v w d here (same ∙ work_of e o)))
+      (λ (e : j ≢ id). does_else e o))
+
+  -- the control word, where no slot of the range and no change does
+  pub control_same : {at at' : ℕ → Option File} {range : ℕ × ℕ} {word word' : ℕ}
+      → full_in at' range.0 range.1 ≡ full_in at range.0 range.1 → word' ≡ word → w.change ≡ v.change
+      → ControlCounts at range views word → ControlCounts at' range (set views id w) word'
+  control_same full same change ok =
+      let a = sum_set changes_of views id v w here in let b = sum_set added_of views id v w here in let c = sum_set removed_of views id v w here in
+      let d = ap in_change change in let e = ap added change in let f = ap removed_by change in
+      let u = ok.upper in let l = ok.lower in rw same record { upper = omega arith; lower = omega arith }
+
+-- a file whose number and place have not changed
+pub file_same : {node_of node_of' : Nodes} {next next' n : ℕ} {home home' : Home} {f : File} → next ≤ next'
+    → ((m : ℕ) → m < next → node_of' m ≡ node_of m) → home' ≡ home → HasFile node_of next n home f → HasFile node_of' next' n home' f
+file_same {f = f} later numbers homed o = let u = o.used in record {
+  at_home = homed ∙ o.at_home;
+  its_node = numbers f.number o.used ∙ o.its_node;
+  used = omega arith;
+}
+
+-- a node of which nothing has changed
+module _ {at at' : ℕ → Option File} (size : ℕ) {takes_at takes_at' : ℕ → ℕ} {node_of node_of' : Nodes} {next next' : ℕ} (n : ℕ)
+    {word word' taken taken' owing owing' : ℕ} {home home' : Home} (later : next ≤ next') (numbers : (m : ℕ) → m < next → node_of' m ≡ node_of m)
+    (worded : word' ≡ word) (counted : taken' ≡ taken) (owed : owing' ≡ owing) (homed : home' ≡ home) where
+  vacant_same : {first : ℕ} {lies : Home} → IsVacant at size takes_at node_of next n word taken owing home first lies
+      → IsVacant at' size takes_at' node_of' next' n word' taken' owing' home' first lies
+  vacant_same o = record {
+    counts = worded ∙ o.counts;
+    at_home = homed ∙ o.at_home;
+    untaken = counted ∙ o.untaken;
+    unowed = owed ∙ o.unowed;
+  }
+
+  pub node_same : (ph : Phase) → ((s : ℕ) (f : File) → ph ≡ seated s f → at s ≡ Some f → (at' s ≡ at s) × (takes_at' s ≡ takes_at s))
+      → NodeAgrees at size takes_at node_of next n word taken owing home ph
+      → NodeAgrees at' size takes_at' node_of' next' n word' taken' owing' home' ph
+  node_same free same o = vacant_same o
+  node_same (placed j) same o = vacant_same o
+  node_same (seated s f) same o = let z = same s f refl o.there in let a = o.counts in let b = z.1 in record {
+    file = file_same later numbers homed o.file;
+    counts = omega arith;
+    unowed = owed ∙ o.unowed;
+    inside = o.inside;
+    there = z.0 ∙ o.there;
+  }
+  node_same (leaving j t nx m f) same o = let a = o.counts in record {
+    file = file_same later numbers homed o.file;
+    counts = omega arith;
+    few_takes = o.few_takes;
+    few_marks = o.few_marks;
+    few_visits = o.few_visits;
+  }
+  node_same (retired f) same o = let a = o.counts in let b = o.somebody in record {
+    file = file_same later numbers homed o.file;
+    counts = omega arith;
+    somebody = omega arith;
+  }
+  node_same (emptied j) same o = vacant_same o
+
+-- a slot whose word and file stay
+pub slot_same : {k : Start} {node_of node_of' : Nodes} {phase phase' : ℕ → Phase} {over over' : ℕ → Bool} {slot word word' : ℕ}
+    {there there' : Option File} → word' ≡ word → there' ≡ there → tally over' k.passes ≡ tally over k.passes
+    → ((f : File) → there ≡ Some f → phase (node_of f.number) ≡ seated slot f
+    → (node_of' f.number ≡ node_of f.number) × (phase' (node_of f.number) ≡ phase (node_of f.number)))
+    → SlotAgrees k node_of phase over slot there word → SlotAgrees k node_of' phase' over' slot there' word'
+slot_same {k} {node_of} {node_of'} {phase} {phase'} {over} {over'} {slot} {word} {word'} {there} same_word same_file as_many same so =
+    rw (same_word, same_file) (go there refl so)
+  where
+    go : (found : Option File) → there ≡ found → SlotAgrees k node_of phase over slot found word
+        → SlotAgrees k node_of' phase' over' slot found word
+    go None is o = record { names = o.names; seat = tt; takes = let t = o.takes in omega arith }
+    go (Some f) is o = let z = same f is o.seat.1 in record {
+      names = (let a = o.names.0 in let b = z.0 in omega arith, o.names.1);
+      seat = rw z.0 (o.seat.0, z.1 ∙ o.seat.1);
+      takes = let t = o.takes in omega arith;
+    }
+
+-- a slot's word as other passes see it: it has another file, or goes on with the same one
+abbrev pub SlotGoesOn : ℕ → ℕ → Bool → Bool → Type 0
+SlotGoesOn old new over over' = (over' ≡ false) ⊎ ((over' ≡ over) × (name_in new ≡ name_in old) × (IsHot old → IsHot new))
+
+-- how far a look-up is, and what it has still to heat, where slots go on so
+module _ (k : Start) (word word' : ℕ → ℕ) (over over' : ℕ → Bool)
+    (slots : (s : ℕ) → s < slots_of k → SlotGoesOn (word s) (word' s) (over s) (over' s)) where
+  pub sees_on : (g : Glance) → GlanceAgrees k word over g → GlanceAgrees k word' over' g
+  sees_on Nothing at = tt
+  sees_on (Hot s m) at = (
+    at.0,
+    at.1,
+    ⊎_elim (λ new. inr new)
+        (λ same. ⊎_elim (λ h. inl (same.1 ∙ h.0, same.2 h.1)) (λ out. inr (same.0 ∙ out)) at.2) (slots s at.0),
+  )
+  sees_on (Cold s) at = (at.0, ⊎_elim (λ new. new) (λ same. same.0 ∙ at.1) (slots s at.0))
+  sees_on (Heating s) at = at
+
+  pub heats_on : (g : Glance) → Heats k word over g → Heats k word' over' g
+  heats_on g h = λ s l is. ⊎_elim (λ new. let bad : false ≡ true = sym new ∙ is in absurd (cc bad))
+      (λ same. ⊎_elim (λ hot. inl (same.2 hot)) (λ mine. inr mine) (h s l (sym same.0 ∙ is))) (slots s l)
+
+-- The facts that other passes rely on, after a step.
+module _ (turn : Turn) (a : After turn) where
+  open turn use {st, v, r, id, x, here, one}
+
+  pub record Leaves : Type 0 where
+    -- their hold words, their debts, and the files that they hold by them
+    pub guards : (q : ℕ) (d : Work) → q ≢ x.number → (0 < q) × (q ≤ v.start.passes)
+        → HoldAgrees (word_at st.words (hold_of v.start q)) (r.debt q) d → GuardAgrees (slot_word st.words) r.phase q (r.debt q) d
+        → HoldAgrees (word_at a.words (hold_of v.start q)) (a.debt q) d × GuardAgrees (slot_word a.words) a.phase q (a.debt q) d
+    pub owned : (n : ℕ) → owner (r.phase n) ≢ 0 → owner (r.phase n) ≢ id + 1 → a.phase n ≡ r.phase n
+    pub spare : (n q : ℕ) → r.phase n ≡ free → 0 < q → IsInBlock v.start q n → q ≢ x.number → a.phase n ≡ free
+    pub open_file : (j : ℕ) (u : View) (f : File) (n : ℕ) → j ≢ id → get_elem? st.views j ≡ some u → held_in u.work ≡ Some f
+        → HoldsAt v.start r.phase f n → HoldsAt v.start a.phase f n
+    pub slots : (s q : ℕ) → s < slots_of v.start → q ≢ x.number
+        → SlotGoesOn (slot_word st.words s) (slot_word a.words s) (r.over s q) (a.over s q)
+
+  module _ (leaves : Leaves) (j : ℕ) (u : View) (z : Log) (other : j ≢ id) (there : get_elem? st.views j ≡ some u) (n : z.number ≢ x.number)
+      (range : (0 < z.number) × (z.number ≤ v.start.passes))
+      (o : LogAgrees v.start r.history st.words r.phase r.debt r.over u.work u.glance z) where
+    same_for : {m : ℕ} {ph : Phase} → r.phase m ≡ ph → owner ph ≡ j + 1 → a.phase m ≡ ph
+    same_for {m} {ph} is own = leaves.owned m (λ y. let e : owner (r.phase m) ≡ owner ph = ap owner is in
+        omega arith) (λ y. other (let e : owner (r.phase m) ≡ owner ph = ap owner is in omega arith)) ∙ is
+
+    work_stays : (d : Work) → u.work ≡ d → WorkAgrees v.start r.phase j d → WorkAgrees v.start a.phase j d
+    work_stays (Counted f m) is at = leaves.open_file j u f m other there (ap held_in is) at
+    work_stays (Guarded f m) is at = leaves.open_file j u f m other there (ap held_in is) at
+    work_stays (Yielding f m) is at = leaves.open_file j u f m other there (ap held_in is) at
+    work_stays (Searching m) is at = (at.0, leaves.spare m z.number at.1 range.0 (rw is at o.search) n)
+    work_stays (Placing m) is at = (at.0, same_for at.1 refl)
+    work_stays (Retiring f m t next marks) is at = (at.0, same_for at.1 refl)
+    work_stays (Emptying m) is at = (at.0, same_for at.1 refl)
+    work_stays Idle is at = tt
+    work_stays (Announced m) is at = at
+    work_stays (Owing m) is at = at
+
+    pub keeps_other : WorkAgrees v.start r.phase j u.work → Keeps turn a j z.number u.work u.glance
+    keeps_other at = let g = leaves.guards z.number u.work n range o.hold o.guarded in record {
+      hold = g.0;
+      guarded = g.1;
+      sees = sees_on v.start (slot_word st.words) (slot_word a.words) (λ s. r.over s z.number) (λ s. a.over s z.number)
+          (λ s l. leaves.slots s z.number l n) u.glance o.sees;
+      heats = heats_on v.start (slot_word st.words) (slot_word a.words) (λ s. r.over s z.number) (λ s. a.over s z.number)
+          (λ s l. leaves.slots s z.number l n) u.glance o.heats;
+      work = work_stays u.work refl at;
+    }
+
+  -- hold words and debts that are as they were
+  pub guards_same : (q : ℕ) (d : Work) → word_at a.words (hold_of v.start q) ≡ word_at st.words (hold_of v.start q) → a.debt q ≡ r.debt q
+      → ((n : ℕ) → MayBeUnmarked (slot_word st.words) q (r.phase n) → MayBeUnmarked (slot_word a.words) q (a.phase n))
+      → HoldAgrees (word_at st.words (hold_of v.start q)) (r.debt q) d → GuardAgrees (slot_word st.words) r.phase q (r.debt q) d
+      → HoldAgrees (word_at a.words (hold_of v.start q)) (a.debt q) d × GuardAgrees (slot_word a.words) a.phase q (a.debt q) d
+  guards_same q d same owes covers hold guard = rw (same, owes) (hold, go d guard)
+    where
+      go : (d : Work) → GuardAgrees (slot_word st.words) r.phase q (r.debt q) d → GuardAgrees (slot_word a.words) a.phase q (r.debt q) d
+      go (Guarded f n) g = λ none. covers n (g none)
+      go Idle g = tt
+      go (Announced n) g = tt
+      go (Counted f n) g = tt
+      go (Owing n) g = tt
+      go (Yielding f n) g = tt
+      go (Searching n) g = tt
+      go (Placing n) g = tt
+      go (Retiring f n t nx m) g = tt
+      go (Emptying n) g = tt
+
+-- how far a look-up is, where no slot's word and no take of the pass has changed
+pub sees_same : (k : Start) {word word' : ℕ → ℕ} (over : ℕ → Bool) → ((s : ℕ) → s < slots_of k → word' s ≡ word s) → (g : Glance)
+    → GlanceAgrees k word over g → GlanceAgrees k word' over g
+sees_same k over same Nothing at = tt
+sees_same k {word} {word'} over same (Hot s m) at =
+    (at.0, at.1, ⊎_elim (λ h. inl (ap name_in (same s at.0) ∙ h.0, rw (same s at.0) h.1)) (λ out. inr out) at.2)
+sees_same k over same (Cold s) at = at
+sees_same k over same (Heating s) at = at
+
+pub heats_same : (k : Start) {word word' : ℕ → ℕ} (over : ℕ → Bool) → ((s : ℕ) → s < slots_of k → word' s ≡ word s) → (g : Glance)
+    → Heats k word over g → Heats k word' over g
+heats_same k {word} {word'} over same g h = λ s l is. ⊎_elim (λ hot. inl (rw (same s l) hot)) (λ mine. inr mine) (h s l is)
+
+-- who may be unmarked, where no slot's word has changed
+module _ (turn : Turn) (words' : List ℕ) (same : (s : ℕ) → s < slots_of turn.v.start → slot_word words' s ≡ slot_word turn.st.words s) where
+  open turn use {st, v, r, id, x, here, one}
+
+  pub covers_same : (p n : ℕ) → MayBeUnmarked (slot_word st.words) p (r.phase n) → MayBeUnmarked (slot_word words') p (r.phase n)
+  covers_same p n = dite (dec_le (suc n) (nodes_of v.start)) (λ l. go (r.phase n) (r.each_node n (omega (arith, l))))
+      (λ g m. let e = r.unborn n (omega (arith, g)) in absurd (rw e at m))
+    where
+      go : (ph : Phase) → NodeAgrees (state_after_all v.start r.history).at (slots_of v.start) (λ s. count_in (slot_word st.words s)) r.node_of
+          r.next_number n (word_at st.words (word_of v.start n)) (sum_by (taken_of n) st.views) (owed r.debt v.start.passes n)
+          (get_elem? st.homes n) ph → MayBeUnmarked (slot_word st.words) p ph → MayBeUnmarked (slot_word words') p ph
+      go (seated i f) o hot = rw (same i o.inside) hot
+      go (leaving j t nx m f) o l = l
+      go free o m = absurd m
+      go (placed j) o m = absurd m
+      go (retired f) o m = absurd m
+      go (emptied j) o m = absurd m

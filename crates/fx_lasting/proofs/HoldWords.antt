@@ -1,0 +1,161 @@
+-- Steps of a pass on its own hold word keep the rule: it announces a node, withdraws, or steps down.
+use Rattle.fx_lasting.proofs.Words.{◌≡◌, ℕ, ◌+◌, ◌<◌, List, [], ◌∷◌, sym, refl, ap, ◌∙◌, subst, arith, Option, none}
+use Rattle.fx_lasting.proofs.Words.{keeps, Closed, File, Event, Release, ◌▷◌, WorkAgrees, HoldAgrees, GuardAgrees, NamesNode, HoldsAt, state_after_all, nodes_of}
+use Rattle.fx_lasting.proofs.Words.{hold_of, held_in, held_of, if_file, taking, event_of, Work, Idle, Announced, Guarded, Owing}
+use Rattle.fx_lasting.proofs.Words.{Yielding, Hot, Announces, Withdraws, StepsDown, AnnouncesKeep, WithdrawsKeep, StepsDownKeep, Goes, announced}
+use Rattle.fx_lasting.proofs.Words.{step, inl, ⊎_elim, dite, ℕ_discrete, one_less_at, bit_here, sum_at, IsInside}
+use Rattle.fx_lasting.proofs.Words.{SearchAgrees}
+use Rattle.fx_lasting.proofs.Histories.{grows_none, grows_one, legal_more, part_mine, held_mine}
+use Rattle.fx_lasting.proofs.Frames.{busy}
+use Rattle.fx_lasting.proofs.Keeping.{Turn, turn_of, word_at, slot_word, Made, by_turn, its_log, its_work, tells, w}
+use Rattle.fx_lasting.proofs.Calm.{own_words, own_after, Own, own_kept}
+
+module _ (turn : Turn) (carried : List (ℕ × Option Closed)) where
+  open turn use {st, v, r, id, x, here, one}
+
+  abbrev word : ℕ
+  word = word_at st.words (hold_of v.start x.number)
+
+  -- a step that adds nothing to the history
+  module _ (new : ℕ) (d : Work) (calm : busy v.work ≡ 0) (untaken : (n : ℕ) → taking n d ≡ taking n v.work) (holds : held_in d ≡ held_in v.work) where
+    quiet : HoldAgrees new (r.debt x.number) d → GuardAgrees (slot_word (own_words turn new d)) r.phase x.number (r.debt x.number) d
+        → WorkAgrees v.start r.phase id d → SearchAgrees v.start x.number d → Own turn new d r.history
+    quiet hold guard work search = record {
+      grows = grows_none x.number r.history;
+      legal = r.legal;
+      at = refl;
+      fresh = refl;
+      removed = refl;
+      taken = untaken;
+      owners = calm;
+      held = (its_log turn).held ∙ sym holds;
+      search = search;
+      hold = hold;
+      guarded = guard;
+      work = work;
+      holds = λ n. let a = ap (if_file n) holds in omega arith;
+    }
+
+    goes_quiet : IsInside v.start d → Goes (v, carried) [] d v.glance (w turn (own_after turn new d r.history), carried)
+    goes_quiet inside = record {
+      stepped = tells turn (own_after turn new d r.history) carried carried [] (grows_none x.number r.history) r.legal refl inside;
+      carried = refl;
+    }
+
+  announce : (slots s n : ℕ) → v.work ≡ Idle → v.glance ≡ Hot s n → Made turn carried (hold_of v.start x.number) (λ _. announced n)
+      (λ _. Announces (step slots (hold_of v.start x.number) (announced n) 0 none) (v, carried) (announced n))
+  announce slots s n is saw = let o = rw is at (its_log turn).hold in
+      let inside : n < nodes_of v.start = (rw saw at (its_log turn).sees).1 in
+      let calm = ap busy is in let taken = λ (k : ℕ). sym (ap (taking k) is) in let holds = sym (ap held_in is) in (
+        w turn (own_after turn (announced n) (Announced n) r.history),
+        keeps,
+        tt,
+        own_kept turn (announced n) (Announced n) (quiet (announced n) (Announced n) calm taken holds (inl (refl, o.1)) tt inside tt),
+        record {
+          goes = λ i k saw'. let at : n ≡ k = cc (sym saw ∙ saw') in
+              let e = goes_quiet (announced n) (Announced n) calm taken holds inside in rw (← at) e;
+        },
+      )
+
+  withdraw : (slots n : ℕ) → v.work ≡ Announced n → Made turn carried (hold_of v.start x.number) (λ _. 0)
+      (Withdraws (step slots (hold_of v.start x.number) 0 0 none) (v, carried))
+  withdraw slots n is = let o : NamesNode word (r.debt x.number) n = rw is at (its_log turn).hold in
+      let inside : n < nodes_of v.start = subst (WorkAgrees v.start r.phase id) is (its_work turn) in
+      let calm = ap busy is in let holds = sym (ap held_in is) in dite (ℕ_discrete word (announced n))
+      (λ clean. let none_owed : r.debt x.number ≡ 0 = ⊎_elim (λ (c : (word ≡ n + 1) × (r.debt x.number ≡ 0)). c.1)
+      (λ (c : (word ≡ n + 1 + 4294967296) × (r.debt x.number ≡ n + 1)). absurd (let a = c.0 in omega arith)) o in
+      let taken = λ (k : ℕ). sym (ap (taking k) is) in (
+        w turn (own_after turn 0 Idle r.history),
+        keeps,
+        tt,
+        own_kept turn 0 Idle (quiet 0 Idle calm taken holds (refl, none_owed) tt tt tt),
+        record {
+          clean = λ k is' _. goes_quiet 0 Idle calm taken holds tt;
+          marked = λ k is' not_so. absurd (not_so (clean ∙ (let at : n ≡ k = cc (sym is ∙ is') in ap announced at)));
+        },
+      ))
+      (λ not_so. let owes : r.debt x.number ≡ n + 1 = ⊎_elim (λ (c : (word ≡ n + 1) × (r.debt x.number ≡ 0)). absurd (not_so c.0))
+      (λ (c : (word ≡ n + 1 + 4294967296) × (r.debt x.number ≡ n + 1)). c.1) o in
+      let taken = λ (k : ℕ). sym (ap (taking k) is) in (
+        w turn (own_after turn 0 (Owing n) r.history),
+        keeps,
+        tt,
+        own_kept turn 0 (Owing n) (quiet 0 (Owing n) calm taken holds (refl, owes) tt inside tt),
+        record {
+          clean = λ k is' clean. absurd (not_so (clean ∙ sym (let at : n ≡ k = cc (sym is ∙ is') in ap announced at)));
+          marked = λ k is' _. let at : n ≡ k = cc (sym is ∙ is') in rw (← at) (goes_quiet 0 (Owing n) calm taken holds inside);
+        },
+      ))
+
+  -- a release by the hold word
+  module _ (f : File) (n : ℕ) (is : v.work ≡ Guarded f n) where
+    abbrev h₁ : List Event
+    h₁ = event_of x (Release f) ∷ r.history
+
+    held_now : 0 < (state_after_all v.start r.history).holds f.number
+    held_now = let a = ap (λ (d : Work). if_file f.number (held_in d)) is in let b = bit_here f.number f.number refl in
+        omega (arith, r.holds f.number, sum_at (held_of f.number) st.views id v here, a, b)
+
+    released : r.debt x.number ≡ 0 → Own turn 0 Idle h₁
+    released none_owed = record {
+      grows = grows_one x.number r.history _ refl;
+      legal = legal_more v.start r.legal held_now ((its_log turn).held ∙ ap held_in is);
+      at = refl;
+      fresh = refl;
+      removed = refl;
+      taken = λ k. sym (ap (taking k) is);
+      owners = ap busy is;
+      held = held_mine (event_of x (Release f)) r.history refl;
+      search = tt;
+      hold = (refl, none_owed);
+      guarded = tt;
+      work = tt;
+      holds = λ m. let a = one_less_at (state_after_all v.start r.history).holds f.number m held_now in
+          let b = ap (λ (d : Work). if_file m (held_in d)) is in omega arith;
+    }
+
+    step_down : (slots : ℕ) → Made turn carried (hold_of v.start x.number) (λ _. 0)
+        (StepsDown (step slots (hold_of v.start x.number) 0 0 none) (v, carried))
+    step_down slots = let o : NamesNode word (r.debt x.number) n = rw is at (its_log turn).hold in
+        let its : HoldsAt v.start r.phase f n = subst (WorkAgrees v.start r.phase id) is (its_work turn) in dite (ℕ_discrete word (announced n))
+        (λ clean. let none_owed : r.debt x.number ≡ 0 = ⊎_elim (λ (c : (word ≡ n + 1) × (r.debt x.number ≡ 0)). c.1)
+        (λ (c : (word ≡ n + 1 + 4294967296) × (r.debt x.number ≡ n + 1)). absurd (let a = c.0 in omega arith)) o in
+        let own = released none_owed in (
+          w turn (own_after turn 0 Idle h₁),
+          keeps,
+          tt,
+          own_kept turn 0 Idle own,
+          record {
+            clean = λ h k is' _. let same : f ≡ h = cc (sym is ∙ is') in rw (← same) record {
+              stepped = tells turn (own_after turn 0 Idle h₁) carried carried ([] ▷ Release f) own.grows own.legal (part_mine r.history refl) tt;
+              carried = refl;
+            };
+            marked = λ h k is' not_so. absurd (not_so (clean ∙ (let at : n ≡ k = cc (sym is ∙ is') in ap announced at)));
+          },
+        ))
+        (λ not_so. let owes : r.debt x.number ≡ n + 1 = ⊎_elim (λ (c : (word ≡ n + 1) × (r.debt x.number ≡ 0)). absurd (not_so c.0))
+        (λ (c : (word ≡ n + 1 + 4294967296) × (r.debt x.number ≡ n + 1)). c.1) o in
+        let taken = λ (k : ℕ). sym (ap (taking k) is) in let calm = ap busy is in let holds = sym (ap held_in is) in (
+          w turn (own_after turn 0 (Yielding f n) r.history),
+          keeps,
+          tt,
+          own_kept turn 0 (Yielding f n) (quiet 0 (Yielding f n) calm taken holds (refl, owes) tt its tt),
+          record {
+            clean = λ h k is' clean. absurd (not_so (clean ∙ sym (let at : n ≡ k = cc (sym is ∙ is') in ap announced at)));
+            marked = λ h k is' _. let same : f ≡ h = cc (sym is ∙ is') in let at : n ≡ k = cc (sym is ∙ is') in
+                rw (← same, ← at) (goes_quiet 0 (Yielding f n) calm taken holds its.0);
+          },
+        ))
+
+pub announces_keep : AnnouncesKeep Announces
+announces_keep k slots id i s n m x has is saw place = by_turn slots (λ _. Unit {0}) (λ k. hold_of k x.number) (λ _. announced n)
+    (λ i _. Announces (step slots i (announced n) 0 none) m (announced n)) has tt place
+    (λ st r here _ fits. announce (turn_of m x has.1 id st r here) m.1 slots s n is saw)
+
+pub withdraws_keep : WithdrawsKeep Withdraws
+withdraws_keep k slots id i n m x has is place = by_turn slots (λ _. Unit {0}) (λ k. hold_of k x.number) (λ _. 0)
+    (λ i. Withdraws (step slots i 0 0 none) m) has tt place (λ st r here _ fits. withdraw (turn_of m x has.1 id st r here) m.1 slots n is)
+
+pub steps_down_keep : StepsDownKeep StepsDown
+steps_down_keep k slots id i n f m x has is place = by_turn slots (λ _. Unit {0}) (λ k. hold_of k x.number) (λ _. 0)
+    (λ i. StepsDown (step slots i 0 0 none) m) has tt place (λ st r here _ fits. step_down (turn_of m x has.1 id st r here) m.1 f n is slots)

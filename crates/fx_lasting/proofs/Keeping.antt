@@ -1,0 +1,263 @@
+-- A step of a seat with one pass keeps the rule, if it keeps what the step changes.
+use Rattle.fx_lasting.proofs.Words.{Contains, contains_head, contains_only, ◌≡◌, ◌≢◌, ℕ, ◌+◌, ◌<◌, ◌≤◌, List, [], ◌∷◌, ◌++◌, map, set, length, sym}
+use Rattle.fx_lasting.proofs.Words.{refl, ap, ◌∙◌, subst, arith, get_or, Option, inr, eq-eqb, eqb, some, get_elem?, Closed, part_of_pass, Event}
+use Rattle.fx_lasting.proofs.Words.{Action, sum_by, sum_set, sum_at, sum_of, sum_two, Bool, true, ⊎_elim, one_if, bit_here, once_is, held_by}
+use Rattle.fx_lasting.proofs.Words.{IsSeenBy, at_set, Allows, stepped, Act, Valid, carried_after, SlotAgrees, NodeAgrees, OwnerAgrees, WorkAgrees}
+use Rattle.fx_lasting.proofs.Words.{LogAgrees, ViewAgrees, lengths, Agrees, ControlCounts, HoldAgrees, GuardAgrees, GlanceAgrees, Heats, SearchAgrees}
+use Rattle.fx_lasting.proofs.Words.{count_in, control_place, slot_place, word_of, hold_of, Shared, slots_of, nodes_of, range_of, state_after_all}
+use Rattle.fx_lasting.proofs.Words.{IsHistory, held_in, held_of, taken_of, logs_of, owed, Nodes, Sat, Stepped, IsInside, event_of, HasPass, Phase}
+use Rattle.fx_lasting.proofs.Words.{free, removed_in, Change, Glance, Log, Start, View, Work, found_sum, found_by, at_index}
+use Rattle.fx_lasting.proofs.Histories.{Grows}
+use mathlib.Core.Option as maybe
+
+abbrev pub Homes : Type 0
+Homes = List (maybe.Option (Option Closed))
+
+abbrev pub word_at : List ℕ → ℕ → ℕ
+word_at words place = get_or words place 0
+
+-- the word of a slot
+abbrev pub slot_word : List ℕ → ℕ → ℕ
+slot_word words s = word_at words (slot_place s)
+
+abbrev pub now : View → Log → Work → Glance → Change → View
+now v y d g c = record v { logs = y ∷ []; work = d; glance = g; change = c }
+
+-- a pass that has seen the history, after one more step
+abbrev pub logged : Log → List Event → Log
+logged x h = record x { front = h; steps = x.steps + 1 }
+
+-- a seat with one pass, which makes the next step
+pub record Turn : Type 0 where
+  pub st : Shared
+  pub v : View
+  pub r : Agrees v.start st
+  pub id : ℕ
+  pub x : Log
+  pub here : get_elem? st.views id ≡ some v
+  pub one : v.logs ≡ x ∷ []
+
+-- the turn of the seat's pass, as laws of steps give it
+abbrev pub turn_of : (m : Sat) (x : Log) → m.0.logs ≡ x ∷ [] → (id : ℕ) (st : Shared) → Agrees m.0.start st → get_elem? st.views id ≡ some m.0 → Turn
+turn_of m x one id st r here = record { st = st; v = m.0; r = r; id = id; x = x; here = here; one = one }
+
+-- what a law asks for: the word at the place becomes f of what it was, and the seat learns of it
+abbrev pub Made : Turn → List (ℕ × Option Closed) → ℕ → (ℕ → ℕ) → (ℕ → Sat → Type 0) → Type 0
+Made turn carried i f told = (w : View) × (a : Act (Option Closed)) × Valid turn.st.homes carried a
+    × Agrees turn.v.start (stepped turn.st i (f (word_at turn.st.words i)) turn.id carried w a)
+    × told (word_at turn.st.words i) (w, carried_after carried a)
+
+-- a law whose premises are those of the seat's own beginning and of the word's own place
+pub by_turn : {k : Start} (slots : ℕ) {id i : ℕ} {m : Sat} {x : Log} (P : Start → Type 0) (place : Start → ℕ) (f : ℕ → ℕ)
+    (told : ℕ → ℕ → Sat → Type 0) (has : HasPass k m x) → P k → i ≡ place k
+    → ((st : Shared) (r : Agrees m.0.start st) (here : get_elem? st.views id ≡ some m.0) → P m.0.start
+    → word_at st.words (place m.0.start) < 18446744073709551616
+    → Made (turn_of m x has.1 id st r here) m.1 (place m.0.start) f (told (place m.0.start)))
+    → Allows (Agrees k) slots id m i f (told i)
+by_turn {k} slots {id} {i} {m} P place f told has its at does =
+    subst (λ (k : Start). P k → i ≡ place k → Allows (Agrees k) slots id m i f (told i)) has.0
+    (λ its at. subst (λ (i : ℕ). Allows (Agrees m.0.start) slots id m i f (told i)) (sym at) (λ st r deep here fits. does st r here its fits)) its at
+
+-- the one pass of a seat makes up what the seat counts for
+pub of_one : (f : Log → ℕ) {l : List Log} {x : Log} → l ≡ x ∷ [] → sum_by f l ≡ f x
+of_one f {l} {x} one = let e : sum_by f l ≡ 0 + f x = ap (sum_by f) one in omega arith
+
+-- a total over all passes, where the one pass of a seat counts for as much as before
+pub total_same : (f : Log → ℕ) (views : List View) (id : ℕ) {v : View} (w : View) {x y : Log} → get_elem? views id ≡ some v → v.logs ≡ x ∷ []
+    → w.logs ≡ y ∷ [] → f y ≡ f x → sum_by (λ (u : View). sum_by f u.logs) (set views id w) ≡ sum_by (λ (u : View). sum_by f u.logs) views
+total_same f views id {v} w here one one' same = let t = sum_set (λ (u : View). sum_by f u.logs) views id v w here in
+    let a = of_one f one in let b = of_one f one' in omega arith
+
+-- a pass that one view has is in no other one
+pub not_there : {k : Start} {st : Shared} → Agrees k st → {id j : ℕ} {v u : View} {x : Log}
+    → get_elem? st.views id ≡ some v → v.logs ≡ x ∷ [] → j ≢ id → get_elem? st.views j ≡ some u
+    → (y : Log) → Contains u.logs y → y.number ≢ x.number
+not_there {k} {st} r {id} {j} {v} {u} {x} here one other there y at same =
+    let t = sum_two (logs_of x.number) st.views j id u v other there here in
+    let a = r.passes x.number in
+    let c = of_one (λ z. one_if (eqb z.number x.number)) one in
+    let d = bit_here x.number x.number refl in
+    let e = sum_of (λ z. one_if (eqb z.number x.number)) u.logs y at in
+    let f = bit_here x.number y.number same in
+    omega (arith, once_is k.passes x.number)
+
+-- the number of each pass of the table
+pub its_range : {k : Start} {st : Shared} → Agrees k st → (j : ℕ) {u : View} → get_elem? st.views j ≡ some u → {y : Log} → Contains u.logs y
+    → (0 < y.number) × (y.number ≤ k.passes)
+its_range {k} {st} r j {u} there {y} at = let a = r.passes y.number in let t = sum_at (logs_of y.number) st.views j u there in
+    let e = sum_of (λ z. one_if (eqb z.number y.number)) u.logs y at in let f = bit_here y.number y.number refl in
+    (omega (arith, once_is k.passes y.number), omega (arith, once_is k.passes y.number))
+
+-- each pass of the table is in a view
+pub find_pass : {k : Start} {st : Shared} → Agrees k st → {p : ℕ} → 0 < p → p ≤ k.passes
+    → (j : ℕ) × (u : View) × (z : Log) × (get_elem? st.views j ≡ some u) × Contains u.logs z × (z.number ≡ p)
+find_pass {k} {st} r {p} low high = let a = found_sum (logs_of p) st.views (omega (arith, r.passes p, once_is k.passes p, low, high)) in
+    let b = found_by (λ (y : Log). y.number) p a.0.logs a.2 in
+    (a.1.0, a.0, b.0, at_index st.views a.1.0 a.0 a.1.1 (sym a.1.2), b.1, b.2)
+
+module _ (turn : Turn) where
+  open turn use {st, v, r, id, x, here, one}
+
+  has_x : Contains v.logs x
+  has_x = subst (λ (l : List Log). Contains l x) (sym one) (contains_head x [])
+
+  pub its_log : LogAgrees v.start r.history st.words r.phase r.debt r.over v.work v.glance x
+  its_log = (r.each_view id v here).logs x has_x
+
+  pub its_work : WorkAgrees v.start r.phase id v.work
+  its_work = (r.each_view id v here).work
+
+  pub in_range : (0 < x.number) × (x.number ≤ v.start.passes)
+  in_range = its_range r id here has_x
+
+  -- The words, the places and the rule's own names after a step
+  pub record After : Type 0 where
+    pub h : List Event
+    pub words : List ℕ
+    pub homes : Homes
+    pub phase : ℕ → Phase
+    pub node_of : Nodes
+    pub next_number : ℕ
+    pub debt : ℕ → ℕ
+    pub over : ℕ → ℕ → Bool
+    pub work : Work
+    pub glance : Glance
+    pub change : Change
+
+  module _ (a : After) where
+    abbrev pub w : View
+    w = now v (logged x a.h) a.work a.glance a.change
+
+    abbrev pub views' : List View
+    views' = set st.views id w
+
+    abbrev pub end : Shared
+    end = record { words = a.words; homes = a.homes; views = views' }
+
+    -- the pass q of another seat j relies on what is there
+    pub record Keeps (j q : ℕ) (d : Work) (g : Glance) : Type 0 where
+      pub hold : HoldAgrees (word_at a.words (hold_of v.start q)) (a.debt q) d
+      pub guarded : GuardAgrees (slot_word a.words) a.phase q (a.debt q) d
+      pub sees : GlanceAgrees v.start (slot_word a.words) (λ s. a.over s q) g
+      pub heats : Heats v.start (slot_word a.words) (λ s. a.over s q) g
+      pub work : WorkAgrees v.start a.phase j d
+
+    -- what a step has to keep
+    pub record Step : Type 0 where
+      pub words : length a.words ≡ length st.words
+      pub homes : length a.homes ≡ length st.homes
+      pub grows : Grows x.number r.history a.h
+      pub legal : IsHistory v.start a.h
+      pub slots : (s : ℕ) → s < slots_of v.start
+          → SlotAgrees v.start a.node_of a.phase (a.over s) s ((state_after_all v.start a.h).at s) (slot_word a.words s)
+      pub nodes : (n : ℕ) → n < nodes_of v.start → NodeAgrees (state_after_all v.start a.h).at (slots_of v.start)
+          (λ s. count_in (slot_word a.words s)) a.node_of a.next_number n (word_at a.words (word_of v.start n))
+          (sum_by (taken_of n) views') (owed a.debt v.start.passes n) (get_elem? a.homes n) (a.phase n)
+      pub owners : (n : ℕ) → n < nodes_of v.start → OwnerAgrees views' n (a.phase n)
+      pub removed : (number : ℕ) → (state_after_all v.start a.h).removed number ≡ removed_in number (a.phase (a.node_of number))
+      pub unborn : (n : ℕ) → nodes_of v.start ≤ n → a.phase n ≡ free
+      pub fresh : (number : ℕ) → a.next_number ≤ number → (state_after_all v.start a.h).fresh number ≡ true
+      pub others : (j : ℕ) (u : View) (z : Log) → j ≢ id → get_elem? st.views j ≡ some u → Contains u.logs z → z.number ≢ x.number
+          → (0 < z.number) × (z.number ≤ v.start.passes)
+          → LogAgrees v.start r.history st.words r.phase r.debt r.over u.work u.glance z → WorkAgrees v.start r.phase j u.work
+          → Keeps j z.number u.work u.glance
+      pub held : held_by a.h x.number ≡ held_in a.work
+      pub search : SearchAgrees v.start x.number a.work
+      pub its : Keeps id x.number a.work a.glance
+      pub holds : (n : ℕ) → (state_after_all v.start a.h).holds n + held_of n v ≡ (state_after_all v.start r.history).holds n + held_of n w
+      pub control : ControlCounts (state_after_all v.start a.h).at (range_of v.start) views' (word_at a.words control_place)
+
+    module _ (s : Step) where
+      other_log : (j : ℕ) (u : View) (z : Log) → j ≢ id → get_elem? st.views j ≡ some u → Contains u.logs z
+          → LogAgrees v.start a.h a.words a.phase a.debt a.over u.work u.glance z
+      other_log j u z other there at = let o = (r.each_view j u there).logs z at in let n = not_there r here one other there z at in
+          let k = s.others j u z other there at n (its_range r j there at) o (r.each_view j u there).work in
+          record {
+            seen = s.grows.seen z.front o.seen;
+            own = s.grows.parts z.number (λ same. n (sym same)) ∙ o.own;
+            held = s.grows.helds z.number (λ same. n (sym same)) ∙ o.held;
+            search = o.search;
+            hold = k.hold;
+            guarded = k.guarded;
+            sees = k.sees;
+            heats = k.heats;
+          }
+
+      -- a seat without passes does nothing
+      other_work : (j : ℕ) (u : View) → j ≢ id → get_elem? st.views j ≡ some u → WorkAgrees v.start a.phase j u.work
+      other_work j u other there = go u.logs refl
+        where
+          go : (l : List Log) → u.logs ≡ l → WorkAgrees v.start a.phase j u.work
+          go [] none = subst (WorkAgrees v.start a.phase j) (sym ((r.each_view j u there).empty none).0) tt
+          go (z ∷ l) is = let at = subst (λ (l : List Log). Contains l z) (sym is) (contains_head z l) in
+              (s.others j u z other there at (not_there r here one other there z at) (its_range r j there at)
+              ((r.each_view j u there).logs z at) (r.each_view j u there).work).work
+
+      its_own : LogAgrees v.start a.h a.words a.phase a.debt a.over a.work a.glance (logged x a.h)
+      its_own = let seen : IsSeenBy a.h a.h = ([], refl) in record {
+        seen = seen;
+        own = refl;
+        held = s.held;
+        search = s.search;
+        hold = s.its.hold;
+        guarded = s.its.guarded;
+        sees = s.its.sees;
+        heats = s.its.heats;
+      }
+
+      pub step_kept : Agrees v.start end
+      step_kept = record {
+        shape = let a = r.shape in assumption (s.words ∙ a.words, s.homes ∙ a.homes);
+        history = a.h;
+        phase = a.phase;
+        node_of = a.node_of;
+        next_number = a.next_number;
+        debt = a.debt;
+        over = a.over;
+        legal = s.legal;
+        each_slot = s.slots;
+        each_node = s.nodes;
+        each_owner = s.owners;
+        removed = s.removed;
+        unborn = s.unborn;
+        fresh = s.fresh;
+        each_view = λ j u e. ⊎_elim (λ (t : (j ≡ id) × (w ≡ u)).
+            subst (λ (z : ℕ × View). ViewAgrees v.start a.h a.words a.phase a.debt a.over z.0 z.1) (λ i. (sym t.0 i, t.1 i)) record {
+              logs = λ z h. subst (LogAgrees v.start a.h a.words a.phase a.debt a.over a.work a.glance)
+                  (sym (contains_only (logged x a.h) z h)) its_own;
+              work = s.its.work;
+              empty = λ none. absurd (omega (arith, ap (length {A = Log}) none));
+              start = inr refl;
+            }) (λ (t : (j ≢ id) × (get_elem? st.views j ≡ some u)). record {
+              logs = λ z h. other_log j u z t.0 t.1 h;
+              work = other_work j u t.0 t.1;
+              empty = (r.each_view j u t.1).empty;
+              start = (r.each_view j u t.1).start;
+            }) (at_set st.views id j w u e);
+        holds = λ n. let t = sum_set (held_of n) st.views id v w here in let a = r.holds n in let b = s.holds n in omega arith;
+        passes = λ p. total_same (λ z. one_if (eqb z.number p)) st.views id w here one refl refl ∙ r.passes p;
+        whole = let t = sum_set lengths st.views id v w here in let e = ap (length {A = Log}) one in let b = r.whole in omega arith;
+        authors = λ p none. let t = r.passes p in let u = sum_at (logs_of p) st.views id v here in
+            let its_one : x.number ≡ p → logs_of p v ≡ 1 =
+            λ same. of_one (λ z. one_if (eqb z.number p)) one ∙ rw (eq-eqb x.number p same) refl in
+            s.grows.parts p (λ same. let a = its_one same in omega arith) ∙ r.authors p none;
+        control = s.control;
+      }
+
+  -- the effect of the step on its pass
+  pub tells : (a : After) (carried homes : List (ℕ × Option Closed)) (actions : List Action) → Grows x.number r.history a.h
+      → IsHistory v.start a.h → part_of_pass x.number a.h ≡ map (event_of x) actions ++ part_of_pass x.number r.history
+      → IsInside v.start a.work → Stepped (v, carried) actions a.work a.glance a.change (w a, homes)
+  tells a carried homes actions grows legal own inside = let o = its_log in rw one record {
+    one = (logged x a.h, refl);
+    number = refl;
+    seen = grows.seen x.front o.seen;
+    legal = legal;
+    own = own ∙ ap (λ (l : List Event). map (event_of x) actions ++ l) o.own;
+    steps = refl;
+    work = refl;
+    inside = inside;
+    glance = refl;
+    change = refl;
+    start = refl;
+  }

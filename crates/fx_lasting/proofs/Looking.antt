@@ -1,0 +1,241 @@
+-- A look-up loads the slot's word: at first, and again when it has announced a node.
+use Rattle.fx_lasting.proofs.Words.{◌≡◌, ◌≢◌, ℕ, ◌+◌, ◌-◌, ◌<◌, List, [], ◌∷◌, sym, refl, ap, ◌∙◌, subst, arith, Option, Some, None, none, keeps}
+use Rattle.fx_lasting.proofs.Words.{Closed, File, Event, Look, ◌▷◌, WorkAgrees, GuardAgrees, GlanceAgrees, Heats, NamesNode, Names, IsSeated}
+use Rattle.fx_lasting.proofs.Words.{state_after_all, slots_of, nodes_of, held_in, if_file, taking, event_of, seated, file_in, Work, Glance, Idle}
+use Rattle.fx_lasting.proofs.Words.{Announced, Guarded, Hot, Cold, Heating, Nothing, Glances, Confirms, GlancesKeep, ConfirmsKeep, Goes, Shows, IsHot}
+use Rattle.fx_lasting.proofs.Words.{hot_in, name_in, slot_place, step, inl, inr, ⊎_elim, ◌⊎◌, dite, ℕ_discrete, one_more_at, Bool, true, false}
+use Rattle.fx_lasting.proofs.Words.{hold_of, IsHistory, Start, IsInside}
+use Rattle.fx_lasting.proofs.Histories.{grows_none, grows_one, legal_more, part_mine, held_mine, same_shape}
+use Rattle.fx_lasting.proofs.Frames.{busy}
+use Rattle.fx_lasting.proofs.Keeping.{Turn, turn_of, After, word_at, slot_word, Made, by_turn, its_log, its_work, tells, w}
+use Rattle.fx_lasting.proofs.Calm.{read_after, Reads, read_kept}
+use Rattle.fx_lasting.proofs.Places.{slot_back}
+
+module _ (turn : Turn) (s : ℕ) (inside : s < slots_of turn.v.start) where
+  open turn use {st, v, r, id, x, here, one}
+
+  abbrev pub word : ℕ
+  word = slot_word st.words s
+
+  abbrev pub there : Option File
+  there = (state_after_all v.start r.history).at s
+
+  pub size_so : s < (state_after_all v.start r.history).size
+  size_so = let z = (same_shape v.start r.history).0 in omega arith
+
+  -- the file that the word names is at the slot, on its node
+  pub named : {n : ℕ} → name_in word ≡ n + 1
+      → (f : File) × (there ≡ Some f) × Shows word f × (n < nodes_of v.start) × (r.phase n ≡ seated s f)
+  named {n} is = let o = r.each_slot s inside in go there refl o.names o.seat
+    where
+      go : (found : Option File) → there ≡ found → Names r.node_of word found → IsSeated v.start r.node_of r.phase s found
+          → (f : File) × (there ≡ Some f) × Shows word f × (n < nodes_of v.start) × (r.phase n ≡ seated s f)
+      go None at names seat = absurd (omega arith)
+      go (Some f) at names seat = let a = names.0 in let same : r.node_of f.number ≡ n = omega arith in
+          (f, at, names.1, rw same at seat.0, rw same at seat.1)
+
+  pub unnamed : name_in word ≡ 0 → there ≡ None
+  unnamed is = let o = r.each_slot s inside in go there refl o.names
+    where
+      go : (found : Option File) → there ≡ found → Names r.node_of word found → there ≡ None
+      go None at names = at
+      go (Some f) at names = let a = names.0 in absurd (omega arith)
+
+  -- a name is 0 or that of a node
+  pub name_cases : (name_in word ≡ 0) ⊎ ((n : ℕ) × (name_in word ≡ n + 1))
+  name_cases = dite (ℕ_discrete (name_in word) 0) (λ e. inl e) (λ some. inr (name_in word - 1, omega (arith, some)))
+
+  -- a slot that isn't hot: the pass isn't over
+  not_over : (IsHot word → ⊥) → ((t : ℕ) → v.glance ≢ Heating t) → r.over s x.number ≡ false
+  not_over cold calm = go (r.over s x.number) refl
+    where
+      go : (b : Bool) → r.over s x.number ≡ b → r.over s x.number ≡ false
+      go false is = is
+      go true is = absurd (⊎_elim cold (λ e. calm s e) ((its_log turn).heats s inside is))
+
+  hot_cases : (IsHot word → ⊥) ⊎ IsHot word
+  hot_cases = dite (ℕ_discrete (hot_in word) 1) (λ h. inr h) (λ c. inl c)
+
+  -- each slot where the pass is over is hot, whatever it does next
+  pub heats_all : ((t : ℕ) → v.glance ≢ Heating t) → (e : Glance) → Heats v.start (slot_word st.words) (λ i. r.over i x.number) e
+  heats_all calm e = λ i l is. ⊎_elim (λ h. inl h) (λ z. absurd (calm i z)) ((its_log turn).heats i l is)
+
+  -- a load that adds nothing to the history
+  module _ (d : Work) (works : v.work ≡ d) (g : Glance) (calm : (t : ℕ) → v.glance ≢ Heating t)
+      (sees : GlanceAgrees v.start (slot_word st.words) (λ i. r.over i x.number) g) (knows : IsInside v.start d) where
+    abbrev pub quiet_after : After turn
+    quiet_after = read_after turn d g r.history
+
+    pub quiet : Reads turn d g r.history
+    quiet = let o = its_log turn in record {
+      grows = grows_none x.number r.history;
+      legal = r.legal;
+      at = refl;
+      fresh = refl;
+      removed = refl;
+      taken = λ n. sym (ap (taking n) works);
+      owners = inl (sym works);
+      held = o.held ∙ ap held_in works;
+      search = rw works at o.search;
+      its = record {
+        hold = rw works at o.hold;
+        guarded = rw works at o.guarded;
+        sees = sees;
+        heats = heats_all calm g;
+        work = subst (WorkAgrees v.start r.phase id) works (its_work turn);
+      };
+      holds = λ n. let a = ap (λ (e : Work). if_file n (held_in e)) works in omega arith;
+    }
+
+    pub goes_quiet : (carried : List (ℕ × Option Closed)) → Goes (v, carried) [] d g (w turn quiet_after, carried)
+    goes_quiet carried = record {
+      stepped = tells turn quiet_after carried carried [] (grows_none x.number r.history) r.legal refl knows;
+      carried = refl;
+    }
+
+  -- an empty slot
+  abbrev pub h₀ : List Event
+  h₀ = event_of x (Look s None) ∷ r.history
+
+  legal₀ : there ≡ None → IsHistory v.start h₀
+  legal₀ is = legal_more v.start r.legal (size_so, sym is) tt
+
+  found_empty : v.work ≡ Idle → v.glance ≡ Nothing → there ≡ None → Reads turn Idle Nothing h₀
+  found_empty works nothing is = let o = its_log turn in let h = rw works at o.hold in record {
+    grows = grows_one x.number r.history _ refl;
+    legal = legal₀ is;
+    at = refl;
+    fresh = refl;
+    removed = refl;
+    taken = λ n. sym (ap (taking n) works);
+    owners = inl (sym works);
+    held = held_mine (event_of x (Look s None)) r.history refl;
+    search = tt;
+    its = record { hold = h; guarded = tt; sees = tt; heats = heats_all (λ t e. cc (sym nothing ∙ e)) Nothing; work = tt };
+    holds = λ n. let a = ap (λ (e : Work). if_file n (held_in e)) works in omega arith;
+  }
+
+  pub glance : (slots : ℕ) (carried : List (ℕ × Option Closed)) → v.work ≡ Idle → v.glance ≡ Nothing
+      → Made turn carried (slot_place s) (λ word. word) (Glances (step slots (slot_place s) 0 0 none) (v, carried))
+  glance slots carried works nothing = let calm : (t : ℕ) → v.glance ≢ Heating t = λ t e. cc (sym nothing ∙ e) in ⊎_elim
+      (λ (none_named : name_in word ≡ 0). let e = found_empty works nothing (unnamed none_named) in (
+        w turn (read_after turn Idle Nothing h₀),
+        keeps,
+        tt,
+        read_kept turn Idle Nothing (slot_place s) e,
+        record {
+          empty = λ _. rw (slot_back s) record {
+            stepped = tells turn (read_after turn Idle Nothing h₀) carried carried ([] ▷ Look s None) e.grows e.legal (part_mine r.history refl) tt;
+            carried = refl;
+          };
+          cold = λ n is _. absurd (omega arith);
+          hot = λ n is _. absurd (omega arith);
+        },
+      ))
+      (λ (z : (n : ℕ) × (name_in word ≡ n + 1)). let o = named z.1 in ⊎_elim
+      (λ cold. let sees : GlanceAgrees v.start (slot_word st.words) (λ i. r.over i x.number) (Cold s) = (inside, not_over cold calm) in (
+        w turn (quiet_after Idle works (Cold s) calm sees tt),
+        keeps,
+        tt,
+        read_kept turn Idle (Cold s) (slot_place s) (quiet Idle works (Cold s) calm sees tt),
+        record {
+          empty = λ is. absurd (let a = z.1 in omega arith);
+          cold = λ n is _. rw (slot_back s) (goes_quiet Idle works (Cold s) calm sees tt carried);
+          hot = λ n is hot. absurd (cold hot);
+        },
+      ))
+      (λ hot. let sees : GlanceAgrees v.start (slot_word st.words) (λ i. r.over i x.number) (Hot s z.0) = (inside, o.3, inl (z.1, hot)) in (
+        w turn (quiet_after Idle works (Hot s z.0) calm sees tt),
+        keeps,
+        tt,
+        read_kept turn Idle (Hot s z.0) (slot_place s) (quiet Idle works (Hot s z.0) calm sees tt),
+        record {
+          empty = λ is. absurd (let a = z.1 in omega arith);
+          cold = λ n is cold. absurd (cold hot);
+          hot = λ n is _. let same : z.0 ≡ n = (let a = z.1 in omega arith) in
+              rw (← same, slot_back s) (goes_quiet Idle works (Hot s z.0) calm sees tt carried, o.3);
+        },
+      )) hot_cases)
+      name_cases
+
+  -- a file that is there still, and hot
+  module _ (n : ℕ) (works : v.work ≡ Announced n) (saw : v.glance ≡ Hot s n) where
+    calm_hot : (t : ℕ) → v.glance ≢ Heating t
+    calm_hot t e = cc (sym saw ∙ e)
+
+    module _ (f : File) (is : there ≡ Some f) (l : n < nodes_of v.start) (at : r.phase n ≡ seated s f) (hot : IsHot word) where
+      abbrev h₁ : List Event
+      h₁ = event_of x (Look s (Some f)) ∷ r.history
+
+      -- the announcement isn't marked
+      unmarked : NamesNode (word_at st.words (hold_of v.start x.number)) (r.debt x.number) n
+      unmarked = rw works at (its_log turn).hold
+
+      found_file : Reads turn (Guarded f n) Nothing h₁
+      found_file = let guarded : GuardAgrees (slot_word st.words) r.phase x.number (r.debt x.number) (Guarded f n) = λ _. rw at hot in record {
+        grows = grows_one x.number r.history _ refl;
+        legal = legal_more v.start r.legal (size_so, sym is) tt;
+        at = refl;
+        fresh = refl;
+        removed = refl;
+        taken = λ k. sym (ap (taking k) works);
+        owners = inr (ap busy works);
+        held = held_mine (event_of x (Look s (Some f))) r.history refl;
+        search = tt;
+        its = record { hold = unmarked; guarded = guarded; sees = tt; heats = heats_all calm_hot Nothing; work = (l, ap file_in at) };
+        holds = λ m. let a = one_more_at (state_after_all v.start r.history).holds f.number m in
+            let b = ap (λ (e : Work). if_file m (held_in e)) works in omega arith;
+      }
+
+    moved_on : ((name_in word ≡ n + 1) × IsHot word → ⊥) → r.over s x.number ≡ false
+    moved_on not_so = let o = rw saw at (its_log turn).sees in ⊎_elim (λ z. absurd (not_so z)) (λ out. out) o.2
+
+    pub confirm : (slots : ℕ) (carried : List (ℕ × Option Closed))
+        → Made turn carried (slot_place s) (λ word. word) (Confirms (step slots (slot_place s) 0 0 none) (v, carried))
+    confirm slots carried = ⊎_elim
+        (λ (so : (name_in word ≡ n + 1) × IsHot word). let o = named so.0 in let e = found_file o.0 o.1 o.3 o.4 so.1 in (
+          w turn (read_after turn (Guarded o.0 n) Nothing (h₁ o.0 o.1 o.3 o.4 so.1)),
+          keeps,
+          tt,
+          read_kept turn (Guarded o.0 n) Nothing (slot_place s) e,
+          record {
+            holds = λ i k saw' works' names is_hot. let at : s ≡ i = cc (sym saw ∙ saw') in let same : n ≡ k = cc (sym saw ∙ saw') in
+                rw (← at, ← same) (
+                  o.0,
+                  o.2,
+                  record {
+                    stepped = tells turn (read_after turn (Guarded o.0 n) Nothing (h₁ o.0 o.1 o.3 o.4 so.1)) carried carried
+                        ([] ▷ Look s (Some o.0)) e.grows e.legal (part_mine r.history refl) o.3;
+                    carried = refl;
+                  },
+                );
+            moved = λ i k saw' works' not_so. let same : n ≡ k = cc (sym saw ∙ saw') in absurd (not_so (rw (← same) so));
+          },
+        ))
+        (λ not_so. let sees : GlanceAgrees v.start (slot_word st.words) (λ i. r.over i x.number) (Cold s) = (inside, moved_on not_so) in let l = subst (WorkAgrees v.start r.phase id) works (its_work turn) in (
+          w turn (quiet_after (Announced n) works (Cold s) calm_hot sees l),
+          keeps,
+          tt,
+          read_kept turn (Announced n) (Cold s) (slot_place s) (quiet (Announced n) works (Cold s) calm_hot sees l),
+          record {
+            holds = λ i k saw' works' names is_hot. let same : n ≡ k = cc (sym saw ∙ saw') in absurd (not_so (rw same (names, is_hot)));
+            moved = λ i k saw' works' _. let at : s ≡ i = cc (sym saw ∙ saw') in let same : n ≡ k = cc (sym saw ∙ saw') in
+                rw (← at, ← same) (goes_quiet (Announced n) works (Cold s) calm_hot sees l carried);
+          },
+        ))
+        still_so
+      where
+        still_so : ((name_in word ≡ n + 1) × IsHot word) ⊎ ((name_in word ≡ n + 1) × IsHot word → ⊥)
+        still_so = dite (ℕ_discrete (name_in word) (n + 1)) (λ a. ⊎_elim (λ c. inr (λ z. c z.1)) (λ h. inl (a, h)) hot_cases)
+            (λ a. inr (λ z. a z.0))
+
+pub glances_keep : GlancesKeep Glances
+glances_keep k slots id i s m x has nothing inside place = by_turn slots (λ (k : Start). s < slots_of k) (λ _. slot_place s) (λ word. word)
+    (λ i. Glances (step slots i 0 0 none) m) has inside place
+    (λ st r here inside fits. glance (turn_of m x has.1 id st r here) s inside slots m.1 nothing.0 nothing.1)
+
+pub confirms_keep : ConfirmsKeep Confirms
+confirms_keep k slots id i s n m x has works saw place = by_turn slots (λ _. Unit {0}) (λ _. slot_place s) (λ word. word)
+    (λ i. Confirms (step slots i 0 0 none) m) has tt place
+    (λ st r here _ fits. let turn = turn_of m x has.1 id st r here in let o = rw saw at (its_log turn).sees in
+    confirm turn s o.0 n works saw slots m.1)

@@ -1,0 +1,161 @@
+-- A step on one node, at which no slot changes: on its word and place, or on the hold word of a pass that names it.
+use Rattle.fx_lasting.proofs.Words.{◌≡◌, ◌≢◌, ℕ, ◌+◌, ◌<◌, ◌≤◌, List, set, length, sym, refl, ap, ◌∙◌, subst, arith, Option, Some, Bool, some}
+use Rattle.fx_lasting.proofs.Words.{get_elem?, held_by, changed_at, File, Event, range_of, NodeAgrees, OwnerAgrees, WorkAgrees, SearchAgrees, Agrees}
+use Rattle.fx_lasting.proofs.Words.{full_in, slots_of, nodes_of, IsHistory, state_after_all, held_in, held_of, taken_of, taking, owed, Phase, free}
+use Rattle.fx_lasting.proofs.Words.{seated, owner, file_in, removed_in, View, Work, ⊎_elim, ◌⊎◌, inr, control_place, word_of, hold_of, count_in}
+use Rattle.fx_lasting.proofs.Words.{name_in, IsInBlock, sum_by, sum_set, HoldAgrees, GuardAgrees, MayBeUnmarked, Glance}
+use Rattle.fx_lasting.proofs.Histories.{Grows, each_changed}
+use Rattle.fx_lasting.proofs.Frames.{busy, owner_stays, slot_same, node_same, control_same, Leaves, keeps_other, one_block}
+use Rattle.fx_lasting.proofs.Frames.{sees_same, heats_same, covers_same, guards_same}
+use Rattle.fx_lasting.proofs.Keeping.{Turn, After, Keeps, Homes, word_at, slot_word, step_kept, w, end, in_range, its_log}
+
+module _ (turn : Turn) (q : ℕ) (its : q < nodes_of turn.v.start) (ph : Phase) (h' : List Event) (words' : List ℕ) (homes' : Homes)
+    (debt' : ℕ → ℕ) (d : Work) (g : Glance) where
+  open turn use {st, v, r, id, x, here, one}
+
+  abbrev pub after : After turn
+  after = record {
+    h = h';
+    words = words';
+    homes = homes';
+    phase = changed_at r.phase q ph;
+    node_of = r.node_of;
+    next_number = r.next_number;
+    debt = debt';
+    over = r.over;
+    work = d;
+    glance = g;
+    change = v.change;
+  }
+
+  abbrev before : ℕ → Option File
+  before = (state_after_all v.start r.history).at
+
+  -- what the step has to keep
+  pub record NodeStep : Type 0 where
+    pub words : length words' ≡ length st.words
+    pub homes : length homes' ≡ length st.homes
+    pub grows : Grows x.number r.history h'
+    pub legal : IsHistory v.start h'
+    -- the history changes no slot, and of removed files only the node's
+    pub at : (state_after_all v.start h').at ≡ before
+    pub fresh : (state_after_all v.start h').fresh ≡ (state_after_all v.start r.history).fresh
+    pub removed : (number : ℕ) → (state_after_all v.start h').removed number ≡ removed_in number (changed_at r.phase q ph (r.node_of number))
+    pub slot_words : (s : ℕ) → s < slots_of v.start → slot_word words' s ≡ slot_word st.words s
+    pub control_word : word_at words' control_place ≡ word_at st.words control_place
+    -- other nodes
+    pub node_words : (n : ℕ) → n < nodes_of v.start → n ≢ q → word_at words' (word_of v.start n) ≡ word_at st.words (word_of v.start n)
+    pub home_else : (n : ℕ) → n < nodes_of v.start → n ≢ q → get_elem? homes' n ≡ get_elem? st.homes n
+    pub owed_else : (n : ℕ) → n ≢ q → owed debt' v.start.passes n ≡ owed r.debt v.start.passes n
+    pub taken_else : (n : ℕ) → n ≢ q → taking n d ≡ taking n v.work
+    pub free_else : (n : ℕ) → n ≢ q → busy v.work ≢ n + 1
+    -- the node: nobody but the pass relies on its phase, and a file at a slot stays there
+    pub may : (ph ≡ r.phase q) ⊎ ((owner (r.phase q) ≡ 0) ⊎ (owner (r.phase q) ≡ id + 1))
+    pub its_block : r.phase q ≡ free → IsInBlock v.start x.number q
+    pub at_slot : (s : ℕ) (f : File) → r.phase q ≡ seated s f → ph ≡ seated s f
+    pub open_file : (j : ℕ) (u : View) (f : File) → j ≢ id → get_elem? st.views j ≡ some u → held_in u.work ≡ Some f
+        → file_in (r.phase q) ≡ Some f → file_in ph ≡ Some f
+    pub guards : (p : ℕ) (e : Work) → p ≢ x.number → (0 < p) × (p ≤ v.start.passes)
+        → HoldAgrees (word_at st.words (hold_of v.start p)) (r.debt p) e → GuardAgrees (slot_word st.words) r.phase p (r.debt p) e
+        → HoldAgrees (word_at words' (hold_of v.start p)) (debt' p) e × GuardAgrees (slot_word words') (changed_at r.phase q ph) p (debt' p) e
+    pub node : NodeAgrees before (slots_of v.start) (λ s. count_in (slot_word st.words s)) r.node_of r.next_number q
+        (word_at words' (word_of v.start q)) (sum_by (taken_of q) (set st.views id (w turn after))) (owed debt' v.start.passes q)
+        (get_elem? homes' q) ph
+    pub known : OwnerAgrees (set st.views id (w turn after)) q ph
+    -- the pass
+    pub held : held_by h' x.number ≡ held_in d
+    pub search : SearchAgrees v.start x.number d
+    pub its_own : Keeps turn after id x.number d g
+    pub holds : (n : ℕ) → (state_after_all v.start h').holds n + held_of n v ≡ (state_after_all v.start r.history).holds n + held_of n (w turn after)
+
+  -- The pass itself, where no slot's word has changed and it sees what it saw
+  pub own_keeps : ((s : ℕ) → s < slots_of v.start → slot_word words' s ≡ slot_word st.words s) → v.glance ≡ g
+      → HoldAgrees (word_at words' (hold_of v.start x.number)) (debt' x.number) d
+      → GuardAgrees (slot_word words') (changed_at r.phase q ph) x.number (debt' x.number) d → WorkAgrees v.start (changed_at r.phase q ph) id d
+      → Keeps turn after id x.number d g
+  own_keeps same is hold guard work = let o = its_log turn in record {
+    hold = hold;
+    guarded = guard;
+    sees = sees_same v.start (λ s. r.over s x.number) same g (rw is at o.sees);
+    heats = heats_same v.start (λ s. r.over s x.number) same g (rw is at o.heats);
+    work = work;
+  }
+
+  -- another pass, whose hold word and debt have not changed
+  pub guards_else : ((s : ℕ) → s < slots_of v.start → slot_word words' s ≡ slot_word st.words s) → (p : ℕ) (e : Work)
+      → word_at words' (hold_of v.start p) ≡ word_at st.words (hold_of v.start p) → debt' p ≡ r.debt p
+      → (MayBeUnmarked (slot_word st.words) p (r.phase q) → MayBeUnmarked (slot_word words') p ph)
+      → HoldAgrees (word_at st.words (hold_of v.start p)) (r.debt p) e → GuardAgrees (slot_word st.words) r.phase p (r.debt p) e
+      → HoldAgrees (word_at words' (hold_of v.start p)) (debt' p) e × GuardAgrees (slot_word words') (changed_at r.phase q ph) p (debt' p) e
+  guards_else same p e held owes here = guards_same turn after p e held owes (λ n. each_changed
+      (λ m z. MayBeUnmarked (slot_word st.words) p (r.phase m) → MayBeUnmarked (slot_word words') p z) r.phase
+      (λ is may. here (rw is at may)) (λ _. covers_same turn words' same p n))
+
+  module _ (s : NodeStep) where
+    at_is : (slot : ℕ) → (state_after_all v.start h').at slot ≡ before slot
+    at_is slot = ap (λ (f : ℕ → Option File). f slot) s.at
+
+    leaves : Leaves turn after
+    leaves = record {
+      guards = s.guards;
+      owned = λ n some not_mine. each_changed (λ m z. z ≡ r.phase m) r.phase
+          (λ same. ⊎_elim (λ still. still ∙ ap r.phase (sym same)) (λ z. let e = ap (λ (m : ℕ). owner (r.phase m)) same in
+          absurd (⊎_elim (λ none. some (e ∙ none)) (λ mine. not_mine (e ∙ mine)) z)) s.may)
+          (λ other. refl);
+      spare = λ n p is low block other. each_changed (λ m z. z ≡ free) r.phase
+          (λ same. absurd (other (one_block v.start low (in_range turn).0 block
+          (subst (IsInBlock v.start x.number) (sym same) (s.its_block (ap r.phase (sym same) ∙ is))))))
+          (λ _. is);
+      open_file = λ j u f n other there holds at. (
+        at.0,
+        each_changed (λ m z. file_in z ≡ Some f) r.phase
+            (λ same. s.open_file j u f other there holds (ap (λ (m : ℕ). file_in (r.phase m)) (sym same) ∙ at.1)) (λ _. at.1),
+      );
+      slots = λ i p l other. inr (refl, ap name_in (s.slot_words i l), λ hot. rw (s.slot_words i l) hot);
+    }
+
+    pub node_kept : Agrees v.start (end turn after)
+    node_kept = step_kept turn after record {
+      words = s.words;
+      homes = s.homes;
+      grows = s.grows;
+      legal = s.legal;
+      slots = λ i l. slot_same (s.slot_words i l) (at_is i) refl
+          (λ f there seat. (
+            refl,
+            each_changed (λ m z. z ≡ r.phase m) r.phase
+                (λ same. let e = ap r.phase (sym same) ∙ seat in s.at_slot i f e ∙ (sym e ∙ ap r.phase (sym same))) (λ _. refl),
+          ))
+          (r.each_slot i l);
+      nodes = λ n l. each_changed (λ n z. NodeAgrees (state_after_all v.start h').at (slots_of v.start)
+          (λ i. count_in (slot_word words' i)) r.node_of r.next_number n (word_at words' (word_of v.start n))
+          (sum_by (taken_of n) (set st.views id (w turn after))) (owed debt' v.start.passes n) (get_elem? homes' n) z) r.phase
+          (λ same. rw same (node_same (slots_of v.start) q (omega arith) (λ m u. refl) refl refl refl refl ph
+          (λ i f is there. (at_is i, ap count_in (s.slot_words i (inside i f is)))) s.node))
+          (λ other. node_same (slots_of v.start) n (omega arith) (λ m u. refl) (s.node_words n l other)
+          (let t = sum_set (taken_of n) st.views id v (w turn after) here in let e = s.taken_else n other in omega arith)
+          (s.owed_else n other) (s.home_else n l other) (r.phase n)
+          (λ i f is there. (at_is i, ap count_in (s.slot_words i (inside_else n l i f is)))) (r.each_node n l));
+      owners = λ n l. each_changed (OwnerAgrees (set st.views id (w turn after))) r.phase
+          (λ same. rw same s.known) (λ other. owner_stays st.views id v (w turn after) here n (s.free_else n other) (r.phase n) (r.each_owner n l));
+      removed = s.removed;
+      unborn = λ n l. each_changed (λ m z. z ≡ free) r.phase (λ same. absurd (omega (arith, same, l, its))) (λ _. r.unborn n l);
+      fresh = λ number l. ap (λ (f : ℕ → Bool). f number) s.fresh ∙ r.fresh number l;
+      others = λ j u z other there at n range o work. keeps_other turn after leaves j u z other there n range o work;
+      held = s.held;
+      search = s.search;
+      its = s.its_own;
+      holds = s.holds;
+      control = control_same st.views id v (w turn after) here (ap (λ (f : ℕ → Option File). full_in f (range_of v.start).0 (range_of v.start).1) s.at)
+          s.control_word refl r.control;
+    }
+      where
+        inside : (i : ℕ) (f : File) → ph ≡ seated i f → i < slots_of v.start
+        inside i f is = (subst (NodeAgrees before (slots_of v.start) (λ s. count_in (slot_word st.words s)) r.node_of r.next_number q
+            (word_at words' (word_of v.start q)) (sum_by (taken_of q) (set st.views id (w turn after))) (owed debt' v.start.passes q)
+            (get_elem? homes' q)) is s.node).inside
+
+        inside_else : (n : ℕ) → n < nodes_of v.start → (i : ℕ) (f : File) → r.phase n ≡ seated i f → i < slots_of v.start
+        inside_else n l i f is = (subst (NodeAgrees before (slots_of v.start) (λ s. count_in (slot_word st.words s)) r.node_of r.next_number n
+            (word_at st.words (word_of v.start n)) (sum_by (taken_of n) st.views) (owed r.debt v.start.passes n)
+            (get_elem? st.homes n)) is (r.each_node n l)).inside

@@ -1,0 +1,161 @@
+-- A table that is opened keeps the rule.
+use Rattle.fx_lasting.proofs.Words.{◌≡◌, ℕ, zero, suc, ◌+◌, ◌<◌, ◌≤◌, Bool, nat_lt, cond, List, [], ◌∷◌, map, sym, refl, ap, ◌∙◌, subst, arith}
+use Rattle.fx_lasting.proofs.Words.{lt-ltb, le-ltb, inr, Option, Some, None, slice_index, dite, some, some-injective, some-ne-none, dec_le, get_elem?}
+use Rattle.fx_lasting.proofs.Words.{Closed, state_of, State, File, born, name_made, entry_made, takes_made, SlotAgrees, NodeAgrees, OwnerAgrees}
+use Rattle.fx_lasting.proofs.Words.{LogAgrees, ViewAgrees, Agrees, new_logs, word_of, slot_place, count_in, slots_of, range_of, nodes_of}
+use Rattle.fx_lasting.proofs.Words.{state_after_all, new_log, Phase, free, seated, Log, Start, View, Idle, Nothing, length-map, at_map, first_view}
+use Rattle.fx_lasting.proofs.Words.{contains_map, once_is, counted_once, range_with_len, one_if, removed_in, length-map-range_with_len, owed, ne_eqb}
+use Rattle.fx_lasting.proofs.Words.{false, Contains, eqb, sum_of, word_for, node_for, home_for, OpensWith, first_file, bit_here}
+use Rattle.std.proofs.Common.{not}
+use Rattle.atomic_table.specs.Table.{opening}
+use Rattle.fx_lasting.proofs.Counts.{tally_none, tally_same}
+use Rattle.fx_lasting.proofs.FullSlots.{full_few}
+use Rattle.fx_plain.proofs.Prepared.{numbered_anew}
+
+-- the phase of a slot's first node
+abbrev phase_for : ℕ → Option File → Phase
+phase_for n None = free
+phase_for n (Some f) = seated n f
+
+abbrev first_phase : Start → ℕ → Phase
+first_phase k n = cond (nat_lt n (slots_of k)) (phase_for n (first_file k n)) free
+
+none_owed : (passes n : ℕ) → owed (λ p. 0) passes n ≡ 0
+none_owed passes n = tally_same (λ p. eqb 0 (n + 1)) (λ p. false) passes (λ p low high. ne_eqb 0 (n + 1) (λ e. omega arith)) ∙ tally_none passes
+
+module _ (k : Start) (words : List ℕ) (homes : List (Option Closed)) (o : OpensWith k words homes) where
+  abbrev s : State
+  s = state_after_all k []
+
+  low_phase : {n : ℕ} → n < slots_of k → first_phase k n ≡ phase_for n (first_file k n)
+  low_phase {n} l = ap (λ (b : Bool). cond b (phase_for n (first_file k n)) free) (lt-ltb n (slots_of k) l)
+
+  high_phase : {n : ℕ} → slots_of k ≤ n → first_phase k n ≡ free
+  high_phase {n} g = ap (λ (b : Bool). cond b (phase_for n (first_file k n)) free) (le-ltb n (slots_of k) g)
+
+  -- the file at a slot has the slot's number
+  its_number : (slot : ℕ) (f : File) → first_file k slot ≡ Some f → f.number ≡ slot
+  its_number slot f is = numbered_anew ((state_of k.plain.value).at slot) slot f is
+
+  more_nodes : slots_of k ≤ nodes_of k
+  more_nodes = omega arith
+
+  slot_opens : (slot : ℕ) → slot < slots_of k
+      → SlotAgrees k (λ n. n) (first_phase k) (λ p. false) slot (first_file k slot) (slice_index words (slot_place slot))
+  slot_opens slot l = rw (o.slot_words slot l) (go (first_file k slot) refl)
+    where
+      go : (found : Option File) → first_file k slot ≡ found → SlotAgrees k (λ n. n) (first_phase k) (λ p. false) slot found (word_for found)
+      go None is = record { names = refl; seat = tt; takes = omega arith }
+      go (Some f) is = let small = o.entries slot f is in let e = its_number slot f is in let m = more_nodes in
+          let z = takes_made f.number f.identity.entry in record {
+            names = (name_made f.number f.identity.entry small, entry_made f.number f.identity.entry small);
+            seat = (omega arith, ap (first_phase k) e ∙ (low_phase l ∙ ap (phase_for slot) is));
+            takes = omega arith;
+          }
+
+  abbrev Node : ℕ → Phase → Type 0
+  Node n ph = NodeAgrees s.at (slots_of k) (λ i. count_in (slice_index words (slot_place i))) (λ m. m) (slots_of k) n (slice_index words (word_of k n))
+      0 (owed (λ p. 0) k.passes n) (get_elem? (map some homes) n) ph
+
+  node_opens : (n : ℕ) → n < nodes_of k → Node n (first_phase k n)
+  node_opens n l = dite (dec_le (suc n) (slots_of k)) (λ low. subst (Node n) (sym (low_phase (omega (arith, low)))) (slot_node (omega (arith, low)) (first_file k n) refl))
+      (λ high. subst (Node n) (sym (high_phase (omega (arith, high)))) record {
+        counts = o.free_words n (omega (arith, high)) l;
+        at_home = at_map some homes n None (o.free_places n (omega (arith, high)) l);
+        untaken = refl;
+        unowed = none_owed k.passes n;
+      })
+    where
+      slot_node : n < slots_of k → (found : Option File) → first_file k n ≡ found → Node n (phase_for n found)
+      slot_node low None is = record {
+        counts = o.node_words n low ∙ ap node_for is;
+        at_home = at_map some homes n None (o.files n low ∙ ap (λ (f : Option File). some (home_for f)) is);
+        untaken = refl;
+        unowed = none_owed k.passes n;
+      }
+      slot_node low (Some f) is = let w : slice_index words (word_of k n) ≡ born = o.node_words n low ∙ ap node_for is in
+          let z = takes_made f.number f.identity.entry in let e = o.slot_words n low ∙ ap word_for is in let c = ap count_in e in
+          let q = its_number n f is in record {
+            file = record {
+              at_home = at_map some homes n (Some f.identity) (o.files n low ∙ ap (λ (f : Option File). some (home_for f)) is);
+              its_node = q;
+              used = omega arith;
+            };
+            counts = omega arith;
+            unowed = none_owed k.passes n;
+            inside = low;
+            there = is;
+          }
+
+  owner_opens : (n : ℕ) → OwnerAgrees (first_view k ∷ []) n (first_phase k n)
+  owner_opens n = dite (dec_le (suc n) (slots_of k)) (λ l. subst (OwnerAgrees (first_view k ∷ []) n) (sym (low_phase l)) (low (first_file k n)))
+      (λ g. subst (OwnerAgrees (first_view k ∷ []) n) (sym (high_phase (omega (arith, g)))) tt)
+    where
+      low : (found : Option File) → OwnerAgrees (first_view k ∷ []) n (phase_for n found)
+      low None = tt
+      low (Some f) = tt
+
+  removed_opens : (number n : ℕ) → None ≡ removed_in number (first_phase k n)
+  removed_opens number n = dite (dec_le (suc n) (slots_of k)) (λ l. subst (λ (ph : Phase). None ≡ removed_in number ph) (sym (low_phase l)) (low (first_file k n)))
+      (λ g. subst (λ (ph : Phase). None ≡ removed_in number ph) (sym (high_phase (omega (arith, g)))) refl)
+    where
+      low : (found : Option File) → None ≡ removed_in number (phase_for n found)
+      low None = refl
+      low (Some f) = refl
+
+  -- the view of the seat that opens the table
+  log_opens : (p : ℕ) → 0 < p → p ≤ k.passes → LogAgrees k [] words (first_phase k) (λ q. 0) (λ i q. false) Idle Nothing (new_log p)
+  log_opens p low high = record {
+    seen = ([], refl);
+    own = refl;
+    held = refl;
+    search = tt;
+    hold = (o.hold_words p low high, refl);
+    guarded = tt;
+    sees = tt;
+    heats = λ i l is. absurd (cc is);
+  }
+
+  -- the numbers of new passes
+  in_order : (x : Log) → Contains (new_logs 1 k.passes) x → (p : ℕ) × (0 < p) × (p ≤ k.passes) × (x ≡ new_log p)
+  in_order x h = let z = contains_map new_log (range_with_len 1 k.passes) x h in
+      let a = counted_once (λ (y : Log). y.number) new_log (λ n. refl) z.0 k.passes in
+      let b = sum_of (λ (y : Log). one_if (eqb y.number z.0)) (new_logs 1 k.passes) x h in
+      let c : one_if (eqb x.number z.0) ≡ 1 = bit_here z.0 x.number (ap (λ (y : Log). y.number) z.2) in
+      (z.0, omega (arith, a, b, c, once_is k.passes z.0), omega (arith, a, b, c, once_is k.passes z.0), z.2)
+
+  view_opens : (j : ℕ) (v : View) → get_elem? (first_view k ∷ []) j ≡ some v
+      → ViewAgrees k [] words (first_phase k) (λ q. 0) (λ i q. false) j v
+  view_opens zero v e = subst (ViewAgrees k [] words (first_phase k) (λ q. 0) (λ i q. false) 0) (some-injective (first_view k) v e) record {
+    logs = λ x h. let z = in_order x h in
+        subst (LogAgrees k [] words (first_phase k) (λ q. 0) (λ i q. false) Idle Nothing) (sym z.3) (log_opens z.0 z.1 z.2);
+    work = tt;
+    empty = λ _. (refl, refl, refl);
+    start = inr refl;
+  }
+  view_opens (suc j) v e = absurd (some-ne-none v (sym e))
+
+  pub opening_keeps : Agrees k (opening words homes (first_view k))
+  opening_keeps = record {
+    shape = let a = length-map homes some in assumption (o, a ∙ o.homes_length);
+    history = [];
+    phase = first_phase k;
+    node_of = λ n. n;
+    next_number = slots_of k;
+    debt = λ q. 0;
+    over = λ i q. false;
+    legal = record { leads = (tt, refl); releases = tt };
+    each_slot = slot_opens;
+    each_node = node_opens;
+    each_owner = λ n l. owner_opens n;
+    removed = λ number. removed_opens number number;
+    unborn = λ n l. let m = more_nodes in high_phase (omega arith);
+    fresh = λ number l. ap not (le-ltb number (slots_of k) l);
+    each_view = view_opens;
+    holds = λ n. refl;
+    passes = λ p. let a = counted_once (λ (y : Log). y.number) new_log (λ n. refl) p k.passes in omega arith;
+    whole = let a = length-map-range_with_len new_log 1 k.passes in omega arith;
+    authors = λ p none. refl;
+    control = let a = o.control in let b = full_few (first_file k) (range_of k).0 (range_of k).1 in let c = o.range in let d = o.slots in
+        record { upper = omega arith; lower = omega arith };
+  }

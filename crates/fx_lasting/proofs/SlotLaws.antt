@@ -1,0 +1,404 @@
+-- An installation, a clear, a take and an exchange keep the rule.
+use Rattle.fx_lasting.proofs.Words.{◌≡◌, ◌≢◌, ℕ, ◌+◌, ◌^◌, ◌<◌, List, [], ◌∷◌, set, sym, refl, ap, ◌∙◌, subst, arith, Option, Some, None, none, some}
+use Rattle.fx_lasting.proofs.Words.{keeps, gives, rest, get_elem?, false, inl, inr, ◌⊎◌, dite, ℕ_discrete, eqb, Closed, File, numbered, Event, Action}
+use Rattle.fx_lasting.proofs.Words.{Put, Clear, Take, Allocate, ◌▷◌, State, with_removed, changed_at, changed_here, changed_else, event_of, held_by}
+use Rattle.fx_lasting.proofs.Words.{Agrees, NodeAgrees, OwnerAgrees, WorkAgrees, IsHistory, state_after_all, slots_of, nodes_of, slot_place, word_of}
+use Rattle.fx_lasting.proofs.Words.{count_in, name_in, slot_word_of, name_made, entry_made, taken_of, taking, held_in, owed, sum_by, sum_set, Phase}
+use Rattle.fx_lasting.proofs.Words.{placed, seated, free, removed_in, Change, Idle, Placing, Removes, Installs, Exchanges, Stepped, MayChange}
+use Rattle.fx_lasting.proofs.Words.{IsInRange, ClearsKeep, TakesOutKeep, InstallsKeep, ExchangesKeep, turned, if_full, Same, step, set_here, set_else}
+use Rattle.fx_lasting.proofs.Words.{length-set, exchanged, IsInside, retiring, takes_made, ne_eqb, dec_le, suc, leaving, retired, emptied}
+use prog.Atomic.{either}
+use Rattle.fx_lasting.proofs.Histories.{grows_one, legal_more, part_mine, held_mine, each_changed, same_shape}
+use Rattle.fx_lasting.proofs.Frames.{busy, owner_stays, node_same}
+use Rattle.fx_lasting.proofs.Keeping.{Turn, turn_of, After, word_at, slot_word, Made, by_turn, its_log, its_work, in_range, tells, w, end, Homes}
+use Rattle.fx_lasting.proofs.FullSlots.{control_swap}
+use Rattle.fx_lasting.proofs.Peeking.{goes_still, still}
+use Rattle.fx_lasting.proofs.Calm.{read_after, read_kept}
+use Rattle.fx_lasting.proofs.Places.{slot_words, slot_here, slot_else, slot_back}
+use Rattle.fx_lasting.proofs.Looking.{unnamed}
+use Rattle.fx_lasting.proofs.Swaps.{found, old_at, found_so, NotOf, not_old, old_named, d, swap_after, Swap, swap_kept}
+use Rattle.fx_lasting.proofs.Unheld.{NodeNow, in_phase}
+
+-- the action empties a slot, whatever it is for
+abbrev pub IsRemoval : (ℕ → Option File → Action) → Type 0
+IsRemoval act = (turn : Turn) (s : ℕ) → s < slots_of turn.v.start → let h = event_of turn.x (act s ((state_after_all turn.v.start turn.r.history).at s)) ∷ turn.r.history in
+    IsHistory turn.v.start h
+    × (state_after_all turn.v.start h ≡ record (state_after_all turn.v.start turn.r.history) {
+      at = changed_at (state_after_all turn.v.start turn.r.history).at s None;
+      removed = with_removed (state_after_all turn.v.start turn.r.history).removed ((state_after_all turn.v.start turn.r.history).at s);
+    })
+    × (held_by h turn.x.number ≡ held_by turn.r.history turn.x.number)
+
+pub cleared : IsRemoval Clear
+cleared turn s inside = (
+  legal_more turn.v.start turn.r.legal (let z = (same_shape turn.v.start turn.r.history).0 in (omega arith, refl)) tt,
+  refl,
+  held_mine (event_of turn.x (Clear s ((state_after_all turn.v.start turn.r.history).at s))) turn.r.history refl,
+)
+
+pub taken : IsRemoval Take
+taken turn s inside = (
+  legal_more turn.v.start turn.r.legal (let z = (same_shape turn.v.start turn.r.history).0 in (omega arith, refl)) tt,
+  refl,
+  held_mine (event_of turn.x (Take s ((state_after_all turn.v.start turn.r.history).at s))) turn.r.history refl,
+)
+
+module _ (act : ℕ → Option File → Action) (does : IsRemoval act) (turn : Turn) (s : ℕ) (inside : s < slots_of turn.v.start)
+    (works : turn.v.work ≡ Idle) (stands : MayChange turn.v.start s turn.v.change) where
+  open turn use {st, v, r, id, x, here, one}
+
+  abbrev old : Option File
+  old = (state_after_all v.start r.history).at s
+
+  abbrev h₁ : List Event
+  h₁ = event_of x (act s old) ∷ r.history
+
+  abbrev c₁ : Change
+  c₁ = turned v.change (if_full old) 0
+
+  abbrev removal : After turn
+  removal = swap_after turn s inside old refl h₁ 0 None st.homes r.phase r.node_of r.next_number c₁
+
+  removes : Swap turn s inside old refl h₁ 0 None st.homes r.phase r.node_of r.next_number c₁
+  removes = let o = its_log turn in let h = rw works at o.hold in let e = does turn s inside in record {
+    grows = grows_one x.number r.history _ refl;
+    legal = e.0;
+    fresh = (state_after_all v.start r.history).fresh;
+    leads = e.1;
+    fresh_on = r.fresh;
+    held = e.2;
+    homes = refl;
+    later = omega arith;
+    numbers = λ m l. refl;
+    removed_else = λ m. refl;
+    names = refl;
+    no_takes = refl;
+    seat = tt;
+    seat_apart = λ f is. absurd (cc is);
+    kept = λ n. inl refl;
+    nodes = λ n l apart. node_same (slots_of v.start) n (omega arith) (λ m u. refl) refl
+        (let t = sum_set (taken_of n) st.views id v (w turn removal) here in let a = ap (taking n) works in let b = untaken n in omega arith)
+        refl refl (r.phase n) (λ i f is there. let other : i ≢ s = λ same. apart f (ap (λ (j : ℕ). (state_after_all v.start r.history).at j) (sym same) ∙ there)
+        (sym (in_phase turn l is).file.its_node) in
+        (ap (λ (z : State). z.at i) e.1 ∙ changed_else (state_after_all v.start r.history).at s None i other, ap count_in (slot_else turn s inside 0 i other)))
+        (r.each_node n l);
+    old_home = λ f is. refl;
+    owners = λ n l apart. owner_stays st.views id v (w turn removal) here n (λ bad. let a = ap busy works in omega arith) (r.phase n) (r.each_owner n l);
+    idle_hands = (ap held_in works, λ n. ap (taking n) works, h.0, h.1);
+    control = control_swap (state_after_all v.start r.history).at id (w turn removal) s old None here refl stands refl r.control;
+  }
+    where
+      untaken : (n : ℕ) → taking n (d turn s inside old refl) ≡ 0
+      untaken n = go old
+        where
+          go : (o : Option File) → taking n (retiring v.start (found turn s inside) o) ≡ 0
+          go None = refl
+          go (Some f) = refl
+
+  pub removal_made : (slots : ℕ) (carried : List (ℕ × Option Closed))
+      → Made turn carried (slot_place s) (λ _. 0) (Removes act (step slots (slot_place s) 0 0 none) (v, carried))
+  removal_made slots carried = let e = does turn s inside in let kept = swap_kept turn s inside old refl h₁ 0 None st.homes r.phase r.node_of r.next_number c₁ removes in (
+    w turn removal,
+    keeps,
+    tt,
+    kept,
+    record {
+      file = old;
+      names = found_so turn s inside old refl;
+      stepped = rw (slot_back s) (tells turn removal carried carried ([] ▷ act s old) (grows_one x.number r.history _ refl) e.0 (part_mine r.history refl)
+          (knows old refl));
+      carried = refl;
+    },
+  )
+    where
+      knows : (o : Option File) → old ≡ o → IsInside v.start (retiring v.start (found turn s inside) old)
+      knows None is = subst (λ (o : Option File). IsInside v.start (retiring v.start (found turn s inside) o)) (sym is) tt
+      knows (Some f) is = subst (λ (o : Option File). IsInside v.start (retiring v.start (found turn s inside) o)) (sym is)
+          (let n = (old_at turn s inside old refl is).0 in let e = old_named turn s inside old refl is in omega arith)
+
+pub clears_keep : ClearsKeep (Removes Clear)
+clears_keep k slots id i s m x has works inside stands place = by_turn slots (λ k. (s < slots_of k) × MayChange k s m.0.change)
+    (λ _. slot_place s) (λ _. 0) (λ i. Removes Clear (step slots i 0 0 none) m) has (inside, stands) place
+    (λ st r here is fits. removal_made Clear cleared (turn_of m x has.1 id st r here) s is.0 works is.1 slots m.1)
+
+pub takes_out_keep : TakesOutKeep (Removes Take)
+takes_out_keep k slots id i s m x has works inside stands place = by_turn slots (λ k. (s < slots_of k) × MayChange k s m.0.change)
+    (λ _. slot_place s) (λ _. 0) (λ i. Removes Take (step slots i 0 0 none) m) has (inside, stands) place
+    (λ st r here is fits. removal_made Take taken (turn_of m x has.1 id st r here) s is.0 works is.1 slots m.1)
+
+-- The slot gets the file that a pass places, under a number that none had before.
+module _ (turn : Turn) (s : ℕ) (inside : s < slots_of turn.v.start) (old : Option File) (was : (state_after_all turn.v.start turn.r.history).at s ≡ old)
+    (n : ℕ) (file : Closed) (works : turn.v.work ≡ Placing n) (small : file.entry < 2 ^ 8) (stands : MayChange turn.v.start s turn.v.change)
+    (a : Action) where
+  open turn use {st, v, r, id, x, here, one}
+
+  abbrev before : State
+  before = state_after_all v.start r.history
+
+  abbrev new_file : File
+  new_file = numbered r.next_number file
+
+  abbrev h₂ : List Event
+  h₂ = event_of x a ∷ r.history
+
+  its : (n < nodes_of v.start) × (r.phase n ≡ placed id)
+  its = subst (WorkAgrees v.start r.phase id) works (its_work turn)
+
+  abbrev new_word : ℕ
+  new_word = slot_word_of n file.entry
+
+  abbrev homes₁ : Homes
+  homes₁ = set st.homes n (some (Some file))
+
+  abbrev phase₁ : ℕ → Phase
+  phase₁ = changed_at r.phase n (seated s new_file)
+
+  abbrev node_of₁ : ℕ → ℕ
+  node_of₁ = changed_at r.node_of r.next_number n
+
+  abbrev c₂ : Change
+  c₂ = turned v.change (if_full old) 1
+
+  abbrev pub installed : After turn
+  installed = swap_after turn s inside old was h₂ new_word (Some new_file) homes₁ phase₁ node_of₁ (r.next_number + 1) c₂
+
+  -- what the action does
+  pub record Effect : Type 0 where
+    pub legal : IsHistory v.start h₂
+    pub state : state_after_all v.start h₂ ≡ record before {
+      at = changed_at before.at s (Some new_file);
+      removed = with_removed before.removed old;
+      fresh = changed_at before.fresh r.next_number false;
+    }
+    pub held : held_by h₂ x.number ≡ held_by r.history x.number
+
+  on_n : node_of₁ r.next_number ≡ n
+  on_n = changed_here r.node_of r.next_number n r.next_number refl
+
+  numbers₁ : (m : ℕ) → m < r.next_number → node_of₁ m ≡ r.node_of m
+  numbers₁ m l = changed_else r.node_of r.next_number n m (λ same. omega arith)
+
+  -- no file of the next number was removed
+  none_next : removed_in r.next_number (r.phase (r.node_of r.next_number)) ≡ None
+  none_next = dite (dec_le (suc (r.node_of r.next_number)) (nodes_of v.start))
+      (λ l. go (r.phase (r.node_of r.next_number)) (r.each_node (r.node_of r.next_number) (omega (arith, l))))
+      (λ g. ap (removed_in r.next_number) (r.unborn (r.node_of r.next_number) (omega (arith, g))))
+    where
+      go : (ph : Phase) → NodeNow turn (r.node_of r.next_number) ph → removed_in r.next_number ph ≡ None
+      go (leaving j t nx m f) o = let u = o.file.used in rw (ne_eqb f.number r.next_number (λ e. omega arith)) refl
+      go (retired f) o = let u = o.file.used in rw (ne_eqb f.number r.next_number (λ e. omega arith)) refl
+      go free o = refl
+      go (placed j) o = refl
+      go (seated i f) o = refl
+      go (emptied j) o = refl
+
+  removed_same : (m : ℕ) → removed_in m (phase₁ (node_of₁ m)) ≡ removed_in m (r.phase (r.node_of m))
+  removed_same m = dite (ℕ_discrete m r.next_number)
+      (λ same. ap (removed_in m) (changed_here r.phase n (seated s new_file) (node_of₁ m) (ap node_of₁ same ∙ on_n))
+      ∙ sym (subst (λ (i : ℕ). removed_in i (r.phase (r.node_of i)) ≡ None) (sym same) none_next))
+      (λ other. ap (λ (q : ℕ). removed_in m (phase₁ q)) (changed_else r.node_of r.next_number n m other)
+      ∙ each_changed (λ q z. removed_in m z ≡ removed_in m (r.phase q)) r.phase
+      (λ at. sym (ap (λ (q : ℕ). removed_in m (r.phase q)) at ∙ ap (removed_in m) its.1)) (λ _. refl))
+
+  untaken : (m : ℕ) → taking m (d turn s inside old was) ≡ 0
+  untaken m = go old
+    where
+      go : (o : Option File) → taking m (retiring v.start (found turn s inside) o) ≡ 0
+      go None = refl
+      go (Some f) = refl
+
+  module _ (does : Effect) where
+    there_now : (state_after_all v.start h₂).at s ≡ Some new_file
+    there_now = ap (λ (z : State). z.at s) does.state ∙ changed_here before.at s (Some new_file) s refl
+
+    total_now : (m : ℕ) → sum_by (taken_of m) (set st.views id (w turn installed)) ≡ sum_by (taken_of m) st.views
+    total_now m = let t = sum_set (taken_of m) st.views id v (w turn installed) here in let b = ap (taking m) works in let c = untaken m in omega arith
+
+    no_count : count_in new_word ≡ 0
+    no_count = let e = takes_made n file.entry in omega arith
+
+    abbrev Node₁ : ℕ → Phase → Type 0
+    Node₁ m = NodeAgrees (state_after_all v.start h₂).at (slots_of v.start) (λ i. count_in (slot_word (slot_words turn s inside new_word) i)) node_of₁
+        (r.next_number + 1) m (word_at st.words (word_of v.start m)) (sum_by (taken_of m) (set st.views id (w turn installed)))
+        (owed r.debt v.start.passes m) (get_elem? homes₁ m)
+
+    node_here₁ : Node₁ n (seated s new_file)
+    node_here₁ = let o = in_phase turn its.0 its.1 in let c = o.counts in let u = o.untaken in let t = total_now n in
+        let z = ap count_in (slot_here turn s inside new_word) in let y = no_count in record {
+          file = record {
+            at_home = set_here st.homes n (some (Some file)) (let a = r.shape.homes in let b = its.0 in omega arith);
+            its_node = on_n;
+            used = omega arith;
+          };
+          counts = omega arith;
+          unowed = o.unowed;
+          inside = inside;
+          there = there_now;
+        }
+
+    node_else₁ : {m : ℕ} → m < nodes_of v.start → m ≢ n → NotOf r.node_of m old → Node₁ m (r.phase m)
+    node_else₁ {m} l other apart = node_same (slots_of v.start) m (omega arith) numbers₁ refl (total_now m) refl
+        (set_else st.homes n m (some (Some file)) other) (r.phase m)
+        (λ i f is there. let away : i ≢ s = λ same. apart f (sym was ∙ (ap before.at (sym same) ∙ there)) (sym (in_phase turn l is).file.its_node) in
+        (ap (λ (z : State). z.at i) does.state ∙ changed_else before.at s (Some new_file) i away, ap count_in (slot_else turn s inside new_word i away)))
+        (r.each_node m l)
+
+    installs : Swap turn s inside old was h₂ new_word (Some new_file) homes₁ phase₁ node_of₁ (r.next_number + 1) c₂
+    installs = let o = its_log turn in let h = rw works at o.hold in let apart = not_old turn s inside old was its.1 (λ g bad. cc bad) in record {
+      grows = grows_one x.number r.history _ refl;
+      legal = does.legal;
+      fresh = changed_at before.fresh r.next_number false;
+      leads = does.state;
+      fresh_on = λ number l. changed_else before.fresh r.next_number false number (λ same. omega arith) ∙ r.fresh number (omega arith);
+      held = does.held;
+      homes = length-set st.homes n (some (Some file));
+      later = omega arith;
+      numbers = numbers₁;
+      removed_else = removed_same;
+      names = (name_made n file.entry small ∙ ap (λ (i : ℕ). i + 1) (sym on_n), entry_made n file.entry small);
+      no_takes = no_count;
+      seat = rw on_n (its.0, changed_here r.phase n (seated s new_file) n refl);
+      seat_apart = λ f is. let e : r.next_number ≡ f.number = (let z : new_file ≡ f = cc is in ap (λ (y : File). y.number) z) in
+          subst (λ (i : ℕ). NotOf r.node_of (node_of₁ i) old) e (rw on_n apart);
+      kept = λ m. each_changed (λ m ph. (ph ≡ r.phase m) ⊎ (r.phase m ≡ placed id)) r.phase
+          (λ same. inr (ap r.phase same ∙ its.1)) (λ other. inl refl);
+      nodes = λ m l apart. each_changed Node₁ r.phase (λ same. subst (λ (i : ℕ). Node₁ i (seated s new_file)) (sym same) node_here₁)
+          (λ other. node_else₁ l other apart);
+      old_home = λ f is. set_else st.homes n (r.node_of f.number) (some (Some file)) (λ same. apart f is (sym same));
+      owners = λ m l apart. each_changed (OwnerAgrees (set st.views id (w turn installed))) r.phase (λ same. tt)
+          (λ other. owner_stays st.views id v (w turn installed) here m (λ bad. let b = ap busy works in other (omega arith)) (r.phase m) (r.each_owner m l));
+      idle_hands = (ap held_in works, λ m. ap (taking m) works, h.0, h.1);
+      control = control_swap before.at id (w turn installed) s old (Some new_file) here was stands refl r.control;
+    }
+
+    pub installation_agrees : Agrees v.start (end turn installed)
+    installation_agrees = swap_kept turn s inside old was h₂ new_word (Some new_file) homes₁ phase₁ node_of₁ (r.next_number + 1) c₂ installs
+
+    pub installation_tells : (carried homes : List (ℕ × Option Closed))
+        → Stepped (v, carried) ([] ▷ a) (retiring v.start (found turn s inside) old) v.glance c₂ (w turn installed, homes)
+    installation_tells carried homes = tells turn installed carried homes ([] ▷ a) (grows_one x.number r.history _ refl) does.legal
+        (part_mine r.history refl) (knows old refl)
+      where
+        knows : (o : Option File) → old ≡ o → IsInside v.start (retiring v.start (found turn s inside) old)
+        knows None is = subst (λ (o : Option File). IsInside v.start (retiring v.start (found turn s inside) o)) (sym is) tt
+        knows (Some f) is = subst (λ (o : Option File). IsInside v.start (retiring v.start (found turn s inside) o)) (sym is)
+            (let n = (old_at turn s inside old was is).0 in let e = old_named turn s inside old was is in omega arith)
+
+abbrev file_carried : List (ℕ × Option Closed) → Option Closed
+file_carried [] = None
+file_carried (c ∷ cs) = c.1
+
+module _ (turn : Turn) (s : ℕ) (inside : s < slots_of turn.v.start) (n : ℕ) (file : Closed) (works : turn.v.work ≡ Placing n)
+    (small : file.entry < 2 ^ 8) (stands : MayChange turn.v.start s turn.v.change) (slots : ℕ) (carried : List (ℕ × Option Closed))
+    (carries : carried ≡ (n, Some file) ∷ []) where
+  open turn use {st, v, r, id, x, here, one}
+
+  abbrev put_old : Option File
+  put_old = (state_after_all v.start r.history).at s
+
+  abbrev put_action : Action
+  put_action = Put s (numbered r.next_number file) put_old
+
+  putting : Effect turn s inside put_old refl n file works small stands put_action
+  putting = record {
+    legal = legal_more v.start r.legal (let z = (same_shape v.start r.history).0 in (omega arith, r.fresh r.next_number (omega arith), refl)) tt;
+    state = refl;
+    held = held_mine (event_of x put_action) r.history refl;
+  }
+
+  pub install_made : Made turn carried (slot_place s) (λ _. slot_word_of n file.entry)
+      (Installs (step slots (slot_place s) (slot_word_of n file.entry) 0 none) (v, carried))
+  install_made = (
+    w turn (installed turn s inside put_old refl n file works small stands put_action),
+    gives,
+    tt,
+    rw carries (installation_agrees turn s inside put_old refl n file works small stands put_action putting),
+    record {
+      replaced = put_old;
+      names = found_so turn s inside put_old refl;
+      stepped = λ m other works' carries'. let same_f : file ≡ other = cc (ap file_carried (sym carries ∙ carries')) in
+          rw (← same_f, slot_back s) (
+            r.next_number,
+            installation_tells turn s inside put_old refl n file works small stands put_action putting
+                carried (rest carried),
+          );
+      carried = refl;
+    },
+  )
+
+module _ (turn : Turn) (slots s n old_word : ℕ) (file : Closed) (carried : List (ℕ × Option Closed)) (works : turn.v.work ≡ Placing n)
+    (carries : carried ≡ (n, Some file) ∷ []) (small : file.entry < 2 ^ 8) (same : turn.v.change ≡ Same) (in_range : IsInRange turn.v.start s)
+    (empty : name_in old_word ≡ 0) where
+  open turn use {st, v, r, id, x, here, one}
+
+  abbrev word : ℕ
+  word = slot_word st.words s
+
+  within : s < slots_of v.start
+  within = let a = r.shape.range in let b = in_range.1 in omega arith
+
+  stands₁ : MayChange v.start s v.change
+  stands₁ = inl (in_range, same)
+
+  abbrev Goal : ℕ → Type 0
+  Goal y = Made turn carried (slot_place s) (λ _. y) (Exchanges (step slots (slot_place s) old_word (slot_word_of n file.entry) none) (v, carried))
+
+  lost : word ≢ old_word → Goal word
+  lost other = (
+    w turn (read_after turn v.work v.glance r.history),
+    keeps,
+    tt,
+    read_kept turn v.work v.glance (slot_place s) (still turn),
+    record { wins = λ m f w' c' is. absurd (other is); loses = λ _. goes_still turn carried },
+  )
+
+  module _ (is : word ≡ old_word) where
+    at_none : (state_after_all v.start r.history).at s ≡ None
+    at_none = unnamed turn s within (ap name_in is ∙ empty)
+
+    abbrev alloc : Action
+    alloc = Allocate s (numbered r.next_number file)
+
+    allocating : Effect turn s within None at_none n file works small stands₁ alloc
+    allocating = record {
+      legal = legal_more v.start r.legal (let z = (same_shape v.start r.history).0 in let y = (same_shape v.start r.history).1 in
+          let p = ap (λ (p : ℕ × ℕ). p.0) y in let q = ap (λ (p : ℕ × ℕ). p.1) y in let low = in_range.0 in let high = in_range.1 in let l = within in
+          (omega arith, (omega arith, omega arith), at_none, r.fresh r.next_number (omega arith))) tt;
+      state = refl;
+      held = held_mine (event_of x alloc) r.history refl;
+    }
+
+    won : Goal (slot_word_of n file.entry)
+    won = (
+      w turn (installed turn s within None at_none n file works small stands₁ alloc),
+      gives,
+      tt,
+      rw carries (installation_agrees turn s within None at_none n file works small stands₁ alloc allocating),
+      record {
+        wins = λ m other works' carries' _. let same_f : file ≡ other = cc (ap file_carried (sym carries ∙ carries')) in (
+          r.next_number,
+          rw (← same_f, slot_back s)
+              (subst (λ (c : Change). Stepped (v, carried) ([] ▷ alloc) Idle v.glance c (w turn (installed turn s within None at_none n file works small stands₁ alloc), rest carried))
+              (ap (λ (c : Change). turned c 0 1) same)
+              (installation_tells turn s within None at_none n file works small stands₁ alloc allocating carried (rest carried))),
+          refl,
+        );
+        loses = λ other. absurd (other is);
+      },
+    )
+
+pub installs_keep : InstallsKeep Installs
+installs_keep k slots id i s n new file m x has works carries small inside stands place made = rw made (by_turn slots
+    (λ k. (s < slots_of k) × MayChange k s m.0.change) (λ _. slot_place s) (λ _. slot_word_of n file.entry)
+    (λ i. Installs (step slots i (slot_word_of n file.entry) 0 none) m) has (inside, stands) place
+    (λ st r here is fits. install_made (turn_of m x has.1 id st r here) s is.0 n file works small is.1 slots m.1 carries))
+
+pub exchanges_keep : ExchangesKeep Exchanges
+exchanges_keep k slots id i s n old new file m x has works carries small same in_range place empty made = rw made (by_turn slots
+    (λ k. IsInRange k s) (λ _. slot_place s) (λ word. either (eqb word old) (slot_word_of n file.entry) word)
+    (λ i. Exchanges (step slots i old (slot_word_of n file.entry) none) m) has in_range place
+    (λ st r here is fits. let turn = turn_of m x has.1 id st r here in
+    exchanged (word_at st.words (slot_place s)) old (slot_word_of n file.entry)
+    (Goal turn slots s n old file m.1 works carries small same is empty)
+    (won turn slots s n old file m.1 works carries small same is empty)
+    (lost turn slots s n old file m.1 works carries small same is empty)))

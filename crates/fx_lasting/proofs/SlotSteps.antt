@@ -1,0 +1,167 @@
+-- A step on the word of a slot, whose file stays there.
+use Rattle.fx_lasting.proofs.Words.{◌≡◌, ◌≢◌, ℕ, ◌+◌, ◌<◌, ◌≤◌, List, set, sym, refl, ap, ◌∙◌, subst, arith, Option, Some, None, Bool, held_by, File}
+use Rattle.fx_lasting.proofs.Words.{Event, NodeAgrees, SearchAgrees, SlotAgrees, Names, Agrees, slots_of, nodes_of, IsHistory, state_after_all}
+use Rattle.fx_lasting.proofs.Words.{held_in, held_of, taken_of, taking, Phase, free, placed, seated, leaving, retired, emptied, Work, Glance, ⊎_elim}
+use Rattle.fx_lasting.proofs.Words.{◌⊎◌, inr, dite, ℕ_discrete, slot_place, word_of, count_in, name_in, entry_in, IsHot, cold_takes, tally, born}
+use Rattle.fx_lasting.proofs.Words.{owed, sum_set, sum_by, get_elem?, length-set, MayBeUnmarked, dec_le, suc}
+use Rattle.fx_lasting.proofs.Counts.{tally_same}
+use Rattle.fx_lasting.proofs.Histories.{Grows}
+use Rattle.fx_lasting.proofs.Frames.{busy, owner_stays, owner_same, slot_same, node_same, control_same, Leaves, keeps_other, guards_same}
+use Rattle.fx_lasting.proofs.Keeping.{Turn, After, Keeps, word_at, slot_word, step_kept, w, end}
+use Rattle.fx_lasting.proofs.Places.{slot_words, slot_here, slot_node, slot_else, slot_hold, slot_control}
+
+module _ (turn : Turn) (s : ℕ) (inside : s < slots_of turn.v.start) (new : ℕ) (h' : List Event) (d : Work) (g : Glance) (over' : ℕ → ℕ → Bool) where
+  open turn use {st, v, r, id, x, here, one}
+
+  abbrev pub words' : List ℕ
+  words' = slot_words turn s inside new
+
+  abbrev pub slot_after : After turn
+  slot_after = record {
+    h = h';
+    words = words';
+    homes = st.homes;
+    phase = r.phase;
+    node_of = r.node_of;
+    next_number = r.next_number;
+    debt = r.debt;
+    over = over';
+    work = d;
+    glance = g;
+    change = v.change;
+  }
+
+  abbrev old : ℕ
+  old = slot_word st.words s
+
+  pub record SlotStep : Type 0 where
+    pub grows : Grows x.number r.history h'
+    pub legal : IsHistory v.start h'
+    pub at : (state_after_all v.start h').at ≡ (state_after_all v.start r.history).at
+    pub fresh : (state_after_all v.start h').fresh ≡ (state_after_all v.start r.history).fresh
+    pub removed : (state_after_all v.start h').removed ≡ (state_after_all v.start r.history).removed
+    -- the word names the same file, and stays hot
+    pub name : name_in new ≡ name_in old
+    pub entry : entry_in new ≡ entry_in old
+    pub hot : IsHot old → IsHot new
+    pub takes : count_in new ≤ cold_takes + tally (over' s) v.start.passes
+    pub over_else : (i q : ℕ) → i ≢ s → over' i q ≡ r.over i q
+    pub over_other : (q : ℕ) → q ≢ x.number → over' s q ≡ r.over s q
+    -- the takes of the file's node, and those of others
+    pub counts : (n : ℕ) (f : File) → n < nodes_of v.start → r.phase n ≡ seated s f
+        → word_at st.words (word_of v.start n) + count_in new ≡ born + sum_by (taken_of n) (set st.views id (w turn slot_after))
+    pub taken : (n : ℕ) → n < nodes_of v.start → ((f : File) → r.phase n ≢ seated s f) → taking n d ≡ taking n v.work
+    -- the pass
+    pub owners : (d ≡ v.work) ⊎ (busy v.work ≡ 0)
+    pub held : held_by h' x.number ≡ held_in d
+    pub search : SearchAgrees v.start x.number d
+    pub its : Keeps turn slot_after id x.number d g
+    pub holds : (n : ℕ) → (state_after_all v.start h').holds n + held_of n v ≡ (state_after_all v.start r.history).holds n + held_of n (w turn slot_after)
+
+  -- a guard of a file at a hot slot
+  pub covers_slot : (IsHot old → IsHot new) → (p n : ℕ) → MayBeUnmarked (slot_word st.words) p (r.phase n) → MayBeUnmarked (slot_word words') p (r.phase n)
+  covers_slot hot p n = dite (dec_le (suc n) (nodes_of v.start)) (λ l. go (r.phase n) (r.each_node n (omega (arith, l))))
+      (λ z m. let e = r.unborn n (omega (arith, z)) in absurd (rw e at m))
+    where
+      go : (ph : Phase) → NodeAgrees (state_after_all v.start r.history).at (slots_of v.start) (λ s. count_in (slot_word st.words s)) r.node_of
+          r.next_number n (word_at st.words (word_of v.start n)) (sum_by (taken_of n) st.views) (owed r.debt v.start.passes n)
+          (get_elem? st.homes n) ph → MayBeUnmarked (slot_word st.words) p ph → MayBeUnmarked (slot_word words') p ph
+      go (seated i f) o is_hot = dite (ℕ_discrete i s)
+          (λ same. subst (λ (j : ℕ). IsHot (slot_word st.words j) → IsHot (slot_word words' j)) (sym same)
+          (λ h. rw (slot_here turn s inside new) (hot h)) is_hot)
+          (λ other. rw (slot_else turn s inside new i other) is_hot)
+      go (leaving j t nx m f) o l = l
+      go free o m = absurd m
+      go (placed j) o m = absurd m
+      go (retired f) o m = absurd m
+      go (emptied j) o m = absurd m
+
+  module _ (p : SlotStep) where
+    at_is : (i : ℕ) → (state_after_all v.start h').at i ≡ (state_after_all v.start r.history).at i
+    at_is i = ap (λ (f : ℕ → Option File). f i) p.at
+
+    same_name : (i : ℕ) → name_in (slot_word words' i) ≡ name_in (slot_word st.words i)
+    same_name i = dite (ℕ_discrete i s)
+        (λ same. subst (λ (j : ℕ). name_in (slot_word words' j) ≡ name_in (slot_word st.words j)) (sym same)
+        (ap name_in (slot_here turn s inside new) ∙ p.name))
+        (λ other. ap name_in (slot_else turn s inside new i other))
+
+    slot_now : SlotAgrees v.start r.node_of r.phase (over' s) s ((state_after_all v.start h').at s) (slot_word words' s)
+    slot_now = let o = r.each_slot s inside in rw (slot_here turn s inside new, at_is s)
+        record { names = names ((state_after_all v.start r.history).at s) o.names; seat = o.seat; takes = p.takes }
+      where
+        names : (found : Option File) → Names r.node_of old found → Names r.node_of new found
+        names None o = p.name ∙ o
+        names (Some f) o = (p.name ∙ o.0, p.entry ∙ o.1)
+
+    leaves : Leaves turn slot_after
+    leaves = record {
+      guards = λ q e other range. guards_same turn slot_after q e (slot_hold turn s inside new q range.0) refl (covers_slot p.hot q);
+      owned = λ n some not_mine. refl;
+      spare = λ n q is low block other. is;
+      open_file = λ j u f n other there holds at. at;
+      slots = λ i q l other. dite (ℕ_discrete i s)
+          (λ same. inr (
+            ap (λ (j : ℕ). over' j q) same ∙ (p.over_other q other ∙ sym (ap (λ (j : ℕ). r.over j q) same)),
+            same_name i,
+            subst (λ (j : ℕ). IsHot (slot_word st.words j) → IsHot (slot_word words' j)) (sym same) (λ h. rw (slot_here turn s inside new) (p.hot h)),
+          ))
+          (λ ne. inr (p.over_else i q ne, same_name i, λ h. rw (slot_else turn s inside new i ne) h));
+    }
+
+    abbrev Node : ℕ → Phase → Type 0
+    Node n = NodeAgrees (state_after_all v.start h').at (slots_of v.start) (λ i. count_in (slot_word words' i)) r.node_of r.next_number n
+        (word_at words' (word_of v.start n)) (sum_by (taken_of n) (set st.views id (w turn slot_after))) (owed r.debt v.start.passes n)
+        (get_elem? st.homes n)
+
+    same_else : (n : ℕ) → n < nodes_of v.start → (ph : Phase) → r.phase n ≡ ph → ((f : File) → ph ≢ seated s f) → Node n ph
+    same_else n l ph is else = node_same (slots_of v.start) n (omega arith) (λ m u. refl) (slot_node turn s inside new n)
+        (let t = sum_set (taken_of n) st.views id v (w turn slot_after) here in let e = p.taken n l (λ f at. else f (sym is ∙ at)) in omega arith)
+        refl refl ph (λ i f at there. (at_is i, ap count_in (slot_else turn s inside new i (λ same. else f (at ∙ ap (λ (j : ℕ). seated j f) same)))))
+        (subst (NodeAgrees (state_after_all v.start r.history).at (slots_of v.start) (λ s. count_in (slot_word st.words s)) r.node_of
+        r.next_number n (word_at st.words (word_of v.start n)) (sum_by (taken_of n) st.views) (owed r.debt v.start.passes n)
+        (get_elem? st.homes n)) is (r.each_node n l))
+
+    node_now : (n : ℕ) → n < nodes_of v.start → (ph : Phase) → r.phase n ≡ ph → Node n ph
+    node_now n l (seated i f) is = dite (ℕ_discrete i s)
+        (λ same. let o = subst (NodeAgrees (state_after_all v.start r.history).at (slots_of v.start) (λ s. count_in (slot_word st.words s)) r.node_of
+        r.next_number n (word_at st.words (word_of v.start n)) (sum_by (taken_of n) st.views) (owed r.debt v.start.passes n)
+        (get_elem? st.homes n)) is (r.each_node n l) in
+        let c = p.counts n f l (is ∙ ap (λ (j : ℕ). seated j f) same) in
+        let e = ap (λ (j : ℕ). count_in (slot_word words' j)) same in let h = ap count_in (slot_here turn s inside new) in
+        let k = slot_node turn s inside new n in record {
+          file = o.file;
+          counts = omega arith;
+          unowed = o.unowed;
+          inside = o.inside;
+          there = at_is i ∙ o.there;
+        })
+        (λ other. same_else n l (seated i f) is (λ h bad. other (cc bad)))
+    node_now n l free is = same_else n l free is (λ h bad. cc bad)
+    node_now n l (placed j) is = same_else n l (placed j) is (λ h bad. cc bad)
+    node_now n l (leaving j t nx m f) is = same_else n l (leaving j t nx m f) is (λ h bad. cc bad)
+    node_now n l (retired f) is = same_else n l (retired f) is (λ h bad. cc bad)
+    node_now n l (emptied j) is = same_else n l (emptied j) is (λ h bad. cc bad)
+
+    pub slot_kept : Agrees v.start (end turn slot_after)
+    slot_kept = step_kept turn slot_after record {
+      words = length-set st.words (slot_place s) new;
+      homes = refl;
+      grows = p.grows;
+      legal = p.legal;
+      slots = λ i l. dite (ℕ_discrete i s) (λ same. rw same slot_now)
+          (λ other. slot_same (slot_else turn s inside new i other) (at_is i)
+          (tally_same (over' i) (r.over i) v.start.passes (λ q low high. p.over_else i q other)) (λ f there seat. (refl, refl)) (r.each_slot i l));
+      nodes = λ n l. node_now n l (r.phase n) refl;
+      owners = λ n l. ⊎_elim (λ same. owner_same st.views id v (w turn slot_after) here same n (r.phase n) (r.each_owner n l))
+          (λ none. owner_stays st.views id v (w turn slot_after) here n (λ bad. omega arith) (r.phase n) (r.each_owner n l)) p.owners;
+      removed = λ number. ap (λ (f : ℕ → Option File). f number) p.removed ∙ r.removed number;
+      unborn = r.unborn;
+      fresh = λ number l. ap (λ (f : ℕ → Bool). f number) p.fresh ∙ r.fresh number l;
+      others = λ j u z other there at n range o work. keeps_other turn slot_after leaves j u z other there n range o work;
+      held = p.held;
+      search = p.search;
+      its = p.its;
+      holds = p.holds;
+      control = rw p.at (control_same st.views id v (w turn slot_after) here refl (slot_control turn s inside new) refl r.control);
+    }

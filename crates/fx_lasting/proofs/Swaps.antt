@@ -1,0 +1,303 @@
+-- A swap of a slot's word: a file leaves the slot, if there was one, and the slot gets another or none.
+use Rattle.fx_lasting.proofs.Words.{◌≡◌, ◌≢◌, ℕ, suc, ◌-◌, ◌^◌, ◌<◌, ◌≤◌, List, set, length, sym, refl, ap, ◌∙◌, subst, arith, Option, Some, None}
+use Rattle.fx_lasting.proofs.Words.{get_elem?, Bool, true, false, inl, inr, ⊎_elim, ◌⊎◌, dite, ℕ_discrete, dec_le, eq-eqb, ne_eqb, File, Event}
+use Rattle.fx_lasting.proofs.Words.{State, held_by, with_removed, changed_at, changed_here, changed_else, Agrees, NodeAgrees, OwnerAgrees, WorkAgrees}
+use Rattle.fx_lasting.proofs.Words.{SlotAgrees, Names, IsSeated, HoldAgrees, GuardAgrees, MayBeUnmarked, SearchAgrees, ControlCounts, Nodes}
+use Rattle.fx_lasting.proofs.Words.{IsHistory, state_after_all, slots_of, nodes_of, range_of, slot_place, word_of, hold_of, control_place, count_in}
+use Rattle.fx_lasting.proofs.Words.{name_in, hot_in, IsHot, owed, taken_of, taking, held_in, if_file, sum_by, sum_set, Phase, free, placed, seated}
+use Rattle.fx_lasting.proofs.Words.{leaving, retired, emptied, owner, file_in, removed_in, first_visit, retiring, Found, Work, Change, Idle, Retiring}
+use Rattle.fx_lasting.proofs.Words.{length-set}
+use Rattle.fx_lasting.proofs.Counts.{tally_same}
+use Rattle.fx_lasting.proofs.Histories.{Grows, each_changed}
+use Rattle.fx_lasting.proofs.Frames.{does_now, slot_same, file_same, Leaves, keeps_other, guards_same, SlotGoesOn, sees_on, heats_on}
+use Rattle.fx_lasting.proofs.Keeping.{Turn, After, Homes, word_at, slot_word, step_kept, w, end, its_log, in_range}
+use Rattle.fx_lasting.proofs.Places.{slot_words, slot_here, slot_node, slot_else, slot_hold, slot_control}
+use Rattle.fx_lasting.proofs.Unheld.{in_phase}
+
+-- the node isn't that of the file
+abbrev pub NotOf : Nodes → ℕ → Option File → Type 0
+NotOf node_of n old = (f : File) → old ≡ Some f → n ≢ node_of f.number
+
+by_old : (node_of : Nodes) (old : Option File) {n : ℕ} (P : Type 0) → ((f : File) → old ≡ Some f → n ≡ node_of f.number → P) → (NotOf node_of n old → P) → P
+by_old node_of None P is else = else (λ f bad. absurd (cc bad))
+by_old node_of (Some f) {n} P is else = dite (ℕ_discrete n (node_of f.number)) (λ same. is f refl same)
+    (λ other. else (λ g e same. other (let z : f ≡ g = cc e in same ∙ ap (λ (h : File). node_of h.number) (sym z))))
+
+module _ (turn : Turn) (s : ℕ) (inside : s < slots_of turn.v.start) where
+  open turn use {st, v, r, id, x, here, one}
+
+  abbrev pub found : ℕ
+  found = slot_word st.words s
+
+  abbrev pub state : State
+  state = state_after_all v.start r.history
+
+  module _ (old : Option File) (was : state.at s ≡ old) where
+    pub names_old : Names r.node_of found old
+    names_old = subst (Names r.node_of found) was (r.each_slot s inside).names
+
+    seat_old : IsSeated v.start r.node_of r.phase s old
+    seat_old = subst (IsSeated v.start r.node_of r.phase s) was (r.each_slot s inside).seat
+
+    -- the file that was there
+    pub old_at : {f : File} → old ≡ Some f → (r.node_of f.number < nodes_of v.start) × (r.phase (r.node_of f.number) ≡ seated s f)
+    old_at is = subst (IsSeated v.start r.node_of r.phase s) is seat_old
+
+    pub old_named : {f : File} → old ≡ Some f → name_in found - 1 ≡ r.node_of f.number
+    old_named {f} is = let n = subst (Names r.node_of found) is names_old in let a = n.0 in omega arith
+
+    pub found_so : Found found old
+    found_so = go old names_old
+      where
+        go : (o : Option File) → Names r.node_of found o → Found found o
+        go None n = n
+        go (Some f) n = ((λ bad. let a = n.0 in omega arith), n.1)
+
+    -- a node whose phase isn't that of a file at the slot isn't that of the old file
+    pub not_old : {n : ℕ} {ph : Phase} → r.phase n ≡ ph → ((f : File) → ph ≢ seated s f) → NotOf r.node_of n old
+    not_old is else f o same = else f (sym is ∙ (ap r.phase same ∙ (old_at o).1))
+
+    abbrev pub d : Work
+    d = retiring v.start found old
+
+    d_is : (f : File) → old ≡ Some f → d ≡ Retiring f (r.node_of f.number) (count_in found) (first_visit v.start.passes found) 0
+    d_is f is = let e = old_named is in ap (retiring v.start found) is
+        ∙ ap (λ (n : ℕ). Retiring f n (count_in found) (first_visit v.start.passes found) 0) e
+
+    -- what a pass does that has a file to retire, or none
+    by_retiring : (P : Work → Type 0) → P Idle
+        → ((f : File) → old ≡ Some f → P (Retiring f (r.node_of f.number) (count_in found) (first_visit v.start.passes found) 0)) → P d
+    by_retiring P idle retires = go old refl
+      where
+        go : (o : Option File) → old ≡ o → P d
+        go None is = subst P (sym (ap (retiring v.start found) is)) idle
+        go (Some f) is = subst P (sym (d_is f is)) (retires f is)
+
+    -- the old file's node, after the swap
+    abbrev gone_as : File → Phase
+    gone_as f = leaving id (count_in found) (first_visit v.start.passes found) 0 f
+
+    module _ (h' : List Event) (new_word : ℕ) (new : Option File) (homes' : Homes) (phase₁ : ℕ → Phase) (node_of' : Nodes) (next' : ℕ) (c : Change) where
+      abbrev over' : ℕ → ℕ → Bool
+      over' = changed_at r.over s (λ p. false)
+
+      -- phases are changed by the old file, if there was one
+      abbrev gone : Option File → (ℕ → Phase) → ℕ → Phase
+      gone None phase = phase
+      gone (Some f) phase = changed_at phase (r.node_of f.number) (gone_as f)
+
+      abbrev phase' : ℕ → Phase
+      phase' = gone old phase₁
+
+      abbrev pub swap_after : After turn
+      swap_after = record {
+        h = h';
+        words = slot_words turn s inside new_word;
+        homes = homes';
+        phase = phase';
+        node_of = node_of';
+        next_number = next';
+        debt = r.debt;
+        over = over';
+        work = d;
+        glance = v.glance;
+        change = c;
+      }
+
+      abbrev after : State
+      after = state_after_all v.start h'
+
+      abbrev Node : ℕ → Phase → Type 0
+      Node n = NodeAgrees after.at (slots_of v.start) (λ i. count_in (slot_word (slot_words turn s inside new_word) i)) node_of' next' n
+          (word_at st.words (word_of v.start n)) (sum_by (taken_of n) (set st.views id (w turn swap_after))) (owed r.debt v.start.passes n)
+          (get_elem? homes' n)
+
+      pub record Swap : Type 0 where
+        pub grows : Grows x.number r.history h'
+        pub legal : IsHistory v.start h'
+        pub fresh : ℕ → Bool
+        pub leads : after ≡ record state { at = changed_at state.at s new; removed = with_removed state.removed old; fresh = fresh }
+        pub fresh_on : (number : ℕ) → next' ≤ number → fresh number ≡ true
+        pub held : held_by h' x.number ≡ held_by r.history x.number
+        pub homes : length homes' ≡ length st.homes
+        -- numbers stay on their nodes, but for one that is used from now on
+        pub later : r.next_number ≤ next'
+        pub numbers : (m : ℕ) → m < r.next_number → node_of' m ≡ r.node_of m
+        pub removed_else : (m : ℕ) → removed_in m (phase₁ (node_of' m)) ≡ removed_in m (r.phase (r.node_of m))
+        -- the new file of the slot
+        pub names : Names node_of' new_word new
+        pub no_takes : count_in new_word ≡ 0
+        pub seat : IsSeated v.start node_of' phase₁ s new
+        pub seat_apart : (f : File) → new ≡ Some f → NotOf r.node_of (node_of' f.number) old
+        -- the phases change at most where the pass was placing
+        pub kept : (n : ℕ) → (phase₁ n ≡ r.phase n) ⊎ (r.phase n ≡ placed id)
+        pub nodes : (n : ℕ) → n < nodes_of v.start → NotOf r.node_of n old → Node n (phase₁ n)
+        pub old_home : (f : File) → old ≡ Some f → get_elem? homes' (r.node_of f.number) ≡ get_elem? st.homes (r.node_of f.number)
+        pub owners : (n : ℕ) → n < nodes_of v.start → NotOf r.node_of n old → OwnerAgrees (set st.views id (w turn swap_after)) n (phase₁ n)
+        -- the pass
+        pub idle_hands : (held_in v.work ≡ None) × ((n : ℕ) → taking n v.work ≡ 0)
+            × (word_at st.words (hold_of v.start x.number) ≡ 0) × (r.debt x.number ≡ 0)
+        pub control : ControlCounts (changed_at state.at s new) (range_of v.start) (set st.views id (w turn swap_after)) (word_at st.words control_place)
+
+      module _ (p : Swap) where
+        out_here : {f : File} → old ≡ Some f → phase' (r.node_of f.number) ≡ gone_as f
+        out_here {f} is = ap (λ (o : Option File). gone o phase₁ (r.node_of f.number)) is
+            ∙ changed_here phase₁ (r.node_of f.number) (gone_as f) (r.node_of f.number) refl
+
+        else_phase : {n : ℕ} → NotOf r.node_of n old → phase' n ≡ phase₁ n
+        else_phase {n} apart = go old refl
+          where
+            go : (o : Option File) → old ≡ o → gone o phase₁ n ≡ phase₁ n
+            go None is = refl
+            go (Some f) is = changed_else phase₁ (r.node_of f.number) (gone_as f) n (apart f is)
+
+        -- a node that is neither the old file's nor placed
+        same_phase : {n : ℕ} {ph : Phase} → r.phase n ≡ ph → NotOf r.node_of n old → (ph ≡ placed id → ⊥) → phase' n ≡ ph
+        same_phase {n} is apart other = else_phase apart ∙ ⊎_elim (λ same. same ∙ is) (λ mine. absurd (other (sym is ∙ mine))) (p.kept n)
+
+        at_else : (i : ℕ) → i ≢ s → after.at i ≡ state.at i
+        at_else i other = ap (λ (z : State). z.at i) p.leads ∙ changed_else state.at s new i other
+
+        at_here : after.at s ≡ new
+        at_here = ap (λ (z : State). z.at s) p.leads ∙ changed_here state.at s new s refl
+
+        -- the old file's node
+        old_node : {f : File} → old ≡ Some f → Node (r.node_of f.number) (gone_as f)
+        old_node {f} is = let its = old_at is in let o = in_phase turn its.0 its.1 in let a = o.counts in let b = o.unowed in
+            let t = sum_set (taken_of (r.node_of f.number)) st.views id v (w turn swap_after) here in
+            let e = p.idle_hands.1 (r.node_of f.number) in
+            let z = by_retiring (λ q. taking (r.node_of f.number) q ≡ 0) refl (λ g at. refl) in
+            let many = r.shape.passes in record {
+              file = file_same p.later p.numbers (p.old_home f is) o.file;
+              counts = omega arith;
+              few_takes = omega arith;
+              few_marks = first_some;
+              few_visits = first_few;
+            }
+          where
+            first_some : 0 < first_visit v.start.passes found
+            first_some = dite (ℕ_discrete (hot_in found) 1) (λ h. rw (eq-eqb (hot_in found) 1 h) (omega arith))
+                (λ c. rw (ne_eqb (hot_in found) 1 c) (omega arith))
+
+            first_few : first_visit v.start.passes found ≤ 2 ^ 16
+            first_few = let a = r.shape.passes in dite (ℕ_discrete (hot_in found) 1) (λ h. rw (eq-eqb (hot_in found) 1 h) (omega arith))
+                (λ c. rw (ne_eqb (hot_in found) 1 c) (omega arith))
+
+        -- who guards the old file is still to be visited
+        guard_old : {f : File} (q : ℕ) → 0 < q → q ≤ v.start.passes → old ≡ Some f → IsHot found → first_visit v.start.passes found ≤ q
+        guard_old q low high is hot = rw (eq-eqb (hot_in found) 1 hot) (omega arith)
+
+        covers : (q : ℕ) → (0 < q) × (q ≤ v.start.passes) → (n : ℕ) → MayBeUnmarked (slot_word st.words) q (r.phase n)
+            → MayBeUnmarked (slot_word (slot_words turn s inside new_word)) q (phase' n)
+        covers q range n may = by_old r.node_of old {n = n} (MayBeUnmarked (slot_word (slot_words turn s inside new_word)) q (phase' n))
+            (λ f is same. let hot = subst (MayBeUnmarked (slot_word st.words) q) (ap r.phase same ∙ (old_at is).1) may in
+            subst (MayBeUnmarked (slot_word (slot_words turn s inside new_word)) q) (sym (ap phase' same ∙ out_here is))
+            (guard_old {f = f} q range.0 range.1 is hot))
+            (λ apart. go apart (r.phase n) refl may)
+          where
+            -- a seated file is elsewhere, if it isn't the old one
+            at_slot : NotOf r.node_of n old → (i : ℕ) (f : File) → r.phase n ≡ seated i f → i ≢ s
+            at_slot apart i f is same = dite (dec_le (suc n) (nodes_of v.start))
+                (λ l. let o = in_phase turn (omega (arith, l)) is in
+                apart f (sym was ∙ (ap state.at (sym same) ∙ o.there)) (sym o.file.its_node))
+                (λ g. let e = r.unborn n (omega (arith, g)) in let bad : free ≡ seated i f = sym e ∙ is in cc bad)
+
+            go : NotOf r.node_of n old → (ph : Phase) → r.phase n ≡ ph → MayBeUnmarked (slot_word st.words) q ph
+                → MayBeUnmarked (slot_word (slot_words turn s inside new_word)) q (phase' n)
+            go apart (seated i f) is hot = subst (MayBeUnmarked (slot_word (slot_words turn s inside new_word)) q)
+                (sym (same_phase is apart (λ bad. cc bad))) (rw (slot_else turn s inside new_word i (λ same. at_slot apart i f is same)) hot)
+            go apart (leaving j t nx m f) is l = subst (MayBeUnmarked (slot_word (slot_words turn s inside new_word)) q)
+                (sym (same_phase is apart (λ bad. cc bad))) l
+            go apart free is m = absurd m
+            go apart (placed j) is m = absurd m
+            go apart (retired f) is m = absurd m
+            go apart (emptied j) is m = absurd m
+
+        slots_on : (q i : ℕ) → SlotGoesOn (slot_word st.words i) (slot_word (slot_words turn s inside new_word) i) (r.over i q) (over' i q)
+        slots_on q i = dite (ℕ_discrete i s)
+            (λ same. inl (ap (λ (f : ℕ → Bool). f q) (changed_here r.over s (λ p. false) i same)))
+            (λ other. inr (
+              ap (λ (f : ℕ → Bool). f q) (changed_else r.over s (λ p. false) i other),
+              ap name_in (slot_else turn s inside new_word i other),
+              λ h. rw (slot_else turn s inside new_word i other) h,
+            ))
+
+        leaves : Leaves turn swap_after
+        leaves = record {
+          guards = λ q e other range. guards_same turn swap_after q e (slot_hold turn s inside new_word q range.0) refl (covers q range);
+          owned = λ n some not_mine. same_phase refl (not_old refl (λ f bad. some (ap owner bad))) (λ bad. not_mine (ap owner bad));
+          spare = λ n q is low block other. same_phase is (not_old is (λ f bad. cc bad)) (λ bad. cc bad);
+          open_file = λ j u f n other there holds at. (
+            at.0,
+            by_old r.node_of old {n = n} (file_in (phase' n) ≡ Some f)
+                (λ g is same. ap file_in (ap phase' same ∙ out_here is) ∙ (sym (ap file_in (ap r.phase same ∙ (old_at is).1)) ∙ at.1))
+                (λ apart. ap file_in (same_phase refl apart (λ bad. let z : None ≡ Some f = sym (ap file_in bad) ∙ at.1 in cc z)) ∙ at.1),
+          );
+          slots = λ i q l other. slots_on q i;
+        }
+
+        -- what was removed
+        removed_now : (m : ℕ) → after.removed m ≡ removed_in m (phase' (node_of' m))
+        removed_now m = ap (λ (z : State). z.removed m) p.leads ∙ go old refl
+          where
+            go : (o : Option File) → old ≡ o → with_removed state.removed o m ≡ removed_in m (gone o phase₁ (node_of' m))
+            go None is = r.removed m ∙ sym (p.removed_else m)
+            go (Some f) is = dite (ℕ_discrete m f.number)
+                (λ same. changed_here state.removed f.number (Some f) m same ∙ sym (ap (removed_in m) (changed_here phase₁ (r.node_of f.number) (gone_as f) (node_of' m)
+                (ap node_of' same ∙ p.numbers f.number (in_phase turn (old_at is).0 (old_at is).1).file.used)) ∙ rw (eq-eqb f.number m (sym same)) refl))
+                (λ other. changed_else state.removed f.number (Some f) m other ∙ (r.removed m ∙ (sym (p.removed_else m)
+                ∙ sym (each_changed (λ k z. removed_in m z ≡ removed_in m (phase₁ k)) phase₁
+                (λ at. rw (ne_eqb f.number m (λ e. other (sym e))) (sym (ap (λ (k : ℕ). removed_in m (phase₁ k)) at
+                ∙ ap (removed_in m) (⊎_elim (λ e. e ∙ (old_at is).1) (λ bad. let z : placed id ≡ seated s f = sym bad ∙ (old_at is).1 in absurd (cc z))
+                (p.kept (r.node_of f.number)))))) (λ _. refl)))))
+
+        seat_now : (o : Option File) → new ≡ o → IsSeated v.start node_of' phase₁ s o → IsSeated v.start node_of' phase' s o
+        seat_now None is z = tt
+        seat_now (Some f) is z = (z.0, else_phase (p.seat_apart f is) ∙ z.1)
+
+        slot_other : (i : ℕ) → i < slots_of v.start → i ≢ s
+            → SlotAgrees v.start node_of' phase' (over' i) i (after.at i) (slot_word (slot_words turn s inside new_word) i)
+        slot_other i l other = slot_same (slot_else turn s inside new_word i other) (at_else i other)
+            (tally_same (over' i) (r.over i) v.start.passes (λ q low high. ap (λ (f : ℕ → Bool). f q) (changed_else r.over s (λ p. false) i other)))
+            (λ f there seat. let its = subst (IsSeated v.start r.node_of r.phase i) there (r.each_slot i l).seat in
+            let o = in_phase turn its.0 its.1 in let same = p.numbers f.number o.file.used in
+            (same, same_phase its.1 (not_old its.1 (λ g bad. other (cc bad))) (λ bad. cc bad) ∙ sym its.1))
+            (r.each_slot i l)
+
+        pub swap_kept : Agrees v.start (end turn swap_after)
+        swap_kept = let o = its_log turn in let hands = p.idle_hands in step_kept turn swap_after record {
+          words = length-set st.words (slot_place s) new_word;
+          homes = p.homes;
+          grows = p.grows;
+          legal = p.legal;
+          slots = λ i l. dite (ℕ_discrete i s) (λ same. rw (same, slot_here turn s inside new_word, at_here) record {
+            names = p.names;
+            seat = seat_now new refl p.seat;
+            takes = let a = p.no_takes in omega arith;
+          }) (λ other. slot_other i l other);
+          nodes = λ n l. rw (slot_node turn s inside new_word n) (by_old r.node_of old {n = n} (Node n (phase' n))
+              (λ f is same. rw (same, out_here is) (old_node is)) (λ apart. rw (else_phase apart) (p.nodes n l apart)));
+          owners = λ n l. by_old r.node_of old {n = n} (OwnerAgrees (set st.views id (w turn swap_after)) n (phase' n))
+              (λ f is same. rw (same, out_here is) (does_now st.views id v (w turn swap_after)
+              (Retiring f (r.node_of f.number) (count_in found) (first_visit v.start.passes found) 0) here (d_is f is)))
+              (λ apart. rw (else_phase apart) (p.owners n l apart));
+          removed = removed_now;
+          unborn = λ n l. same_phase (r.unborn n l) (not_old (r.unborn n l) (λ f bad. cc bad)) (λ bad. cc bad);
+          fresh = λ number l. ap (λ (z : State). z.fresh number) p.leads ∙ p.fresh_on number l;
+          others = λ j u z other there at n range o work. keeps_other turn swap_after leaves j u z other there n range o work;
+          held = p.held ∙ (o.held ∙ (hands.0 ∙ by_retiring (λ q. None ≡ held_in q) refl (λ f is. refl)));
+          search = by_retiring (SearchAgrees v.start x.number) tt (λ f is. tt);
+          its = record {
+            hold = rw (slot_hold turn s inside new_word x.number (in_range turn).0)
+                (by_retiring (HoldAgrees (word_at st.words (hold_of v.start x.number)) (r.debt x.number)) (hands.2, hands.3) (λ f is. (hands.2, hands.3)));
+            guarded = by_retiring (GuardAgrees (slot_word (slot_words turn s inside new_word)) phase' x.number (r.debt x.number)) tt (λ f is. tt);
+            sees = sees_on v.start (slot_word st.words) (slot_word (slot_words turn s inside new_word)) (λ i. r.over i x.number) (λ i. over' i x.number)
+                (λ i l. slots_on x.number i) v.glance o.sees;
+            heats = heats_on v.start (slot_word st.words) (slot_word (slot_words turn s inside new_word)) (λ i. r.over i x.number) (λ i. over' i x.number)
+                (λ i l. slots_on x.number i) v.glance o.heats;
+            work = by_retiring (WorkAgrees v.start phase' id) tt (λ f is. ((old_at is).0, out_here is));
+          };
+          holds = λ n. let a = ap (if_file n) hands.0 in let b = by_retiring (λ q. if_file n (held_in q) ≡ 0) refl (λ f is. refl) in
+              let g = ap (λ (z : State). z.holds n) p.leads in omega arith;
+          control = rw (slot_control turn s inside new_word, p.leads) p.control;
+        }

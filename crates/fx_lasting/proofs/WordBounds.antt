@@ -1,0 +1,40 @@
+-- The bounds of the words.
+use Rattle.fx_lasting.proofs.Words.{◌≡◌, ℕ, ◌+◌, ◌<◌, ◌≤◌, Option, Some, None, subst, arith, File, sum_by, sum_le_at, get_elem?, Agrees, Names, IsSeated}
+use Rattle.fx_lasting.proofs.Words.{NodeAgrees, WorkAgrees, lengths, changes_of, slots_of, word_of, state_after_all, taken_of, owed, count_in, name_in}
+use Rattle.fx_lasting.proofs.Words.{Phase, Shared, Start}
+use Rattle.fx_lasting.specs.Bounds.{AreBounded, slot_word_in, node_word_in}
+use Rattle.fx_lasting.proofs.ControlSteps.{few_changes, few_full, few_added, few_removed}
+use Rattle.fx_lasting.proofs.Counts.{tally_few}
+use Rattle.fx_lasting.proofs.Keeping.{word_at, slot_word}
+
+module _ (k : Start) (s : Shared) (r : Agrees k s) where
+  few_takes : (slot : ℕ) → slot < slots_of k → count_in (slot_word_in s slot) ≤ 16 + k.passes
+  few_takes slot inside = let a = (r.each_slot slot inside).takes in let b = tally_few (r.over slot) k.passes in omega arith
+
+  abbrev Node : ℕ → Phase → Type 0
+  Node n = NodeAgrees (state_after_all k r.history).at (slots_of k) (λ i. count_in (slot_word s.words i)) r.node_of r.next_number n
+      (word_at s.words (word_of k n)) (sum_by (taken_of n) s.views) (owed r.debt k.passes n) (get_elem? s.homes n)
+
+  of_slot : (slot node : ℕ) → slot < slots_of k → (file : Option File) → Names r.node_of (slot_word_in s slot) file
+      → IsSeated k r.node_of r.phase slot file → name_in (slot_word_in s slot) ≡ node + 1 → 2 < node_word_in k s node
+  of_slot slot node inside None names seat is = absurd (omega arith)
+  of_slot slot node inside (Some f) names seat is = let a = names.0 in let same : r.node_of f.number ≡ node = omega arith in
+      let o = subst (Node (r.node_of f.number)) seat.1 (r.each_node (r.node_of f.number) seat.0) in
+      let c = o.counts in let t = few_takes slot inside in let p = r.shape.passes in
+      let large : 2 < node_word_in k s (r.node_of f.number) = omega arith in subst (λ (n : ℕ). 2 < node_word_in k s n) same large
+
+  changes_most : sum_by changes_of s.views ≤ 1024
+  changes_most = let a = sum_le_at changes_of lengths s.views (few_changes k s r) in let b = r.whole in let c = r.shape.passes in omega arith
+
+  pub words_are_bounded : AreBounded k s
+  words_are_bounded = record {
+    takes = few_takes;
+    named = λ slot node inside is. let a = r.each_slot slot inside in of_slot slot node inside _ a.names a.seat is;
+    leaving = λ seat node takes next marks v f there is.
+        let work = subst (WorkAgrees k r.phase seat) is (r.each_view seat v there).work in
+        let o = subst (Node node) work.1 (r.each_node node work.0) in
+        let a = o.counts in let b = o.few_takes in let c = o.few_marks in let d = o.few_visits in omega arith;
+    changes = let a = r.control.upper in let b = changes_most in omega arith;
+    least = let a = r.control.lower in let b = few_added k s r in let c = changes_most in omega arith;
+    most = let a = r.control.lower in let b = few_removed k s r in let c = few_full k s r in let d = changes_most in omega arith;
+  }

@@ -1,0 +1,5 @@
+use Rattle.fx_lasting.proofs.ControlSteps.{asks_keep}
+use Rattle.fx_lasting.proofs.laws.ask_keeps_rule.Goals as goal
+
+pub returns : goal.returns
+returns c = asks_keep

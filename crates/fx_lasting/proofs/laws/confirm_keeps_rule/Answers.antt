@@ -1,0 +1,5 @@
+use Rattle.fx_lasting.proofs.Looking.{confirms_keep}
+use Rattle.fx_lasting.proofs.laws.confirm_keeps_rule.Goals as goal
+
+pub returns : goal.returns
+returns c = confirms_keep

@@ -1,0 +1,5 @@
+use Rattle.fx_lasting.proofs.Seats.{joins_keep}
+use Rattle.fx_lasting.proofs.laws.join_keeps_rule.Goals as goal
+
+pub returns : goal.returns
+returns c = joins_keep

@@ -1,0 +1,5 @@
+use Rattle.fx_lasting.proofs.LetGoLaws.{letting_go_keeps}
+use Rattle.fx_lasting.proofs.laws.let_go_keeps_rule.Goals as goal
+
+pub returns : goal.returns
+returns c = letting_go_keeps

@@ -1,0 +1,5 @@
+use Rattle.fx_lasting.proofs.Openings.{opening_keeps}
+use Rattle.fx_lasting.proofs.laws.opening_keeps_rule.Goals as goal
+
+pub returns : goal.returns
+returns c = opening_keeps

@@ -1,0 +1,5 @@
+use Rattle.fx_lasting.proofs.Seats.{splits_keep}
+use Rattle.fx_lasting.proofs.laws.split_keeps_rule.Goals as goal
+
+pub returns : goal.returns
+returns c = splits_keep

@@ -1,0 +1,5 @@
+use Rattle.fx_lasting.proofs.HoldWords.{withdraws_keep}
+use Rattle.fx_lasting.proofs.laws.withdraw_keeps_rule.Goals as goal
+
+pub returns : goal.returns
+returns c = withdraws_keep
