@@ -10,7 +10,7 @@ COMPLETION = re.compile(r"\d+\.\d+\.\d+ ")
 READ = re.compile(r"\d+\.\d+\.\d+ [1-9]\d* [0-9a-f]+$")
 CALL = re.compile(r"[a-z]+ -?\d+$")
 # a verdict that names more lines than this one names none
-MOST_NAMED = 4
+MOST_NAMED = 6
 
 
 def named_of(said):
