@@ -10,7 +10,7 @@ COMPLETION = re.compile(r"\d+\.\d+\.\d+ ")
 READ = re.compile(r"\d+\.\d+\.\d+ [1-9]\d* [0-9a-f]+$")
 CALL = re.compile(r"[a-z]+ -?\d+$")
 # a verdict that names more lines than this one names none
-MOST_NAMED = 6
+MOST_NAMED = 4
 
 
 def named_of(said):
@@ -24,10 +24,11 @@ def named_of(said):
 
 class Spoiled:
     """A text with spoiled lines: all lines, which ones count as spoiled, from 1, the command of the first of them, from 1,
-    the last command's number, and words that name a lost line."""
+    the last command's number, words that name a lost line, and whether the command before may be named too."""
 
-    def __init__(self, lines, at, command, last, words=()):
+    def __init__(self, lines, at, command, last, words=(), is_joined=False):
         self.lines, self.at, self.command, self.last, self.words = lines, at, command, last, words
+        self.commands = {command, command - is_joined}
 
     @property
     def text(self):
@@ -39,7 +40,7 @@ class Spoiled:
         if "the end of the script" in said:
             commands.add(self.last + 1)
         has_line = len(lines) <= MOST_NAMED and bool(lines & set(self.at)) or any(it in said for it in self.words)
-        return self.command in commands or has_line, has_line
+        return bool(self.commands & commands) or has_line, has_line
 
 
 def owners_of(script, lines):
@@ -220,7 +221,9 @@ def spoiled(rng, source, text, kind):
     first = min(at[0], len(lines)) - 1
     is_lost_close = len(wrong) < len(lines) and lines[first].startswith("closed ")
     words = (lines[first].split(" ")[1] + " ",) if is_lost_close else ()
-    return Spoiled(wrong, at, owners[first], len(script.commands), words)
+    # without the line of a call, its closed lines continue those of the command before
+    is_joined = len(wrong) < len(lines) and bool(CALL.match(lines[first])) and "".join(wrong[first : first + 1]).startswith(("closed ", "tag "))
+    return Spoiled(wrong, at, owners[first], len(script.commands), words, is_joined)
 
 
 def some_of(rng, source, text, count):
