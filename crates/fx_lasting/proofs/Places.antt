@@ -1,7 +1,29 @@
 -- Places are inside, and apart; and what a write to one of them leaves as it was.
 use Rattle.fx_lasting.proofs.Words.{◌≡◌, ◌≢◌, ℕ, ◌<◌, ◌≤◌, List, set, arith, get_or-set_other, get_or-set_same, control_place, slot_place, word_of}
 use Rattle.fx_lasting.proofs.Words.{hold_of, slots_of, nodes_of, slot_of, pass_at, Start}
+use Rattle.fx_lasting.specs.Layout.{PlacesAreInside, PlacesAreApart}
 use Rattle.fx_lasting.proofs.Keeping.{Turn, word_at, slot_word}
+
+pub places_inside : (size passes nodes : ℕ) → PlacesAreInside size passes nodes
+places_inside size passes nodes = record {
+  control = omega arith;
+  slot = λ slot l. omega arith;
+  hold = λ pass l. omega arith;
+  node = λ node l. omega arith;
+}
+
+pub places_apart : (size passes : ℕ) → PlacesAreApart size passes
+places_apart size passes = record {
+  slots = λ slot other same. omega arith;
+  holds = λ pass other same. omega arith;
+  nodes = λ node other same. omega arith;
+  slot_and_control = λ slot same. omega arith;
+  hold_and_control = λ pass low same. omega arith;
+  node_and_control = λ node same. omega arith;
+  hold_and_slot = λ pass slot low l same. omega arith;
+  node_and_slot = λ node slot l same. omega arith;
+  node_and_hold = λ node pass l same. omega arith;
+}
 
 pub slot_back : (s : ℕ) → slot_of (slot_place s) ≡ s
 slot_back s = omega arith

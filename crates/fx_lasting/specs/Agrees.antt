@@ -68,8 +68,7 @@ pub record HasFile (node_of : Nodes) (next_number node : ℕ) (home : Home) (f :
   pub its_node : node_of f.number ≡ node
   pub used : f.number < next_number
 
--- One node: its word, what lies in its place, the takes that it counts, and the marks that are owed
--- to it
+-- One node: its word, what lies in its place, the takes that it counts, and the marks owed to it
 module _ (at : ℕ → Option File) (size : ℕ) (takes_at : ℕ → ℕ) (node_of : Nodes)
     (next_number node word taken owing : ℕ) (home : Home) where
   -- it has no file

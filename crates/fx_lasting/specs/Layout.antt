@@ -1,8 +1,9 @@
 -- Where the words and the open files of a lasting table are.
-use Rattle.std.specs.Prelude.{ℕ, ◌+◌, ◌-◌, ◌*◌}
+use Rattle.std.specs.Prelude.{◌≡◌, ◌≢◌, ℕ, ◌+◌, ◌-◌, ◌*◌, ◌<◌, ◌≤◌}
 
 -- The control word, each slot and each pass have a cache line of their own.
--- Here is the control word
+
+-- the control word
 abbrev pub control_place : ℕ
 control_place = 0
 
@@ -33,3 +34,27 @@ block_start size passes pass = size + (pass - 1) * block_for size passes
 -- the number of nodes of a table in which `installing` passes install
 abbrev pub nodes_for : ℕ → ℕ → ℕ → ℕ
 nodes_for size passes installing = size + installing * block_for size passes
+
+-- the places of words are inside the table's memory
+pub record PlacesAreInside (size passes nodes : ℕ) : Type 0 where
+  pub control : control_place < words_for size passes nodes
+  pub slot : (slot : ℕ) → slot < size → slot_place slot < words_for size passes nodes
+  pub hold : (pass : ℕ) → pass ≤ passes → hold_place size pass < words_for size passes nodes
+  pub node : (node : ℕ) → node < nodes
+      → node_place size passes node < words_for size passes nodes
+
+-- different words have different places
+pub record PlacesAreApart (size passes : ℕ) : Type 0 where
+  pub slots : (slot other : ℕ) → slot_place slot ≡ slot_place other → slot ≡ other
+  pub holds : (pass other : ℕ) → hold_place size pass ≡ hold_place size other → pass ≡ other
+  pub nodes : (node other : ℕ)
+      → node_place size passes node ≡ node_place size passes other → node ≡ other
+  pub slot_and_control : (slot : ℕ) → slot_place slot ≢ control_place
+  pub hold_and_control : (pass : ℕ) → 0 < pass → hold_place size pass ≢ control_place
+  pub node_and_control : (node : ℕ) → node_place size passes node ≢ control_place
+  pub hold_and_slot : (pass slot : ℕ) → 0 < pass → slot < size
+      → hold_place size pass ≢ slot_place slot
+  pub node_and_slot : (node slot : ℕ) → slot < size
+      → node_place size passes node ≢ slot_place slot
+  pub node_and_hold : (node pass : ℕ) → pass ≤ passes
+      → node_place size passes node ≢ hold_place size pass

@@ -1,6 +1,8 @@
 //! The law of each kind of step: where the rule holds before the step, it holds after it, whatever the table and the
 //! other passes are.
+ghost use Rattle.std.specs.Prelude.{ℕ};
 ghost use Rattle.fx_lasting.specs.Bounds.{WordsAreBounded};
+ghost use Rattle.fx_lasting.specs.Layout.{PlacesAreInside, PlacesAreApart};
 ghost use Rattle.fx_lasting.specs.Opens.{OpeningKeeps};
 ghost use Rattle.fx_lasting.specs.Laws.{GlancesKeep, AnnouncesKeep, ConfirmsKeep, WithdrawsKeep, TakesOnceKeep, HeatsKeep, StepsDownKeep, LettingGoKeeps, SeeksKeep, BirthsKeep, RestsKeep, VisitsKeep, MarksKeep, RetiresKeep, BeginsKeep, EndsKeep, AsksKeep, PeeksKeep, SplitsKeep, JoinsKeep, ClearsKeep, TakesOutKeep, InstallsKeep, ExchangesKeep};
 
@@ -149,4 +151,14 @@ pub fn exchange_keeps_rule()
 /// lower half of the control word is between 64,512 and 66,816.
 pub fn words_are_bounded()
     ensures { WordsAreBounded }
+{}
+
+/// Each word of a table of `size` slots, with `passes` passes and `nodes` nodes, has its place inside the table's memory.
+pub fn places_are_inside()
+    ensures { (size passes nodes : ℕ) → PlacesAreInside size passes nodes }
+{}
+
+/// Different words of such a table have different places.
+pub fn places_are_apart()
+    ensures { (size passes : ℕ) → PlacesAreApart size passes }
 {}
