@@ -36,7 +36,7 @@ pub struct End {
 pub struct Ends {
     /// The ends.
     pub ends: Vec<End>,
-    /// Whether these were shown to be all.
+    /// True if these were shown to be all.
     pub are_all: bool,
 }
 

@@ -39,7 +39,7 @@ pub struct Answer {
 pub struct Answers {
     /// The answers.
     pub answers: Vec<Answer>,
-    /// Whether these were shown to be all.
+    /// True if these were shown to be all.
     pub are_all: bool,
 }
 

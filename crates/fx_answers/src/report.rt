@@ -43,7 +43,7 @@ pub struct PossibleReport {
 pub struct PossibleReports {
     /// The reports.
     pub reports: Vec<PossibleReport>,
-    /// Whether these were shown to be all.
+    /// True if these were shown to be all.
     pub are_all: bool,
     /// The number of states that the search met. No contract says anything of it.
     pub states: usize,

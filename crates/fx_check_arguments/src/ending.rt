@@ -78,7 +78,7 @@ impl Ending {
     /// Prints it: help and the version on standard output, and the others on standard error.
     ///
     /// # Errors
-    /// That of the write, if it fails.
+    /// The error of the write, if it fails.
     pub fn tell(&self, rt: &HostRuntime) -> io::Result<()> {
         match self {
             Ending::Arguments(error) => error.print(rt),

@@ -54,9 +54,9 @@ pub struct Settings<'a> {
     pub states: u32,
     /// The largest number of MiB of these states.
     pub memory: u32,
-    /// Whether to print a whole history instead of the orders.
+    /// True if a whole history is printed instead of the orders.
     pub history: bool,
-    /// Whether to list the answers of a request.
+    /// True if the answers of a request are listed.
     pub may: bool,
     /// The largest number of texts to list, or `None` if no list is requested.
     pub all: Option<u32>,

@@ -4,7 +4,7 @@ use fx_chain::{Completion, Op, Request, Target};
 use fx_report::{Case, Complaint, Installed, Report, push_file, push_place};
 use std::alloc::{AllocError, Global};
 
-/// What a completion says about the file that was at a slot before its request.
+/// The fact that a completion shows about the file at a slot before its request.
 #[derive(Clone, Copy, PartialEq, Eq)]
 enum Shows {
     /// Nothing.

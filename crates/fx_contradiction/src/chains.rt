@@ -1,4 +1,4 @@
-//! Whether the named lines alone show how far each chain runs.
+//! Checks whether the named lines alone show how far each chain runs.
 use crate::contradiction::Cause;
 use bitflags::Flags;
 use fx_base::Errno;
@@ -64,12 +64,12 @@ fn last_run(case: &Case<'_>, report: &Report, named: &[usize], from: usize) -> O
     last
 }
 
-/// What the named lines show of a chain up to one of its requests.
+/// The facts that the named lines show of a chain, up to one of its requests.
 #[derive(Clone, Copy)]
 struct Shown {
-    // Whether each request before it must leave the chain running.
+    // True if each request before it must leave the chain running.
     runs: bool,
-    // Whether a request before it must sever the chain.
+    // True if a request before it must sever the chain.
     is_severed: bool,
     // The last named line of the chain whose request ran.
     last: Option<usize>,

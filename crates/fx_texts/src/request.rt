@@ -23,7 +23,7 @@ pub struct RequestAnswers {
     pub answers: Vec<Said>,
     /// The orders of the submissions up to the answers.
     pub orders: Vec<Past>,
-    /// Whether these were shown to be all. If so and there is none, no accepted submission has the request.
+    /// True if these were shown to be all. If so and there is none, no accepted submission has the request.
     pub are_all: bool,
 }
 

@@ -29,7 +29,7 @@ pub struct AllTexts {
     pub by: Vec<Option<usize>>,
     /// The orders of the submissions.
     pub orders: Vec<Past>,
-    /// Whether these were shown to be all.
+    /// True if these were shown to be all.
     pub are_all: bool,
 }
 
