@@ -36,7 +36,9 @@ fn shown_by(request: &Request, it: &Completion, slot: u32) -> Shows {
             None => false,
         },
     };
-    if is_there && (is_any || it.res == -Errno::EBADF.code()) {
+    // an update answers EBADF for a bad entry, whatever is at its slots
+    let names_slot = matches!(request.op, Op::Read { .. } | Op::Close { .. });
+    if is_there && (is_any || names_slot && it.res == -Errno::EBADF.code()) {
         Shows::WasEmpty
     } else if is_there && it.res >= 0 && !matches!(request.op, Op::Read { .. }) {
         Shows::Removed
