@@ -20,9 +20,9 @@ $(error A path is given by a variable. Type: make $(firstword $(filter-out $(pat
 endif
 
 .DEFAULT_GOAL := help
-.PHONY: help help-all run try check litmus pictures texts kernel conform prove test examples limits compare agree workers
-.PHONY: dist install uninstall meetings refused-growths steps mistakes checks break
-.PHONY: must-spend growths wrong-bodies layout bench bench-rust gate clean
+.PHONY: help help-all run try check litmus pictures texts kernel conform prove test examples limits compare workers
+.PHONY: dist install uninstall meetings allocation-failures steps mistakes checks break
+.PHONY: libraries bindings must-spend allocations wrong-bodies layout bench bench-rust gate clean
 .NOTPARALLEL:
 
 help:
@@ -44,7 +44,8 @@ help:
 help-all: help
 	@echo 'Use, further:'
 	@echo '  make dist                     makes the archive build/yachtbanyan-VERSION-x86_64.tar.gz, for users without the toolchain'
-	@echo '  make install                  copies programs, manual pages, completions and examples to PREFIX (/usr/local), below DESTDIR'
+	@echo '  make libraries                proves and builds the libraries for C, Rust and Python'
+	@echo '  make install                  copies programs, libraries, manual pages, completions and examples to PREFIX (/usr/local), below DESTDIR'
 	@echo '  make uninstall                removes the installed files'
 	@echo '  make pictures                 draws the histories of docs/MODEL.md again'
 	@echo '  make clean                    removes what was built; proofs are kept'
@@ -59,11 +60,11 @@ help-all: help
 	@echo '  make limits                   runs scripts at the limits of the language and the table, and measures their memory'
 	@echo '  make compare                  compares the program with an independent model, on random scripts and the largest submissions'
 	@echo '  make texts                    runs fixcheck on texts of examples and random scripts, right and wrong ones'
-	@echo '  make agree                    compares the io_uring of this machine with the model'
 	@echo '  make workers                  counts threads and writes of the program on 1 to 16 workers, and compares its tables'
 	@echo '  make meetings                 runs random scripts on threads that take turns of a few instructions, and judges the texts'
-	@echo '  make refused-growths          runs scripts and makes calls, failing each allocation in turn'
-	@echo '  make growths                  counts allocations in the calls that must make none'
+	@echo '  make allocation-failures      runs scripts and makes calls, failing each allocation in turn'
+	@echo '  make allocations              counts allocations in the calls that must make none'
+	@echo '  make bindings                 tests the libraries from C, Rust and Python'
 	@echo '  make steps                    runs small programs on the lock-free table, its steps in every order'
 	@echo '  make mistakes                 makes the mistakes that a user may make, and expects an answer to each'
 	@echo '  make checks                   tests the test scripts: each must catch a deliberately broken program'
@@ -80,118 +81,123 @@ check:
 	@scripts/run-script check
 
 litmus:
-	@scripts/litmus
+	@kernel/litmus
 
 prove:
 	@scripts/prove "$$CRATE"
 
 test:
-	@scripts/test
+	@tests/all
 
 examples:
 	@scripts/build-program
-	@scripts/check-examples bin/fixfiles
-	@scripts/check-page bin/fixfiles
+	@tests/check-examples bin/fixfiles
+	@tests/check-page bin/fixfiles
 
 limits:
 	@scripts/build-program
-	@scripts/check-limits bin/fixfiles
+	@tests/check-limits bin/fixfiles
 
 compare:
 	@scripts/build-program
-	@scripts/compare bin/fixfiles
+	@tests/compare bin/fixfiles
 
 texts:
 	@scripts/build-program
-	@scripts/build-program fx_check_cli fixcheck
-	@scripts/check-verdicts bin/fixcheck
-	@scripts/check-fixcheck bin/fixcheck bin/fixfiles 2000
-	@scripts/check-outcomes bin/fixcheck bin/fixfiles
+	@scripts/build-program check_cli fixcheck
+	@tests/check-verdicts bin/fixcheck
+	@tests/check-fixcheck bin/fixcheck bin/fixfiles 2000
+	@tests/check-outcomes bin/fixcheck bin/fixfiles
 
 pictures:
-	@scripts/build-program fx_check_cli fixcheck
-	@scripts/check-pictures bin/fixcheck --draw
+	@scripts/build-program check_cli fixcheck
+	@tests/check-pictures bin/fixcheck --draw
 
 workers:
 	@scripts/build-program
-	@scripts/check-workers bin/fixfiles
+	@tests/check-workers bin/fixfiles
 
 meetings:
 	@scripts/build-program
-	@scripts/build-program fx_check_cli fixcheck
-	@scripts/check-meetings bin/fixfiles bin/fixcheck
+	@scripts/build-program check_cli fixcheck
+	@tests/check-meetings bin/fixfiles bin/fixcheck
 
-refused-growths:
+allocation-failures:
 	@scripts/build-program
-	@scripts/build-program fx_check_cli fixcheck
+	@scripts/build-program check_cli fixcheck
 	@scripts/build-program test_refusals test_refusals
-	@scripts/check-refused-growths bin/fixfiles bin/fixcheck
-	@scripts/check-refused-calls bin/test_refusals
+	@tests/check-allocation-failures bin/fixfiles bin/fixcheck bin/test_refusals
 
 steps:
-	@scripts/check-steps
+	@tests/check-steps
 
 mistakes:
-	@scripts/check-mistakes
+	@tests/check-mistakes
 
 checks:
 	@scripts/build-program
-	@scripts/build-program fx_check_cli fixcheck
-	@scripts/check-checks bin/fixfiles bin/fixcheck
+	@scripts/build-program check_cli fixcheck
+	@tests/check-checks bin/fixfiles bin/fixcheck
 
 break:
-	@scripts/check-break
+	@tests/check-break
 
 must-spend:
-	@scripts/check-must-spend
+	@tests/check-must-spend
 
-growths:
-	@scripts/check-growths
+allocations:
+	@tests/check-allocations
 
 wrong-bodies:
-	@scripts/check-refusals --prover
-	@scripts/wrong-bodies $$CRATES
+	@tests/check-wrong-bodies --prover
+	@tests/wrong-bodies $$CRATES
 
 layout:
-	@scripts/check-layout
+	@tests/check-layout
 
 bench:
 	@scripts/build-program
 	@scripts/build-program bench_tables bench_tables
-	@scripts/bench bin/fixfiles bin/bench_tables
+	@bench/bench bin/fixfiles bin/bench_tables
 
 bench-rust:
 	@scripts/build-program bench_tables bench_tables
-	@scripts/bench-rust
+	@scripts/build-libraries yachtbanyan
+	@bench/bench-rust
+
+libraries:
+	@scripts/build-libraries
+
+bindings:
+	@scripts/build-libraries
+	@tests/check-bindings
 
 gate:
 	@scripts/need toolchain
 	@rt ci
 
 clean:
-	@rm -rf bin build
+	@rm -rf bin build lib
 
 kernel:
-	@scripts/play-on-kernel
+	@kernel/play-on-kernel
 
 conform:
 	@scripts/need number
-	@scripts/build-program fx_check_cli fixcheck
-	@scripts/conform --scripts "$${N:-500}"
+	@scripts/build-program check_cli fixcheck
+	@kernel/conform --scripts "$${N:-500}"
 
 dist:
 	@scripts/build-program
-	@scripts/build-program fx_check_cli fixcheck
+	@scripts/build-program check_cli fixcheck
+	@scripts/build-libraries
 	@scripts/dist bin/fixfiles bin/fixcheck
 
 install:
 	@scripts/build-program
-	@scripts/build-program fx_check_cli fixcheck
+	@scripts/build-program check_cli fixcheck
+	@scripts/build-libraries
 	@scripts/install
 
 uninstall:
 	@scripts/install uninstall
-
-agree:
-	@scripts/build-program fx_check_cli fixcheck
-	@scripts/agree

@@ -1,7 +1,5 @@
 """archive_pages.py FOLDER: writes the pages of the archive (scripts/dist) into a folder. They name the archive's commands in place of those
-of make, and links to files that the archive doesn't have become plain words.
-archive_pages.py --check FOLDER: prints the dead links of an unpacked archive, and the commands of make that it doesn't have."""
-import glob
+of make, and links to files that the archive doesn't have become plain words."""
 import os
 import re
 import sys
@@ -10,9 +8,9 @@ from pages import anchor_of
 from repository import ROOT, read, write
 
 PAGES = {"docs/ARCHIVE.md": "README.md"} | {
-    it: it for it in (*(f"docs/{name}.md" for name in ("CHECKING", "LIMITS", "LINUX", "LITMUS", "MODEL", "SCRIPT")), "examples/README.md")}
+    it: it for it in (*(f"docs/{name}.md" for name in ("BINDINGS", "CHECKING", "LIMITS", "LINUX", "LITMUS", "MODEL", "SCRIPT")), "examples/README.md")}
 # what the archive has beside pages and scripts
-FOLDERS = ("LICENSE", "completions", "docs/pictures", "examples", "linux", "man")
+FOLDERS = ("LICENSE", "c", "completions", "docs/pictures", "examples", "kernel", "man")
 # what is typed in the archive for a command of make, with the variables of the command
 COMMANDS = {
     "run": lambda given: f"bin/fixfiles < {given['SCRIPT']}" if given else "bin/fixfiles",
@@ -61,12 +59,13 @@ def is_kept(path, anchor):
     """Checks whether the archive has what a link leads to, by the path from the top."""
     if path in PAGES.values() and path != "README.md":
         return not anchor or anchor in anchors(read(path))
-    return os.path.exists(os.path.join(ROOT, path)) and (path in archive_scripts() or path.startswith(FOLDERS))
+    is_inside = any(path == it or path.startswith(f"{it}/") for it in FOLDERS)
+    return os.path.exists(os.path.join(ROOT, path)) and (is_inside or path in archive_scripts())
 
 
 def archive_scripts():
     """Returns the paths of the scripts that the archive has."""
-    return {f"scripts/{it}" for it in read("scripts/archived.txt").split()}
+    return set(read("scripts/archived.txt").split())
 
 
 def anchors(text):
@@ -92,33 +91,5 @@ def main(folder):
     return 0
 
 
-def dead_links(path, text):
-    for target in re.findall(r"\]\(([^)\s]+)\)", text):
-        file, _, anchor = target.partition("#")
-        if re.match(r"\w+:", target):
-            continue
-        to = os.path.join(os.path.dirname(path), file) if file else path
-        if not os.path.exists(to):
-            yield target
-        elif anchor and to.endswith(".md"):
-            with open(to, encoding="utf-8") as page:
-                if anchor not in anchors(page.read()):
-                    yield target
-
-
-def check(folder):
-    """Prints what is wrong in the pages of an unpacked archive."""
-    found = []
-    for path in sorted(glob.glob(f"{folder}/**/*.md", recursive=True)):
-        with open(path, encoding="utf-8") as file:
-            text = file.read()
-        name = os.path.relpath(path, folder)
-        found += [f"{name} leads to {it}" for it in dead_links(path, text)]
-        found += [f"{name} names `make {it[1]}`" for it in MAKE.finditer(re.sub(rf"`[^`]*`{re.escape(ELSEWHERE)}", "", text)) if "`" + it[0] in text
-                  or "    " + it[0] in text]
-    print("\n".join(found))
-    return 1 if found else 0
-
-
 if __name__ == "__main__":
-    sys.exit(check(sys.argv[2]) if sys.argv[1] == "--check" else main(sys.argv[1]))
+    sys.exit(main(sys.argv[1]))

@@ -1,4 +1,4 @@
-"""A picture as SVG, for scripts/draw-history: shapes, and the legend of the signs that occur."""
+"""Draws a picture as SVG, for scripts/draw-history: shapes, and the legend of the signs that occur."""
 from html import escape
 
 COLOURS = ("#E69F00", "#56B4E9", "#009E73", "#CC79A7", "#D55E00", "#0072B2", "#F0E442")
@@ -6,7 +6,19 @@ INK, GREY, PALE, LINE, RED = "#1A1A1A", "#595959", "#F5F5F3", "#D9D9D6", "#A63C0
 # pixels
 MARGIN, BAR, TAIL = 14, 16, 5
 MONO = ' font-family="ui-monospace, Menlo, Consolas, monospace"'
-SIGNS = ("at the slot", "removed", "closed", "held by a read", "no file found", "in the range", "linked", "hard-linked", "failed", "canceled")
+# each sign of the legend, drawn on a canvas at a point, in the order of the legend
+SIGNS = {
+    "at the slot": lambda it, x, y: it.rect(x, y - 9, BAR, 11, f' fill="{COLOURS[0]}" stroke="{INK}" stroke-width="0.7"'),
+    "removed": lambda it, x, y: it.rect(x + 6, y - 9, TAIL, 11, f' fill="{COLOURS[0]}" fill-opacity="0.45"'),
+    "closed": lambda it, x, y: it.line(((x + 4, y - 4), (x + 12, y - 4)), INK, 2.2),
+    "held by a read": lambda it, x, y: it.rect(x + 4, y - 9, 8, 11, f' rx="4" fill="#FFFFFF" stroke="{INK}" stroke-width="1.4"'),
+    "no file found": lambda it, x, y: it.circle(x + 8, y - 4),
+    "in the range": lambda it, x, y: it.line(((x + 8, y - 10), (x + 8, y + 3)), GREY, 1.6, ' stroke-dasharray="1 4"'),
+    "linked": lambda it, x, y: it.line(((x + 8, y - 10), (x + 8, y + 3)), INK, 1.4),
+    "hard-linked": lambda it, x, y: [it.line(((at, y - 10), (at, y + 3)), INK, 1.4) for at in (x + 6, x + 10)],
+    "failed": lambda it, x, y: it.text(x, y, "-9", 11, RED, f'{MONO} font-weight="bold"'),
+    "canceled": lambda it, x, y: it.rect(x, y - 9, BAR, 11, f' rx="3" fill="#FFFFFF" stroke="{GREY}" stroke-dasharray="3 3"'),
+}
 
 
 class Canvas:
@@ -33,28 +45,6 @@ class Canvas:
         self.parts += [f'<g transform="translate({x:g} {y:g})">', *other.parts, "</g>"]
         self.signs |= other.signs
 
-    def draw_sign(self, name, x, y):
-        """Draws a sign of the legend."""
-        if name == "at the slot":
-            self.rect(x, y - 9, BAR, 11, f' fill="{COLOURS[0]}" stroke="{INK}" stroke-width="0.7"')
-        elif name == "removed":
-            self.rect(x + 6, y - 9, TAIL, 11, f' fill="{COLOURS[0]}" fill-opacity="0.45"')
-        elif name == "closed":
-            self.line(((x + 4, y - 4), (x + 12, y - 4)), INK, 2.2)
-        elif name == "held by a read":
-            self.rect(x + 4, y - 9, 8, 11, f' rx="4" fill="#FFFFFF" stroke="{INK}" stroke-width="1.4"')
-        elif name == "no file found":
-            self.circle(x + 8, y - 4)
-        elif name == "in the range":
-            self.line(((x + 8, y - 10), (x + 8, y + 3)), GREY, 1.6, ' stroke-dasharray="1 4"')
-        elif name == "canceled":
-            self.rect(x, y - 9, BAR, 11, f' rx="3" fill="#FFFFFF" stroke="{GREY}" stroke-dasharray="3 3"')
-        elif name == "failed":
-            self.text(x, y, "-9", 11, RED, f'{MONO} font-weight="bold"')
-        else:
-            for at in (x + 6, x + 10) if name == "hard-linked" else (x + 8,):
-                self.line(((at, y - 10), (at, y + 3)), INK, 1.4)
-
     def draw_legend(self, width, y):
         """Draws the signs that occur, in lines of at most that width from y on. Returns the place of the last line."""
         x = MARGIN + 4
@@ -62,7 +52,7 @@ class Canvas:
             wide = 36 + len(name) * 6
             if x + wide > width - MARGIN:
                 x, y = MARGIN + 4, y + 18
-            self.draw_sign(name, x, y)
+            SIGNS[name](self, x, y)
             self.text(x + 22, y, name, 11, GREY)
             x += wide
         return y

@@ -1,4 +1,4 @@
-"""Code that the checks share: result counters, argument parsing, timeouts."""
+"""Counts results, parses arguments, and reports timeouts, for all checks."""
 import argparse
 import os
 import subprocess

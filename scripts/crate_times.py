@@ -1,4 +1,4 @@
-"""How long crates take: the dependencies of each crate, the seconds of scripts/seconds.txt, and how long several crates are expected to
+"""Estimates how long crates take: the dependencies of each crate, the seconds of scripts/seconds.txt, and how long several crates are expected to
 take that are proved in parallel."""
 import re
 
@@ -18,6 +18,11 @@ def crates():
         if colon:
             found[left.split()[0]] = right.split()
     return {name: [it for it in below if it in found] for name, below in found.items()}
+
+
+def static_libraries():
+    """Returns the crates of crates.txt that are static libraries, for C."""
+    return set(re.findall(r"^(\w+) staticlib:", read("crates.txt"), re.MULTILINE))
 
 
 def measured():

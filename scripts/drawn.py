@@ -85,16 +85,11 @@ class History:
     def __init__(self, lines):
         self.files, self.boxes, self.events, self.heads, self.spans = {}, [], [], {}, []
         self.rows, self.submission, self.headed, self.begun = 0, None, 0, {}
-        # the mark at each slot, the one that is held and the one that was removed
-        self.at, self.held, self.removed = {}, None, None
         if lines[:1] != ["legal"]:
             raise NoHistory("the first line isn't `legal`")
         for nth, line in enumerate(lines[1:], 2):
-            told, _, state = line.rpartition(" | ")
-            if not self.take(told.rstrip()):
+            if not self.take(line.rpartition(" | ")[0].rstrip()):
                 raise NoHistory(f"line {nth} is not a line of a history")
-            if state != self.state():
-                raise NoHistory(f"after line {nth} the state is {self.state()}, not {state}")
         for who, first in self.begun.items():
             # the end of the script answers nothing
             self.boxes.append(Box(who, who, "", first, self.rows - 1))
@@ -116,24 +111,6 @@ class History:
             self.take_answer(who, place, *answer.groups())
         return event or answer
 
-    def state(self):
-        """Returns the state after the last line, as a history prints it."""
-        if not self.table():
-            return "no table"
-        files = [f"{slot} {mark}{' held' if mark == self.held else ''}" for slot, mark in sorted(self.at.items())]
-        return (", ".join(files) or "empty") + (f", removed {self.removed}" if self.removed else "")
-
-    def follow(self, word, slot, file, found):
-        """Applies the changes of an event."""
-        if word == "Look":
-            self.held = file
-        elif word in ("Put", "Allocate"):
-            self.at[slot] = file.partition(" ")[0]
-        elif word in ("Clear", "Take"):
-            self.at.pop(slot, None)
-        self.held = None if word == "Release" else self.held
-        self.removed = None if word == "Close" else found or self.removed
-
     def next_row(self):
         self.rows += 1
         return self.rows - 1
@@ -145,7 +122,6 @@ class History:
             # a registered list puts its files before it answers
             self.spans.append(Span(0, None, row))
         slot, file, found = self.words_of_event(word, (words or "").split(", "))
-        self.follow(word, slot, file, found)
         if found:
             self.files[found].removed = row
         if word in ("Put", "Allocate"):
@@ -167,11 +143,8 @@ class History:
         some = [None if it == "none" else it for it in words]
         if word == "Full":
             return None, None, None
-        if word in ("Release", "Close"):
-            return None, some[0], None
-        if word in ("Look", "Allocate"):
-            return int(some[0]), some[1], None
-        return int(some[0]), some[1], some[-1]
+        slot = None if word in ("Release", "Close") else int(some.pop(0))
+        return slot, some[0], some[-1] if word in ("Put", "Clear", "Take") else None
 
     def take_answer(self, who, place, words, answer):
         first = self.begun.pop(who, None)

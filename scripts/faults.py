@@ -1,7 +1,9 @@
-"""faults.py SCRIPT: reads a script as scripts/model.py does. If it is invalid, prints on standard error the fault, its line and column, and
+"""faults.py SCRIPT: reads a script as model/model.py does. If it is invalid, prints on standard error the fault, its line and column, and
 what is expected there, and exits with status 3, as fixfiles does."""
 import re
 import sys
+
+sys.path.append(f"{sys.path[0]}/../model")
 
 from model import COMMANDS, ENTRIES, FILE_BYTES, LARGEST, LARGEST_TAG, LONGEST_LINE, LONGEST_SCRIPT, MAY_HAVE, OPENS, REQUESTS
 from model import Fault, Script, entry, link, tags

@@ -18,7 +18,7 @@ import tempfile
 import time
 
 import refusals
-from crate_times import KEPT, UNMEASURED, behind, crates, expected, in_words, measured, needed
+from crate_times import KEPT, UNMEASURED, behind, crates, expected, in_words, measured, needed, static_libraries
 from proved import copy_below, take_back
 from repository import ROOT, SOURCES, files_of
 
@@ -159,6 +159,8 @@ class Lanes:
         by a run that prints its help if it needs arguments."""
         if name != self.root:
             return ["rt", "lib", "--jobs", str(jobs), "--statements"]
+        if name in static_libraries():
+            return ["rt", "lib", "--jobs", str(jobs)]
         return ["rt", "run", "--jobs", str(jobs), *(["--", "--help"] if os.path.exists(f"crates/{name}/args") else [])]
 
     def start(self):

@@ -1,16 +1,20 @@
 """Runs programs, asks fixcheck, and builds the C code that is preloaded."""
+import concurrent.futures
 import contextlib
 import os
+import resource
 import subprocess
 import tempfile
 
-from repository import BUILD, HERE
+from repository import BUILD, ROOT
 
 # how fixcheck ends
 LEGAL, NOT_LEGAL, UNDECIDED = 0, 1, 6
 # what each library that is preloaded is compiled with beside the flags of all
 LIBRARY = ("-shared", "-fPIC")
-FLAGS = {"spoil.c": ("-static",), "step.c": (*LIBRARY, "-mno-red-zone"), "count.c": LIBRARY, "streams.c": LIBRARY}
+LASTING = (f"-I{ROOT}/model", f"{ROOT}/model/lasting_table.c")
+FLAGS = {"spoil.c": ("-static",), "step.c": (*LIBRARY, "-mno-red-zone"), "count.c": LIBRARY, "streams.c": LIBRARY,
+         "lasting_orders.c": LASTING}
 
 
 def run_bytes(command, given=b"", seconds=120, **how):
@@ -27,6 +31,12 @@ def run(command, given=b"", seconds=120, **how):
     return status, *(it.decode(errors="backslashreplace") for it in written)
 
 
+def in_parallel(function, cases):
+    """Returns the function's result for each case, in their order. Several run at a time."""
+    with concurrent.futures.ThreadPoolExecutor(os.cpu_count()) as pool:
+        return list(pool.map(function, cases))
+
+
 def difference(found, wanted):
     """Returns how a status, a text and a message differ from the expected ones: nothing if they don't."""
     if found[0] != wanted[0]:
@@ -36,6 +46,12 @@ def difference(found, wanted):
         parts = f"{found[1][at : at + 60]!r}, and not {wanted[1][at : at + 60]!r}"
         return f"wrote another text, from byte {at} on: {parts}"
     return "" if found[2] == wanted[2] else f"said {found[2][:300]!r}, and not {wanted[2]!r}"
+
+
+def limited(kibibytes):
+    """Returns how a program is run that has no more memory."""
+    size = 1024 * kibibytes
+    return {"preexec_fn": lambda: resource.setrlimit(resource.RLIMIT_AS, (size, size))}
 
 
 @contextlib.contextmanager
@@ -56,13 +72,13 @@ def verdict(fixcheck, script, text, *options):
 
 
 def built(source):
-    """Builds a library or a program of a source in C of this folder, and returns its path. It is moved
+    """Builds a library or a program of a source in C of tests/, and returns its path. It is moved
     into place, so that two builds at once do no harm."""
     os.makedirs(BUILD, exist_ok=True)
     ending = ".so" if "-shared" in FLAGS[source] else ""
     path = os.path.join(BUILD, source.removesuffix(".c") + ending)
     made, flags = f"{path}.{os.getpid()}", ["-O2", "-Wall", "-Wextra", "-Werror", *FLAGS[source]]
-    subprocess.run(["cc", *flags, "-o", made, os.path.join(HERE, source)], check=True)
+    subprocess.run(["cc", *flags, "-o", made, f"{ROOT}/tests/{source}"], check=True)
     os.replace(made, path)
     return path
 
@@ -74,7 +90,7 @@ def preloaded(library, **variables):
 
 
 def in_turns(fixfiles, script, seed, turn, *options):
-    """Plays with threads in turns of at most `turn` instructions (scripts/step.c), or as they
+    """Plays with threads in turns of at most `turn` instructions (tests/step.c), or as they
     like where that is 0."""
     how = preloaded("step", SEED=str(seed), TURN=str(turn)) if turn else {}
     return run([fixfiles, *options], script, **how)

@@ -1,4 +1,4 @@
-"""Copies of the crates that start from what the gate has proved, and the prover's output there."""
+"""Copies crates with what the gate has proved, and runs the prover on the copies."""
 import os
 import re
 import shutil

@@ -1,12 +1,13 @@
-"""The files of this repository: paths, contents, and programs as modules."""
+"""Finds, reads and writes the files of this repository, and loads its commands as modules."""
 import glob
 import importlib.machinery
 import importlib.util
 import os
 
-HERE = os.path.dirname(os.path.abspath(__file__))
-ROOT = os.path.dirname(HERE)
-# for what is built and kept: build/, or a folder of the user if this one is read-only, as scripts/play-on-kernel has it
+ROOT = os.path.dirname(os.path.dirname(os.path.abspath(__file__)))
+# the folders of scripts, and of what they play
+ROOMS = "scripts", "tests", "model", "kernel", "bench"
+# for what is built and kept: build/, or a folder of the user if this one is read-only, as kernel/play-on-kernel has it
 CACHE = os.environ.get("XDG_CACHE_HOME") or os.path.expanduser("~/.cache")
 BUILD = os.path.join(ROOT, "build") if os.access(ROOT, os.W_OK) else os.path.join(CACHE, "yachtbanyan")
 # where a crate has its sources, definitions and proofs
@@ -56,9 +57,10 @@ def kept_beside(path, ending):
     return read(file) if os.path.exists(os.path.join(ROOT, file)) else ""
 
 
-def module(name):
-    """A program of this folder as a module."""
-    loader = importlib.machinery.SourceFileLoader(name.replace("-", "_"), os.path.join(HERE, name))
+def module(path):
+    """Returns a command, by its path from the top, as a module."""
+    name = os.path.basename(path).replace("-", "_")
+    loader = importlib.machinery.SourceFileLoader(name, os.path.join(ROOT, path))
     made = importlib.util.module_from_spec(importlib.util.spec_from_loader(loader.name, loader))
     loader.exec_module(made)
     return made

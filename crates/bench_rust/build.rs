@@ -1,4 +1,4 @@
-//! Links the proved program, which `scripts/bench-rust` has left as one object file.
+//! Links the proved program, which `bench/bench-rust` has left as one object file.
 use std::env;
 
 fn main() {

@@ -74,6 +74,8 @@ impl Locked {
 }
 
 impl Table for Locked {
+    type Pass = ();
+
     fn open(shape: Shape) -> Locked {
         let Shape {
             slots,
@@ -88,7 +90,9 @@ impl Table for Locked {
         Locked(Mutex::new(Plain { slots, nodes }))
     }
 
-    fn look(&self, slot: usize) -> u64 {
+    fn pass(&self, _: usize) {}
+
+    fn look(&self, _: &mut (), slot: usize) -> u64 {
         let Some((number, entry)) = self.look_at(slot) else {
             return 0;
         };
@@ -96,7 +100,7 @@ impl Table for Locked {
         u64::from(entry)
     }
 
-    fn read(&self, slot: usize, catalogue: &[Vec<u8>], into: &mut Vec<u8>) {
+    fn read(&self, _: &mut (), slot: usize, catalogue: &[Vec<u8>], into: &mut Vec<u8>) {
         let Some((number, entry)) = self.look_at(slot) else {
             return;
         };
@@ -104,19 +108,19 @@ impl Table for Locked {
         black_box(self.0.lock().unwrap().release(number));
     }
 
-    fn put(&self, _: &mut usize, slot: usize, file: File) {
+    fn put(&self, _: &mut (), slot: usize, file: File) {
         let removed = self.0.lock().unwrap().install(slot, file);
         self.retire(removed);
     }
 
-    fn put_any(&self, _: &mut usize, file: File) -> Option<usize> {
+    fn put_any(&self, _: &mut (), file: File) -> Option<usize> {
         let mut plain = self.0.lock().unwrap();
         let slot = plain.slots.iter().position(Option::is_none)?;
         plain.install(slot, file);
         Some(slot)
     }
 
-    fn take(&self, slot: usize) {
+    fn take(&self, _: &mut (), slot: usize) {
         let removed = self.0.lock().unwrap().slots[slot].take();
         self.retire(removed);
     }

@@ -1,36 +1,51 @@
-//! Times the proved lock-free table next to a plain, unproved Rust table of the same words, and both next to arc-swap,
-//! crossbeam-epoch and a lock of std, in turn in one process. Each number is the median of the ratios over its rounds.
+//! Times the two proved lock-free tables, one of them also by the Rust crate in bindings/, next to plain, unproved Rust
+//! tables of the same words, and all next to arc-swap, crossbeam-epoch, sharded-slab and a lock of std, in turn in one
+//! process. Each number is the median of the ratios over its rounds.
+mod bindings;
+mod lasting_words;
 mod locked;
 mod others;
 mod proved;
+mod slabs;
 mod table;
 mod timing;
 mod words;
 mod work;
 
+use bindings::Lasting;
+use lasting_words::LastingWords;
 use locked::Locked;
 use others::{Arcs, Epochs, Guards};
+use slabs::Slabs;
 use timing::time;
 use words::Words;
 use work::Work;
 
-const TABLES: [&str; 6] = [
-    "proved",
-    "words",
+const TABLES: [&str; 10] = [
+    "lasting",
+    "Rust crate",
+    "lasting words",
+    "counted",
+    "counted words",
     "arc-swap load",
     "arc-swap load_full",
     "crossbeam-epoch",
+    "sharded-slab",
     "std's Mutex",
 ];
 
 /// Returns the seconds of each of the tables, in order.
-fn round(name: &str, what: Work, slots: usize, threads: usize) -> [f64; 6] {
+fn round(name: &str, what: Work, slots: usize, threads: usize) -> [f64; 10] {
     [
-        proved::time(name, threads),
+        proved::time("lasting", name, threads),
+        time::<Lasting>(what, slots, threads),
+        time::<LastingWords>(what, slots, threads),
+        proved::time("counted", name, threads),
         time::<Words>(what, slots, threads),
         time::<Guards>(what, slots, threads),
         time::<Arcs>(what, slots, threads),
         time::<Epochs>(what, slots, threads),
+        time::<Slabs>(what, slots, threads),
         time::<Locked>(what, slots, threads),
     ]
 }
@@ -41,7 +56,7 @@ fn median(mut ratios: Vec<f64>) -> f64 {
 }
 
 /// Returns the line of one of the tables: the ratios of its times to those of the tables after it.
-fn line(rounds: &[[f64; 6]], own: usize) -> String {
+fn line(rounds: &[[f64; 10]], own: usize) -> String {
     let ratio = |other: usize| {
         let median = median(rounds.iter().map(|it| it[own] / it[other]).collect());
         format!("{} {median:.2}", TABLES[other])
@@ -51,11 +66,11 @@ fn line(rounds: &[[f64; 6]], own: usize) -> String {
 }
 
 fn report(name: &str, what: Work, slots: usize, threads: usize, count: usize) {
-    let rounds: Vec<[f64; 6]> = (0..count)
+    let rounds: Vec<[f64; 10]> = (0..count)
         .map(|_| round(name, what, slots, threads))
         .collect();
     let by = if threads == 1 { "thread" } else { "threads" };
-    for own in [0, 1] {
+    for own in 0..5 {
         println!("{name}, {threads} {by}: {}", line(&rounds, own));
     }
 }

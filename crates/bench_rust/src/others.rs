@@ -19,6 +19,8 @@ pub struct Guards(Vec<Line<ArcSwapOption<File>>>);
 pub struct Arcs(Guards);
 
 impl Table for Guards {
+    type Pass = ();
+
     fn open(shape: Shape) -> Guards {
         let file = |n| (n < shape.full).then(|| Arc::new(FILE));
         Guards(
@@ -28,7 +30,9 @@ impl Table for Guards {
         )
     }
 
-    fn look(&self, slot: usize) -> u64 {
+    fn pass(&self, _: usize) {}
+
+    fn look(&self, _: &mut (), slot: usize) -> u64 {
         self.0[slot]
             .0
             .load()
@@ -36,18 +40,18 @@ impl Table for Guards {
             .map_or(0, |file| u64::from(file.entry))
     }
 
-    fn read(&self, slot: usize, catalogue: &[Vec<u8>], into: &mut Vec<u8>) {
+    fn read(&self, _: &mut (), slot: usize, catalogue: &[Vec<u8>], into: &mut Vec<u8>) {
         let file = self.0[slot].0.load();
         if let Some(file) = &*file {
             read_entry(catalogue, file.entry, into);
         }
     }
 
-    fn put(&self, _: &mut usize, slot: usize, file: File) {
+    fn put(&self, _: &mut (), slot: usize, file: File) {
         drop(self.0[slot].0.swap(Some(Arc::new(file))));
     }
 
-    fn put_any(&self, _: &mut usize, file: File) -> Option<usize> {
+    fn put_any(&self, _: &mut (), file: File) -> Option<usize> {
         let file = Some(Arc::new(file));
         let try_slot = |slot: &ArcSwapOption<File>| {
             slot.load().is_none()
@@ -58,37 +62,41 @@ impl Table for Guards {
         self.0.iter().position(|it| try_slot(&it.0))
     }
 
-    fn take(&self, slot: usize) {
+    fn take(&self, _: &mut (), slot: usize) {
         drop(self.0[slot].0.swap(None));
     }
 }
 
 impl Table for Arcs {
+    type Pass = ();
+
     fn open(shape: Shape) -> Arcs {
         Arcs(Guards::open(shape))
     }
 
-    fn look(&self, slot: usize) -> u64 {
+    fn pass(&self, _: usize) {}
+
+    fn look(&self, _: &mut (), slot: usize) -> u64 {
         let file = self.0 .0[slot].0.load_full();
         file.map_or(0, |file| u64::from(file.entry))
     }
 
-    fn read(&self, slot: usize, catalogue: &[Vec<u8>], into: &mut Vec<u8>) {
+    fn read(&self, _: &mut (), slot: usize, catalogue: &[Vec<u8>], into: &mut Vec<u8>) {
         if let Some(file) = self.0 .0[slot].0.load_full() {
             read_entry(catalogue, file.entry, into);
         }
     }
 
-    fn put(&self, next: &mut usize, slot: usize, file: File) {
-        self.0.put(next, slot, file);
+    fn put(&self, pass: &mut (), slot: usize, file: File) {
+        self.0.put(pass, slot, file);
     }
 
-    fn put_any(&self, next: &mut usize, file: File) -> Option<usize> {
-        self.0.put_any(next, file)
+    fn put_any(&self, pass: &mut (), file: File) -> Option<usize> {
+        self.0.put_any(pass, file)
     }
 
-    fn take(&self, slot: usize) {
-        self.0.take(slot);
+    fn take(&self, pass: &mut (), slot: usize) {
+        self.0.take(pass, slot);
     }
 }
 
@@ -96,6 +104,8 @@ impl Table for Arcs {
 pub struct Epochs(Vec<Line<Atomic<File>>>);
 
 impl Table for Epochs {
+    type Pass = ();
+
     fn open(shape: Shape) -> Epochs {
         let file = |n| {
             if n < shape.full {
@@ -107,20 +117,22 @@ impl Table for Epochs {
         Epochs((0..shape.slots).map(|n| Line(file(n))).collect())
     }
 
-    fn look(&self, slot: usize) -> u64 {
+    fn pass(&self, _: usize) {}
+
+    fn look(&self, _: &mut (), slot: usize) -> u64 {
         let guard = epoch::pin();
         let file = self.0[slot].0.load(SeqCst, &guard);
         unsafe { file.as_ref() }.map_or(0, |file| u64::from(file.entry))
     }
 
-    fn read(&self, slot: usize, catalogue: &[Vec<u8>], into: &mut Vec<u8>) {
+    fn read(&self, _: &mut (), slot: usize, catalogue: &[Vec<u8>], into: &mut Vec<u8>) {
         let guard = epoch::pin();
         if let Some(file) = unsafe { self.0[slot].0.load(SeqCst, &guard).as_ref() } {
             read_entry(catalogue, file.entry, into);
         }
     }
 
-    fn put(&self, _: &mut usize, slot: usize, file: File) {
+    fn put(&self, _: &mut (), slot: usize, file: File) {
         let guard = epoch::pin();
         let old = self.0[slot].0.swap(Owned::new(file), SeqCst, &guard);
         if !old.is_null() {
@@ -128,7 +140,7 @@ impl Table for Epochs {
         }
     }
 
-    fn put_any(&self, _: &mut usize, file: File) -> Option<usize> {
+    fn put_any(&self, _: &mut (), file: File) -> Option<usize> {
         let guard = epoch::pin();
         let mut file = Owned::new(file);
         for (n, Line(slot)) in self.0.iter().enumerate() {
@@ -143,7 +155,7 @@ impl Table for Epochs {
         None
     }
 
-    fn take(&self, slot: usize) {
+    fn take(&self, _: &mut (), slot: usize) {
         let guard = epoch::pin();
         let old = self.0[slot].0.swap(epoch::Shared::null(), SeqCst, &guard);
         if !old.is_null() {

@@ -1,6 +1,6 @@
-//! The proved table, in this process: the program of crates/bench_tables is linked in, with its `main` under another
+//! The proved tables, in this process: the program of crates/bench_tables is linked in, with its `main` under another
 //! name, so that the code that was proved is measured. That program ends by `_exit`, which is replaced by
-//! `pthread_exit` here (`scripts/bench-rust`), so that it ends the thread that it runs on, with its status.
+//! `pthread_exit` here (`bench/bench-rust`), so that it ends the thread that it runs on, with its status.
 use std::env;
 use std::ffi::c_void;
 use std::fs::File;
@@ -55,9 +55,10 @@ fn printed() -> String {
     text
 }
 
-/// Returns the seconds that the proved table needs for the row with this name, on `threads` threads. Nothing else uses
-/// the environment or standard output meanwhile.
-pub fn time(row: &str, threads: usize) -> f64 {
+/// Returns the seconds that a proved table, "lasting" or "counted", needs for the row with this name, on `threads`
+/// threads. Nothing else uses the environment or standard output meanwhile.
+pub fn time(table: &str, row: &str, threads: usize) -> f64 {
+    env::set_var("TABLE_BENCH_TABLE", table);
     env::set_var("TABLE_BENCH_ROW", row);
     env::set_var("TABLE_BENCH_THREADS", threads.to_string());
     let nanoseconds: f64 = printed().trim().parse().expect("nanoseconds");

@@ -26,23 +26,28 @@ pub struct Shape {
 
 /// A table as it is measured: a call that opens together with the one that ends it.
 pub trait Table: Sync + Sized {
+    /// A thread's access to the table.
+    type Pass;
+
     fn open(shape: Shape) -> Self;
 
+    /// Returns the access of the thread with this number, from 0. Each thread has one.
+    fn pass(&self, thread: usize) -> Self::Pass;
+
     /// Looks a slot up, reads the entry of its file and releases it.
-    fn look(&self, slot: usize) -> u64;
+    fn look(&self, pass: &mut Self::Pass, slot: usize) -> u64;
 
     /// Looks a slot up, reads from its file and releases it. Each entry of the catalogue is the bytes of a file.
-    fn read(&self, slot: usize, catalogue: &[Vec<u8>], into: &mut Vec<u8>);
+    fn read(&self, pass: &mut Self::Pass, slot: usize, catalogue: &[Vec<u8>], into: &mut Vec<u8>);
 
-    /// Installs a file at a slot, and retires the file that was there. `next` is the table's state for the thread, 0 at
-    /// first.
-    fn put(&self, next: &mut usize, slot: usize, file: File);
+    /// Installs a file at a slot, and retires the file that was there.
+    fn put(&self, pass: &mut Self::Pass, slot: usize, file: File);
 
     /// Installs a file at an empty slot, and returns the slot.
-    fn put_any(&self, next: &mut usize, file: File) -> Option<usize>;
+    fn put_any(&self, pass: &mut Self::Pass, file: File) -> Option<usize>;
 
     /// Empties a slot and retires the file that was there.
-    fn take(&self, slot: usize);
+    fn take(&self, pass: &mut Self::Pass, slot: usize);
 }
 
 /// Reads the first bytes of a file by its entry.

@@ -1,4 +1,4 @@
-//! The words of the lock-free table, in plain, unproved Rust: the proved table is measured against it. A slot's word
+//! The words of the counted table, in plain, unproved Rust: the proved table is measured against it. A slot's word
 //! has the number of its file and its takes, and a file's word its releases; the thread that brings it to 0 gets the
 //! file.
 use crate::table::{read_entry, File, Shape, Table};
@@ -126,6 +126,8 @@ fn try_slot(slot: &AtomicU64, word: u64) -> bool {
 }
 
 impl Table for Words {
+    type Pass = usize;
+
     fn open(shape: Shape) -> Words {
         let Shape {
             slots,
@@ -155,7 +157,11 @@ impl Table for Words {
         }
     }
 
-    fn look(&self, slot: usize) -> u64 {
+    fn pass(&self, _: usize) -> usize {
+        0
+    }
+
+    fn look(&self, _: &mut usize, slot: usize) -> u64 {
         let word = self.pairs[slot].slot.fetch_add(1, SeqCst);
         let Some(number) = number_in(word) else {
             return 0;
@@ -164,7 +170,7 @@ impl Table for Words {
         word
     }
 
-    fn read(&self, slot: usize, catalogue: &[Vec<u8>], into: &mut Vec<u8>) {
+    fn read(&self, _: &mut usize, slot: usize, catalogue: &[Vec<u8>], into: &mut Vec<u8>) {
         let word = self.pairs[slot].slot.fetch_add(1, SeqCst);
         let Some(number) = number_in(word) else {
             return;
@@ -188,7 +194,7 @@ impl Table for Words {
         found
     }
 
-    fn take(&self, slot: usize) {
+    fn take(&self, _: &mut usize, slot: usize) {
         self.retire(self.change(slot, 0));
     }
 }

@@ -32,43 +32,41 @@ fn file() -> File {
     }
 }
 
-fn look<T: Table>(table: &T, slots: usize, mut random: u32) {
+fn look<T: Table>(table: &T, pass: &mut T::Pass, slots: usize, mut random: u32) {
     for _ in 0..LOOKS {
         random = next(random);
-        black_box(table.look((random >> 16) as usize & (slots - 1)));
+        black_box(table.look(pass, (random >> 16) as usize & (slots - 1)));
     }
 }
 
-fn mix<T: Table>(table: &T, slots: usize, mut random: u32) {
-    let mut number = 0;
+fn mix<T: Table>(table: &T, pass: &mut T::Pass, slots: usize, mut random: u32) {
     for i in 0..10 * INSTALLS {
         random = next(random);
         let slot = (random >> 16) as usize & (slots - 1);
         if i % 10 == 9 {
-            table.put(&mut number, slot, file());
+            table.put(pass, slot, file());
         } else {
-            black_box(table.look(slot));
+            black_box(table.look(pass, slot));
         }
     }
 }
 
-fn chain<T: Table>(table: &T, slots: usize, thread: usize) {
+fn chain<T: Table>(table: &T, pass: &mut T::Pass, slots: usize, thread: usize) {
     let catalogue = black_box(vec![vec![7; READ_LEN]]);
-    let (mut number, mut into) = (0, Vec::with_capacity(READ_LEN));
+    let mut into = Vec::with_capacity(READ_LEN);
     for i in 0..INSTALLS {
         let slot = (64 * thread + i % 64) & (slots - 1);
-        table.put(&mut number, slot, file());
-        table.read(slot, &catalogue, &mut into);
+        table.put(pass, slot, file());
+        table.read(pass, slot, &catalogue, &mut into);
         black_box(&into);
-        table.take(slot);
+        table.take(pass, slot);
     }
 }
 
-fn allocate<T: Table>(table: &T) {
-    let mut number = 0;
+fn allocate<T: Table>(table: &T, pass: &mut T::Pass) {
     for _ in 0..INSTALLS {
-        if let Some(slot) = table.put_any(&mut number, file()) {
-            table.take(slot);
+        if let Some(slot) = table.put_any(pass, file()) {
+            table.take(pass, slot);
         }
     }
 }
@@ -76,10 +74,11 @@ fn allocate<T: Table>(table: &T) {
 /// Does the work of the thread with this number.
 pub fn work<T: Table>(table: &T, work: Work, slots: usize, thread: usize) {
     let random = (thread as u32).wrapping_mul(40_503).wrapping_add(1);
+    let pass = &mut table.pass(thread);
     match work {
-        Work::Look => look(table, slots, random),
-        Work::Mixed => mix(table, slots, random),
-        Work::Chain { .. } => chain(table, slots, thread),
-        Work::Allocate => allocate(table),
+        Work::Look => look(table, pass, slots, random),
+        Work::Mixed => mix(table, pass, slots, random),
+        Work::Chain { .. } => chain(table, pass, slots, thread),
+        Work::Allocate => allocate(table, pass),
     }
 }

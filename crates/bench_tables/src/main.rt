@@ -47,8 +47,12 @@ enum Task {
     Calls,
     // every row, in this number of rounds
     All(u32),
-    // one row, on this number of threads
-    One(String, u32),
+    // one row of the lock-free table or of the lasting one, on this number of threads
+    One {
+        is_lasting: bool,
+        row: String,
+        threads: u32,
+    },
 }
 
 // Returns the row that the environment names, or else the task of the argument.
@@ -57,7 +61,12 @@ fn read_task(rt: &HostRuntime) -> Option<Task> {
         Err(_) => task_of(rt),
         Ok(row) => {
             let threads: String = env::var(rt, "TABLE_BENCH_THREADS").ok()?;
-            Some(Task::One(row, threads.as_str().parse().ok()?))
+            let table: String = env::var(rt, "TABLE_BENCH_TABLE").ok()?;
+            Some(Task::One {
+                is_lasting: table.as_str() == "lasting",
+                row,
+                threads: threads.as_str().parse().ok()?,
+            })
         }
     }
 }
@@ -72,9 +81,20 @@ fn main(rt: HostRuntime) -> ExitCode {
     let done = match read_task(&rt) {
         Some(Task::Calls) => try_tables(&rt, rt.alloc(), &catalogue),
         Some(Task::All(rounds)) => report_all(&rt, rt.alloc(), &catalogue, rounds),
-        Some(Task::One(row, threads)) => {
-            report_one(&rt, rt.alloc(), &catalogue, row.as_str(), threads)
-        }
+        Some(
+            Task::One {
+                is_lasting,
+                row,
+                threads,
+            },
+        ) => report_one(
+            &rt,
+            rt.alloc(),
+            &catalogue,
+            is_lasting,
+            row.as_str(),
+            threads,
+        ),
         None => println!(rt;
             "bench_tables ROUNDS compares the times of the file tables, in so many rounds, and\n\
              bench_tables calls says what the calls answer that are timed"

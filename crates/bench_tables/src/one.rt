@@ -6,6 +6,7 @@ use crate::report::time;
 use crate::shared::Shared;
 use fx_base::Catalogue;
 use fx_counted::CountedTable;
+use fx_lasting::LastingTable;
 use fx_table::MAX_PASSES;
 use std::alloc::Global;
 use std::rt::Clock;
@@ -23,13 +24,14 @@ fn case_of(name: &str) -> Option<Case> {
     None
 }
 
-/// Times the lock-free table at the row with this name, on 1 to [`MAX_PASSES`] threads, and prints the nanoseconds.
-/// Returns `None` if there is no such row, the number of threads is out of range, or an allocation, a clock or a write
+/// Times the lock-free table, or the lasting one, at the row with this name, on 1 to [`MAX_PASSES`] threads, and prints
+/// the nanoseconds. Returns `None` if there is no such row, the number of threads is out of range, or an allocation, a clock or a write
 /// fails.
 pub(crate) fn report_one<R: Threads + Wait + Clock + CpuClock + Print + Sync>(
     rt: &R,
     alloc: Global,
     catalogue: &Catalogue,
+    is_lasting: bool,
     row: &str,
     threads: u32,
 ) -> Option<()>
@@ -39,6 +41,10 @@ pub(crate) fn report_one<R: Threads + Wait + Clock + CpuClock + Print + Sync>(
         return None;
     }
     let timed = case_of(row)?.timed;
-    let nanoseconds = time::<Shared<CountedTable>, R>(rt, alloc, catalogue, timed, threads)?;
+    let nanoseconds = if is_lasting {
+        time::<Shared<LastingTable>, R>(rt, alloc, catalogue, timed, threads)?
+    } else {
+        time::<Shared<CountedTable>, R>(rt, alloc, catalogue, timed, threads)?
+    };
     println!(rt; "{nanoseconds}").ok()
 }

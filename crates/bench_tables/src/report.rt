@@ -11,6 +11,7 @@ use crate::subject::Subject;
 use fx_base::Catalogue;
 use fx_baton::BatonTable;
 use fx_counted::CountedTable;
+use fx_lasting::LastingTable;
 use fx_table::MAX_CHAINS;
 use std::alloc::Global;
 use std::rt::Clock;
@@ -80,6 +81,7 @@ pub(crate) fn time<S: Subject, R: Threads + Wait + Clock + CpuClock + Sync>(
 // The times of one round, in nanoseconds. A table is used without sharing on one thread only.
 #[derive(Clone, Copy)]
 struct Round {
+    lasting: u64,
     counted: u64,
     baton: u64,
     mutex: u64,
@@ -97,6 +99,7 @@ fn time_all<R: Threads + Wait + Clock + CpuClock + Sync>(
     requires entry { 0 < length catalogue.now }
     requires threads { (1 ≤ threads) × (threads ≤ MAX_PASSES) }
 {
+    let lasting = time::<Shared<LastingTable>, R>(rt, alloc, catalogue, timed, threads)?;
     let counted = time::<Shared<CountedTable>, R>(rt, alloc, catalogue, timed, threads)?;
     let baton = time::<Shared<BatonTable>, R>(rt, alloc, catalogue, timed, threads)?;
     let mutex = time::<Locked, R>(rt, alloc, catalogue, timed, threads)?;
@@ -106,6 +109,7 @@ fn time_all<R: Threads + Wait + Clock + CpuClock + Sync>(
         None
     };
     Some(Round {
+        lasting,
         counted,
         baton,
         mutex,
@@ -116,6 +120,7 @@ fn time_all<R: Threads + Wait + Clock + CpuClock + Sync>(
 // The lines of a case on a number of threads.
 #[derive(Drop)]
 struct Lines {
+    lasting_to_counted: Ratios,
     counted_to_baton: Ratios,
     counted_to_mutex: Ratios,
     counted_to_alone: Ratios,
@@ -127,6 +132,7 @@ struct Lines {
 impl Lines {
     fn new(alloc: Global) -> Lines {
         Lines {
+            lasting_to_counted: Ratios::new(alloc, "lasting / counted"),
             counted_to_baton: Ratios::new(alloc, "counted / baton"),
             counted_to_mutex: Ratios::new(alloc, "counted / mutex"),
             counted_to_alone: Ratios::new(alloc, "counted / alone"),
@@ -137,6 +143,7 @@ impl Lines {
     }
 
     fn add(&mut self, round: Round) -> Option<()> {
+        self.lasting_to_counted.add(round.lasting, round.counted)?;
         self.counted_to_baton.add(round.counted, round.baton)?;
         self.counted_to_mutex.add(round.counted, round.mutex)?;
         self.baton_to_mutex.add(round.baton, round.mutex)?;
@@ -149,6 +156,7 @@ impl Lines {
     }
 
     fn print<R: Print>(&mut self, rt: &R, case: &str, threads: u32) -> Option<()> {
+        self.lasting_to_counted.print(rt, case, threads)?;
         self.counted_to_baton.print(rt, case, threads)?;
         self.counted_to_mutex.print(rt, case, threads)?;
         self.counted_to_alone.print(rt, case, threads)?;

@@ -1,20 +1,129 @@
 //! Measuring every shared table.
-ghost use Rattle.std.specs.Prelude.{◌≡◌, ◌<◌, All, length};
+ghost use Rattle.std.specs.Prelude.{◌≡◌, ◌<◌, ◌≤◌, All, IfOk, IfErr, IsTrue, length};
 ghost use Rattle.fx_plain.specs.State.{IsSettled};
 ghost use Rattle.fx_plain.specs.Contents.{state_of};
 ghost use Rattle.fx_table.specs.Pass.{IsIdle};
+ghost use Rattle.fx_table.specs.declared.limits.TheConstants.{MAX_CHAINS, MAX_PASSES};
 
 use crate::subject::{READ_LEN, Subject};
 use fx_base::{Catalogue, OpenFile};
+use fx_baton::{BatonPass, BatonTable};
+use fx_counted::{CountedPass, CountedTable};
+use fx_lasting::{LastingPass, LastingTable};
 use fx_plain::PlainTable;
-use fx_table::{Empty, FileTable, LookFault};
+use fx_table::{Empty, FileTable, LookUp, SharedTable};
 use std::alloc::Global;
 use std::sync::Wait;
 
-/// A shared table. Each draw that returns a chain yields numbers.
-pub(crate) struct Shared<T: FileTable> {
+/// A shared table with an opening of its own.
+pub(crate) trait Opened: SharedTable {
+    /// Opens the table for `passes` passes, all of which install files, and `chains` chains if it has chains.
+    fn opened(
+        alloc: Global,
+        plain: PlainTable,
+        chains: u32,
+        passes: u32,
+    ) -> Result<(Self, Vec<Self::Pass>), PlainTable>
+        requires settled { IsSettled (state_of plain) }
+        requires chains { chains ≤ MAX_CHAINS }
+        requires passes { (1 ≤ passes) × (passes ≤ MAX_PASSES) }
+        ensures ready { IfOk result (λ (t, list).
+            All (λ p. Self.fits t p × IsIdle (Self.view p)) list.items) }
+        ensures count { IfOk result (λ (t, list). length list.items ≡ (Self.opening t).passes) }
+        ensures refused { IfErr result (λ back. IsSettled (state_of back)) };
+
+    /// Checks whether the pass can install a file, after a draw if the table has chains and the last one has no number
+    /// left.
+    fn can_install(&self, pass: &mut Self::Pass) -> bool
+        requires { Self.fits self.now pass.old × IsIdle (Self.view pass.old) }
+        ensures ready { Self.fits self.now pass.new × IsIdle (Self.view pass.new) }
+        ensures numbers { IsTrue result → 0 < (Self.view pass.new).numbers_left };
+}
+
+// Opens a table with chains.
+fn open_with_chains<T: FileTable>(
+    alloc: Global,
+    plain: PlainTable,
+    chains: u32,
+    passes: u32,
+) -> Result<(T, Vec<T::Pass>), PlainTable>
+    requires settled { IsSettled (state_of plain) }
+    requires chains { chains ≤ MAX_CHAINS }
+    requires passes { (1 ≤ passes) × (passes ≤ MAX_PASSES) }
+    ensures ready { IfOk result (λ (t, list).
+        All (λ p. T.fits t p × IsIdle (T.view p)) list.items) }
+    ensures count { IfOk result (λ (t, list). length list.items ≡ (T.opening t).passes) }
+    ensures refused { IfErr result (λ back. IsSettled (state_of back)) }
+{
+    match T::open(alloc, plain, chains, passes) {
+        Ok(opened) => Ok(opened),
+        Err((back, _)) => Err(back),
+    }
+}
+
+// Checks whether the pass can install a file, after a draw if its last chain has no number left.
+fn draw_if_needed<T: FileTable>(table: &T, pass: &mut T::Pass) -> bool
+    requires { T.fits table.now pass.old × IsIdle (T.view pass.old) }
+    ensures ready { T.fits table.now pass.new × IsIdle (T.view pass.new) }
+    ensures numbers { IsTrue result → 0 < (T.view pass.new).numbers_left }
+{
+    if table.numbers_left(pass) == 0 {
+        table.draw(pass);
+    }
+    table.numbers_left(pass) > 0
+}
+
+impl Opened for CountedTable {
+    fn opened(
+        alloc: Global,
+        plain: PlainTable,
+        chains: u32,
+        passes: u32,
+    ) -> Result<(CountedTable, Vec<CountedPass>), PlainTable> {
+        open_with_chains::<CountedTable>(alloc, plain, chains, passes)
+    }
+
+    fn can_install(&self, pass: &mut CountedPass) -> bool {
+        draw_if_needed(self, pass)
+    }
+}
+
+impl Opened for BatonTable {
+    fn opened(
+        alloc: Global,
+        plain: PlainTable,
+        chains: u32,
+        passes: u32,
+    ) -> Result<(BatonTable, Vec<BatonPass>), PlainTable> {
+        open_with_chains::<BatonTable>(alloc, plain, chains, passes)
+    }
+
+    fn can_install(&self, pass: &mut BatonPass) -> bool {
+        draw_if_needed(self, pass)
+    }
+}
+
+impl Opened for LastingTable {
+    fn opened(
+        alloc: Global,
+        plain: PlainTable,
+        _chains: u32,
+        passes: u32,
+    ) -> Result<(LastingTable, Vec<LastingPass>), PlainTable> {
+        match LastingTable::open(alloc, plain, passes, passes) {
+            Ok(opened) => Ok(opened),
+            Err((back, _)) => Err(back),
+        }
+    }
+
+    fn can_install(&self, pass: &mut LastingPass) -> bool {
+        self.numbers_left(pass) > 0
+    }
+}
+
+/// A shared table that is measured.
+pub(crate) struct Shared<T: Opened> {
     table: T,
-    pub ghost numbers: { 0 < (T.opening table).numbers },
 }
 
 fn discard(file: Option<OpenFile>) {
@@ -23,7 +132,7 @@ fn discard(file: Option<OpenFile>) {
     }
 }
 
-impl<T: FileTable> Subject for Shared<T> {
+impl<T: Opened> Subject for Shared<T> {
     ghost use Rattle.std.specs.Prelude.{◌≡◌};
     ghost use Rattle.fx_table.specs.Pass.{IsIdle};
 
@@ -39,10 +148,8 @@ impl<T: FileTable> Subject for Shared<T> {
         chains: u32,
         passes: u32,
     ) -> Result<(Shared<T>, Vec<T::Pass>), PlainTable> {
-        match T::open(alloc, plain, chains, passes) {
-            Ok((table, list)) => Ok((Shared { table }, list)),
-            Err((back, _)) => Err(back),
-        }
+        let (table, list) = T::opened(alloc, plain, chains, passes)?;
+        Ok((Shared { table }, list))
     }
 
     fn close(self, passes: Vec<T::Pass>) -> PlainTable
@@ -58,10 +165,10 @@ impl<T: FileTable> Subject for Shared<T> {
         if slot >= self.table.size() {
             return;
         }
-        match self.table.look(rt, pass, slot) {
-            Err(LookFault::Empty) => {}
-            Err(LookFault::Spent) => {}
-            Ok(hold) => discard(self.table.release(rt, pass, hold)),
+        let LookUp { found, freed } = self.table.look_up(rt, pass, slot);
+        discard(freed);
+        if let Ok(hold) = found {
+            discard(self.table.release(rt, pass, hold));
         }
     }
 
@@ -76,14 +183,12 @@ impl<T: FileTable> Subject for Shared<T> {
         if slot >= self.table.size() {
             return;
         }
-        match self.table.look(rt, pass, slot) {
-            Err(LookFault::Empty) => {}
-            Err(LookFault::Spent) => {}
-            Ok(hold) => {
-                into.clear();
-                catalogue.read_into(hold.entry, 0, READ_LEN, into);
-                discard(self.table.release(rt, pass, hold));
-            }
+        let LookUp { found, freed } = self.table.look_up(rt, pass, slot);
+        discard(freed);
+        if let Ok(hold) = found {
+            into.clear();
+            catalogue.read_into(hold.entry, 0, READ_LEN, into);
+            discard(self.table.release(rt, pass, hold));
         }
     }
 
@@ -92,7 +197,7 @@ impl<T: FileTable> Subject for Shared<T> {
             file.discard();
             return;
         }
-        if self.table.numbers_left(pass) == 0 && self.table.draw(pass).is_none() {
+        if !self.table.can_install(pass) {
             file.discard();
             return;
         }
@@ -102,7 +207,7 @@ impl<T: FileTable> Subject for Shared<T> {
     }
 
     fn put_any<R: Wait>(&self, rt: &R, pass: &mut T::Pass, file: OpenFile) -> Option<u32> {
-        if self.table.numbers_left(pass) == 0 && self.table.draw(pass).is_none() {
+        if !self.table.can_install(pass) {
             file.discard();
             return None;
         }

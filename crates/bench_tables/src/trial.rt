@@ -10,6 +10,7 @@ use crate::subject::{READ_LEN, Subject};
 use fx_base::{Catalogue, Mark};
 use fx_baton::BatonTable;
 use fx_counted::CountedTable;
+use fx_lasting::LastingTable;
 use std::alloc::Global;
 use std::sync::Wait;
 
@@ -114,6 +115,7 @@ pub(crate) fn try_tables<R: Wait + Print>(
     requires { 0 < length catalogue.now }
 {
     try_table::<Shared<CountedTable>, R>(rt, alloc, catalogue, "counted")?;
+    try_table::<Shared<LastingTable>, R>(rt, alloc, catalogue, "lasting")?;
     try_table::<Shared<BatonTable>, R>(rt, alloc, catalogue, "baton")?;
     try_table::<Locked, R>(rt, alloc, catalogue, "mutex")?;
     try_table::<Alone, R>(rt, alloc, catalogue, "alone")

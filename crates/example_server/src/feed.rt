@@ -1,14 +1,17 @@
 //! The clients: they put requests into the queue, and wait while it is full.
 use crate::desk::Job;
-use crate::rounds::SLOTS;
+use crate::life::SLOTS;
 use crossbeam_channel::Sender;
 use std::sync::Wait;
 
-// The number of replacements, more than the 65,472 new files that one opening of a table supports.
-const REPLACEMENTS: u32 = 70_000;
+// The number of replacements.
+const REPLACEMENTS: u32 = 1_000_000;
 
-// One read follows this number of replacements.
-const REPLACEMENTS_PER_READ: u32 = 7;
+// One request to read follows this number of replacements.
+const REPLACEMENTS_PER_READ: u32 = 10;
+
+// The number of look-ups that a request to read makes.
+const TIMES: u32 = 100;
 
 /// Sends all requests, and closes the queue after the last one.
 pub fn feed<R: Wait>(rt: &R, clients: &mut Option<Sender<Job>>) {
@@ -25,7 +28,8 @@ pub fn feed<R: Wait>(rt: &R, clients: &mut Option<Sender<Job>>) {
         if queue.send(rt, replace).is_err() {
             return;
         }
-        if nth % REPLACEMENTS_PER_READ == 0 && queue.send(rt, Job::Read { slot }).is_err() {
+        let read = Job::Read { slot, times: TIMES };
+        if nth % REPLACEMENTS_PER_READ == 0 && queue.send(rt, read).is_err() {
             return;
         }
     }

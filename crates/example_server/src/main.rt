@@ -1,6 +1,5 @@
-//! A server over the lock-free table. Requests arrive in a bounded queue, and four threads serve them, each by a pass of its own.
-//! When a table has no number for a new file left, it is closed and opened again. Begin with `serve.rt`, the work of a thread, and
-//! `rounds.rt`, the life of the table.
+//! A server over a table without a lock that never has to be closed. Requests arrive in a bounded queue, and four threads serve
+//! them, each by a pass of its own. Begin with `serve.rt`, the work of a thread, and `life.rt`, the life of the table.
 #![tactic(auto)]
 
 ghost use Rattle.std.specs.Prelude.{◌≡◌, IfOk, length};
@@ -8,17 +7,15 @@ ghost use Rattle.std.specs.Prelude.{◌≡◌, IfOk, length};
 mod desk;
 mod fault;
 mod feed;
-mod rounds;
+mod life;
 mod serve;
 
 use crossbeam_channel::{Sender, bounded};
-use crossbeam_queue::ArrayQueue;
 use desk::{Desk, Job};
 use fault::Fault;
 use feed::feed;
 use fx_base::{AddFault, Catalogue, NoMemory};
-use fx_counted::CountedTable;
-use rounds::{PASSES, serve_all};
+use life::serve_all;
 use std::alloc::Global;
 use std::sync::Wait;
 use std::thread::{Threads, join_mut};
@@ -38,32 +35,34 @@ fn two_files(alloc: Global) -> Result<Catalogue, AddFault>
     Ok(catalogue)
 }
 
-// Runs the clients and the server beside each other. Returns the number of openings of the table.
+// Runs the clients and the server beside each other.
 fn serve_clients<R: Threads + Wait + Sync>(
     rt: &R,
     alloc: Global,
     desk: &Desk<'_>,
     clients: &mut Option<Sender<Job>>,
-) -> Result<u32, NoMemory> {
-    let ((), openings) = join_mut(
+) -> Result<(), NoMemory> {
+    let ((), served) = join_mut(
         rt,
         &mut || feed(rt, clients),
-        &mut || { serve_all::<CountedTable, _>(rt, alloc, desk) },
+        &mut || { serve_all(rt, alloc, desk) },
     );
-    openings
+    served
 }
 
 fn main(rt: HostRuntime) -> Result<(), Fault> {
     let alloc = rt.alloc();
     let catalogue = two_files(alloc)?;
     let (sender, receiver) = bounded(alloc, WAITING)?;
-    let put_aside = ArrayQueue::new(alloc, PASSES as usize)?;
-    let desk = Desk::new(&catalogue, receiver, put_aside);
+    let desk = Desk::new(&catalogue, receiver);
     let mut clients = Some(sender);
-    let openings = serve_clients(&rt, alloc, &desk, &mut clients)?;
+    serve_clients(&rt, alloc, &desk, &mut clients)?;
     // A line that can't be written changes nothing.
-    let _ = println!(&rt; "requests served: {}", desk.served());
-    let _ = println!(&rt; "openings of the table: {openings}");
+    let _ = println!(&rt;
+        "requests served: {}, refused: {}",
+        desk.served(),
+        desk.refused()
+    );
     let _ = println!(&rt;
         "files closed: {}, reported by their tags: {}",
         desk.closed(),

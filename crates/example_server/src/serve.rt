@@ -1,57 +1,89 @@
 //! The work of one thread of the server, by its pass.
+ghost use Rattle.std.specs.Prelude.{◌<◌, ◌≤◌, ◌+◌, IfOk, vec_len, vec_capacity};
+ghost use Rattle.fx_table.specs.Opening.{size_of};
 ghost use Rattle.fx_table.specs.Pass.{IsIdle};
 
 use crate::desk::{Desk, Job};
-use fx_base::{CloseList, Mark, OpenFile};
-use fx_table::{FileTable, LookFault};
+use fx_base::{CloseList, Mark, NoMemory};
+use fx_table::{LookUp, SharedTable};
 use std::alloc::Global;
 use std::sync::Wait;
 
 // The number of closed files after which a thread reports their tags.
 const ROOM: u32 = 64;
 
-// The number of bytes that a client reads.
+// The number of bytes that one look-up reads.
 const LENGTH: u32 = 5;
 
-/// The result of a request.
-enum Outcome {
-    /// It was served, and the thread that served it closes this file.
-    Answered(Option<OpenFile>),
-    /// The pass has no number for a new file left, or no look-up.
-    WornOut,
+// Makes room for two more closed files: reports those of a full list, and goes on with an empty one.
+fn make_room(alloc: Global, desk: &Desk<'_>, closes: &mut CloseList) -> Result<(), NoMemory>
+    ensures room { IfOk result (λ _. 2 ≤ closes.new.room) }
+{
+    if closes.room() >= 2 {
+        return Ok(());
+    }
+    let empty = CloseList::with_room(alloc, ROOM)?;
+    desk.report(closes);
+    *closes = empty;
+    Ok(())
 }
 
-// Reads the first bytes of the file at a slot. Its last user gets the file, to be closed.
-fn read<T: FileTable, R: Wait>(
+// Reads the first bytes of the file at a slot. Closes the file if this is its last user, and also a file that was removed
+// while this look-up was on its way and that nobody else uses.
+fn read_once<T: SharedTable, R: Wait>(
+    rt: &R,
+    desk: &Desk<'_>,
+    table: &T,
+    pass: &mut T::Pass,
+    slot: u32,
+    bytes: &mut Vec<u8>,
+    closes: &mut CloseList,
+)
+    requires ready { T.fits table.now pass.old × IsIdle (T.view pass.old) }
+    requires slot { slot < size_of (T.opening table.now) }
+    requires bytes { vec_len bytes.old + LENGTH ≤ vec_capacity bytes.old }
+    requires room { 2 ≤ closes.old.room }
+    ensures ready { T.fits table.now pass.new × IsIdle (T.view pass.new) }
+{
+    let LookUp { found, freed } = table.look_up(rt, pass, slot);
+    if let Some(file) = freed {
+        closes.close(file);
+    }
+    if let Ok(hold) = found {
+        desk.catalogue.read_into(hold.entry, 0, LENGTH, bytes);
+        if let Some(file) = table.release(rt, pass, hold) {
+            closes.close(file);
+        }
+    }
+}
+
+// Reads the first bytes of the file at a slot as often as the client asks.
+fn read<T: SharedTable, R: Wait>(
     rt: &R,
     alloc: Global,
     desk: &Desk<'_>,
     table: &T,
     pass: &mut T::Pass,
     slot: u32,
-) -> Outcome
+    times: u32,
+    closes: &mut CloseList,
+) -> Result<(), NoMemory>
     requires ready { T.fits table.now pass.old × IsIdle (T.view pass.old) }
     ensures ready { T.fits table.now pass.new × IsIdle (T.view pass.new) }
 {
-    // Memory first: once the file is held, it has to be released on each path.
-    let Ok(mut bytes) = Vec::with_capacity(alloc, LENGTH as usize) else {
-        return Outcome::Answered(None);
-    };
     if slot >= table.size() {
-        return Outcome::Answered(None);
+        return Ok(());
     }
-    match table.look(rt, pass, slot) {
-        Ok(hold) => {
-            desk.catalogue.read_into(hold.entry, 0, LENGTH, &mut bytes);
-            Outcome::Answered(table.release(rt, pass, hold))
-        }
-        Err(LookFault::Empty) => Outcome::Answered(None),
-        Err(LookFault::Spent) => Outcome::WornOut,
+    for _ in 0..times {
+        make_room(alloc, desk, closes)?;
+        let mut bytes = Vec::with_capacity(alloc, LENGTH as usize)?;
+        read_once(rt, desk, table, pass, slot, &mut bytes, closes);
     }
+    Ok(())
 }
 
-// Puts a file at a slot. The outcome has the old file, to be closed, if nobody reads it.
-fn replace<T: FileTable, R: Wait>(
+// Puts a file at a slot, and closes the old one if nobody reads it.
+fn replace<T: SharedTable, R: Wait>(
     rt: &R,
     desk: &Desk<'_>,
     table: &T,
@@ -59,49 +91,61 @@ fn replace<T: FileTable, R: Wait>(
     slot: u32,
     entry: u8,
     tag: u64,
-) -> Outcome
+    closes: &mut CloseList,
+)
     requires ready { T.fits table.now pass.old × IsIdle (T.view pass.old) }
+    requires room { 2 ≤ closes.old.room }
     ensures ready { T.fits table.now pass.new × IsIdle (T.view pass.new) }
 {
-    if slot >= table.size() || entry as u32 >= desk.catalogue.len() {
-        return Outcome::Answered(None);
+    let is_right = slot < table.size() && (entry as u32) < desk.catalogue.len();
+    if !is_right || table.numbers_left(pass) == 0 {
+        return;
     }
-    if table.numbers_left(pass) == 0 && table.draw(pass).is_none() {
-        return Outcome::WornOut;
-    }
-    if table.numbers_left(pass) == 0 {
-        return Outcome::WornOut;
-    }
-    let file = desk
-        .catalogue
-        .open(entry, Mark::Registered { k: 1, i: slot }, tag);
-    match table.put(rt, pass, slot, file) {
-        Some(removed) => Outcome::Answered(table.retire(rt, pass, removed)),
-        None => Outcome::Answered(None),
+    let mark = Mark::Registered { k: 1, i: slot };
+    let file = desk.catalogue.open(entry, mark, tag);
+    if let Some(removed) = table.put(rt, pass, slot, file) {
+        if let Some(file) = table.retire(rt, pass, removed) {
+            closes.close(file);
+        }
     }
 }
 
 // Serves a request.
-fn answer<T: FileTable, R: Wait>(
+fn answer<T: SharedTable, R: Wait>(
     rt: &R,
     alloc: Global,
     desk: &Desk<'_>,
     table: &T,
     pass: &mut T::Pass,
     job: Job,
-) -> Outcome
+    closes: &mut CloseList,
+) -> Result<(), NoMemory>
     requires ready { T.fits table.now pass.old × IsIdle (T.view pass.old) }
     ensures ready { T.fits table.now pass.new × IsIdle (T.view pass.new) }
 {
     match job {
-        Job::Read { slot } => read(rt, alloc, desk, table, pass, slot),
-        Job::Replace { slot, entry, tag } => replace(rt, desk, table, pass, slot, entry, tag),
+        Job::Read { slot, times } => read(rt, alloc, desk, table, pass, slot, times, closes),
+        Job::Replace { slot, entry, tag } => {
+            make_room(alloc, desk, closes)?;
+            replace(rt, desk, table, pass, slot, entry, tag, closes);
+            Ok(())
+        }
     }
 }
 
-/// Serves requests until there are no more, or until the pass is worn out: the last request is then put aside. The thread closes
-/// the files that its requests return, into a list of its own.
-pub fn serve<T: FileTable, R: Wait>(
+// Takes the requests that are left, and serves none.
+fn refuse_all<R: Wait>(rt: &R, desk: &Desk<'_>) {
+    for _ in rt.forever() {
+        if desk.next(rt).is_none() {
+            break;
+        }
+        desk.count_refused();
+    }
+}
+
+/// Serves requests until there are no more. A request for which an allocation fails is counted as refused. The thread
+/// closes the files that its requests return, into a list of its own.
+pub fn serve<T: SharedTable, R: Wait>(
     rt: &R,
     alloc: Global,
     desk: &Desk<'_>,
@@ -112,30 +156,15 @@ pub fn serve<T: FileTable, R: Wait>(
     ensures ready { T.fits table.now pass.new × IsIdle (T.view pass.new) }
 {
     let Ok(mut closes) = CloseList::with_room(alloc, ROOM) else {
-        return;
+        return refuse_all(rt, desk);
     };
     for _ in rt.forever() {
-        if closes.room() == 0 {
-            desk.report(&closes);
-            let Ok(empty) = CloseList::with_room(alloc, ROOM) else {
-                return;
-            };
-            closes = empty;
-        }
         let Some(job) = desk.next(rt) else {
             break;
         };
-        match answer(rt, alloc, desk, table, pass, job) {
-            Outcome::Answered(file) => {
-                desk.count_served();
-                if let Some(file) = file {
-                    closes.close(file);
-                }
-            }
-            Outcome::WornOut => {
-                desk.put_aside(rt, job);
-                break;
-            }
+        match answer(rt, alloc, desk, table, pass, job, &mut closes) {
+            Ok(()) => desk.count_served(),
+            Err(NoMemory) => desk.count_refused(),
         }
     }
     desk.report(&closes);

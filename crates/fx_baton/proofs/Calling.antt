@@ -3,10 +3,15 @@ use Rattle.fx_baton.proofs.Words.{◌≡◌, ℕ, ◌+◌, ◌*◌, ◌<◌, ◌
 use Rattle.fx_baton.proofs.Words.{option_map, is_some, not, TableId, rest, Closed, State, Steps, changed_at, Contents, IsTable, state_of, leaving}
 use Rattle.fx_baton.proofs.Words.{Leads, action_of, close_of, ◌▷◌, ◌▷▷◌, numbered, identity_of, closed_by_release, closed_by_retirement, EndsHold}
 use Rattle.fx_baton.proofs.Words.{LetsLeave, File, Look, Release, Put, Clear, Take, Allocate, Full, Close, pass_of_number, number_behind, Opening}
-use Rattle.fx_baton.proofs.Words.{size_of, PassView, hold_of, next_of, Doing, Idle, Holding, Retiring, Log, View, Start, Call, BatonPass, opening_of}
+use Rattle.fx_baton.proofs.Words.{size_of, PassView, hold_of, next_of, Task, Idle, Holding, Retiring, Log, View, Start, Call, BatonPass, opening_of}
 use Rattle.fx_baton.proofs.Words.{begin_of, IsTurn, view_of, is_idle, HasTable, UsesNext, HasCalled, HasGivenBack, first_own, IsHoldOf, IsRetiredOf}
 use Rattle.fx_baton.proofs.Words.{next_is_its_own}
-use Rattle.fx_table.specs.Calls.{retiring, Adds, no_use, one_number, new_file, ReleasesFile, RetiresFile, one_look, HasRetired, Released}
+use Rattle.fx_table.proofs.Removing.{new_here}
+use Rattle.fx_table.proofs.Tasks.{idle_task, holding_task, retiring_task}
+use Rattle.fx_table.specs.Tasks.{activity_of, retiring}
+use Rattle.fx_table.specs.declared.values.Doing.TheVariants as doing
+use Rattle.fx_table.specs.Pass.{IsFileHold, retired_of}
+use Rattle.fx_table.specs.Calls.{IsNewFile, Adds, no_use, one_number, ReleasesFile, RetiresFile, one_look, HasRetired, Released}
 use Rattle.fx_baton.specs.Turns.{holds_now, actions_of, doing_of, events_of, use_of, table_of_slots}
 use Rattle.atomic_table.specs.Lent.{seat_with}
 use Rattle.fx_plain.specs.Step.{Allows}
@@ -80,7 +85,7 @@ module _ {id : TableId} {k : Start} {u : PassView} {c : Contents} {p : BatonPass
   pub slot_inside : {slot : ℕ} → slot < size_of (opening_of k) → slot < (state_of c).size
   slot_inside l = let e = size_is in omega arith
 
-  same_doing : view.doing ≡ u.doing
+  same_doing : activity_of view.doing ≡ u.doing
   same_doing = ap (λ (z : PassView). z.doing) h.more.same
 
   same_numbers : p.numbers_left ≡ u.numbers_left
@@ -135,12 +140,12 @@ module _ {id : TableId} {k : Start} {u : PassView} {c : Contents} {p : BatonPass
 
   -- the events that the call adds
   pub added : {call : Call} {d : Contents} {q : BatonPass} → HasGivenBack id k call (lent d) q
-      → Adds o u (actions_of c view.doing call) (doing_of c call) (use_of call) (view_of q)
+      → Adds o u (actions_of c view.doing call) (activity_of (doing_of c call)) (use_of call) (view_of q)
   added {d} gives = gives.adds u c d (still_has h d)
 
-  module _ (idle : u.doing ≡ Idle) where
+  module _ (idle : u.doing ≡ doing.Idle) where
     is_idle_here : view.doing ≡ Idle
-    is_idle_here = same_doing ∙ idle
+    is_idle_here = idle_task view.doing (same_doing ∙ idle)
 
     pub look_called : {slot : ℕ} {d : Contents} {found : Option (ℕ × ℕ)} {flag : Bool} → 0 < u.looks_left
         → Steps (state_of c) (Look slot ((state_of c).at slot)) (state_of d) → leaving d ≡ leaving c
@@ -186,37 +191,46 @@ module _ {id : TableId} {k : Start} {u : PassView} {c : Contents} {p : BatonPass
 
   -- the result of a look-up: nothing, or a file
   pub empty_looked : {slot : ℕ} {d : Contents} {q : BatonPass} → HasGivenBack id k (LookCall slot) (lent d) q
-      → None ≡ option_map shown ((state_of c).at slot) → Adds o u ([] ▷ Look slot None) Idle one_look (view_of q)
+      → None ≡ option_map shown ((state_of c).at slot) → Adds o u ([] ▷ Look slot None) doing.Idle one_look (view_of q)
   empty_looked {slot} {d} {q} gives e =
-      none_found shown (λ z. Adds o u ([] ▷ Look slot z) (holds_now z) one_look (view_of q)) ((state_of c).at slot) e (added gives)
+      none_found shown (λ z. Adds o u ([] ▷ Look slot z) (activity_of (holds_now z)) one_look (view_of q)) ((state_of c).at slot) e (added gives)
 
   pub file_looked : {slot node entry : ℕ} {d : Contents} {q : BatonPass} → HasGivenBack id k (LookCall slot) (lent d) q
       → Some (node, entry) ≡ option_map shown ((state_of c).at slot)
-      → (f : File) × (record { node = node; entry = entry } ≡ hold_of f) × Adds o u ([] ▷ Look slot (Some f)) (Holding f) one_look (view_of q)
+      → (f : File) × IsFileHold o f (record { node = node; entry = entry })
+      × Adds o u ([] ▷ Look slot (Some f)) (doing.Holding f (record { node = node; entry = entry })) one_look (view_of q)
   file_looked {slot} {node} {entry} {d} {q} gives e =
-      let there = some_found (λ z. Adds o u ([] ▷ Look slot z) (holds_now z) one_look (view_of q)) ((state_of c).at slot) e (added gives) in
-      (there.0, (λ i. record { node = (there.1 i).0; entry = (there.1 i).1 }), there.2)
+      let there = some_found (λ z. Adds o u ([] ▷ Look slot z) (activity_of (holds_now z)) one_look (view_of q)) ((state_of c).at slot) e (added gives) in
+      let is : record { node = node; entry = entry } ≡ hold_of there.0 = λ i. record { node = (there.1 i).0; entry = (there.1 i).1 } in (
+        there.0,
+        record { entry = ap (λ (x : Hold). x.entry) is; same = λ _. is },
+        subst (λ (x : Hold). Adds o u ([] ▷ Look slot (Some there.0)) (doing.Holding there.0 x) one_look (view_of q)) (sym is) there.2,
+      )
 
   -- the result of an installation at any slot
   pub allocated_so : {slot number : ℕ} {its file : Closed} {d : Contents} {q : BatonPass} → number ≡ next_of u → its ≡ file
       → HasGivenBack id k (AllocateCall slot number its) (lent d) q → slot < (state_of c).size
-      → (slot < size_of o) × Adds o u ([] ▷ Allocate slot (new_file o u file)) Idle one_number (view_of q)
-  allocated_so next is gives inside = (let e = size_is in omega arith, rw (next, is) at (added gives))
+      → (slot < size_of o) × ((new : File) × IsNewFile o u file new × Adds o u ([] ▷ Allocate slot new) doing.Idle one_number (view_of q))
+  allocated_so {slot} {number} {its} {file} next is gives inside =
+      (let e = size_is in omega arith, (numbered number its, new_here o u slot number its file next is, added gives))
 
   module _ (hold : Hold) (held : IsHoldOf u hold) where
     abbrev f : File
     f = held.0
 
+    its_task : (view.doing ≡ Holding f) × (hold ≡ hold_of f)
+    its_task = holding_task view.doing f hold (same_doing ∙ held.1)
+
     holds_here : view.doing ≡ Holding f
-    holds_here = same_doing ∙ held.1
+    holds_here = its_task.0
 
     node_is : hold.node ≡ f.number
-    node_is = ap (λ (x : Hold). x.node) held.2
+    node_is = ap (λ (x : Hold). x.node) its_task.1
 
     pub release_called : {d : Contents} {out : Option Closed} → EndsHold c d hold.node out → HasCalled id k ReleaseCall true (lent d)
     release_called {d} {out} ends =
         let e = rw node_is at ends in
-        called e.sound (subst (λ (z : Doing). IsTurn view log c d (events_of c log.number p.chain z ReleaseCall) Idle) (sym holds_here)
+        called e.sound (subst (λ (z : Task). IsTurn view log c d (events_of c log.number p.chain z ReleaseCall) Idle) (sym holds_here)
         (letting_go_turn d p.chain h.knows f holds_here (closed_by_release c f.number) refl (e.steps f refl) e.leaving))
         tt (omega arith) (omega arith) refl
 
@@ -226,26 +240,28 @@ module _ {id : TableId} {k : Start} {u : PassView} {c : Contents} {p : BatonPass
     released_so d {q} gives result is = (
       f,
       held.1,
-      held.2,
       subst (λ (z : Option Closed). ReleasesFile o u f z (view_of q)) (sym (is ∙ ap (λ (n : ℕ). identity_of (closed_by_release c n)) node_is))
           (by_out (closed_by_release c f.number) refl (rw holds_here at (added gives))),
     )
       where
-        by_out : (out : Option File) → closed_by_release c f.number ≡ out → Adds o u ([] ▷ Release f ▷▷ close_of out) Idle no_use (view_of q)
+        by_out : (out : Option File) → closed_by_release c f.number ≡ out → Adds o u ([] ▷ Release f ▷▷ close_of out) doing.Idle no_use (view_of q)
             → ReleasesFile o u f (identity_of out) (view_of q)
         by_out None e a = a
         by_out (Some g) e a = let same = sym (file_released c p.chain h.knows f holds_here e).0 in
-            (ap (λ (z : File). z.identity) same, subst (λ (z : File). Adds o u ([] ▷ Release f ▷ Close z) Idle no_use (view_of q)) same a)
+            (ap (λ (z : File). z.identity) same, subst (λ (z : File). Adds o u ([] ▷ Release f ▷ Close z) doing.Idle no_use (view_of q)) same a)
 
   module _ (retired : Retired) (removed : IsRetiredOf u retired) where
     abbrev gone : File
     gone = removed.0
 
-    removes_here : view.doing ≡ Retiring gone removed.1
-    removes_here = same_doing ∙ removed.2
+    its_removal : (view.doing ≡ Retiring gone retired.takes) × (retired ≡ retired_of gone retired.takes)
+    its_removal = retiring_task view.doing gone retired (same_doing ∙ removed.1)
+
+    removes_here : view.doing ≡ Retiring gone retired.takes
+    removes_here = its_removal.0
 
     place_is : retired.node ≡ gone.number
-    place_is = ap (λ (x : Retired). x.node) removed.3
+    place_is = ap (λ (x : Retired). x.node) its_removal.1
 
     leads_there : (d : Contents) → Leads (state_of c) (close_of (closed_by_retirement c retired.node)) (state_of d)
         → Leads (state_of c) (close_of (closed_by_retirement c gone.number)) (state_of d)
@@ -254,8 +270,8 @@ module _ {id : TableId} {k : Start} {u : PassView} {c : Contents} {p : BatonPass
     pub retire_called : {d : Contents} → Leads (state_of c) (close_of (closed_by_retirement c retired.node)) (state_of d)
         → leaving d ≡ changed_at (leaving c) retired.node false → IsTable d → HasCalled id k RetireCall true (lent d)
     retire_called {d} leads leaves sound = called sound
-        (subst (λ (z : Doing). IsTurn view log c d (events_of c log.number p.chain z RetireCall) Idle) (sym removes_here)
-        (retire_turn d p.chain h.knows gone removed.1 removes_here (closed_by_retirement c gone.number) refl (leads_there d leads)
+        (subst (λ (z : Task). IsTurn view log c d (events_of c log.number p.chain z RetireCall) Idle) (sym removes_here)
+        (retire_turn d p.chain h.knows gone retired.takes removes_here (closed_by_retirement c gone.number) refl (leads_there d leads)
         (leaves ∙ ap (λ (n : ℕ). changed_at (leaving c) n false) place_is))) tt (omega arith) (omega arith) refl
 
     -- the result of a retirement
@@ -265,16 +281,14 @@ module _ {id : TableId} {k : Start} {u : PassView} {c : Contents} {p : BatonPass
     retired_so d {q} gives result is leads = (
       gone,
       removed.1,
-      removed.2,
-      removed.3,
       subst (λ (z : Option Closed). RetiresFile o u gone z (view_of q)) (sym (is ∙ ap (λ (n : ℕ). identity_of (closed_by_retirement c n)) place_is))
           (by_out (closed_by_retirement c gone.number) refl (leads_there d leads) (rw removes_here at (added gives))),
     )
       where
         by_out : (out : Option File) → closed_by_retirement c gone.number ≡ out → Leads (state_of c) (close_of out) (state_of d)
-            → Adds o u (close_of out) Idle no_use (view_of q) → RetiresFile o u gone (identity_of out) (view_of q)
+            → Adds o u (close_of out) doing.Idle no_use (view_of q) → RetiresFile o u gone (identity_of out) (view_of q)
         by_out None e l a =
-            let held = is_held c p.chain h.knows gone removed.1 removes_here e in
+            let held = is_held c p.chain h.knows gone retired.takes removes_here e in
             let same = ap (λ (s : State). s.holds gone.number) (gives.end ∙ l.1) in (omega arith, a)
-        by_out (Some g) e l a = let same = sym (file_retired c p.chain h.knows gone removed.1 removes_here e) in
-            (ap (λ (z : File). z.identity) same, subst (λ (z : File). Adds o u ([] ▷ Close z) Idle no_use (view_of q)) same a)
+        by_out (Some g) e l a = let same = sym (file_retired c p.chain h.knows gone retired.takes removes_here e) in
+            (ap (λ (z : File). z.identity) same, subst (λ (z : File). Adds o u ([] ▷ Close z) doing.Idle no_use (view_of q)) same a)

@@ -4,10 +4,10 @@ use Rattle.fx_baton.proofs.Words.{◌⊎◌, inl, inr, ⊎_elim, dite, ℕ_discr
 use Rattle.fx_baton.proofs.Words.{with_removed, Contents, state_of, leaving, Leads, IsLegal, ReleasesItsOwn, held_by, close_of, ◌▷◌, ◌▷▷◌}
 use Rattle.fx_baton.proofs.Words.{closed_by_release, closed_by_retirement, File, Event, Look, Release, Full, Close, pass_of_number, number_behind}
 use Rattle.fx_baton.proofs.Words.{HasFile, Idle, Holding, Retiring, legal_then, held_mine, one_author, Log, View, begin_of, file_held, file_in_hand}
-use Rattle.fx_baton.proofs.Words.{holds_by, removals_by, leaving_count, Knows, IsTurn, held_after, Doing, more_leaving, bit_here, one_more_at}
+use Rattle.fx_baton.proofs.Words.{holds_by, removals_by, leaving_count, Knows, IsTurn, held_after, Task, more_leaving, bit_here, one_more_at}
 use Rattle.fx_baton.proofs.Words.{one_less_at}
 use Rattle.fx_plain.specs.declared.event.Action.{Action}
-use Rattle.fx_table.specs.Calls.{retiring}
+use Rattle.fx_table.specs.Tasks.{retiring}
 use Rattle.fx_baton.specs.Turns.{by, holds_now}
 use Rattle.fx_plain.proofs.Cells.{changed_here, changed_else}
 use Rattle.fx_table.proofs.FileLemmas.{none_file, stays_put, apart_from, leaving_file, removed_file, still_there, now_removed, not_closed}
@@ -36,10 +36,10 @@ module _ {v : View} {x : Log} {c : Contents} (d : Contents) (chain : ℕ) (known
       ((tt, step.0), step.1) (known.legal.releases, own)
 
   -- the file that the pass held before, and the leaving files, if no file was removed or retired
-  held_so : {doing : Doing} → v.doing ≡ doing → held_by x.front x.number ≡ file_held doing
+  held_so : {doing : Task} → v.doing ≡ doing → held_by x.front x.number ≡ file_held doing
   held_so is = known.held ∙ ap file_held is
 
-  none_leaves : {doing : Doing} → v.doing ≡ doing → leaving d ≡ leaving c → (n : ℕ)
+  none_leaves : {doing : Task} → v.doing ≡ doing → leaving d ≡ leaving c → (n : ℕ)
       → leaving_count d n + removals_by n v.doing ≡ leaving_count c n + removals_by n doing
   none_leaves is leaves n = let a = ap (λ (z : ℕ → Bool). cond {A = ℕ} (z n) 1 0) leaves in let b = ap (removals_by n) is in omega arith
 
@@ -68,7 +68,7 @@ module _ {v : View} {x : Log} {c : Contents} (d : Contents) (chain : ℕ) (known
   )
 
   -- the obligations of a turn that leads to the state `y`
-  turn : (xs : List Action) (doing : Doing) (y : State) → state_of d ≡ y → UsesOwn y.fresh (number_behind (x.own ▷▷ done xs))
+  turn : (xs : List Action) (doing : Task) (y : State) → state_of d ≡ y → UsesOwn y.fresh (number_behind (x.own ▷▷ done xs))
       → IsLegal (begin_of v.start) (x.front ▷▷ done xs) (state_of d)
       → ((n : ℕ) → y.holds n + holds_by n v.doing ≡ (state_of c).holds n + holds_by n doing)
       → ((n : ℕ) → leaving_count d n + removals_by n v.doing ≡ leaving_count c n + removals_by n doing)

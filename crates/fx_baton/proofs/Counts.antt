@@ -1,5 +1,5 @@
 -- The number of logs of a pass in views, and the counts of a pass's activity.
-use Rattle.fx_baton.proofs.Words.{◌≡◌, ℕ, ◌+◌, ◌≤◌, Bool, true, false, cond, List, map, ap, arith, eqb, ◌⊎◌, Some, Contains, File, Event, Doing}
+use Rattle.fx_baton.proofs.Words.{◌≡◌, ℕ, ◌+◌, ◌≤◌, Bool, true, false, cond, List, map, ap, arith, eqb, ◌⊎◌, Some, Contains, File, Event, Task}
 use Rattle.fx_baton.proofs.Words.{bit_here, one_if, sum_map, sum_of, Log, logs_of, file_in_hand, holds_by, removals_by, log_behind, changed_at}
 
 -- a flag that is set at a number, or taken back
@@ -22,8 +22,8 @@ pub logs_behind : (p : ℕ) (es : List Event) (xs : List Log) → logs_of p (map
 logs_behind p es xs = sum_map (λ (x : Log). one_if (eqb x.number p)) (log_behind es) xs
 
 -- a file with which a pass has to do is counted among the held or among the leaving ones
-pub hand_is_counted : (d : Doing) {f : File} → file_in_hand d ≡ Some f → (1 ≤ holds_by f.number d) ⊎ (1 ≤ removals_by f.number d)
+pub hand_is_counted : (d : Task) {f : File} → file_in_hand d ≡ Some f → (1 ≤ holds_by f.number d) ⊎ (1 ≤ removals_by f.number d)
 hand_is_counted d e = grind arith
 
-pub holds_small : (n : ℕ) (d : Doing) → holds_by n d ≤ 1
+pub holds_small : (n : ℕ) (d : Task) → holds_by n d ≤ 1
 holds_small n d = grind arith

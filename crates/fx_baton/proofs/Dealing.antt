@@ -4,6 +4,7 @@ use Rattle.fx_baton.proofs.Words.{new_pass, HasDrawnInTurn, Idle, Log, View, Sta
 use Rattle.fx_baton.proofs.Words.{view_of_first, chains_of_pass, first_front, first_own, view_of, is_idle, IsPassOf, dealt, IsNewPass}
 use Rattle.std.proofs.Common.{take, drop}
 use Rattle.fx_table.proofs.Dealing.{first_left, last_left}
+use Rattle.fx_table.specs.Tasks.{activity_of}
 
 pub rest_is_dealt : {k : Start} {p : ℕ} → p ≤ k.passes → view_without_first (dealt k p) ≡ dealt k (p + 1)
 rest_is_dealt {k} {p} l = ap (λ (z : List Log). record (dealt k p) { logs = drop 1 z }) (first_left new_log p k.passes l)
@@ -34,7 +35,7 @@ module _ (id : TableId) (k : Start) (p n : ℕ) (low : 1 ≤ p) (high : p ≤ k.
     no_chains_left = new.chains_left i;
     numbers_left = new.numbers i;
     looks_left = new.looks i;
-    doing = doing_is i;
+    doing = ap activity_of doing_is i;
   }
 
   is_pass : IsPassOf id k x

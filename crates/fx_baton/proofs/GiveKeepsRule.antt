@@ -1,7 +1,7 @@
 -- A seat with one pass that has the table may put it back.
 use Rattle.fx_baton.proofs.Words.{◌≡◌, ◌≢◌, ℕ, true, List, [], ◌∷◌, ◌++◌, map, set, sym, refl, ap, ◌∙◌, subst, inl, inr, ⊎_elim, dite, ℕ_discrete}
 use Rattle.fx_baton.proofs.Words.{some, none, some-injective, get_elem?, Some, Contains, step, gives, at_set, Contents, state_of, IsTable, IsLegal}
-use Rattle.fx_baton.proofs.Words.{IsSeenBy, held_by, ◌▷▷◌, Event, Doing, seen_again, Log, View, Start, pass_of_number, Shared, Seated, begin_of}
+use Rattle.fx_baton.proofs.Words.{IsSeenBy, held_by, ◌▷▷◌, Event, Task, seen_again, Log, View, Start, pass_of_number, Shared, Seated, begin_of}
 use Rattle.fx_baton.proofs.Words.{HasFreshNumbers, IsLog, IsHome, IsAway, IsKept, log_behind, view_behind, Gives, IsTurn, part_mine, Allows}
 use Rattle.std.proofs.lemmas.List.{length-map}
 use Rattle.fx_baton.proofs.Counts.{logs_behind}
@@ -10,7 +10,7 @@ use Rattle.std.proofs.lemmas.Option.{none-some}
 use Rattle.fx_baton.proofs.GrabKeepsRule.{only_log, has_one, not_empty, started}
 
 module _ (k : Start) (id : ℕ) (v : View) (x : Log) (one : v.logs ≡ x ∷ []) (c d : Contents) (has : v.loan ≡ Some c) (es : List Event)
-    (doing : Doing) (sound : IsTable d) (turn : IsTurn v x c d es doing) where
+    (doing : Task) (sound : IsTable d) (turn : IsTurn v x c d es doing) where
   abbrev w : View
   w = view_behind v es doing
 
@@ -86,7 +86,7 @@ module _ (k : Start) (id : ℕ) (v : View) (x : Log) (one : v.logs ≡ x ∷ [])
       ))
       r.place
 
-pub may_store : (k : Start) {slots : ℕ} (id : ℕ) {me : Seated} {v : View} {d : Contents} {es : List Event} {doing : Doing} → slots ≡ 1
+pub may_store : (k : Start) {slots : ℕ} (id : ℕ) {me : Seated} {v : View} {d : Contents} {es : List Event} {doing : Task} → slots ≡ 1
     → me ≡ (v, (0, d) ∷ [])
     → {x : Log} {c : Contents} → v.logs ≡ x ∷ [] → v.loan ≡ Some c → IsTable d → IsTurn v x c d es doing → Allows (IsKept k) slots id me 0 (λ _. 1)
     (λ _. Gives es doing (step slots 0 1 0 none) me 1)

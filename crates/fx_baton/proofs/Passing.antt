@@ -2,9 +2,10 @@
 use Rattle.fx_baton.proofs.Words.{◌≡◌, ℕ, ◌+◌, ◌-◌, ◌*◌, ◌≤◌, Bool, List, [], ◌∷◌, ◌++◌, map, sym, refl, ap, ◌∙◌, subst, arith, Option, Some, None}
 use Rattle.fx_baton.proofs.Words.{TableId, Seat, State, Contents, state_of, IsLegal, IsSeenBy, part_of_pass, close_of, ◌▷◌, ◌▷▷◌, closed_by_release}
 use Rattle.fx_baton.proofs.Words.{closed_by_retirement, File, Event, Release, number_behind, state_at, PassView, IsFront, next_of, HasDrawnInTurn}
-use Rattle.fx_baton.proofs.Words.{Doing, Holding, Retiring, seen_again, seen_further, part_mine, Log, View, Start, Call, BatonPass, Seated}
+use Rattle.fx_baton.proofs.Words.{Task, Holding, Retiring, seen_again, seen_further, part_mine, Log, View, Start, Call, BatonPass, Seated}
 use Rattle.fx_baton.proofs.Words.{opening_of, begin_of, Takes, lent_view, log_behind, view_behind, first_front, first_own, view_of, IsPassOf}
 use Rattle.fx_baton.proofs.Words.{HasTable, HasSeenMore, UsesNext, HasCalled, HasGivenBack, pass_behind}
+use Rattle.fx_table.specs.Tasks.{activity_of}
 use Rattle.fx_table.specs.Calls.{Adds}
 use Rattle.fx_baton.specs.Turns.{by, actions_of, doing_of, use_of, events_of, table_of_slots, table_of_loan}
 use Rattle.fx_baton.specs.declared.view.Call.TheVariants.{Look as LookCall, Release as ReleaseCall, Retire as RetireCall}
@@ -67,7 +68,7 @@ next_release p chain f None own = refl
 next_release p chain f (Some g) own = refl
 
 -- the pass's numbers after a call
-next_behind : (c : Contents) (v : PassView) (now : ℕ) (doing : Doing) (call : Call) (own : List Event) → number_behind own ≤ next_of v
+next_behind : (c : Contents) (v : PassView) (now : ℕ) (doing : Task) (call : Call) (own : List Event) → number_behind own ≤ next_of v
     → v.numbers_left ≤ 64 * v.chain → now + (use_of call).numbers ≡ v.numbers_left → UsesNext v call
     → number_behind (events_of c v.number v.chain doing call ++ own) ≤ (256 + 64 * v.chain) - now
 next_behind c v now doing (LookCall slot) own next inside used uses = omega arith
@@ -136,8 +137,8 @@ module _ {id : TableId} {k : Start} {call : Call} {idle : Bool} {p : BatonPass} 
     };
   }
 
-  adds_here : Adds (opening_of k) (view_of p) (actions_of t.taken p.seat.me.0.doing call) (doing_of t.taken call) (use_of call)
-      (view_of (gave seated))
+  adds_here : Adds (opening_of k) (view_of p) (actions_of t.taken p.seat.me.0.doing call) (activity_of (doing_of t.taken call))
+      (use_of call) (view_of (gave seated))
   adds_here = record {
     seen = (es, ap (λ (h : List Event). es ++ h) (sym (ap first_front t.has.seated.one)));
     front = front_is;
@@ -153,11 +154,11 @@ module _ {id : TableId} {k : Start} {call : Call} {idle : Bool} {p : BatonPass} 
 
   -- wherever the pass came from
   adds_so : (u : PassView) (c d : Contents) → HasTable id k u c d p
-      → Adds (opening_of k) u (actions_of c p.seat.me.0.doing call) (doing_of c call) (use_of call) (view_of (gave seated))
+      → Adds (opening_of k) u (actions_of c p.seat.me.0.doing call) (activity_of (doing_of c call)) (use_of call) (view_of (gave seated))
   adds_so u c d h =
       let loans : Some t.taken ≡ Some c = sym t.has.loan ∙ h.loan in let same : t.taken ≡ c = cc loans in
-      let saw = subst (λ (z : PassView × Contents). Adds (opening_of k) z.0 (actions_of z.1 p.seat.me.0.doing call) (doing_of z.1 call) (use_of call)
-      (view_of (gave seated))) (λ i. (h.more.same i, same i)) adds_here in
+      let saw = subst (λ (z : PassView × Contents). Adds (opening_of k) z.0 (actions_of z.1 p.seat.me.0.doing call)
+      (activity_of (doing_of z.1 call)) (use_of call) (view_of (gave seated))) (λ i. (h.more.same i, same i)) adds_here in
       let seen = seen_further u.front (view_of p).front (view_of (gave seated)).front h.more.seen adds_here.seen in
       assumption (seen, saw)
 

@@ -1,6 +1,6 @@
 -- A seat is split off, and one is joined back.
 use Rattle.fx_baton.proofs.Words.{◌≡◌, ℕ, List, length, sym, refl, ap, ◌∙◌, subst, inl, inr, ⊎_elim, length-append, some, get_elem?, Some, None}
-use Rattle.fx_baton.proofs.Words.{sum_by-append, Splits, Joins, Doing, Idle, Log, View, Start, Shared, logs_of, holds_by, removals_by, file_in_hand}
+use Rattle.fx_baton.proofs.Words.{sum_by-append, Splits, Joins, Task, Idle, Log, View, Start, Shared, logs_of, holds_by, removals_by, file_in_hand}
 use Rattle.fx_baton.proofs.Words.{IsLog, IsView, IsHome, IsAway, IsKept, view_without_first, view_of_first, joined_view, empty_view}
 use Rattle.fx_table.proofs.Seats.{IsAnew, AreReseated, split, joined}
 use Rattle.std.proofs.lemmas.Option.{none-some}
@@ -20,7 +20,7 @@ module _ (k : Start) (s : Shared) (r : IsKept k s) (views : List View) (a : AreR
   new_view : (u : View) → IsAnew logs start k IsIdle s.views u → IsView k r.history r.contents u
   new_view u new = record {
     logs = λ x h. let w = new.its x h in
-        subst (λ (d : Doing). IsLog k r.history r.contents d x) (w.3.0 ∙ sym new.idle.0) ((r.views w.0 w.1 w.2).logs x w.4);
+        subst (λ (d : Task). IsLog k r.history r.contents d x) (w.3.0 ∙ sym new.idle.0) ((r.views w.0 w.1 w.2).logs x w.4);
     file = λ f e. let no : None ≡ Some f = sym (ap file_in_hand new.idle.0) ∙ e in absurd (cc no);
     empty = λ _. new.idle;
     start = new.begun;

@@ -20,7 +20,7 @@ may_observe {k} slots id {me} start s r wide at small = (
   record { last = s; rule = subst (λ (z : Start). IsKept z s) (sym start) r; seat = id; view = at; same = refl },
 )
 
-module _ (id : TableId) (k : Start) (p : BatonPass) (fits : IsPassOf id k p) (idle : (view_of p).doing ≡ Idle) (alone : k.passes ≡ 1)
+module _ (id : TableId) (k : Start) (p : BatonPass) (fits : IsPassOf id k p) (idle : p.seat.me.0.doing ≡ Idle) (alone : k.passes ≡ 1)
     (s : Shared) (r : IsKept k s) (seat : ℕ) (at : get_elem? s.views seat ≡ some p.seat.me.0) where
   only : (q : BatonPass) → Contains (p ∷ []) q → IsPassOf id k q
   only q h = subst (IsPassOf id k) (sym (contains_only p q h)) fits

@@ -39,8 +39,8 @@ pub use Rattle.fx_table.specs.Numbers.{chains_of_pass, number_behind, numbers_fo
 pub use Rattle.fx_table.specs.Opening.{HasSameFiles, Opening, size_of, state_at}
 pub use Rattle.fx_table.specs.Pass.{IsFront, IsHoldOf, IsRetiredOf, PassView, hold_of, new_pass}
 pub use Rattle.fx_table.specs.Turns.{HasDrawnInTurn}
-pub use Rattle.fx_table.specs.declared.values.Doing.{Doing}
-pub use Rattle.fx_table.specs.declared.values.Doing.TheVariants.{Holding, Idle, Retiring}
+pub use Rattle.fx_table.specs.declared.values.Task.{Task}
+pub use Rattle.fx_table.specs.declared.values.Task.TheVariants.{Holding, Idle, Retiring}
 pub use Rattle.std.proofs.Common.{All, Bool, List, [], ap, arith, cond, eq-eqb, eqb, false, get_or, inl, inr, is_none, length, length-append, map}
 pub use Rattle.std.proofs.Common.{refl, reverse, rules, set, subst, suc, sym, true, vec_capacity, zero, ℕ, ⊎_elim, ◌*◌, ◌++◌, ◌+◌, ◌-◌, ◌<◌, ◌^◌, ◌∙◌}
 pub use Rattle.std.proofs.Common.{◌∷◌, ◌≡◌, ◌≢◌, ◌≤◌, ◌⊎◌}

@@ -5,8 +5,8 @@ use prog.Atomic.{either}
 use Rattle.atomic_table.specs.Table.{step, Splits, Joins, Allows}
 use Rattle.fx_plain.specs.Contents.{Contents, IsTable}
 use Rattle.fx_plain.specs.declared.event.Event.{Event}
-use Rattle.fx_table.specs.declared.values.Doing.{Doing}
-use Rattle.fx_table.specs.declared.values.Doing.TheVariants.{Idle}
+use Rattle.fx_table.specs.declared.values.Task.{Task}
+use Rattle.fx_table.specs.declared.values.Task.TheVariants.{Idle}
 use Rattle.fx_baton.specs.declared.view.Log.{Log}
 use Rattle.fx_baton.specs.declared.view.View.{View}
 use Rattle.fx_baton.specs.declared.view.Start.{Start}
@@ -47,7 +47,7 @@ GivesKeep =
     → v.logs ≡ x ∷ []
     → (c d : Contents)
     → v.loan ≡ Some c
-    → (events : List Event) (doing : Doing)
+    → (events : List Event) (doing : Task)
     → IsTable d
     → IsTurn v x c d events doing
     → Allows (IsKept k) 1 id (v, (0, d) ∷ []) 0 (λ _. 1)

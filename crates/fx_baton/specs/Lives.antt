@@ -5,7 +5,7 @@ use lib.ListN.{get_elem?}
 use mathlib.Core.Option.{some}
 use Rattle.fx_plain.specs.Contents.{Contents}
 use Rattle.fx_table.specs.declared.limits.TheConstants.{PASS_LOOKS}
-use Rattle.fx_table.specs.declared.values.Doing.TheVariants.{Idle}
+use Rattle.fx_table.specs.declared.values.Task.TheVariants.{Idle}
 use Rattle.fx_baton.specs.declared.view.Log.{Log}
 use Rattle.fx_baton.specs.declared.view.View.{View}
 use Rattle.fx_baton.specs.declared.view.Start.{Start}

@@ -10,8 +10,9 @@ use Rattle.fx_table.specs.Pass.{PassView, IsFront}
 use Rattle.fx_table.specs.Opening.{state_at}
 use Rattle.fx_table.specs.Turns.{HasDrawnInTurn}
 use Rattle.fx_table.specs.Calls.{Adds}
-use Rattle.fx_table.specs.declared.values.Doing.{Doing}
-use Rattle.fx_table.specs.declared.values.Doing.TheVariants.{Idle, Holding, Retiring}
+use Rattle.fx_table.specs.Tasks.{activity_of}
+use Rattle.fx_table.specs.declared.values.Task.{Task}
+use Rattle.fx_table.specs.declared.values.Task.TheVariants.{Idle, Holding, Retiring}
 use Rattle.fx_baton.specs.declared.view.Log.{Log}
 use Rattle.fx_baton.specs.declared.view.View.{View}
 use Rattle.fx_baton.specs.declared.view.Start.{Start}
@@ -39,7 +40,7 @@ view_of p = record {
   no_chains_left = p.no_chains_left;
   numbers_left = p.numbers_left;
   looks_left = p.looks_left;
-  doing = p.seat.me.0.doing;
+  doing = activity_of p.seat.me.0.doing;
 }
 
 -- the pass with another seat, after a call
@@ -51,7 +52,7 @@ pass_behind p call idle seat = record p {
   idle = idle;
 }
 
-abbrev pub is_idle : Doing → Bool
+abbrev pub is_idle : Task → Bool
 is_idle Idle = true
 is_idle (Holding f) = false
 is_idle (Retiring f takes) = false
@@ -101,7 +102,7 @@ UsesNext v (AllocateCall slot number file) = number ≡ next_of v
 UsesNext v _ = Unit {0}
 
 -- a pass made these events while it had the table
-pub record HasPlayed (id : TableId) (k : Start) (events : List Event) (doing : Doing)
+pub record HasPlayed (id : TableId) (k : Start) (events : List Event) (doing : Task)
     (p : BatonPass) : Type 0 where
   pub before : PassView
   pub taken : Contents
@@ -130,7 +131,7 @@ pub record HasGivenBack (id : TableId) (k : Start) (call : Call) (p q : BatonPas
   pub fits : IsPassOf id k q
   -- whatever the pass was shown as before
   pub adds : (u : PassView) (c d : Contents) → HasTable id k u c d p
-      → Adds (opening_of k) u (actions_of c p.seat.me.0.doing call) (doing_of c call) (use_of call)
-      (view_of q)
+      → Adds (opening_of k) u (actions_of c p.seat.me.0.doing call) (activity_of (doing_of c call))
+      (use_of call) (view_of q)
   -- its front leads to the state of the table that it put back
   pub end : state_at (opening_of k) (view_of q).front ≡ state_of (table_of_slots p.seat.me.1)

@@ -15,8 +15,8 @@ use Rattle.fx_table.specs.declared.limits.TheConstants.{FIRST_CHAIN_NUMBER, MAX_
 use Rattle.fx_table.specs.Numbers.{numbers_for, number_behind, once, pass_of_number}
 use Rattle.fx_table.specs.Files.{HasFile}
 use Rattle.fx_table.specs.Opening.{Opening, opening_with, start_of}
-use Rattle.fx_table.specs.declared.values.Doing.{Doing}
-use Rattle.fx_table.specs.declared.values.Doing.TheVariants.{Idle, Holding, Retiring}
+use Rattle.fx_table.specs.declared.values.Task.{Task}
+use Rattle.fx_table.specs.declared.values.Task.TheVariants.{Idle, Holding, Retiring}
 use Rattle.fx_baton.specs.declared.view.Log.{Log}
 use Rattle.fx_baton.specs.declared.view.View.{View}
 use Rattle.fx_baton.specs.declared.view.Start.{Start}
@@ -75,24 +75,24 @@ abbrev pub empty_view : View
 empty_view = record { start = no_start; logs = []; doing = Idle; loan = None }
 
 -- the file that the pass holds
-abbrev pub file_held : Doing → Option File
+abbrev pub file_held : Task → Option File
 file_held Idle = None
 file_held (Holding f) = Some f
 file_held (Retiring f takes) = None
 
 -- the file that the pass holds or has to retire
-abbrev pub file_in_hand : Doing → Option File
+abbrev pub file_in_hand : Task → Option File
 file_in_hand Idle = None
 file_in_hand (Holding f) = Some f
 file_in_hand (Retiring f takes) = Some f
 
 -- 1 if the pass holds the file of the number, and 1 if it has to retire it
-abbrev pub holds_by : ℕ → Doing → ℕ
+abbrev pub holds_by : ℕ → Task → ℕ
 holds_by n Idle = 0
 holds_by n (Holding f) = if f.number == n then 1 else 0
 holds_by n (Retiring f takes) = 0
 
-abbrev pub removals_by : ℕ → Doing → ℕ
+abbrev pub removals_by : ℕ → Task → ℕ
 removals_by n Idle = 0
 removals_by n (Holding f) = 0
 removals_by n (Retiring f takes) = if f.number == n then 1 else 0
@@ -108,7 +108,7 @@ HasFreshNumbers k st x =
     → pass_of_number k.passes n ≡ x.number → st.fresh n ≡ true
 
 -- the agreement of the history with one pass of a seat
-pub record IsLog (k : Start) (h : List Event) (c : Contents) (doing : Doing) (x : Log)
+pub record IsLog (k : Start) (h : List Event) (c : Contents) (doing : Task) (x : Log)
     : Type 0 where
   pub seen : IsSeenBy x.front h
   pub own : part_of_pass x.number h ≡ x.own
@@ -191,14 +191,14 @@ abbrev pub log_behind : List Event → Log → Log
 log_behind es x = record x { front = x.front ▷▷ es; own = x.own ▷▷ es }
 
 -- the view of a pass that put the table back
-abbrev pub view_behind : View → List Event → Doing → View
+abbrev pub view_behind : View → List Event → Task → View
 view_behind v es doing = record v { logs = map (log_behind es) v.logs; doing = doing; loan = None }
 
-abbrev pub Gives : List Event → Doing → Step Contents → Seated → ℕ → Seated → Type 0
+abbrev pub Gives : List Event → Task → Step Contents → Seated → ℕ → Seated → Type 0
 Gives es doing st m found m' = (m'.0 ≡ view_behind m.0 es doing) × (m'.1 ≡ [])
 
 -- the condition for a seat with one pass to put the table c back as d, after the events es
-pub record IsTurn (v : View) (x : Log) (c d : Contents) (es : List Event) (doing : Doing)
+pub record IsTurn (v : View) (x : Log) (c d : Contents) (es : List Event) (doing : Task)
     : Type 0 where
   pub authors : (e : Event) → Contains es e → e.pass ≡ x.number
   pub legal : IsLegal (begin_of v.start) (x.front ▷▷ es) (state_of d)

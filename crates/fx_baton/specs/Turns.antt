@@ -8,9 +8,10 @@ use Rattle.fx_plain.specs.declared.event.Event.{Event}
 use Rattle.fx_plain.specs.declared.event.Action.{Action}
 use Rattle.fx_plain.specs.declared.event.Action.TheVariants.{Look, Release, Put, Clear, Take}
 use Rattle.fx_plain.specs.declared.event.Action.TheVariants.{Allocate, Full}
-use Rattle.fx_table.specs.Calls.{Use, no_use, one_look, one_number, retiring}
-use Rattle.fx_table.specs.declared.values.Doing.{Doing}
-use Rattle.fx_table.specs.declared.values.Doing.TheVariants.{Idle, Holding, Retiring}
+use Rattle.fx_table.specs.Calls.{Use, no_use, one_look, one_number}
+use Rattle.fx_table.specs.Tasks.{retiring}
+use Rattle.fx_table.specs.declared.values.Task.{Task}
+use Rattle.fx_table.specs.declared.values.Task.TheVariants.{Idle, Holding, Retiring}
 use Rattle.fx_baton.specs.declared.view.Call.{Call}
 use Rattle.fx_baton.specs.declared.view.Call.TheVariants.{Look as LookCall, Release as ReleaseCall}
 use Rattle.fx_baton.specs.declared.view.Call.TheVariants.{Put as PutCall, Allocate as AllocateCall}
@@ -32,23 +33,23 @@ table_of_slots [] = empty_table
 table_of_slots (x ∷ xs) = x.1
 
 -- the activity of a pass that found this file
-abbrev pub holds_now : Option File → Doing
+abbrev pub holds_now : Option File → Task
 holds_now None = Idle
 holds_now (Some f) = Holding f
 
 -- a release or a retirement, and the close of the file that it returns
-abbrev pub release_in : Contents → Doing → List Action
+abbrev pub release_in : Contents → Task → List Action
 release_in c Idle = []
 release_in c (Holding f) = [] ▷ Release f ▷▷ close_of (closed_by_release c f.number)
 release_in c (Retiring f takes) = []
 
-abbrev pub retirement_in : Contents → Doing → List Action
+abbrev pub retirement_in : Contents → Task → List Action
 retirement_in c Idle = []
 retirement_in c (Holding f) = []
 retirement_in c (Retiring f takes) = close_of (closed_by_retirement c f.number)
 
 -- the actions of a call of the table c, for a pass with this activity
-abbrev pub actions_of : Contents → Doing → Call → List Action
+abbrev pub actions_of : Contents → Task → Call → List Action
 actions_of c doing (LookCall slot) = [] ▷ Look slot ((state_of c).at slot)
 actions_of c doing ReleaseCall = release_in c doing
 actions_of c doing (PutCall slot number file) =
@@ -60,7 +61,7 @@ actions_of c doing (TakeCall slot) = [] ▷ Take slot ((state_of c).at slot)
 actions_of c doing RetireCall = retirement_in c doing
 
 -- the activity of the pass afterwards
-abbrev pub doing_of : Contents → Call → Doing
+abbrev pub doing_of : Contents → Call → Task
 doing_of c (LookCall slot) = holds_now ((state_of c).at slot)
 doing_of c (PutCall slot number file) = retiring ((state_of c).at slot) 0
 doing_of c (ClearCall slot) = retiring ((state_of c).at slot) 0
@@ -75,5 +76,5 @@ use_of (AllocateCall slot number file) = one_number
 use_of _ = no_use
 
 -- the events of a call
-abbrev pub events_of : Contents → ℕ → ℕ → Doing → Call → List Event
+abbrev pub events_of : Contents → ℕ → ℕ → Task → Call → List Event
 events_of c pass chain doing call = map (by pass chain) (actions_of c doing call)

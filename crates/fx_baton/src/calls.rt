@@ -1,4 +1,4 @@
-//! The implementation of `FileTable` for the table guarded by one word.
+//! The implementations of `SharedTable` and `FileTable` for the table guarded by one word.
 ghost use Rattle.std.specs.Prelude.{◌≡◌, Option, length, map, option_map, All};
 ghost use Rattle.fx_plain.specs.declared.event.File.{File};
 ghost use Rattle.fx_plain.specs.Table.{number_of};
@@ -12,11 +12,13 @@ use crate::table::BatonTable;
 use crate::view::Call;
 use fx_base::{NoMemory, OpenFile};
 use fx_plain::PlainTable;
-use fx_table::{CHAIN_NUMBERS, Empty, FileTable, Hold, LookFault, Retired, numbers_for};
+use fx_table::{
+    CHAIN_NUMBERS, Empty, FileTable, Hold, LookFault, LookUp, Retired, SharedTable, numbers_for,
+};
 use std::alloc::Global;
 use std::sync::Wait;
 
-impl FileTable for BatonTable {
+impl SharedTable for BatonTable {
     ghost use Rattle.fx_baton.specs.Passes.{view_of};
     ghost use Rattle.fx_baton.specs.Tables.{opening_of_table, IsPassOfTable};
 
@@ -27,27 +29,6 @@ impl FileTable for BatonTable {
     ghost fits = { IsPassOfTable };
 
     ghost view = { view_of };
-
-    fn open(
-        alloc: Global,
-        plain: PlainTable,
-        chains: u32,
-        passes: u32,
-    ) -> Result<(BatonTable, Vec<BatonPass>), (PlainTable, NoMemory)> {
-        let Ok(mut list) = Vec::with_capacity(alloc, passes as usize) else {
-            return Err((plain, NoMemory));
-        };
-        match BatonTable::start(alloc, plain, chains, passes) {
-            Ok((table, seat)) => {
-                table.deal(seat, &mut list);
-                Ok((table, list))
-            }
-            Err(refused) => {
-                list.destroy_empty();
-                Err(refused)
-            }
-        }
-    }
 
     fn close(self, passes: Vec<BatonPass>) -> PlainTable
         requires all { length passes.items ≡ (opening_of_table self).passes }
@@ -81,41 +62,11 @@ impl FileTable for BatonTable {
         pass.numbers_left
     }
 
-    // Pass p of n draws the chains p, p + n, p + 2n and so on.
-    fn draw(&self, pass: &mut BatonPass) -> Option<u32> {
-        if pass.no_chains_left {
-            return None;
-        }
-        let next = if pass.count == 0 {
-            pass.number
-        } else {
-            pass.chain + pass.passes
-        };
-        if next > self.chains {
-            pass.no_chains_left = true;
-            return None;
-        }
-        pass.chain = next;
-        pass.count += 1;
-        pass.numbers_left = CHAIN_NUMBERS;
-        Some(next)
-    }
-
-    fn settle(&self, pass: &mut BatonPass) {
-        self.settle(pass)
-    }
-
-    fn look(&self, rt: &impl Wait, pass: &mut BatonPass, slot: u32) -> Result<Hold, LookFault> {
-        if pass.looks_left == 0 {
-            return Err(LookFault::Spent);
-        }
-        self.borrow(rt, pass);
-        let plain = pass.seat.slot_mut(&self.table.shared, 0);
-        let found = plain.look(slot);
-        self.give_back(pass, Call::Look(slot), found.is_none());
-        match found {
-            None => Err(LookFault::Empty),
-            Some((node, entry)) => Ok(Hold { node, entry }),
+    // A look-up returns no file but the one that it found.
+    fn look_up(&self, rt: &impl Wait, pass: &mut BatonPass, slot: u32) -> LookUp {
+        LookUp {
+            found: self.look(rt, pass, slot),
+            freed: None,
         }
     }
 
@@ -199,6 +150,71 @@ impl FileTable for BatonTable {
     }
 
     ghost fronts = { λ t p fits. fits.seated.front };
+}
+
+impl FileTable for BatonTable {
+    ghost use Rattle.std.specs.Prelude.{refl};
+
+    fn open(
+        alloc: Global,
+        plain: PlainTable,
+        chains: u32,
+        passes: u32,
+    ) -> Result<(BatonTable, Vec<BatonPass>), (PlainTable, NoMemory)> {
+        let Ok(mut list) = Vec::with_capacity(alloc, passes as usize) else {
+            return Err((plain, NoMemory));
+        };
+        match BatonTable::start(alloc, plain, chains, passes) {
+            Ok((table, seat)) => {
+                table.deal(seat, &mut list);
+                Ok((table, list))
+            }
+            Err(refused) => {
+                list.destroy_empty();
+                Err(refused)
+            }
+        }
+    }
+
+    // Pass p of n draws the chains p, p + n, p + 2n and so on.
+    fn draw(&self, pass: &mut BatonPass) -> Option<u32> {
+        if pass.no_chains_left {
+            return None;
+        }
+        let next = if pass.count == 0 {
+            pass.number
+        } else {
+            pass.chain + pass.passes
+        };
+        if next > self.chains {
+            pass.no_chains_left = true;
+            return None;
+        }
+        pass.chain = next;
+        pass.count += 1;
+        pass.numbers_left = CHAIN_NUMBERS;
+        Some(next)
+    }
+
+    fn settle(&self, pass: &mut BatonPass) {
+        self.settle(pass)
+    }
+
+    fn look(&self, rt: &impl Wait, pass: &mut BatonPass, slot: u32) -> Result<Hold, LookFault> {
+        if pass.looks_left == 0 {
+            return Err(LookFault::Spent);
+        }
+        self.borrow(rt, pass);
+        let plain = pass.seat.slot_mut(&self.table.shared, 0);
+        let found = plain.look(slot);
+        self.give_back(pass, Call::Look(slot), found.is_none());
+        match found {
+            None => Err(LookFault::Empty),
+            Some((node, entry)) => Ok(Hold { node, entry }),
+        }
+    }
+
+    ghost ends = { λ t. refl };
 }
 
 impl BatonTable {

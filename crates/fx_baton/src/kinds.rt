@@ -51,18 +51,18 @@ impl Play<PlainTable, View> for Grab {
 pub trait Turn {
     ghost use Rattle.std.specs.Prelude.{List};
     ghost use Rattle.fx_plain.specs.declared.event.Event.{Event};
-    ghost use Rattle.fx_table.specs.declared.values.Doing.{Doing};
+    ghost use Rattle.fx_table.specs.declared.values.Task.{Task};
 
     // The events, the newest first.
     ghost events: { List Event };
 
     // The activity of the pass afterwards.
-    ghost doing: { Doing };
+    ghost doing: { Task };
 }
 
 impl Turn for Brand {
     ghost use Rattle.std.specs.Prelude.{[]};
-    ghost use Rattle.fx_table.specs.declared.values.Doing.TheVariants.{Idle};
+    ghost use Rattle.fx_table.specs.declared.values.Task.TheVariants.{Idle};
 
     ghost events = { [] };
 

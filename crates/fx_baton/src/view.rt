@@ -1,7 +1,7 @@
 //! The values that contracts see of seats and passes, and the calls of a turn.
 use fx_base::Closed;
 use fx_plain::{Event, PlainTable};
-use fx_table::Doing;
+use fx_table::Task;
 use std::collections::LinkedList;
 use std::snapshot::Snapshot;
 
@@ -33,7 +33,7 @@ pub struct View {
     /// The passes of the seat: exactly one, except while the table is opened or closed.
     pub logs: LinkedList<Log>,
     /// The activity of the seat's pass.
-    pub doing: Doing,
+    pub doing: Task,
     /// The table as it was when the seat took it, while the seat has it.
     pub loan: Option<PlainTable>,
 }

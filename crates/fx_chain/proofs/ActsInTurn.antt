@@ -1,11 +1,12 @@
 -- The actions of a player, one after another.
 use Rattle.fx_chain.proofs.Words.{◌≡◌, ℕ, ◌+◌, ◌≤◌, List, [], ◌++◌, length, sym, refl, ap, subst, ◌∙◌, append_assoc, length-append, Option, Some, inl}
 use Rattle.fx_chain.proofs.Words.{inr, arith, None, is_some, append-nil, Closed, Action, Look, Release, closes_in, closed_by, ◌▷◌, ◌▷▷◌, Opening}
-use Rattle.fx_chain.proofs.Words.{PassView, IsFront, IsIdle, retired_of, Use, Adds, one_look, no_use, both_uses, Retired, MayClose, PlayerView}
+use Rattle.fx_chain.proofs.Words.{PassView, IsFront, IsIdle, Use, Adds, one_look, no_use, both_uses, Retired, MayClose, PlayerView}
 use Rattle.fx_chain.proofs.Words.{player, ActsSo, IsRetirement, IsRelease}
 use Rattle.fx_plain.specs.declared.event.File.{File}
 use Rattle.fx_plain.proofs.Leading.{closes_in-then}
 use Rattle.fx_table.specs.declared.values.Doing.{Doing}
+use Rattle.fx_table.specs.declared.values.Hold.{Hold}
 use Rattle.fx_table.specs.declared.values.Doing.TheVariants.{Idle, Holding, Retiring}
 use Rattle.fx_table.proofs.Calls.{adds_nothing, adds_then}
 
@@ -80,23 +81,23 @@ may_close_behind xs steps (Some f) ys (inl is) = inl (ap (λ (l : List Action). 
 may_close_behind xs steps (Some f) ys (inr is) = inr (ap (λ (l : List Action). l ++ xs) is)
 
 -- the properties of a look-up that found a file, and of its release
-pub looks_and_releases : {o : Opening} {p q : PlayerView} {u : PassView} {slot : ℕ} {f : File} {Says : List Action → Type 0}
-    → Adds o p.pass ([] ▷ Look slot (Some f)) (Holding f) one_look u → IsRelease o (player u p.closes) q
+pub looks_and_releases : {o : Opening} {p q : PlayerView} {u : PassView} {slot : ℕ} {f : File} {hold : Hold} {Says : List Action → Type 0}
+    → Adds o p.pass ([] ▷ Look slot (Some f)) (Holding f hold) one_look u → IsRelease o (player u p.closes) q
     → ((xs : List Action) → MayClose ([] ▷ Look slot (Some f) ▷ Release f) (Some f) xs → Says xs) → ActsSo o p 1 0 1 Says q
-looks_and_releases {slot} {f} adds (g, doing, does) so =
+looks_and_releases {slot} {f} adds (g, hold, doing, does) so =
     let same : g ≡ f = let now = adds.now in cc in
     calls_then adds refl (λ xs told. so _ (may_close_behind ([] ▷ Look slot (Some f)) ([] ▷ Release f) (Some f) xs told)) (rw same at does)
 
 -- a call took a step at its slot, and removed what was there, if anything
 abbrev pub Removed : Opening → PassView → (Option File → Action) → Use → Option Retired → PassView → Type 0
 Removed o v step used None w = Adds o v ([] ▷ step None) Idle used w
-Removed o v step used (Some x) w = (f : File) × (x ≡ retired_of f x.takes) × Adds o v ([] ▷ step (Some f)) (Retiring f x.takes) used w
+Removed o v step used (Some x) w = (f : File) × Adds o v ([] ▷ step (Some f)) (Retiring f x) used w
 
 -- the step, and the retirement of what it removed
 pub removes : {o : Opening} {p q : PlayerView} (u : PassView) (step : Option File → Action) (used : Use) (removed : Option Retired)
     → ((r : Option File) → closed_by (step r) ≡ []) → Removed o p.pass step used removed u → IsRetirement o (player u p.closes) removed q
     → (r : Option File) × (is_some removed ≡ is_some r) × ActsSo o p (used.looks + 0) (used.numbers + 0) 1 (MayClose ([] ▷ step r) r) q
 removes u step used None none adds does = (None, refl, calls_then adds (none None) (may_close_behind ([] ▷ step None) [] None) does)
-removes u step used (Some x) none (f, is, adds) (g, t, doing, does) =
+removes u step used (Some x) none (f, adds) (g, doing, does) =
     let same : g ≡ f = let now = adds.now in cc in
     (Some f, refl, calls_then adds (none (Some f)) (may_close_behind ([] ▷ step (Some f)) [] (Some f)) (rw same at does))

@@ -24,7 +24,7 @@ pub use Rattle.fx_plain.specs.declared.event.Action.{Action}
 pub use Rattle.fx_plain.specs.declared.event.Action.TheVariants.{Clear, Look, Put, Release, Take}
 pub use Rattle.fx_table.specs.Calls.{Adds, Cleared, Placed, Taken, Use, both_uses, new_file, no_use, one_look, one_number}
 pub use Rattle.fx_table.specs.Opening.{Opening, size_of}
-pub use Rattle.fx_table.specs.Pass.{IsFront, IsIdle, PassView, retired_of}
+pub use Rattle.fx_table.specs.Pass.{IsFront, IsIdle, PassView}
 pub use Rattle.fx_table.specs.declared.limits.TheConstants.{CHAIN_NUMBERS, MAX_CHAINS}
 pub use Rattle.fx_table.specs.declared.values.Retired.{Retired}
 pub use Rattle.std.proofs.Common.{All, Bool, Err, List, None, Ok, Option, Result, Some, [], add-one, ap, append_assoc, arith, drop, false}

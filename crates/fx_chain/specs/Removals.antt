@@ -1,11 +1,12 @@
 -- Files that a request removed or released.
-use Rattle.std.specs.Prelude.{◌≡◌, ℕ, [], Option, Some, None}
+use Rattle.std.specs.Prelude.{◌≡◌, [], Option, Some, None}
 use Rattle.fx_plain.specs.declared.event.File.{File}
 use Rattle.fx_plain.specs.declared.event.Action.TheVariants.{Release}
 use Rattle.fx_plain.specs.History.{◌▷◌}
 use Rattle.fx_table.specs.Opening.{Opening}
 use Rattle.fx_table.specs.Pass.{PassView, IsIdle, IsRetiredOf}
 use Rattle.fx_table.specs.declared.values.Doing.TheVariants.{Holding, Retiring}
+use Rattle.fx_table.specs.declared.values.Hold.{Hold}
 use Rattle.fx_table.specs.declared.values.Retired.{Retired}
 use Rattle.fx_chain.specs.Answers.{MayClose}
 use Rattle.fx_chain.specs.Performs.{PlayerView, ActsSo}
@@ -19,11 +20,11 @@ IsRemovedBy v (Some retired) = IsRetiredOf v retired
 abbrev pub IsRetirement : Opening → PlayerView → Option Retired → PlayerView → Type 0
 IsRetirement o p None q = ActsSo o p 0 0 1 (MayClose [] None) q
 IsRetirement o p (Some retired) q =
-    (f : File) × (takes : ℕ) × (p.pass.doing ≡ Retiring f takes)
+    (f : File) × (p.pass.doing ≡ Retiring f retired)
     × ActsSo o p 0 0 1 (MayClose [] (Some f)) q
 
 -- the file that the pass held was released, and closed if it was retired and this was its last hold
 abbrev pub IsRelease : Opening → PlayerView → PlayerView → Type 0
 IsRelease o p q =
-    (f : File) × (p.pass.doing ≡ Holding f)
+    (f : File) × (hold : Hold) × (p.pass.doing ≡ Holding f hold)
     × ActsSo o p 0 0 1 (MayClose ([] ▷ Release f) (Some f)) q

@@ -3,7 +3,6 @@ ghost use Rattle.std.specs.Prelude.{◌≡◌, ◌<◌, [], Option, is_some};
 ghost use Rattle.fx_plain.specs.declared.event.Action.TheVariants.{Put, Clear, Take};
 ghost use Rattle.fx_plain.specs.declared.event.File.{File};
 ghost use Rattle.fx_plain.specs.History.{◌▷◌};
-ghost use Rattle.fx_table.specs.Calls.{new_file};
 ghost use Rattle.fx_table.specs.Pass.{IsHoldOf};
 ghost use Rattle.fx_table.specs.Opening.{size_of};
 ghost use Rattle.fx_chain.specs.Answers.{MayClose};
@@ -101,8 +100,7 @@ pub(crate) fn put<T: FileTable, R: Wait>(
     requires ready { IsReady T.view (T.fits context.now.table.now) player.old 0 1 1 }
     requires slot { slot < size_of (T.opening context.now.table.now) }
     ensures kept { IsKept (T.fits context.now.table.now) player.old player.new }
-    ensures removed { let new = new_file (T.opening context.now.table.now) (T.view player.old.pass.now) file in
-        (removed : Option File)
+    ensures removed { (new : File) × (removed : Option File) × (new.identity ≡ file)
         × Does (T.opening context.now.table.now) T.view player.old 0 1 1
         (MayClose ([] ▷ Put slot new removed) removed) player.new }
 {

@@ -2,10 +2,10 @@
 use Rattle.fx_counted.proofs.Words.{◌≡◌, ℕ, ◌*◌, true, ◌<◌, ◌≤◌, inl, inr, sym, ap, ◌∙◌, arith, range_of, full_word_of, InRange, HasNode, ◌+◌, ⊎_elim}
 use Rattle.fx_counted.proofs.Words.{chain_numbers, slot_of, slot_place, node_place, opening_of, IsNumber, opening_of_table, Start, CountedTable}
 use Rattle.fx_counted.proofs.Words.{size_of, ◌-◌, ne_eqb, Option, Some, None, dite, ℕ_discrete, number_of, File, name_in, node_in, Names, named}
-use Rattle.fx_counted.proofs.Words.{named_suc, Bool, [], none, ◌▷◌, Closed, Adds, no_use, retiring, IsPassOfTable, Goes, Stepped, Removes, begun}
+use Rattle.fx_counted.proofs.Words.{named_suc, Bool, [], none, ◌▷◌, Closed, Adds, no_use, activity_of, retiring, IsPassOfTable, Goes, Stepped, Removes, begun}
 use Rattle.fx_counted.proofs.Words.{Outside, Change, Sat, Seat, View, Agrees, Action, CountedPass, view_of, pass_of, Between, IsIdle, step, Allows}
 use Rattle.fx_counted.proofs.Places.{few_numbers, inside, apart}
-use Rattle.fx_counted.proofs.Going.{adds_so, goes_around, its_doing}
+use Rattle.fx_counted.proofs.Going.{adds_so, goes_around, its_idle}
 use Rattle.fx_counted.proofs.SlotLaws.{IsRemoval, removes_keep}
 use Rattle.fx_counted.proofs.ControlSteps.{may_change}
 
@@ -65,11 +65,11 @@ module _ (act : ℕ → Option File → Action) (t : CountedTable) {p : CountedP
     table ∙ fits.table,
     slot_inside t inside place,
     removes_keep does _ slots seat.id i slot seat.me goes.one.0 (goes.start ∙ fits.seated.start, goes.one.1)
-        (goes.work ∙ its_doing fits idle) inside (may_change t.table.shared.key began range goes.change) place,
+        (goes.work ∙ its_idle fits idle) inside (may_change t.table.shared.key began range goes.change) place,
   )
 
   -- a removal between a begin and an end, if there are such
   pub removal_adds : (takes : ℕ) {file : Option File} {m m' m'' : Sat} {c c' : Change} → Goes p.seat.me [] no_use p.seat.me.0.work c 1 m
       → Stepped m ([] ▷ act (slot_of i) file) no_use (Between (retiring file takes)) c' m' → Goes m' [] no_use m'.0.work Outside 1 m''
-      → Adds (opening_of_table t) (view_of p) ([] ▷ act slot file) (retiring file takes) no_use (pass_of m''.0)
+      → Adds (opening_of_table t) (view_of p) ([] ▷ act slot file) (activity_of (retiring file takes)) no_use (pass_of m''.0)
   removal_adds takes began stepped ended = rw (← slot_at t place) (adds_so fits (goes_around began stepped ended))

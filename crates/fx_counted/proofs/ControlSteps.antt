@@ -5,7 +5,7 @@ use Rattle.fx_counted.proofs.Words.{Log, Start, View, Work, sum_by, ◌≢◌, z
 use Rattle.fx_counted.proofs.Words.{get_or-set_other, get_or-set_same, Option, IsSome, dite, some, none, some-injective, some-ne-none, ℕ_discrete}
 use Rattle.fx_counted.proofs.Words.{get_elem?, keeps, step, sum_by-cons, Closed, File, Full, no_use, event_of, sum_set, sum_at, sum_le_at, one_change}
 use Rattle.fx_counted.proofs.Words.{full_word_of, WorkAgrees, lengths, in_change, added, removed_by, changes_of, added_of, removed_of, full_in, shown}
-use Rattle.fx_counted.proofs.Words.{IsInside, Stepped, GoesOn, Answers, Outside, Same, Idle, Phase, Shared, BeginsKeep, EndsKeep, AnswersKeep}
+use Rattle.fx_counted.proofs.Words.{IsInside, Stepped, GoesOn, SaysFull, Outside, Same, Idle, Phase, Shared, BeginsKeep, EndsKeep, AnswersKeep}
 use Rattle.fx_counted.proofs.Words.{Between, length-set, Bool, true, false, inl, inr, end_amount_of, InRange, HasToTell, HasPass, MayChange, Sat}
 use Rattle.fx_counted.proofs.Words.{More, Less, ℤ, begun, difference, Allows}
 use Rattle.fx_counted.proofs.Steps.{stays_same, owner_same, Grows, grows_none, IsHistory, Turn, word_at, now, logged, its_log, its_work, step_kept}
@@ -223,7 +223,7 @@ ends_keep k slots id i amount m x has in_now amount_is place = by_turn slots (λ
 
 pub answers_keep : AnswersKeep
 answers_keep k slots id i m x has same place = by_turn slots (λ _. Unit {0}) (λ _. control_place)
-    (λ word. (word + (2 ^ 64 - one_change)) % 2 ^ 64) (λ i. Answers (step slots i one_change 0 none) m) has tt place
+    (λ word. (word + (2 ^ 64 - one_change)) % 2 ^ 64) (λ i. SaysFull (step slots i one_change 0 none) m) has tt place
     (λ st r here _ fits. let turn = turn_of m x has.1 id st r here in
     let counts = λ (h' : List Event). end_counts turn fits h' one_change (ap in_change same)
     (let a = ap added same in let b = ap removed_by same in omega arith) in

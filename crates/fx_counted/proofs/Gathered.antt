@@ -1,6 +1,6 @@
 -- Passes as they are dealt out, and all of them in one seat again: what the one history says of each.
 use Rattle.fx_counted.proofs.Words.{◌≡◌, ◌*◌, ℕ, ◌+◌, ◌≤◌, List, [], ◌∷◌, sym, ◌∙◌, ap, arith, Option, TableId, Seat, Closed, without_first}
-use Rattle.fx_counted.proofs.Words.{first_alone, dealt, Sat, new_log, pass_of, view_of, IsPassOf, is_idle, CountedPass, Log, Start, View, new_pass}
+use Rattle.fx_counted.proofs.Words.{first_alone, IsIdle, dealt, Sat, new_log, pass_of, view_of, IsPassOf, is_idle, CountedPass, Log, Start, View, new_pass}
 use Rattle.fx_counted.proofs.Words.{IsNewPass, take, drop, ◌≢◌, eqb, some, get_elem?, Contains, sum_by, Contents, state_of, IsSettled, ClosesTable}
 use Rattle.fx_counted.proofs.Words.{times_drawn, HasSameFiles, PassView, contains_none, contains_head, contains_map, contains_mapped}
 use Rattle.fx_counted.proofs.Words.{contains_reverse, contains_reversed, sum_map, sum_of, found_by, found_sum, Agrees, LogAgrees, logs_in, Shared}
@@ -13,7 +13,7 @@ use Rattle.fx_table.proofs.Gathering.{logs_are as each_log, sum_gathered, each_s
 use Rattle.fx_table.proofs.Settling.{IsWhole, closes_table, settles as settles_whole}
 use Rattle.fx_counted.proofs.Ending.{settled_end, whole_here, sum_here, drawn, told}
 use Rattle.fx_counted.specs.Settling.{Observes}
-use Rattle.fx_counted.proofs.Going.{its_doing}
+use Rattle.fx_counted.proofs.Going.{its_idle}
 
 -- The passes that are dealt out.
 pub rest_is_dealt : {k : Start} {p : ℕ} → p ≤ k.passes → without_first (dealt k p) ≡ dealt k (p + 1)
@@ -122,10 +122,10 @@ may_observe slots id i {me} start s r wide at small = (
 )
 
 -- the history of a table with one pass, which is idle, without closing the table
-module _ (id : TableId) (k : Start) (p : CountedPass) (fits : IsPassOf id k p) (idle : (view_of p).doing ≡ Idle) (alone : k.passes ≡ 1)
+module _ (id : TableId) (k : Start) (p : CountedPass) (fits : IsPassOf id k p) (idle : IsIdle (view_of p)) (alone : k.passes ≡ 1)
     {s : Shared} (r : Agrees k s) (seat : ℕ) (at : get_elem? s.views seat ≡ some p.seat.me.0) where
   work : p.seat.me.0.work ≡ Between Idle
-  work = its_doing fits idle
+  work = its_idle fits idle
 
   only : (q : CountedPass) → Contains (p ∷ []) q → IsPassOf id k q
   only q h = subst (IsPassOf id k) (sym (contains_only p q h)) fits

@@ -2,9 +2,14 @@
 use Rattle.fx_counted.proofs.Words.{◌≡◌, ◌≤◌, ℕ, ◌+◌, ◌*◌, List, [], ◌∷◌, inl, sym, ap, ◌∙◌, subst, arith, Some, TableId, ◌▷◌, Action, Close, Use}
 use Rattle.fx_counted.proofs.Words.{no_use, Adds, IsFront, File, Goes, HasPlace, HasPass, place_of, Sat, opening_of, pass_of, doing_in, chain_in}
 use Rattle.fx_counted.proofs.Words.{first_log, view_of, is_idle, IsPassOf, IsInside, Stepped, TakesOut, LetsGo, CountedPass, Change, Outside, Log}
-use Rattle.fx_counted.proofs.Words.{Start, Work, Idle, Emptying, ◌▷▷◌, both_uses, IsAtWork, IsBetweenCalls, Between, steps_of}
+use Rattle.fx_counted.proofs.Words.{Start, Work, Idle, Holding, Retiring, Emptying, refl, activity_of, ◌▷▷◌, both_uses, IsAtWork, IsBetweenCalls, Between, steps_of}
 use Rattle.fx_table.proofs.Calls.{adds_then}
-use Rattle.fx_table.specs.declared.values.Doing.{Doing}
+use Rattle.fx_table.proofs.Tasks.{idle_task, holding_task, retiring_task}
+use Rattle.fx_table.specs.Pass.{IsIdle, hold_of, retired_of}
+use Rattle.fx_table.specs.declared.values.Doing.TheVariants as doing
+use Rattle.fx_table.specs.declared.values.Hold.{Hold}
+use Rattle.fx_table.specs.declared.values.Retired.{Retired}
+use Rattle.fx_table.specs.declared.values.Task.{Task}
 
 pub goes_one : {m m' : Sat} {xs : List Action} {a : Use} {w : Work} {c : Change} → Stepped m xs a w c m' → Goes m xs a w c 1 m'
 goes_one {m} {m'} s = let few : steps_of m'.0 ≤ steps_of m.0 + 1 = (let e = s.steps in omega arith) in assumption few
@@ -85,14 +90,30 @@ module _ {id : TableId} {k : Start} {p : CountedPass} (q : CountedPass) (fits : 
   }
 
 -- the work of a pass between two calls
-work_between : (w : Work) {d : Doing} → IsBetweenCalls w → doing_in w ≡ d → w ≡ Between d
-work_between (Between _) rests is = ap (λ (z : Doing). Between z) is
-work_between _ rests is = absurd rests
+work_between : (w : Work) → IsBetweenCalls w → (t : Task) × (w ≡ Between t)
+work_between (Between t) rests = (t, refl)
+work_between _ rests = absurd rests
 
--- the pass's activity, as callers see it
-pub its_doing : {id : TableId} {k : Start} {p : CountedPass} (fits : IsPassOf id k p) {d : Doing} → (view_of p).doing ≡ d
-    → p.seat.me.0.work ≡ Between d
-its_doing {p} fits is = work_between p.seat.me.0.work fits.seated.work is
+-- the pass's work, by what callers see
+module _ {id : TableId} {k : Start} {p : CountedPass} (fits : IsPassOf id k p) where
+  its_task : (t : Task) × (p.seat.me.0.work ≡ Between t)
+  its_task = work_between p.seat.me.0.work fits.seated.work
+
+  shows : doing_in p.seat.me.0.work ≡ activity_of its_task.0
+  shows = ap doing_in its_task.1
+
+  pub its_idle : IsIdle (view_of p) → p.seat.me.0.work ≡ Between Idle
+  its_idle is = its_task.1 ∙ ap (λ (t : Task). Between t) (idle_task its_task.0 (sym shows ∙ is))
+
+  pub its_hold : {f : File} {hold : Hold} → (view_of p).doing ≡ doing.Holding f hold
+      → (p.seat.me.0.work ≡ Between (Holding f)) × (hold ≡ hold_of f)
+  its_hold {f} {hold} is = let t = holding_task its_task.0 f hold (sym shows ∙ is) in
+      (its_task.1 ∙ ap (λ (t : Task). Between t) t.0, t.1)
+
+  pub its_removal : {f : File} {retired : Retired} → (view_of p).doing ≡ doing.Retiring f retired
+      → (p.seat.me.0.work ≡ Between (Retiring f retired.takes)) × (retired ≡ retired_of f retired.takes)
+  its_removal {f} {retired} is = let t = retiring_task its_task.0 f retired (sym shows ∙ is) in
+      (its_task.1 ∙ ap (λ (t : Task). Between t) t.0, t.1)
 
 -- the pass of a seat
 pub its_pass : {id : TableId} {k : Start} {p : CountedPass} (fits : IsPassOf id k p) → HasPass k p.seat.me fits.log

@@ -28,7 +28,7 @@ pub use Rattle.fx_counted.specs.Phases.{Phase, seated, file_in, placed, unborn, 
 pub use Rattle.fx_counted.specs.Searching.{StillPlaces, HasAllocated, Tries, IsPlacing, HasFoundAllFull, Proceeds}
 pub use Rattle.fx_counted.specs.Shells.{file_in_place, AreBack, IsShellOf}
 pub use Rattle.fx_counted.specs.Tables.{view_of, is_idle, IsPassOf, opening_of_table, IsBetweenCalls, IsPassOfTable, HasOnePass}
-pub use Rattle.fx_counted.specs.Tells.{Stepped, IsInside, Exchanges, GoesOn, turned, TakesOut, LetsGo, Answers, Births, Rests, DrawTells, chain_given}
+pub use Rattle.fx_counted.specs.Tells.{Stepped, IsInside, Exchanges, GoesOn, turned, TakesOut, LetsGo, SaysFull, Births, Rests, DrawTells, chain_given}
 pub use Rattle.fx_counted.specs.Tells.{changed, Looks, holds_now, Releases, Retires, Installs, Removes}
 pub use Rattle.fx_counted.specs.declared.pass.CountedPass.{CountedPass}
 pub use Rattle.fx_counted.specs.declared.table.CountedTable.{CountedTable}
@@ -39,7 +39,7 @@ pub use Rattle.fx_counted.specs.declared.view.Start.{Start}
 pub use Rattle.fx_counted.specs.declared.view.View.{View}
 pub use Rattle.fx_counted.specs.declared.view.Work.{Work}
 pub use Rattle.fx_counted.specs.declared.view.Work.TheVariants.{Between, Placing, Emptying}
-pub use Rattle.fx_table.specs.declared.values.Doing.TheVariants.{Idle, Holding, Retiring}
+pub use Rattle.fx_table.specs.declared.values.Task.TheVariants.{Idle, Holding, Retiring}
 pub use Rattle.fx_plain.specs.Contents.{Contents, state_of, file_at, IsPrepared}
 pub use Rattle.fx_plain.specs.History.{◌▷◌, held_by, held_after, part_of_pass, IsSeenBy, action_of, ◌▷▷◌, ReleasesItsOwn, IsLegal}
 pub use Rattle.fx_plain.specs.State.{State, IsSettled, file_numbered, files_in_order, identities_of}
@@ -52,7 +52,8 @@ pub use Rattle.fx_plain.specs.declared.event.File.{File}
 pub use Rattle.fx_table.proofs.Members.{contains_none, contains_head, contains_map, contains_mapped, contains_only, contains_reverse}
 pub use Rattle.fx_table.proofs.Members.{contains_reversed, each_all, stands_at}
 pub use Rattle.fx_table.proofs.SumLemmas.{found_by, found_sum, sum_at, sum_two, sum_set, sum_le_at, sum_map, sum_of, sum_zero, sum_zero_at}
-pub use Rattle.fx_table.specs.Calls.{Use, no_use, one_number, Adds, Draws, both_uses, one_look, retiring}
+pub use Rattle.fx_table.specs.Calls.{Use, no_use, one_number, Adds, Draws, both_uses, one_look}
+pub use Rattle.fx_table.specs.Tasks.{activity_of, retiring}
 pub use Rattle.fx_table.specs.Closing.{ClosesTable, times_drawn}
 pub use Rattle.fx_table.specs.Numbers.{numbers_for, numbers_up_to, once}
 pub use Rattle.fx_table.specs.Opening.{range_of, start_of, IsGivenBack, HasSameFiles, size_of}

@@ -33,7 +33,7 @@ use Rattle.fx_counted.specs.declared.view.Start.{Start}
 use Rattle.fx_counted.specs.declared.view.View.{View}
 use Rattle.fx_counted.specs.declared.view.Work.{Work}
 use Rattle.fx_counted.specs.declared.view.Work.TheVariants.{Between, Placing, Emptying}
-use Rattle.fx_table.specs.declared.values.Doing.TheVariants.{Idle, Holding, Retiring}
+use Rattle.fx_table.specs.declared.values.Task.TheVariants.{Idle, Holding, Retiring}
 
 -- the slot's word names the file at the slot, or no file
 abbrev pub Names : ℕ → Option File → Type 0

@@ -10,7 +10,7 @@ use Rattle.fx_counted.specs.Passes.{Shared, slots_of, looks_of}
 use Rattle.fx_counted.specs.declared.view.Start.{Start}
 use Rattle.fx_counted.specs.declared.view.View.{View}
 use Rattle.fx_counted.specs.declared.view.Work.TheVariants.{Between}
-use Rattle.fx_table.specs.declared.values.Doing.TheVariants.{Retiring}
+use Rattle.fx_table.specs.declared.values.Task.TheVariants.{Retiring}
 
 -- the word of a slot
 abbrev pub slot_word_in : Shared → ℕ → ℕ

@@ -8,7 +8,7 @@ use Rattle.fx_counted.specs.declared.view.Log.{Log}
 use Rattle.fx_counted.specs.declared.view.Start.{Start}
 use Rattle.fx_counted.specs.declared.view.View.{View}
 use Rattle.fx_counted.specs.declared.view.Work.TheVariants.{Between}
-use Rattle.fx_table.specs.declared.values.Doing.TheVariants.{Idle}
+use Rattle.fx_table.specs.declared.values.Task.TheVariants.{Idle}
 
 -- `n` new passes, numbered from `p`
 abbrev pub new_logs : ℕ → ℕ → List Log

@@ -16,14 +16,14 @@ use Rattle.fx_counted.specs.Cuts.{without_first, first_alone, together, spent}
 use Rattle.fx_counted.specs.Layout.{control_place, draw_place, slot_place, node_place, home_place}
 use Rattle.fx_counted.specs.Passes.{Sat, opening_of, slots_of, next_in}
 use Rattle.fx_counted.specs.Tells.{Births, Looks, Installs, Removes, Retires, Releases, Rests}
-use Rattle.fx_counted.specs.Tells.{GoesOn, Answers, Exchanges, DrawTells}
+use Rattle.fx_counted.specs.Tells.{GoesOn, SaysFull, Exchanges, DrawTells}
 use Rattle.fx_counted.specs.declared.view.Change.{Change}
 use Rattle.fx_counted.specs.declared.view.Change.TheVariants.{Outside, Same}
 use Rattle.fx_counted.specs.declared.view.Log.{Log}
 use Rattle.fx_counted.specs.declared.view.Start.{Start}
 use Rattle.fx_counted.specs.declared.view.View.{View}
 use Rattle.fx_counted.specs.declared.view.Work.TheVariants.{Between, Placing, Emptying}
-use Rattle.fx_table.specs.declared.values.Doing.TheVariants.{Idle, Holding, Retiring}
+use Rattle.fx_table.specs.declared.values.Task.TheVariants.{Idle, Holding, Retiring}
 
 -- the seat has one pass of the table
 abbrev pub HasPass : Start → Sat → Log → Type 0
@@ -141,7 +141,7 @@ abbrev pub AnswersKeep : Type 0
 AnswersKeep = (k : Start) (slots id i : ℕ) (m : Sat) (x : Log) → HasPass k m x
     → m.0.change ≡ Same → i ≡ control_place
     → Allows (Agrees k) slots id m i (λ word. (word + (2 ^ 64 - one_change)) % 2 ^ 64)
-    (Answers (step slots i one_change 0 none) m)
+    (SaysFull (step slots i one_change 0 none) m)
 
 -- a pass in a change loads a word
 abbrev pub LoadsKeep : Type 0

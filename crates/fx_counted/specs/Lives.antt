@@ -18,7 +18,7 @@ use Rattle.fx_counted.specs.declared.view.Log.{Log}
 use Rattle.fx_counted.specs.declared.view.Start.{Start}
 use Rattle.fx_counted.specs.declared.view.View.{View}
 use Rattle.fx_counted.specs.declared.view.Work.TheVariants.{Between}
-use Rattle.fx_table.specs.declared.values.Doing.TheVariants.{Idle}
+use Rattle.fx_table.specs.declared.values.Task.TheVariants.{Idle}
 
 -- the view of a seat that has the new passes from p to the last
 abbrev pub dealt : Start → ℕ → View

@@ -6,7 +6,7 @@ use Rattle.fx_counted.specs.Passes.{Sat, IsNumber, next_in}
 use Rattle.fx_counted.specs.declared.view.Log.{Log}
 use Rattle.fx_counted.specs.declared.view.Start.{Start}
 use Rattle.fx_counted.specs.declared.view.Work.TheVariants.{Between, Placing, Emptying}
-use Rattle.fx_table.specs.declared.values.Doing.TheVariants.{Idle}
+use Rattle.fx_table.specs.declared.values.Task.TheVariants.{Idle}
 
 -- the seat's pass has the place of the number, to install its file or because its file is closed;
 -- the place has this content

@@ -11,14 +11,16 @@ use Rattle.fx_table.specs.Opening.{Opening, state_at, size_of}
 use Rattle.fx_table.specs.Numbers.{numbers_up_to}
 use Rattle.fx_table.specs.Pass.{PassView}
 use Rattle.fx_table.specs.declared.limits.TheConstants.{PASS_LOOKS}
+use Rattle.fx_table.specs.Tasks.{activity_of}
 use Rattle.fx_table.specs.declared.values.Doing.{Doing}
+use Rattle.fx_table.specs.declared.values.Doing.TheVariants as doing
 use Rattle.fx_counted.specs.Layout.{HasNode}
 use Rattle.fx_counted.specs.declared.view.Log.{Log}
 use Rattle.fx_counted.specs.declared.view.Start.{Start}
 use Rattle.fx_counted.specs.declared.view.View.{View}
 use Rattle.fx_counted.specs.declared.view.Work.{Work}
 use Rattle.fx_counted.specs.declared.view.Work.TheVariants.{Between, Placing}
-use Rattle.fx_table.specs.declared.values.Doing.TheVariants.{Idle, Holding}
+use Rattle.fx_table.specs.declared.values.Task.TheVariants.{Holding}
 
 -- the table as steps see it: a place has an open file or none
 abbrev pub Shared : Type 0
@@ -35,6 +37,7 @@ opening_of k = record {
   chains = k.chains;
   passes = k.passes;
   numbers = k.numbers;
+  lasts = false;
 }
 
 -- the number of slots
@@ -70,10 +73,10 @@ end_in k x = numbers_up_to k.numbers (chain_in x)
 abbrev pub next_in : Start → Log → ℕ
 next_in k x = end_in k x - x.numbers_left
 
--- the activity of a pass between two calls
+-- the activity of a pass between two calls, as the contract of all shared tables shows it
 abbrev pub doing_in : Work → Doing
-doing_in (Between doing) = doing
-doing_in _ = Idle
+doing_in (Between task) = activity_of task
+doing_in _ = doing.Idle
 
 -- a pass, as the contract of all shared tables shows it
 abbrev pub shown : Log → Work → PassView

@@ -17,7 +17,7 @@ use Rattle.fx_counted.specs.declared.view.Change.TheVariants.{Outside, Same, Mor
 use Rattle.fx_counted.specs.declared.view.Start.{Start}
 use Rattle.fx_counted.specs.declared.view.Work.{Work}
 use Rattle.fx_counted.specs.declared.view.Work.TheVariants.{Between, Placing}
-use Rattle.fx_table.specs.declared.values.Doing.TheVariants.{Idle}
+use Rattle.fx_table.specs.declared.values.Task.TheVariants.{Idle}
 
 -- the seat's pass has the place of the number, with the file that it is about to install
 pub record IsPlacing (k : Start) (number : ℕ) (file : Identity) (m : Sat) : Type 0 where

@@ -12,7 +12,7 @@ use Rattle.fx_counted.specs.declared.view.Start.{Start}
 use Rattle.fx_counted.specs.declared.view.View.{View}
 use Rattle.fx_counted.specs.declared.view.Work.{Work}
 use Rattle.fx_counted.specs.declared.view.Work.TheVariants.{Between}
-use Rattle.fx_table.specs.declared.values.Doing.TheVariants.{Idle}
+use Rattle.fx_table.specs.declared.values.Task.TheVariants.{Idle}
 use Rattle.fx_counted.specs.declared.pass.CountedPass.{CountedPass}
 use Rattle.fx_counted.specs.declared.table.CountedTable.{CountedTable}
 
@@ -26,7 +26,7 @@ steps_taken p = steps_of p.seat.me.0
 
 -- between two calls a pass has no number's place
 abbrev pub IsBetweenCalls : Work → Type 0
-IsBetweenCalls (Between doing) = Unit {0}
+IsBetweenCalls (Between task) = Unit {0}
 IsBetweenCalls _ = ⊥
 
 -- the test that the pass is idle

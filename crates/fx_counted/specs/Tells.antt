@@ -9,7 +9,8 @@ use Rattle.fx_plain.specs.declared.event.File.{File}
 use Rattle.fx_plain.specs.declared.event.Action.{Action}
 use Rattle.fx_plain.specs.declared.event.Action.TheVariants.{Look, Release, Put, Allocate, Full}
 use Rattle.fx_plain.specs.declared.event.Action.TheVariants.{Close}
-use Rattle.fx_table.specs.Calls.{Use, no_use, one_look, one_number, Adds, Draws, retiring}
+use Rattle.fx_table.specs.Calls.{Use, no_use, one_look, one_number, Adds, Draws}
+use Rattle.fx_table.specs.Tasks.{retiring}
 use Rattle.fx_table.specs.Opening.{range_of}
 use Rattle.fx_table.specs.Pass.{next_number}
 use Rattle.fx_words.specs.Words.{takes_in, full_word_of}
@@ -24,7 +25,7 @@ use Rattle.fx_counted.specs.declared.view.Log.{Log}
 use Rattle.fx_counted.specs.declared.view.Start.{Start}
 use Rattle.fx_counted.specs.declared.view.Work.{Work}
 use Rattle.fx_counted.specs.declared.view.Work.TheVariants.{Between, Placing, Emptying}
-use Rattle.fx_table.specs.declared.values.Doing.TheVariants.{Idle, Holding, Retiring}
+use Rattle.fx_table.specs.declared.values.Task.TheVariants.{Idle, Holding, Retiring}
 
 -- a step of a table whose places have an open file or none
 abbrev pub At : Type 0
@@ -138,7 +139,7 @@ pub record GoesOn (change : Change) (st : At) (m : Sat) (found : ℕ) (m' : Sat)
   pub carried : m'.1 ≡ m.1
 
 -- Answer: if the word says so, every slot of the range was full
-pub record Answers (st : At) (m : Sat) (found : ℕ) (m' : Sat) : Type 0 where
+pub record SaysFull (st : At) (m : Sat) (found : ℕ) (m' : Sat) : Type 0 where
   pub full : found ≡ full_word_of (range_of (opening_of m.0.start)).1
       → Stepped m ([] ▷ Full) no_use m.0.work Outside m'
   pub not_full : found ≢ full_word_of (range_of (opening_of m.0.start)).1

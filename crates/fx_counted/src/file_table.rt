@@ -1,4 +1,4 @@
-//! The implementation of `FileTable` for the lock-free table. Of its calls only `put_any` may wait.
+//! The implementations of `SharedTable` and `FileTable` for the lock-free table. Of its calls only `put_any` may wait.
 ghost use Rattle.std.specs.Prelude.{◌≡◌, length, map, All};
 ghost use Rattle.fx_table.specs.Closing.{ClosesTable};
 ghost use Rattle.fx_table.specs.Pass.{IsIdle};
@@ -8,11 +8,11 @@ use crate::pass::CountedPass;
 use crate::table::CountedTable;
 use fx_base::{NoMemory, OpenFile};
 use fx_plain::PlainTable;
-use fx_table::{Empty, FileTable, Hold, LookFault, Retired};
+use fx_table::{Empty, FileTable, Hold, LookFault, LookUp, Retired, SharedTable};
 use std::alloc::Global;
 use std::sync::Wait;
 
-impl FileTable for CountedTable {
+impl SharedTable for CountedTable {
     ghost use Rattle.fx_counted.specs.Tables.{view_of, opening_of_table, IsPassOfTable};
 
     type Pass = CountedPass;
@@ -22,25 +22,6 @@ impl FileTable for CountedTable {
     ghost fits = { IsPassOfTable };
 
     ghost view = { view_of };
-
-    fn open(
-        alloc: Global,
-        plain: PlainTable,
-        chains: u32,
-        passes: u32,
-    ) -> Result<(CountedTable, Vec<CountedPass>), (PlainTable, NoMemory)> {
-        CountedTable::open(alloc, plain, chains, passes)
-    }
-
-    fn open_for(
-        alloc: Global,
-        plain: PlainTable,
-        chains: u32,
-        most: u32,
-        passes: u32,
-    ) -> Result<(CountedTable, Vec<CountedPass>), (PlainTable, NoMemory)> {
-        CountedTable::open_for(alloc, plain, chains, most, passes)
-    }
 
     fn close(self, passes: Vec<CountedPass>) -> PlainTable
         requires all { length passes.items ≡ (opening_of_table self).passes }
@@ -74,16 +55,12 @@ impl FileTable for CountedTable {
         self.numbers_left(pass)
     }
 
-    fn draw(&self, pass: &mut CountedPass) -> Option<u32> {
-        self.draw(pass)
-    }
-
-    fn settle(&self, pass: &mut CountedPass) {
-        self.settle(pass)
-    }
-
-    fn look(&self, _rt: &impl Wait, pass: &mut CountedPass, slot: u32) -> Result<Hold, LookFault> {
-        self.look(pass, slot)
+    // A look-up returns no file but the one that it found.
+    fn look_up(&self, _rt: &impl Wait, pass: &mut CountedPass, slot: u32) -> LookUp {
+        LookUp {
+            found: self.look(pass, slot),
+            freed: None,
+        }
     }
 
     fn release(&self, _rt: &impl Wait, pass: &mut CountedPass, hold: Hold) -> Option<OpenFile> {
@@ -127,4 +104,41 @@ impl FileTable for CountedTable {
     }
 
     ghost fronts = { λ t p fits. fits.seated.front };
+}
+
+impl FileTable for CountedTable {
+    ghost use Rattle.std.specs.Prelude.{refl};
+
+    fn open(
+        alloc: Global,
+        plain: PlainTable,
+        chains: u32,
+        passes: u32,
+    ) -> Result<(CountedTable, Vec<CountedPass>), (PlainTable, NoMemory)> {
+        CountedTable::open(alloc, plain, chains, passes)
+    }
+
+    fn open_for(
+        alloc: Global,
+        plain: PlainTable,
+        chains: u32,
+        most: u32,
+        passes: u32,
+    ) -> Result<(CountedTable, Vec<CountedPass>), (PlainTable, NoMemory)> {
+        CountedTable::open_for(alloc, plain, chains, most, passes)
+    }
+
+    fn draw(&self, pass: &mut CountedPass) -> Option<u32> {
+        self.draw(pass)
+    }
+
+    fn settle(&self, pass: &mut CountedPass) {
+        self.settle(pass)
+    }
+
+    fn look(&self, _rt: &impl Wait, pass: &mut CountedPass, slot: u32) -> Result<Hold, LookFault> {
+        self.look(pass, slot)
+    }
+
+    ghost ends = { λ t. refl };
 }

@@ -97,9 +97,9 @@ impl Play<Option<OpenFile>, View> for Rest {
 pub struct Answer;
 
 impl Play<Option<OpenFile>, View> for Answer {
-    ghost use Rattle.fx_counted.specs.Tells.{Answers};
+    ghost use Rattle.fx_counted.specs.Tells.{SaysFull};
 
-    ghost then = { Answers };
+    ghost then = { SaysFull };
 }
 
 /// The exchange: the file that the pass places goes to a slot if that is still empty.

@@ -5,7 +5,7 @@ ghost use Rattle.fx_table.specs.Calls.{no_use};
 ghost use Rattle.fx_counted.specs.Moves.{HasPlace, MayPlace};
 ghost use Rattle.fx_counted.specs.Tells.{Stepped};
 ghost use Rattle.fx_counted.specs.declared.view.Work.TheVariants.{Between, Placing};
-ghost use Rattle.fx_table.specs.declared.values.Doing.TheVariants.{Idle};
+ghost use Rattle.fx_table.specs.declared.values.Task.TheVariants.{Idle};
 
 use crate::kinds::{Birth, Rest};
 use crate::layout::{home_place, node_place};

@@ -1,6 +1,6 @@
 //! The values that contracts see of seats and passes.
 use fx_plain::{Event, PlainTable};
-use fx_table::Doing;
+use fx_table::Task;
 use std::collections::LinkedList;
 use std::snapshot::Snapshot;
 
@@ -38,8 +38,8 @@ pub struct Log {
 
 /// The activity of a seat's pass between two steps, as contracts see it. No code creates a value of it.
 pub enum Work {
-    /// The activity of a pass of any shared table.
-    Between(Doing),
+    /// The activity of a pass between two calls.
+    Between(Task),
     /// The pass has the place of a number, whose file it is about to install.
     Placing(u32),
     /// The pass has the place of a number, whose file is closed.

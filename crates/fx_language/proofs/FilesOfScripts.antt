@@ -21,7 +21,7 @@ use Rattle.fx_language.specs.declared.limits.TheConstants.{LONGEST_SCRIPT, LONGE
 use Rattle.fx_language.specs.Line.{Line, FileLine, line_of, ◌>>=◌}
 use Rattle.fx_language.specs.Lines.{lines, words, is_printable, is_skipped}
 use Rattle.fx_language.specs.Script.{AreFiles, LineFault, Meaning, Progress, IsScript, after_file, after_line, after_text, after_texts, at_end}
-use Rattle.fx_language.specs.Script.{is_late, line_fault_of, nothing, on_line, reading_of, unless, with_file}
+use Rattle.fx_language.specs.Script.{is_late, line_fault_of, nothing, on_line, reading_of, unless, with_named_file}
 
 -- the files of lines that are read are those of a script
 abbrev Keeps : Result Progress ScriptFault → Type 0
@@ -38,7 +38,7 @@ module _ (p : Progress) (are : AreFiles p.catalogue) where
     bytes = All-push (λ (file : FileEntry). IsBytes file.bytes) p.catalogue (record { name = name; bytes = bytes }) are.bytes fits;
   }
 
-  file_keeps : (name bytes : List ℕ) → IsBytes bytes → Keeps (with_file p name bytes)
+  file_keeps : (name bytes : List ℕ) → IsBytes bytes → Keeps (with_named_file p name bytes)
   file_keeps name bytes fits =
       let with : Progress = record p { catalogue = p.catalogue ++ record { name = name; bytes = bytes } ∷ [] } in
       let Kept : Option AddFault → Type 0 = λ x. Keeps (unless (option_and_then line_fault_of x) with) in
@@ -51,13 +51,13 @@ module _ (p : Progress) (are : AreFiles p.catalogue) where
       (ltb-false LONGEST_ENTRY (length bytes) small) fits)))))
 
   decoded_keeps : (name hex : List ℕ) (r : Result (List ℕ) FromHexError) → decode_of hex ≡ r
-      → Keeps (ok_or (result_ok r) BadHex >>= with_file p name)
+      → Keeps (ok_or (result_ok r) BadHex >>= with_named_file p name)
   decoded_keeps name hex (Ok bytes) is = let (even, digits, long, fits) = decode_of-ok hex bytes is in file_keeps name bytes fits
   decoded_keeps name hex (Err e) is = tt
 
   hex_keeps : (name hex : List ℕ) → Keeps (after_file p name hex)
   hex_keeps name hex =
-      let Kept : Option (List ℕ) → Type 0 = λ x. Keeps (ok_or x BadHex >>= with_file p name) in
+      let Kept : Option (List ℕ) → Type 0 = λ x. Keeps (ok_or x BadHex >>= with_named_file p name) in
       cond_both (bytes_eq hex (codes "-")) _ _ Kept (λ _. file_keeps name [] (λ i. omega arith))
       (λ _. cond_both (length hex == 0) _ _ Kept (λ _. tt) (λ _. decoded_keeps name hex (decode_of hex) refl))
 

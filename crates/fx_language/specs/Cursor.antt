@@ -10,12 +10,13 @@ TakesWord old (Ok word) new = old ≡ word.now ∷ new
 TakesWord old (Err fault) new = (old ≡ []) × (fault ≡ WordCount)
 
 -- success if there is no word, otherwise a fault
-abbrev pub IsEnd : {A : Type 0} → List (List ℕ) → Result A ScriptFault → Type 0
-IsEnd old (Ok _) = old ≡ []
-IsEnd old (Err fault) =
+abbrev pub EndsWords : {A : Type 0} → List (List ℕ) → Result A ScriptFault → Type 0
+EndsWords old (Ok _) = old ≡ []
+EndsWords old (Err fault) =
     (word : List ℕ) × (others : List (List ℕ)) × (old ≡ word ∷ others) × (fault ≡ WordCount)
 
 -- the result is the expected one; `view` is what contracts see of the code's value
-abbrev pub Gives : {A B : Type 0} → (A → B) → Result A ScriptFault → Result B ScriptFault → Type 0
-Gives view (Ok x) expected = expected ≡ Ok (view x)
-Gives view (Err fault) expected = expected ≡ Err fault
+abbrev pub GivesExpected : {A B : Type 0} → (A → B) → Result A ScriptFault → Result B ScriptFault
+    → Type 0
+GivesExpected view (Ok x) expected = expected ≡ Ok (view x)
+GivesExpected view (Err fault) expected = expected ≡ Err fault

@@ -13,7 +13,7 @@ use Rattle.fx_language.specs.declared.fault.ScriptFault.TheVariants.{WordCount, 
 use Rattle.fx_language.specs.declared.fault.ScriptFault.TheVariants.{BadNumber, BadEntry, BadTag}
 use Rattle.fx_language.specs.Instruction.{Instruction, MakesSparse, RegistersList, Unregisters}
 use Rattle.fx_language.specs.Instruction.{SetsRange, UpdatesRing}
-use Rattle.fx_language.specs.Words.{number_of, list_of, tag_list_of}
+use Rattle.fx_language.specs.Words.{decimal_of, list_of, tag_list_of}
 
 pub data Line : Type 0 where
   -- the name, and the word for the bytes
@@ -31,7 +31,7 @@ Ok x >>= f = f x
 Err fault >>= f = Err fault
 
 abbrev pub number_in : List ℕ → Result ℕ ScriptFault
-number_in word = ok_or (number_of word) BadNumber
+number_in word = ok_or (decimal_of word) BadNumber
 
 abbrev pub list_in : List ℕ → Result (List ℤ) ScriptFault
 list_in word = ok_or (list_of word) BadEntry
@@ -41,8 +41,8 @@ abbrev pub tags_in : Option (List ℕ) → Result (Option (List ℕ)) ScriptFaul
 tags_in None = Ok None
 tags_in (Some word) = ok_or (option_map Some (tag_list_of word)) BadTag
 
-abbrev pub name_in : List ℕ → Result (List ℕ) ScriptFault
-name_in word = if is_name word then Ok word else Err BadName
+abbrev pub file_name_in : List ℕ → Result (List ℕ) ScriptFault
+file_name_in word = if is_name word then Ok word else Err BadName
 
 -- the word after the required ones, if there is one
 abbrev pub last_of : List (List ℕ) → Result (Option (List ℕ)) ScriptFault
@@ -94,12 +94,12 @@ abbrev pub unregister_of : List (List ℕ) → Result Line ScriptFault
 unregister_of [] = Ok (CommandLine Unregisters)
 unregister_of words = Err WordCount
 
-abbrev pub range_of : List (List ℕ) → Result Line ScriptFault
-range_of (off ∷ len ∷ []) = do
+abbrev pub range_line_of : List (List ℕ) → Result Line ScriptFault
+range_line_of (off ∷ len ∷ []) = do
   off ← number_in off
   len ← number_in len
   Ok (CommandLine (SetsRange off len))
-range_of words = Err WordCount
+range_line_of words = Err WordCount
 
 abbrev pub regupdate_of : List (List ℕ) → Result Line ScriptFault
 regupdate_of (off ∷ list ∷ others) = do
@@ -113,7 +113,7 @@ regupdate_of words = Err WordCount
 abbrev pub open_at : List ℕ → List (List ℕ) → Result Line ScriptFault
 open_at name (slot ∷ others) = do
   last ← last_of others
-  name ← name_in name
+  name ← file_name_in name
   slot ← number_in slot
   link ← link_in last
   Ok (request_line link (Opens name (Slot slot)))
@@ -122,7 +122,7 @@ open_at name words = Err WordCount
 abbrev pub open_any : List ℕ → List (List ℕ) → Result Line ScriptFault
 open_any name others = do
   last ← last_of others
-  name ← name_in name
+  name ← file_name_in name
   link ← link_in last
   Ok (request_line link (Opens name Any))
 
@@ -143,13 +143,13 @@ read_of (slot ∷ off ∷ len ∷ others) = do
   Ok (request_line link (Reads slot off len))
 read_of words = Err WordCount
 
-abbrev pub close_of : List (List ℕ) → Result Line ScriptFault
-close_of (slot ∷ others) = do
+abbrev pub close_line_of : List (List ℕ) → Result Line ScriptFault
+close_line_of (slot ∷ others) = do
   last ← last_of others
   slot ← number_in slot
   link ← link_in last
   Ok (request_line link (Closes slot))
-close_of words = Err WordCount
+close_line_of words = Err WordCount
 
 abbrev pub update_of : List (List ℕ) → Result Line ScriptFault
 update_of (off ∷ list ∷ others) = do
@@ -168,7 +168,7 @@ abbrev pub request_of : List ℕ → List (List ℕ) → Result Line ScriptFault
 request_of command words =
     if bytes_eq command (codes "open") then open_of words
     else if bytes_eq command (codes "read") then read_of words
-    else if bytes_eq command (codes "close") then close_of words
+    else if bytes_eq command (codes "close") then close_line_of words
     else if bytes_eq command (codes "update") then update_of words
     else Err UnknownCommand
 
@@ -181,7 +181,7 @@ line_of late (command ∷ words) =
     else if bytes_eq command (codes "sparse") then sparse_of words
     else if bytes_eq command (codes "register") then register_of words
     else if bytes_eq command (codes "unregister") then unregister_of words
-    else if bytes_eq command (codes "range") then range_of words
+    else if bytes_eq command (codes "range") then range_line_of words
     else if bytes_eq command (codes "regupdate") then regupdate_of words
     else if bytes_eq command (codes "submit") then submit_of words
     else request_of command words

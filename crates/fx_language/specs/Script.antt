@@ -62,8 +62,8 @@ unless None x = Ok x
 unless (Some fault) x = Err fault
 
 -- with one more file, if it may be added
-abbrev pub with_file : Progress → List ℕ → List ℕ → Result Progress ScriptFault
-with_file p name bytes =
+abbrev pub with_named_file : Progress → List ℕ → List ℕ → Result Progress ScriptFault
+with_named_file p name bytes =
     unless (option_and_then line_fault_of (add_fault_of p.catalogue name bytes))
     (record p { catalogue = p.catalogue ++ record { name = name; bytes = bytes } ∷ [] })
 
@@ -71,7 +71,7 @@ with_file p name bytes =
 abbrev pub after_file : Progress → List ℕ → List ℕ → Result Progress ScriptFault
 after_file p name hex = do
   bytes ← ok_or (hex_of hex) BadHex
-  with_file p name bytes
+  with_named_file p name bytes
 
 -- with one more command
 abbrev pub with_command : Progress → Instruction → Progress

@@ -10,7 +10,7 @@ IsFaultOf bytes (Fault line kind) = HasFault bytes line kind
 IsFaultOf bytes NoMemory = Unit {0}
 
 -- the result is the expected one, unless an allocation failed
-abbrev pub Reads : Result Meaning LineFault → Result Meaning ScriptError → Type 0
-Reads expected (Ok meaning) = expected ≡ Ok meaning
-Reads expected (Err (Fault line kind)) = expected ≡ Err (record { line = line; kind = kind })
-Reads expected (Err NoMemory) = Unit {0}
+abbrev pub ReadsScript : Result Meaning LineFault → Result Meaning ScriptError → Type 0
+ReadsScript expected (Ok meaning) = expected ≡ Ok meaning
+ReadsScript expected (Err (Fault line kind)) = expected ≡ Err (record { line = line; kind = kind })
+ReadsScript expected (Err NoMemory) = Unit {0}

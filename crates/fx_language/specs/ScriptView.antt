@@ -30,6 +30,7 @@ GivesOrFails view (Ok x) expected = expected ≡ Ok (view x)
 GivesOrFails view (Err error) expected = IsExpected error expected
 
 -- the result and the state afterwards are the expected ones, unless an allocation failed
-abbrev pub Takes : {A : Type 0} → Result A ScriptFault → Result (Unit {0}) LineError → A → Type 0
-Takes expected (Ok _) new = expected ≡ Ok new
-Takes expected (Err error) new = IsExpected error expected
+abbrev pub TakesExpected : {A : Type 0} → Result A ScriptFault → Result (Unit {0}) LineError → A
+    → Type 0
+TakesExpected expected (Ok _) new = expected ≡ Ok new
+TakesExpected expected (Err error) new = IsExpected error expected

@@ -27,19 +27,19 @@ number_up_to largest word =
     else None
 
 -- a number other than a tag
-abbrev pub number_of : List ℕ → Option ℕ
-number_of word = number_up_to LARGEST_NUMBER word
+abbrev pub decimal_of : List ℕ → Option ℕ
+decimal_of word = number_up_to LARGEST_NUMBER word
 
 -- the negated number, unless it is 0
-abbrev pub negated : ℕ → Option ℤ
-negated zero = None
-negated (suc n) = Some (negsuc n)
+abbrev pub negative_of : ℕ → Option ℤ
+negative_of zero = None
+negative_of (suc n) = Some (negsuc n)
 
 -- an entry of a list: a number, or `-` and a number other than 0
 abbrev pub entry_of : List ℕ → Option ℤ
 entry_of part =
-    if slice_index part 0 == 45 then option_and_then negated (number_of (drop 1 part))
-    else option_map pos (number_of part)
+    if slice_index part 0 == 45 then option_and_then negative_of (decimal_of (drop 1 part))
+    else option_map pos (decimal_of part)
 
 -- the entries of the parts, if each of them is one
 abbrev pub entries_of : List (List ℕ) → Option (List ℤ)

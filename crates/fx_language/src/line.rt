@@ -1,8 +1,8 @@
 //! One line of a script.
 ghost use Rattle.std.specs.Prelude.{◌≡◌, true};
 ghost use Rattle.std.specs.List.{list_all};
-ghost use Rattle.fx_language.specs.Cursor.{Gives};
-ghost use Rattle.fx_language.specs.Line.{file_of, sparse_of, register_of, unregister_of, range_of, regupdate_of, submit_of, request_of, line_of};
+ghost use Rattle.fx_language.specs.Cursor.{GivesExpected};
+ghost use Rattle.fx_language.specs.Line.{file_of, sparse_of, register_of, unregister_of, range_line_of, regupdate_of, submit_of, request_of, line_of};
 ghost use Rattle.fx_language.specs.LineView.{line_in};
 ghost use Rattle.fx_language.specs.Lines.{is_printable, words};
 ghost use Rattle.fx_language.specs.Parts.{parts_left};
@@ -40,7 +40,7 @@ pub enum Line<'a> {
 
 fn file<'a>(late: bool, words: &mut Parts<'a>) -> Result<Line<'a>, ScriptFault>
     requires { list_all is_printable (parts_left words.old) ≡ true }
-    ensures { Gives line_in result (file_of late (parts_left words.old)) }
+    ensures { GivesExpected line_in result (file_of late (parts_left words.old)) }
 {
     if late {
         return Err(ScriptFault::LateFile);
@@ -52,7 +52,7 @@ fn file<'a>(late: bool, words: &mut Parts<'a>) -> Result<Line<'a>, ScriptFault>
 }
 
 fn sparse<'a>(words: &mut Parts<'a>) -> Result<Line<'a>, ScriptFault>
-    ensures { Gives line_in result (sparse_of (parts_left words.old)) }
+    ensures { GivesExpected line_in result (sparse_of (parts_left words.old)) }
 {
     let n = word(words)?;
     end(words)?;
@@ -69,14 +69,14 @@ fn register<'a>(alloc: Global, words: &mut Parts<'a>) -> Result<Line<'a>, LineEr
 }
 
 fn unregister<'a>(words: &mut Parts<'a>) -> Result<Line<'a>, ScriptFault>
-    ensures { Gives line_in result (unregister_of (parts_left words.old)) }
+    ensures { GivesExpected line_in result (unregister_of (parts_left words.old)) }
 {
     end(words)?;
     Ok(Line::Unregister)
 }
 
 fn range<'a>(words: &mut Parts<'a>) -> Result<Line<'a>, ScriptFault>
-    ensures { Gives line_in result (range_of (parts_left words.old)) }
+    ensures { GivesExpected line_in result (range_line_of (parts_left words.old)) }
 {
     let off = word(words)?;
     let len = word(words)?;
@@ -96,7 +96,7 @@ fn regupdate<'a>(alloc: Global, words: &mut Parts<'a>) -> Result<Line<'a>, LineE
 }
 
 fn submit<'a>(words: &mut Parts<'a>) -> Result<Line<'a>, ScriptFault>
-    ensures { Gives line_in result (submit_of (parts_left words.old)) }
+    ensures { GivesExpected line_in result (submit_of (parts_left words.old)) }
 {
     end(words)?;
     Ok(Line::Submit)
@@ -104,7 +104,7 @@ fn submit<'a>(words: &mut Parts<'a>) -> Result<Line<'a>, ScriptFault>
 
 fn request_line<'a>(command: &[u8], words: &mut Parts<'a>) -> Result<Line<'a>, ScriptFault>
     requires { list_all is_printable (parts_left words.old) ≡ true }
-    ensures { Gives line_in result (request_of command.now (parts_left words.old)) }
+    ensures { GivesExpected line_in result (request_of command.now (parts_left words.old)) }
 {
     if command == b"open".as_slice() {
         request::open(words)

@@ -1,6 +1,6 @@
 //! Lists of entries.
 ghost use Rattle.std.specs.Prelude.{◌≡◌, IfOk, IsSome, Some, true, is_some};
-ghost use Rattle.fx_language.specs.Cursor.{Gives};
+ghost use Rattle.fx_language.specs.Cursor.{GivesExpected};
 ghost use Rattle.fx_language.specs.Line.{list_in};
 ghost use Rattle.fx_language.specs.Words.{list_of};
 
@@ -32,7 +32,7 @@ impl<'a> List<'a> {
 
     // Parses a word as a list.
     pub fn new(word: &'a [u8]) -> Result<List<'a>, ScriptFault>
-        ensures { Gives entries_in result (list_in word.now) }
+        ensures { GivesExpected entries_in result (list_in word.now) }
     {
         if is_list(word) {
             Ok(List { text: word })

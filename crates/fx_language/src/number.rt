@@ -1,7 +1,7 @@
 //! Numbers, tags and entries, as words write them.
 ghost use Rattle.std.specs.Prelude.{◌≡◌};
 ghost use Rattle.fx_language.specs.declared.limits.TheConstants.{LARGEST_TAG};
-ghost use Rattle.fx_language.specs.Words.{is_digit, number_of, number_up_to, entry_of};
+ghost use Rattle.fx_language.specs.Words.{is_digit, decimal_of, number_up_to, entry_of};
 
 use crate::limits::{LARGEST_NUMBER, LARGEST_TAG};
 
@@ -33,7 +33,7 @@ pub fn number_up_to(largest: u64, word: &[u8]) -> Option<u64>
 
 // Parses a word as a number, at most 2,147,483,647.
 pub fn number(word: &[u8]) -> Option<u32>
-    ensures { result ≡ number_of word.now }
+    ensures { result ≡ decimal_of word.now }
 {
     Some(number_up_to(u64::from(LARGEST_NUMBER), word)? as u32)
 }

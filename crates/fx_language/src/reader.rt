@@ -5,7 +5,7 @@ ghost use Rattle.fx_language.specs.Line.{RequestLine};
 ghost use Rattle.fx_language.specs.LineView.{line_in, operation_in};
 ghost use Rattle.fx_language.specs.Lines.{is_printable, is_skipped};
 ghost use Rattle.fx_language.specs.Script.{after_file, after_line, after_text, nothing, with_command};
-ghost use Rattle.fx_language.specs.ScriptView.{progress_of, IsExpected, Takes};
+ghost use Rattle.fx_language.specs.ScriptView.{progress_of, IsExpected, TakesExpected};
 ghost use Rattle.fx_language.specs.Instruction.{instruction_of};
 ghost use Rattle.fx_language.specs.Words.{hex_of};
 
@@ -93,7 +93,7 @@ impl Reader {
 
     // Adds a file.
     fn take_file(&mut self, alloc: Global, name: &str, hex: &[u8]) -> Result<(), LineError>
-        ensures { Takes (after_file (progress_of self.old) name.now hex.now)
+        ensures { TakesExpected (after_file (progress_of self.old) name.now hex.now)
             result (progress_of self.new) }
     {
         let bytes = file_bytes(alloc, hex)?;
@@ -111,7 +111,7 @@ impl Reader {
 
     // Adds a command.
     fn take_command(&mut self, command: Command) -> Result<(), LineError>
-        ensures { Takes (Ok (with_command (progress_of self.old) (instruction_of command)))
+        ensures { TakesExpected (Ok (with_command (progress_of self.old) (instruction_of command)))
             result (progress_of self.new) }
     {
         self.commands.push(command)?;
@@ -120,7 +120,7 @@ impl Reader {
 
     // Adds a request of the `n`-th line to those that wait.
     fn take_request(&mut self, n: u32, request: Request) -> Result<(), LineError>
-        ensures { Takes (after_line n (progress_of self.old) (RequestLine (asked_of request)))
+        ensures { TakesExpected (after_line n (progress_of self.old) (RequestLine (asked_of request)))
             result (progress_of self.new) }
     {
         let first = self.waiting.is_empty();
@@ -133,7 +133,7 @@ impl Reader {
 
     // Adds the content of the `n`-th line.
     fn take_line(&mut self, alloc: Global, n: u32, line: Line<'_>) -> Result<(), LineError>
-        ensures { Takes (after_line n (progress_of self.old) (line_in line.entry))
+        ensures { TakesExpected (after_line n (progress_of self.old) (line_in line.entry))
             result (progress_of self.new) }
     {
         match line {
@@ -163,7 +163,7 @@ impl Reader {
 
     // Reads the `n`-th line, which may be skipped.
     pub fn take_text(&mut self, alloc: Global, n: u32, text: &[u8]) -> Result<(), LineError>
-        ensures { Takes (after_text n (progress_of self.old) text.now)
+        ensures { TakesExpected (after_text n (progress_of self.old) text.now)
             result (progress_of self.new) }
     {
         if text.len() > LONGEST_LINE {

@@ -1,8 +1,8 @@
 //! The lines of requests.
 ghost use Rattle.std.specs.Prelude.{◌≡◌, true};
 ghost use Rattle.std.specs.List.{list_all};
-ghost use Rattle.fx_language.specs.Cursor.{Gives};
-ghost use Rattle.fx_language.specs.Line.{open_at, open_any, open_of, read_of, close_of, update_of};
+ghost use Rattle.fx_language.specs.Cursor.{GivesExpected};
+ghost use Rattle.fx_language.specs.Line.{open_at, open_any, open_of, read_of, close_line_of, update_of};
 ghost use Rattle.fx_language.specs.LineView.{line_in};
 ghost use Rattle.fx_language.specs.Lines.{is_printable};
 ghost use Rattle.fx_language.specs.Parts.{parts_left};
@@ -30,7 +30,7 @@ pub enum Ask<'a> {
 
 // Parses the words after `open NAME at`: the slot, and perhaps a link.
 fn open_at<'a>(file: &'a str, words: &mut Parts<'a>) -> Result<Line<'a>, ScriptFault>
-    ensures { Gives line_in result (open_at file.now (parts_left words.old)) }
+    ensures { GivesExpected line_in result (open_at file.now (parts_left words.old)) }
 {
     let slot = word(words)?;
     let last = last(words)?;
@@ -41,7 +41,7 @@ fn open_at<'a>(file: &'a str, words: &mut Parts<'a>) -> Result<Line<'a>, ScriptF
 
 // Parses the words after `open NAME any`: perhaps a link.
 fn open_any<'a>(file: &'a str, words: &mut Parts<'a>) -> Result<Line<'a>, ScriptFault>
-    ensures { Gives line_in result (open_any file.now (parts_left words.old)) }
+    ensures { GivesExpected line_in result (open_any file.now (parts_left words.old)) }
 {
     let last = last(words)?;
     let name = name(file)?;
@@ -53,7 +53,7 @@ fn open_any<'a>(file: &'a str, words: &mut Parts<'a>) -> Result<Line<'a>, Script
 // are.
 pub fn open<'a>(words: &mut Parts<'a>) -> Result<Line<'a>, ScriptFault>
     requires { list_all is_printable (parts_left words.old) ≡ true }
-    ensures { Gives line_in result (open_of (parts_left words.old)) }
+    ensures { GivesExpected line_in result (open_of (parts_left words.old)) }
 {
     let file = text(word(words)?);
     let place = word(words)?;
@@ -68,7 +68,7 @@ pub fn open<'a>(words: &mut Parts<'a>) -> Result<Line<'a>, ScriptFault>
 
 // Parses the words after `read`, or returns their first fault. A read names its file by a slot; no other request does.
 pub fn read<'a>(words: &mut Parts<'a>) -> Result<Line<'a>, ScriptFault>
-    ensures { Gives line_in result (read_of (parts_left words.old)) }
+    ensures { GivesExpected line_in result (read_of (parts_left words.old)) }
 {
     let slot = word(words)?;
     let off = word(words)?;
@@ -83,7 +83,7 @@ pub fn read<'a>(words: &mut Parts<'a>) -> Result<Line<'a>, ScriptFault>
 
 // Parses the words after `close`, or returns their first fault.
 pub fn close<'a>(words: &mut Parts<'a>) -> Result<Line<'a>, ScriptFault>
-    ensures { Gives line_in result (close_of (parts_left words.old)) }
+    ensures { GivesExpected line_in result (close_line_of (parts_left words.old)) }
 {
     let slot = word(words)?;
     let last = last(words)?;
@@ -93,7 +93,7 @@ pub fn close<'a>(words: &mut Parts<'a>) -> Result<Line<'a>, ScriptFault>
 
 // Parses the words after `update`, or returns their first fault.
 pub fn update<'a>(words: &mut Parts<'a>) -> Result<Line<'a>, ScriptFault>
-    ensures { Gives line_in result (update_of (parts_left words.old)) }
+    ensures { GivesExpected line_in result (update_of (parts_left words.old)) }
 {
     let off = word(words)?;
     let list = word(words)?;

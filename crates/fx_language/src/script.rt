@@ -37,7 +37,7 @@ impl Model for Script {
 
 impl Script {
     ghost use Rattle.fx_language.specs.Instruction.{instructions_of};
-    ghost use Rattle.fx_language.specs.ScriptError.{IsFaultOf, Reads};
+    ghost use Rattle.fx_language.specs.ScriptError.{IsFaultOf, ReadsScript};
     ghost use Rattle.fx_language.specs.ScriptView.{progress_of};
 
     /// Returns the files that its requests can open, in the order of their lines.
@@ -66,7 +66,7 @@ impl Script {
     // Returns the script, if no request waits for a submission.
     fn of(reader: Reader) -> Result<Script, ScriptError>
         requires { (bytes : List ℕ) × (reading_of bytes ≡ at_end (progress_of reader)) }
-        ensures { Reads (at_end (progress_of reader)) result }
+        ensures { ReadsScript (at_end (progress_of reader)) result }
     {
         if !reader.waiting.is_empty() {
             let kind = ScriptFault::Unsubmitted;

@@ -1,7 +1,7 @@
 //! The words of a line, one after another.
 ghost use Rattle.std.specs.Prelude.{◌≡◌, true, option_map};
-ghost use Rattle.fx_language.specs.Cursor.{TakesWord, IsEnd, Gives};
-ghost use Rattle.fx_language.specs.Line.{number_in, name_in, last_of, link_in};
+ghost use Rattle.fx_language.specs.Cursor.{TakesWord, EndsWords, GivesExpected};
+ghost use Rattle.fx_language.specs.Line.{number_in, file_name_in, last_of, link_in};
 ghost use Rattle.fx_language.specs.Lines.{is_printable};
 ghost use Rattle.fx_language.specs.Parts.{parts_left};
 
@@ -21,7 +21,7 @@ pub fn word<'a>(words: &mut Parts<'a>) -> Result<&'a [u8], ScriptFault>
 
 // Checks that no word is left.
 pub fn end(words: &mut Parts<'_>) -> Result<(), ScriptFault>
-    ensures { IsEnd (parts_left words.old) result }
+    ensures { EndsWords (parts_left words.old) result }
 {
     match words.next() {
         Some(_) => Err(ScriptFault::WordCount),
@@ -31,7 +31,7 @@ pub fn end(words: &mut Parts<'_>) -> Result<(), ScriptFault>
 
 // Returns the last word of a request, if there is one; a further word is a fault.
 pub fn last<'a>(words: &mut Parts<'a>) -> Result<Option<&'a [u8]>, ScriptFault>
-    ensures { Gives (option_map (λ word. word.now)) result (last_of (parts_left words.old)) }
+    ensures { GivesExpected (option_map (λ word. word.now)) result (last_of (parts_left words.old)) }
 {
     let Some(word) = words.next() else {
         return Ok(None);
@@ -69,7 +69,7 @@ pub fn text(word: &[u8]) -> &str
 
 // Returns a text as a name, or its fault.
 pub fn name(text: &str) -> Result<&str, ScriptFault>
-    ensures { Gives (λ name. name.now) result (name_in text.now) }
+    ensures { GivesExpected (λ name. name.now) result (file_name_in text.now) }
 {
     if is_name(text.as_bytes()) {
         Ok(text)

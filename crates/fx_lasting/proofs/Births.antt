@@ -16,7 +16,7 @@ use Rattle.fx_lasting.proofs.Unheld.{NodeNow, in_phase}
 use Rattle.std.proofs.Common.{suc-mul}
 
 -- the nodes of a pass's block are the table's
-block_inside : (k : Start) {p n : ℕ} → 0 < p → p ≤ k.installing → IsInBlock k p n → n < nodes_of k
+pub block_inside : (k : Start) {p n : ℕ} → 0 < p → p ≤ k.installing → IsInBlock k p n → n < nodes_of k
 block_inside k {p} {n} low high block = let m : p * block_for (slots_of k) k.passes ≤ k.installing * block_for (slots_of k) k.passes =
     mul-le-mul_right (block_for (slots_of k) k.passes) high in
     let e : block_start (slots_of k) k.passes p + block_for (slots_of k) k.passes ≡ slots_of k + p * block_for (slots_of k) k.passes = ends p low in
@@ -84,19 +84,39 @@ module _ (turn : Turn) where
 
       abbrev Choice : ℕ → Type 0
       Choice e = (e < nodes_of v.start) × (r.phase e ≡ free) × IsInBlock v.start x.number e × (found ≡ 0 → e ≡ n) × (found ≢ 0 → e ≢ n)
+          × ((k : ℕ) → v.work ≡ Searching k → found ≢ 0 → e ≡ k)
 
       inside : n < nodes_of v.start
       inside = block_inside v.start (in_range turn).0 installs block
 
       choice : (e : ℕ) × Choice e
       choice = dite (ℕ_discrete found 0)
-          (λ is. (n, (inside, zero_free inside is, block, λ _. refl, λ not_so. absurd (not_so is))))
+          (λ is. (n, (inside, zero_free inside is, block, λ _. refl, λ not_so. absurd (not_so is), λ k w not_so. absurd (not_so is))))
           (λ not_so. let apart : (e : ℕ) → e < nodes_of v.start → r.phase e ≡ free → e ≢ n =
           λ e l is same. not_so (ap (λ (i : ℕ). word_at st.words (word_of v.start i)) (sym same) ∙ free_zero l is) in ⊎_elim
-          (λ idle. let z = one_free in (z.0, (z.1, z.2, z.3, λ is. absurd (not_so is), λ _. apart z.0 z.1 z.2)))
+          (λ idle. let z = one_free in (
+            z.0,
+            (
+              z.1,
+              z.2,
+              z.3,
+              λ is. absurd (not_so is),
+              λ _. apart z.0 z.1 z.2,
+              λ k w _. let bad : Idle ≡ Searching k = sym idle ∙ w in cc bad,
+            ),
+          ))
           (λ s. let o = subst (WorkAgrees v.start r.phase id) s.1 (its_work turn) in
-          let b : IsInBlock v.start x.number s.0 = rw s.1 at (its_log turn).search in
-          (s.0, (o.0, o.1, b, λ is. absurd (not_so is), λ _. apart s.0 o.0 o.1))) searches)
+          let b : IsInBlock v.start x.number s.0 = rw s.1 at (its_log turn).search in (
+            s.0,
+            (
+              o.0,
+              o.1,
+              b,
+              λ is. absurd (not_so is),
+              λ _. apart s.0 o.0 o.1,
+              λ k w _. let same : Searching s.0 ≡ Searching k = sym s.1 ∙ w in cc same,
+            ),
+          )) searches)
 
       pub seek : (slots : ℕ) (carried : List (ℕ × Option Closed))
           → Made turn carried (word_of v.start n) (λ word. word) (Seeks (step slots (word_of v.start n) 0 0 none) (v, carried))
@@ -114,6 +134,7 @@ module _ (turn : Turn) where
           block = subst (λ (p : ℕ). IsInBlock v.start p e.0) (sym (ap (λ (l : List Log). (first_log l).number) one)) e.1.2;
           here = λ is. ap (word_of v.start) (sym (e.1.3 is));
           other = λ not_so same. e.1.4 not_so (omega arith);
+          stays = λ k w not_so. e.1.5 k w not_so;
         },
       )
 

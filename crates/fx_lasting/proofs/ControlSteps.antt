@@ -6,7 +6,9 @@ use Rattle.fx_lasting.proofs.Words.{sum_at, sum_le_at, one_change, bias, range_o
 use Rattle.fx_lasting.proofs.Words.{removed_by, changes_of, added_of, removed_of, full_in, control_place, slot_place, word_of, hold_of, slots_of}
 use Rattle.fx_lasting.proofs.Words.{state_after_all, IsHistory, Change, Outside, Same, Log, Start, View, Work, Shared, IsInside, Turns, Asks, Stepped}
 use Rattle.fx_lasting.proofs.Words.{BeginsKeep, EndsKeep, AsksKeep, length-set, inl, held_by, Idle, Announced, Counted, Guarded, Owing, Yielding}
-use Rattle.fx_lasting.proofs.Words.{Searching, Placing, Retiring, Emptying, State, Phase}
+use Rattle.fx_lasting.proofs.Words.{Searching, Placing, Retiring, Emptying, State, Phase, Bool, true, false, ℤ, difference, HasToTell, HasPass, Allows, Sat}
+use Rattle.fx_lasting.proofs.Words.{InRange, begun, MayChange, end_amount_of, inr}
+use Rattle.fx_lasting.specs.declared.view.Change.TheVariants.{More, Less}
 use Rattle.fx_lasting.proofs.Histories.{Grows, grows_none, grows_one, legal_more, part_mine, held_mine, same_shape}
 use Rattle.fx_lasting.proofs.Frames.{control_same, sees_same, heats_same, guards_same, covers_same}
 use Rattle.fx_lasting.proofs.Keeping.{Turn, turn_of, After, word_at, slot_word, Made, by_turn, its_log, its_work, in_range, tells, w, end}
@@ -242,3 +244,22 @@ ends_keep k slots id i amount m x has in_now amount_is place = by_turn slots (λ
 pub asks_keep : AsksKeep Asks
 asks_keep k slots id i m x has place = by_turn slots (λ _. Unit {0}) (λ _. control_place) (λ word. word)
     (λ i. Asks (step slots i 0 0 none) m) has tt place (λ st r here _ fits. ask (turn_of m x has.1 id st r here) slots m.1)
+
+-- the amount that a pass with this difference subtracts
+amount_told : (c : Change) {delta : ℤ} {amount : ℕ} → in_change c ≡ 1 → difference c ≡ delta → amount ≡ end_amount_of delta
+    → amount + added c ≡ one_change + removed_by c
+amount_told Outside one d e = absurd (omega arith)
+amount_told Same one d e = let f = e ∙ ap end_amount_of (sym d) in omega arith
+amount_told More one d e = let f = e ∙ ap end_amount_of (sym d) in omega arith
+amount_told Less one d e = let f = e ∙ ap end_amount_of (sym d) in omega arith
+
+pub ends_by : {k : Start} (slots id : ℕ) {i amount : ℕ} {delta : ℤ} {m : Sat} {x : Log} → HasPass k m x → HasToTell true delta m.0.change
+    → amount ≡ end_amount_of delta → i ≡ control_place
+    → Allows (Agrees k) slots id m i (λ word. (word + (2 ^ 64 - amount)) % 2 ^ 64) (Turns Outside (step slots i amount 0 none) m)
+ends_by {k} slots id {i} {amount} {delta} {m} {x} its tells is place =
+    ends_keep k slots id i amount m x its tells.0 (amount_told m.0.change tells.0 tells.1 is) place
+
+-- a pass that began a change where it had to may change the slot
+pub may_change : (k : Start) {slot : ℕ} (began : Bool) {c : Change} → InRange k slot began → c ≡ begun began → MayChange k slot c
+may_change k true range is = inl (range, is)
+may_change k false range is = inr (range, is)

@@ -1,6 +1,6 @@
 -- Counts over the numbers of passes, where one of them changes.
 use Rattle.fx_lasting.proofs.Words.{◌≡◌, ◌≢◌, ℕ, zero, suc, ◌+◌, ◌<◌, ◌≤◌, Bool, true, false, eqb, sym, refl, ap, ◌∙◌, arith, dite, ℕ_discrete}
-use Rattle.fx_lasting.proofs.Words.{changed_at, changed_here, changed_else, one_if, tally, owed, eq-eqb}
+use Rattle.fx_lasting.proofs.Words.{cold_takes, cond, changed_at, changed_here, changed_else, one_if, tally, owed, eq-eqb}
 use Rattle.std.proofs.lemmas.Bool.{eqb-true}
 
 -- each pass counts for one at most
@@ -83,3 +83,11 @@ tally_found f (suc n) some = dite (ℕ_discrete (one_if (f (suc n))) 1) (λ is. 
 pub owed_found : (debt : ℕ → ℕ) (n node : ℕ) → 1 ≤ owed debt n node → (p : ℕ) × (0 < p) × (p ≤ n) × (debt p ≡ node + 1)
 owed_found debt n node some = let z = tally_found (λ q. eqb (debt q) (node + 1)) n some in
     (z.0, z.1, z.2, eqb-true (debt z.0) (node + 1) z.3)
+
+-- a cold slot leaves room in its word
+pub few_cold : (passes : ℕ) → cold_takes passes ≤ 1073741824
+few_cold passes = go (eqb passes 1)
+  where
+    go : (b : Bool) → cond b 1073741824 16 ≤ 1073741824
+    go true = omega arith
+    go false = omega arith

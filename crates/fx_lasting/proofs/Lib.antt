@@ -22,7 +22,14 @@ pub mod SlotLaws
 pub mod Seats
 pub mod Openings
 pub mod Ending
+pub mod HomeComing
+pub mod Starting
+pub mod Gathered
 pub mod Running
+pub mod Calling
+pub mod Sought
+pub mod Passing
+pub mod Trying
 pub mod Taking
 pub mod Retiring
 pub mod Visiting

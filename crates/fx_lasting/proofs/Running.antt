@@ -1,5 +1,8 @@
--- Some steps in a row.
-use Rattle.fx_lasting.proofs.Words.{◌≡◌, ◌≤◌, ℕ, ◌+◌, List, ◌++◌, map, sym, ap, ◌∙◌, subst, arith, ◌▷▷◌, Action, Event, Sat, Stepped, Runs, Change}
+-- Some steps in a row, and the seat after them.
+use Rattle.fx_lasting.proofs.Words.{◌≡◌, ◌≤◌, ℕ, ◌+◌, List, [], ◌++◌, map, sym, refl, ap, ◌∙◌, subst, arith, ◌▷▷◌, Action, Event, Sat, Stepped, Goes, Runs, Change}
+use Rattle.fx_lasting.proofs.Words.{IsAtWork, Log, first_log, ◌∷◌, ◌-◌, ◌<◌, ⊎_elim, inl, dite, ℕ_discrete, eq-eqb, ne_eqb, Option, Some, None, Closed, File}
+use Rattle.fx_lasting.proofs.Words.{◌▷◌, Release, Close, Look, Idle, Owing, Yielding, Counted, Cold, TakesOut, LettingGo, Takes, glance_after}
+use Rattle.fx_lasting.proofs.Words.{LetsMarkGo, LetsFileGo, HasPlace, IsReleasing, HasToLetGo, nodes_of, name_in, node_in, At}
 use Rattle.fx_lasting.proofs.Words.{Glance, Work, Start, IsHistory, pass_in, event_of, part_of_pass, IsInside}
 use Rattle.std.proofs.Common.{append_assoc}
 use mathlib.Core.List.{map-append}
@@ -29,3 +32,135 @@ runs_then {m} {m'} {m''} {xs} {ys} {w' = w'} {n = n} {n' = n'} a b = record {
   change = b.change;
   start = b.start ∙ a.start;
 }
+
+-- a step that moves no place
+pub runs_goes : {m m' : Sat} {xs : List Action} {w : Work} {g : Glance} → Goes m xs w g m' → Runs m xs w g m.0.change 1 m'
+runs_goes g = runs_one g.stepped
+
+-- a pass goes on where some steps left it
+pub does_then : {m m' m'' : Sat} {xs ys : List Action} {w w' : Work} {g : Glance} {c : Change} {n n' : ℕ} → Runs m xs w g c n m'
+    → Runs m' ys w' m'.0.glance m'.0.change n' m'' → Runs m (xs ▷▷ ys) w' g c (n + n') m''
+does_then {m' = m'} {m'' = m''} {ys = ys} {w' = w'} {n' = n'} a b =
+    runs_then a (subst (λ (z : Glance × Change). Runs m' ys w' z.0 z.1 n' m'') (λ i. (a.glance i, a.change i)) b)
+
+-- at most as many steps, or more
+pub runs_within : {m m' : Sat} {xs : List Action} {w : Work} {g : Glance} {c : Change} {n n' : ℕ} → n ≤ n' → Runs m xs w g c n m'
+    → Runs m xs w g c n' m'
+runs_within {m} {m'} {n = n} {n' = n'} few r =
+    let steps : (pass_in m').steps ≤ (pass_in m).steps + n' = (let p = r.steps in omega arith) in assumption (r, steps)
+
+module _ {k : Start} {p : ℕ} {m : Sat} (at : IsAtWork k p m) where
+  -- no step
+  pub runs_none : (n : ℕ) → Runs m [] m.0.work m.0.glance m.0.change n m
+  runs_none n = record {
+    one = (at.log, at.pass.1);
+    number = refl;
+    seen = ([], refl);
+    legal = subst (λ (z : Start × Log). IsHistory z.0 z.1.front) (λ i. (sym at.pass.0 i, sym (ap first_log at.pass.1) i)) at.legal;
+    own = refl;
+    steps = omega arith;
+    work = refl;
+    inside = subst (λ (z : Start). IsInside z m.0.work) (sym at.pass.0) at.inside;
+    glance = refl;
+    change = refl;
+    start = refl;
+  }
+
+  pub number_is : (pass_in m).number ≡ p
+  number_is = ap (λ (l : List Log). (first_log l).number) at.pass.1 ∙ at.its_number
+
+  -- the seat goes on
+  pub still_at_work : {m' : Sat} {xs : List Action} {w : Work} {g : Glance} {c : Change} {n : ℕ} → Runs m xs w g c n m' → IsAtWork k p m'
+  still_at_work {m'} r = record {
+    log = r.one.0;
+    pass = (r.start ∙ at.pass.0, r.one.1);
+    its_number = sym (ap (λ (l : List Log). (first_log l).number) r.one.1) ∙ (r.number ∙ number_is);
+    low = at.low;
+    high = at.high;
+    legal = subst (λ (z : Start × Log). IsHistory z.0 z.1.front) (λ i. (at.pass.0 i, ap first_log r.one.1 i)) r.legal;
+    inside = subst (λ (z : Start × Work). IsInside z.0 z.1) (λ i. (at.pass.0 i, sym r.work i)) r.inside;
+  }
+
+  -- what it works with is the table's
+  pub its_inside : {w : Work} → m.0.work ≡ w → IsInside k w
+  its_inside is = subst (IsInside k) is at.inside
+
+-- a pass in the same change looks on
+pub looks_then : {m m' m'' : Sat} {xs ys : List Action} {w w' : Work} {g g' : Glance} {c : Change} {n n' : ℕ} → Runs m xs w g c n m'
+    → Runs m' ys w' g' m'.0.change n' m'' → Runs m (xs ▷▷ ys) w' g' c (n + n') m''
+looks_then {m' = m'} {m'' = m''} {ys = ys} {w' = w'} {g' = g'} {n' = n'} a b =
+    runs_then a (subst (λ (z : Change). Runs m' ys w' g' z n' m'') a.change b)
+
+-- a pass with the same work looks on
+pub stays_then : {m m' m'' : Sat} {xs ys : List Action} {w : Work} {g g' : Glance} {c : Change} {n n' : ℕ} → Runs m xs w g c n m'
+    → Runs m' ys m'.0.work g' m'.0.change n' m'' → Runs m (xs ▷▷ ys) w g' c (n + n') m''
+stays_then {m' = m'} {m'' = m''} {ys = ys} {g' = g'} {n' = n'} a b =
+    looks_then a (subst (λ (z : Work). Runs m' ys z g' m'.0.change n' m'') a.work b)
+
+-- a pass that looks nothing up begins or ends a change
+pub turns_then : {m m' m'' : Sat} {xs ys : List Action} {w : Work} {g : Glance} {c c' : Change} {n n' : ℕ} → Runs m xs w g c n m'
+    → Runs m' ys m'.0.work m'.0.glance c' n' m'' → Runs m (xs ▷▷ ys) w g c' (n + n') m''
+turns_then {m' = m'} {m'' = m''} {ys = ys} {c' = c'} {n' = n'} a b =
+    runs_then a (subst (λ (z : Work × Glance). Runs m' ys z.0 z.1 c' n' m'') (λ i. (a.work i, a.glance i)) b)
+
+-- a pass that has let a mark go, or a file
+pub mark_then : {m m' : Sat} (m'' : Sat) {w : Work} {n : ℕ} (n' : ℕ) (r : Option Closed) → Runs m [] w m.0.glance m.0.change n m' → LetsMarkGo m' n' r m''
+    → LetsMarkGo m (n + n') r m''
+mark_then m'' n' None a b = does_then a b
+mark_then m'' n' (Some file) a b = (b.0, b.1, does_then a b.2)
+
+pub file_then : {m m' : Sat} (m'' : Sat) {w : Work} (f : File) {n : ℕ} (n' : ℕ) (r : Option Closed) → Runs m [] w m.0.glance m.0.change n m'
+    → LetsFileGo m' f n' r m'' → LetsFileGo m f (n + n') r m''
+file_then m'' f n' None a b = does_then a b
+file_then m'' f n' (Some file) a b = (b.0, does_then a b.1)
+
+-- the file of a pass is closed: the pass has its place, and takes the file out
+pub out_place : {m m' : Sat} {xs : List Action} {f : File} {n : ℕ} → m.1 ≡ [] → TakesOut m xs f n m' → HasPlace n (Some f.identity) m'
+out_place {f = f} {n = n} empty out = record {
+  work = inl out.stepped.work;
+  place = out.carried ∙ ap (λ (l : List (ℕ × Option Closed)). (n, Some f.identity) ∷ l) empty;
+}
+
+pub out_and_home : {m m' m'' : Sat} {xs : List Action} {f : File} {n : ℕ} → TakesOut m xs f n m'
+    → Runs m' [] Idle m'.0.glance m'.0.change 1 m'' → Runs m (xs ▷ Close f) Idle m.0.glance m.0.change 2 m''
+out_and_home out home = does_then (runs_one out.stepped) home
+
+-- a pass lets a mark or a file go
+module _ {st : At} {m m' : Sat} {n found : ℕ} (did : LettingGo st m found m') where
+  pub releases_out : {f : File} → IsReleasing m.0.work f n → found ≡ 2 → TakesOut m ([] ▷ Release f) f n m'
+  releases_out {f} has is = ⊎_elim (λ (e : m.0.work ≡ Yielding f n). (did.yielded f n e).1 is)
+      (λ (e : m.0.work ≡ Counted f n). (did.counted f n e).1 is) has
+
+  -- the pass has the place of the closed file
+  pub goes_out : HasToLetGo m.0.work n → found ≡ 2 → (xs : List Action) × (f : File) × TakesOut m xs f n m'
+  goes_out has is = ⊎_elim (λ (e : m.0.work ≡ Owing n). let o = (did.owed n e).1 is in ([], o.0, o.1))
+      (λ other. ⊎_elim
+      (λ (y : (f : File) × (m.0.work ≡ Yielding f n)). ([] ▷ Release y.0, y.0, (did.yielded y.0 n y.1).1 is))
+      (λ (y : (f : File) × (m.0.work ≡ Counted f n)). ([] ▷ Release y.0, y.0, (did.counted y.0 n y.1).1 is)) other) has
+
+-- the node of the mark or the file that a pass drops is one of the table
+pub let_go_inside : {k : Start} {p n : ℕ} {m : Sat} → IsAtWork k p m → HasToLetGo m.0.work n → n < nodes_of k
+let_go_inside {n = n} {m = m} at has = ⊎_elim (λ (e : m.0.work ≡ Owing n). its_inside at e)
+    (λ other. ⊎_elim (λ (y : (f : File) × (m.0.work ≡ Yielding f n)). its_inside at y.1)
+    (λ (y : (f : File) × (m.0.work ≡ Counted f n)). its_inside at y.1) other) has
+
+-- a pass takes what a slot names: a file, or nothing
+pub took : {st : At} {m m' : Sat} {slot found : ℕ} → m.0.glance ≡ Cold slot → Takes st m found m'
+    → (xs : List Action) × (w : Work) × Goes m xs w (glance_after m.0.start.passes slot found) m'
+took {slot = slot} {found = found} cold did = dite (ℕ_discrete (name_in found) 0) (λ e. ([] ▷ Look slot None, Idle, did.empty slot cold e))
+    (λ some. let h = did.holds slot (name_in found - 1) cold (omega (arith, some)) in ([] ▷ Look slot (Some h.0), Counted h.0 (name_in found - 1), h.2))
+
+-- the name in a word
+pub no_name : (word : ℕ) → None ≡ node_in word → name_in word ≡ 0
+no_name word is = dite (ℕ_discrete (name_in word) 0) (λ e. e)
+    (λ some. let bad : None ≡ Some (name_in word - 1) = rw (ne_eqb (name_in word) 0 some) at is in absurd (cc bad))
+
+pub its_name : (word n : ℕ) → Some n ≡ node_in word → name_in word ≡ n + 1
+its_name word n is = dite (ℕ_discrete (name_in word) 0)
+    (λ e. let bad : Some n ≡ None = rw (eq-eqb (name_in word) 0 e) at is in absurd (cc bad))
+    (λ some. let same : Some n ≡ Some (name_in word - 1) = rw (ne_eqb (name_in word) 0 some) at is in
+    let e : n ≡ name_in word - 1 = cc same in omega (arith, some, e))
+
+-- a pass that has done nothing more than its work
+pub placed_none : {k : Start} {p : ℕ} {m : Sat} → IsAtWork k p m → {w : Work} → m.0.work ≡ w → Runs m [] w m.0.glance m.0.change 0 m
+placed_none {m = m} at is = subst (λ (z : Work). Runs m [] z m.0.glance m.0.change 0 m) is (runs_none at 0)

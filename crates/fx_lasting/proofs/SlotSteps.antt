@@ -44,7 +44,7 @@ module _ (turn : Turn) (s : ℕ) (inside : s < slots_of turn.v.start) (new : ℕ
     pub name : name_in new ≡ name_in old
     pub entry : entry_in new ≡ entry_in old
     pub hot : IsHot old → IsHot new
-    pub takes : count_in new ≤ cold_takes + tally (over' s) v.start.passes
+    pub takes : count_in new ≤ cold_takes v.start.passes + tally (over' s) v.start.passes
     pub over_else : (i q : ℕ) → i ≢ s → over' i q ≡ r.over i q
     pub over_other : (q : ℕ) → q ≢ x.number → over' s q ≡ r.over s q
     -- the takes of the file's node, and those of others

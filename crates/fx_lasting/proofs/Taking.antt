@@ -8,7 +8,7 @@ use Rattle.fx_lasting.proofs.Words.{false, cond, lt-ltb, le-ltb, tally, sum_set,
 use Rattle.fx_lasting.proofs.Words.{bit_or, IsInside, Announced, Owing, Guarded, Yielding, Searching, Placing, Retiring, Emptying}
 use lib.Bits.{or_shr, or_mod, or_zero_r}
 use Rattle.std.proofs.lemmas.Nat.Bits.{bit_at_or}
-use Rattle.fx_lasting.proofs.Counts.{tally_few, tally_one}
+use Rattle.fx_lasting.proofs.Counts.{tally_few, tally_one, few_cold}
 use Rattle.fx_lasting.proofs.Histories.{grows_none, grows_one, legal_more, part_mine, held_mine}
 use Rattle.fx_lasting.proofs.Frames.{busy, guards_same}
 use Rattle.fx_lasting.proofs.Keeping.{Turn, turn_of, After, slot_word, Made, by_turn, its_log, its_work, in_range, tells, w}
@@ -40,7 +40,7 @@ module _ (turn : Turn) (s : ℕ) (inside : s < slots_of turn.v.start) where
 
   -- a take leaves room: nobody takes twice beyond the takes of a cold slot
   room : count_in found + 1 < 2147483648
-  room = let a = (r.each_slot s inside).takes in let b = tally_few (r.over s) v.start.passes in let c = r.shape.passes in omega arith
+  room = let a = (r.each_slot s inside).takes in let b = tally_few (r.over s) v.start.passes in let c = r.shape.passes in omega (arith, few_cold v.start.passes)
 
   module _ (works : v.work ≡ Idle) (saw : v.glance ≡ Cold s) (fits : found < 18446744073709551616) where
     abbrev new : ℕ
@@ -67,19 +67,19 @@ module _ (turn : Turn) (s : ℕ) (inside : s < slots_of turn.v.start) where
 
     -- whether the pass is over at the slot, after its take
     pub record Standing (g : Glance) (over' : ℕ → ℕ → Bool) : Type 0 where
-      pub takes : count_in new ≤ cold_takes + tally (over' s) v.start.passes
+      pub takes : count_in new ≤ cold_takes v.start.passes + tally (over' s) v.start.passes
       pub over_else : (i q : ℕ) → i ≢ s → over' i q ≡ r.over i q
       pub over_other : (q : ℕ) → q ≢ x.number → over' s q ≡ r.over s q
       pub sees : GlanceAgrees v.start (slot_word (slot_words turn s inside new)) (λ i. over' i x.number) g
       pub heats : Heats v.start (slot_word (slot_words turn s inside new)) (λ i. over' i x.number) g
-      pub is : g ≡ glance_after s found
+      pub is : g ≡ glance_after v.start.passes s found
 
     -- a slot that isn't this one is as hot as it was
     heat_else : (i : ℕ) → i ≢ s → i < slots_of v.start → r.over i x.number ≡ true → IsHot (slot_word (slot_words turn s inside new) i)
     heat_else i other l is = rw (slot_else turn s inside new i other)
         (⊎_elim (λ h. h) (λ e. let bad : Cold s ≡ Heating i = sym saw ∙ e in cc bad) ((its_log turn).heats i l is))
 
-    cold_still : count_in found < 16 → Standing Nothing r.over
+    cold_still : count_in found < cold_takes v.start.passes → Standing Nothing r.over
     cold_still few = record {
       takes = let a = one_more in omega arith;
       over_else = λ i q other. refl;
@@ -88,7 +88,7 @@ module _ (turn : Turn) (s : ℕ) (inside : s < slots_of turn.v.start) where
       heats = λ i l is. dite (ℕ_discrete i s)
           (λ same. let bad : false ≡ true = sym not_over ∙ (ap (λ (j : ℕ). r.over j x.number) (sym same) ∙ is) in cc bad)
           (λ other. inl (heat_else i other l is));
-      is = sym (ap (λ (b : Bool). cond b Nothing (Heating s)) (lt-ltb (count_in found) 16 few));
+      is = sym (ap (λ (b : Bool). cond b Nothing (Heating s)) (lt-ltb (count_in found) (cold_takes v.start.passes) few));
     }
 
     abbrev over₁ : ℕ → ℕ → Bool
@@ -100,7 +100,7 @@ module _ (turn : Turn) (s : ℕ) (inside : s < slots_of turn.v.start) where
     over_there : (i q : ℕ) → i ≢ s → over₁ i q ≡ r.over i q
     over_there i q other = ap (λ (f : ℕ → Bool). f q) (changed_else r.over s (changed_at (r.over s) x.number true) i other)
 
-    heats_now : 16 ≤ count_in found → Standing (Heating s) over₁
+    heats_now : cold_takes v.start.passes ≤ count_in found → Standing (Heating s) over₁
     heats_now many = record {
       takes = let a = one_more in let b = (r.each_slot s inside).takes in
           let c = tally_one (over₁ s) (r.over s) v.start.passes x.number (in_range turn).0 (in_range turn).1
@@ -111,7 +111,7 @@ module _ (turn : Turn) (s : ℕ) (inside : s < slots_of turn.v.start) where
       sees = inside;
       heats = λ i l is. dite (ℕ_discrete i s) (λ same. inr (ap Heating (sym same)))
           (λ other. inl (heat_else i other l (sym (over_there i x.number other) ∙ is)));
-      is = sym (ap (λ (b : Bool). cond b Nothing (Heating s)) (le-ltb (count_in found) 16 many));
+      is = sym (ap (λ (b : Bool). cond b Nothing (Heating s)) (le-ltb (count_in found) (cold_takes v.start.passes) many));
     }
 
     -- what the pass does now, that found this file or none, on this node
@@ -233,7 +233,7 @@ module _ (turn : Turn) (s : ℕ) (inside : s < slots_of turn.v.start) where
 
     pub takes_once : (slots : ℕ) (carried : List (ℕ × Option Closed))
         → Made turn carried (slot_place s) (λ word. (word + 1) % 2 ^ 64) (Takes (step slots (slot_place s) 1 0 none) (v, carried))
-    takes_once slots carried = dite (dec_le 16 (count_in found))
+    takes_once slots carried = dite (dec_le (cold_takes v.start.passes) (count_in found))
         (λ many. takes_either (Heating s) over₁ (heats_now (omega (arith, many))) slots carried)
         (λ few. takes_either Nothing r.over (cold_still (omega (arith, few))) slots carried)
 

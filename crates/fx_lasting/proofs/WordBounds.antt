@@ -1,14 +1,14 @@
 -- The bounds of the words.
 use Rattle.fx_lasting.proofs.Words.{◌≡◌, ℕ, ◌+◌, ◌<◌, ◌≤◌, Option, Some, None, subst, arith, File, sum_by, sum_le_at, get_elem?, Agrees, Names, IsSeated}
 use Rattle.fx_lasting.proofs.Words.{NodeAgrees, WorkAgrees, lengths, changes_of, slots_of, word_of, state_after_all, taken_of, owed, count_in, name_in}
-use Rattle.fx_lasting.proofs.Words.{Phase, Shared, Start}
+use Rattle.fx_lasting.proofs.Words.{Phase, Shared, Start, cold_takes}
 use Rattle.fx_lasting.specs.Bounds.{AreBounded, slot_word_in, node_word_in}
 use Rattle.fx_lasting.proofs.ControlSteps.{few_changes, few_full, few_added, few_removed}
-use Rattle.fx_lasting.proofs.Counts.{tally_few}
+use Rattle.fx_lasting.proofs.Counts.{tally_few, few_cold}
 use Rattle.fx_lasting.proofs.Keeping.{word_at, slot_word}
 
 module _ (k : Start) (s : Shared) (r : Agrees k s) where
-  few_takes : (slot : ℕ) → slot < slots_of k → count_in (slot_word_in s slot) ≤ 16 + k.passes
+  few_takes : (slot : ℕ) → slot < slots_of k → count_in (slot_word_in s slot) ≤ cold_takes k.passes + k.passes
   few_takes slot inside = let a = (r.each_slot slot inside).takes in let b = tally_few (r.over slot) k.passes in omega arith
 
   abbrev Node : ℕ → Phase → Type 0
@@ -21,7 +21,7 @@ module _ (k : Start) (s : Shared) (r : Agrees k s) where
   of_slot slot node inside (Some f) names seat is = let a = names.0 in let same : r.node_of f.number ≡ node = omega arith in
       let o = subst (Node (r.node_of f.number)) seat.1 (r.each_node (r.node_of f.number) seat.0) in
       let c = o.counts in let t = few_takes slot inside in let p = r.shape.passes in
-      let large : 2 < node_word_in k s (r.node_of f.number) = omega arith in subst (λ (n : ℕ). 2 < node_word_in k s n) same large
+      let large : 2 < node_word_in k s (r.node_of f.number) = omega (arith, few_cold k.passes) in subst (λ (n : ℕ). 2 < node_word_in k s n) same large
 
   changes_most : sum_by changes_of s.views ≤ 1024
   changes_most = let a = sum_le_at changes_of lengths s.views (few_changes k s r) in let b = r.whole in let c = r.shape.passes in omega arith
@@ -29,6 +29,7 @@ module _ (k : Start) (s : Shared) (r : Agrees k s) where
   pub words_are_bounded : AreBounded k s
   words_are_bounded = record {
     takes = few_takes;
+    room = omega (arith, few_cold k.passes, r.shape.passes);
     named = λ slot node inside is. let a = r.each_slot slot inside in of_slot slot node inside _ a.names a.seat is;
     leaving = λ seat node takes next marks v f there is.
         let work = subst (WorkAgrees k r.phase seat) is (r.each_view seat v there).work in

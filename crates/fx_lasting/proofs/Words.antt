@@ -1,24 +1,35 @@
 -- The names that these proofs cite, passed on from one place. Declares nothing.
 pub use Rattle.atomic_table.proofs.Lists.{set_here, set_else, at_set, at_map, exchanged, at_index}
+pub use Rattle.atomic_table.specs.Seated.{TableId}
 pub use Rattle.atomic_table.specs.Table.{Act, keeps, Valid, stepped, carried_after, step, gives, rest, takes, Allows}
 pub use Rattle.fx_base.specs.declared.open_file.Closed.{Closed}
 pub use Rattle.fx_lasting.specs.Agrees.{HoldAgrees, MayBeUnmarked, GuardAgrees, GlanceAgrees, Heats, LogAgrees, ViewAgrees, Agrees, NodeAgrees, Does}
 pub use Rattle.fx_lasting.specs.Agrees.{OwnerAgrees, HoldsAt, WorkAgrees, SearchAgrees, NamesNode, Nodes, Names, IsSeated, SlotAgrees, Home, HasFile}
 pub use Rattle.fx_lasting.specs.Agrees.{IsVacant}
+pub use Rattle.fx_lasting.specs.AtWork.{IsAtWork, IsReleasing, HasPlace, InRange, begun, difference, HasToTell}
 pub use Rattle.fx_lasting.specs.Control.{in_change, added, removed_by, changes_of, added_of, removed_of, if_full, full_in, ControlCounts}
 pub use Rattle.fx_lasting.specs.Counts.{tally, owed}
+pub use Rattle.fx_lasting.specs.Ends.{LetsMarkGo, LetsFileGo, Guards, TakesAt}
 pub use Rattle.fx_lasting.specs.Cuts.{new_logs, first_view, together, spent}
+pub use Rattle.fx_lasting.specs.Laws.{HasToLetGo, IsOutOfRange}
 pub use Rattle.fx_lasting.specs.Laws.{ClearsKeep, TakesOutKeep, ExchangesKeep, HasPass, GlancesKeep, AnnouncesKeep, ConfirmsKeep, WithdrawsKeep}
 pub use Rattle.fx_lasting.specs.Laws.{TakesOnceKeep, HeatsKeep, MayChange, SplitsKeep, JoinsKeep, BeginsKeep, EndsKeep, AsksKeep, PeeksKeep}
 pub use Rattle.fx_lasting.specs.Laws.{InstallsKeep, StepsDownKeep, LettingGoKeeps, SeeksKeep, BirthsKeep, RestsKeep, VisitsKeep, MarksKeep}
 pub use Rattle.fx_lasting.specs.Laws.{RetiresKeep, IsInRange}
-pub use Rattle.fx_lasting.specs.Layout.{control_place, slot_place, block_for, block_start}
+pub use Rattle.fx_lasting.specs.Layout.{control_place, slot_place, hold_place, node_place, block_for, block_start}
 pub use Rattle.fx_lasting.specs.Opens.{word_for, node_for, home_for, first_file, OpensWith}
 pub use Rattle.fx_lasting.specs.Parts.{hot_bit, count_in, hot_in, IsHot, cold_takes, born, closed_word, retire_amount_of, announced, mark}
 pub use Rattle.fx_lasting.specs.Passes.{Shared, Sat, start_of, slots_of, range_of, nodes_of, IsInBlock, word_of, hold_of, logs_of, lengths}
 pub use Rattle.fx_lasting.specs.Passes.{state_after_all, IsHistory, new_log, first_log, held_in, if_file, held_of, taking, taken_of}
 pub use Rattle.fx_lasting.specs.Phases.{Phase, owner, file_in, if_numbered, removed_in, free, placed, seated, leaving, retired, emptied}
 pub use Rattle.fx_lasting.specs.Runs.{Runs}
+pub use Rattle.fx_lasting.specs.Tables.{hold_at, retired_at, doing_in, numbers_of, pass_of, opening_of, view_of, steps_taken, IsBetweenCalls, IsSeatOf, IsPassOf}
+pub use Rattle.fx_lasting.specs.Tables.{opening_of_table, IsPassOfTable}
+pub use Rattle.fx_lasting.specs.declared.pass.LastingPass.{LastingPass}
+pub use Rattle.fx_lasting.specs.declared.table.LastingTable.{LastingTable}
+pub use Rattle.fx_lasting.specs.Tells.{LetsGo, At}
+pub use Rattle.fx_lasting.specs.Visits.{Visited, HasVisited, HasMarked}
+pub use Rattle.fx_lasting.specs.Searches.{next_of}
 pub use Rattle.fx_lasting.specs.Tells.{Announces, Shows, Confirms, Withdraws, glance_after, Takes, HeatTells, StepsDown, TakesOut, slot_of, pass_at}
 pub use Rattle.fx_lasting.specs.Tells.{event_of, pass_in, IsInside, Stepped, Goes, Glances, Exchanges, LettingGo, Seeks, Births, Rests, Visits, Marks}
 pub use Rattle.fx_lasting.specs.Tells.{Retires, changed, turned, first_visit, retiring, Found, Installs, Removes, Turns, Asks, Peeks}
@@ -46,17 +57,23 @@ pub use Rattle.fx_table.proofs.Members.{contains_head, contains_map, contains_on
 pub use Rattle.fx_table.proofs.Ones.{one_if, bit_here, bit_else, once_is, one_more_at, one_less_at, counted_once}
 pub use Rattle.fx_table.proofs.SumLemmas.{found_by, found_sum, sum_at, sum_two, sum_set, sum_le_at, sum_of, sum_zero_at, sum_only}
 pub use Rattle.fx_words.proofs.Parts.{name_made, entry_made, takes_made}
-pub use Rattle.fx_words.specs.Words.{name_in, entry_in, slot_word_of, one_change, bias}
+pub use Rattle.fx_words.specs.Words.{end_amount_of, node_in, name_in, entry_in, slot_word_of, one_change, bias}
 pub use Rattle.std.proofs.Common.{bit_or, eq-eqb, ne_eqb, length-append, true, map, get_or, IsSome, ◌*◌, get_or-set_other, get_or-set_same, ◌/◌}
 pub use Rattle.std.proofs.Common.{lt-ltb, le-ltb, Option, Some, None, slice_index, ◌+◌, ◌-◌, ◌%◌, ◌^◌, false, eqb, inl, ◌++◌, ◌⊎◌, inr, ⊎_elim}
 pub use Rattle.std.proofs.Common.{length-set, ◌≡◌, ◌≢◌, ℕ, zero, suc, ◌<◌, ◌≤◌, Bool, cond, nat_lt, List, [], ◌∷◌, length, set, sym, refl, ap, ◌∙◌}
-pub use Rattle.std.proofs.Common.{subst, arith}
+pub use Rattle.std.proofs.Common.{subst, arith, rules, All, take, drop, reverse, vec_capacity, nat_eq}
 pub use Rattle.std.proofs.Math.Nat.{mul-le-mul_right}
 pub use Rattle.std.proofs.lemmas.List.{length-map, set-get_or}
 pub use Rattle.std.proofs.lemmas.List.FromFn.{length-map-range_with_len}
 pub use Rattle.std.proofs.lemmas.List.Sums.{sum_by-append, sum_by-cons}
 pub use Rattle.std.specs.List.{range_with_len}
-pub use Rattle.std.specs.Prelude.{sum_by, Contains}
+pub use Rattle.fx_lasting.specs.Firsts.{first_at, AreFirstWords, AreFirstHomes}
+pub use Rattle.fx_lasting.specs.Shells.{IsShellOf, AreBack, file_in_place}
+pub use Rattle.fx_lasting.specs.Lives.{dealt, logs_in, IsNewPass, HasAllPasses, IsIdleSeatOf, AllAreIdle, Leaves}
+pub use Rattle.fx_plain.specs.Contents.{Contents, IsPrepared}
+pub use Rattle.std.proofs.lemmas.List.{get_or_append_left, get_or_push}
+pub use Rattle.std.specs.Mem.Slots.{slots_items, slots_len, IsFull, slots_filled}
+pub use Rattle.std.specs.Prelude.{sum_by, Contains, ℤ}
 pub use lib.ListN.{get_elem?}
 pub use mathlib.Core.Logic.{dite}
 pub use mathlib.Core.Option.{some, none, some-injective, some-ne-none}

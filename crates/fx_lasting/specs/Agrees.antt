@@ -56,7 +56,7 @@ pub record SlotAgrees (k : Start) (node_of : Nodes) (phase : ℕ → Phase) (ove
     (slot : ℕ) (there : Option File) (word : ℕ) : Type 0 where
   pub names : Names node_of word there
   pub seat : IsSeated k node_of phase slot there
-  pub takes : count_in word ≤ cold_takes + tally over k.passes
+  pub takes : count_in word ≤ cold_takes k.passes + tally over k.passes
 
 -- what lies in a node's place: nothing, while the place is with a pass, or else a file or none
 abbrev pub Home : Type 0

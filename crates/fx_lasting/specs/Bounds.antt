@@ -1,12 +1,12 @@
 -- The bounds of a lasting table's words.
-use Rattle.std.specs.Prelude.{◌≡◌, ℕ, ◌+◌, ◌/◌, ◌%◌, ◌<◌, ◌≤◌, slice_index}
+use Rattle.std.specs.Prelude.{◌≡◌, ℕ, ◌+◌, ◌/◌, ◌%◌, ◌^◌, ◌<◌, ◌≤◌, slice_index}
 use mathlib.Core.Option.{some}
 use lib.ListN.{get_elem?}
 use Rattle.fx_plain.specs.declared.event.File.{File}
 use Rattle.fx_words.specs.Words.{name_in, one_change}
 use Rattle.fx_lasting.specs.Agrees.{Agrees}
 use Rattle.fx_lasting.specs.Layout.{control_place, slot_place}
-use Rattle.fx_lasting.specs.Parts.{count_in}
+use Rattle.fx_lasting.specs.Parts.{count_in, cold_takes}
 use Rattle.fx_lasting.specs.Passes.{Shared, slots_of, word_of}
 use Rattle.fx_lasting.specs.declared.view.Start.{Start}
 use Rattle.fx_lasting.specs.declared.view.View.{View}
@@ -26,8 +26,10 @@ control_word_in s = slice_index s.words control_place
 
 -- the bounds of a table's words
 pub record AreBounded (k : Start) (s : Shared) : Type 0 where
-  -- a slot has at most 16 takes, and one more for each pass: 31 bits have room for them
-  pub takes : (slot : ℕ) → slot < slots_of k → count_in (slot_word_in s slot) ≤ 16 + k.passes
+  -- a slot has at most the takes of a cold one, and one more for each pass: 31 bits have room
+  pub takes : (slot : ℕ) → slot < slots_of k
+      → count_in (slot_word_in s slot) ≤ cold_takes k.passes + k.passes
+  pub room : cold_takes k.passes + k.passes < 2 ^ 31
   -- no drop finds 2 while a slot names the node
   pub named : (slot node : ℕ) → slot < slots_of k → name_in (slot_word_in s slot) ≡ node + 1
       → 2 < node_word_in k s node

@@ -1,5 +1,5 @@
 -- The parts of words, as numbers.
-use Rattle.std.specs.Prelude.{◌≡◌, ℕ, ◌+◌, ◌-◌, ◌/◌, ◌%◌, ◌^◌}
+use Rattle.std.specs.Prelude.{◌≡◌, ℕ, ◌+◌, ◌-◌, ◌/◌, ◌%◌, ◌^◌, ◌==◌, if◌then◌else◌}
 
 -- the name, the entry and the node of a slot's word are those of `fx_words`. Bit 31 says whether
 -- the slot is hot, and the lower ones count its takes
@@ -16,9 +16,9 @@ hot_in word = word / 2 ^ 31 % 2
 abbrev pub IsHot : ℕ → Type 0
 IsHot word = hot_in word ≡ 1
 
--- the takes from which on a slot becomes hot
-abbrev pub cold_takes : ℕ
-cold_takes = 16
+-- the takes from which on a slot becomes hot: a pass that is alone disturbs nobody
+abbrev pub cold_takes : ℕ → ℕ
+cold_takes passes = if passes == 1 then 2 ^ 30 else 16
 
 -- the word of a node: 0 while it is free; from its birth on this, less what was dropped; 1 and the
 -- holds that are left, when its file was retired; 1 when its file is closed

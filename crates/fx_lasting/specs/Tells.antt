@@ -120,17 +120,20 @@ pub record Withdraws (st : At) (m : Sat) (found : ℕ) (m' : Sat) : Type 0 where
   pub marked : (node : ℕ) → m.0.work ≡ Announced node → found ≢ announced node
       → Goes m [] (Owing node) m.0.glance m'
 
--- how far a look-up is that took what a slot named, whose word it found so
-abbrev pub glance_after : ℕ → ℕ → Glance
-glance_after slot found = if nat_lt (count_in found) cold_takes then Nothing else Heating slot
+-- how far a look-up is that took what a slot named, whose word it found so, in a table with these
+-- passes
+abbrev pub glance_after : ℕ → ℕ → ℕ → Glance
+glance_after passes slot found =
+    if nat_lt (count_in found) (cold_takes passes) then Nothing else Heating slot
 
 -- Take: the file that the slot names is held by a take, if there is one
 pub record Takes (st : At) (m : Sat) (found : ℕ) (m' : Sat) : Type 0 where
   pub empty : (slot : ℕ) → m.0.glance ≡ Cold slot → name_in found ≡ 0
-      → Goes m ([] ▷ Look slot None) Idle (glance_after slot found) m'
+      → Goes m ([] ▷ Look slot None) Idle (glance_after m.0.start.passes slot found) m'
   pub holds : (slot node : ℕ) → m.0.glance ≡ Cold slot → name_in found ≡ node + 1
       → (f : File) × Shows found f
-      × Goes m ([] ▷ Look slot (Some f)) (Counted f node) (glance_after slot found) m'
+      × Goes m ([] ▷ Look slot (Some f)) (Counted f node)
+      (glance_after m.0.start.passes slot found) m'
 
 -- Heat: the slot is hot
 pub record HeatTells (st : At) (m : Sat) (found : ℕ) (m' : Sat) : Type 0 where
@@ -165,13 +168,14 @@ pub record LettingGo (st : At) (m : Sat) (found : ℕ) (m' : Sat) : Type 0 where
       × (found ≡ 2 → TakesOut m ([] ▷ Release f) f node m')
 
 -- Seek, of a node's word: where it is 0 the node is free, and the pass may use it; else another
--- node of its block is free
+-- node of its block is free, and it stays so while the pass looks on
 pub record Seeks (st : At) (m : Sat) (found : ℕ) (m' : Sat) : Type 0 where
   pub node : ℕ
   pub goes : Goes m [] (Searching node) m.0.glance m'
   pub block : IsInBlock m.0.start (pass_in m).number node
   pub here : found ≡ 0 → st.word ≡ word_of m.0.start node
   pub other : found ≢ 0 → st.word ≢ word_of m.0.start node
+  pub stays : (n : ℕ) → m.0.work ≡ Searching n → found ≢ 0 → node ≡ n
 
 -- Birth: the place of the node is with the pass
 pub record Births (st : At) (m : Sat) (found : ℕ) (m' : Sat) : Type 0 where

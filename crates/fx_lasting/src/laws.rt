@@ -1,9 +1,10 @@
 //! The law of each kind of step: where the rule holds before the step, it holds after it, whatever the table and the
 //! other passes are.
-ghost use Rattle.std.specs.Prelude.{ℕ};
+ghost use Rattle.std.specs.Prelude.{◌≡◌, ℕ};
 ghost use Rattle.fx_lasting.specs.Bounds.{WordsAreBounded};
 ghost use Rattle.fx_lasting.specs.Layout.{PlacesAreInside, PlacesAreApart};
 ghost use Rattle.fx_lasting.specs.Opens.{OpeningKeeps};
+ghost use Rattle.fx_lasting.specs.declared.layout.TheConstants.{MOST_PASSES, MOST_INSTALLING};
 ghost use Rattle.fx_lasting.specs.Laws.{GlancesKeep, AnnouncesKeep, ConfirmsKeep, WithdrawsKeep, TakesOnceKeep, HeatsKeep, StepsDownKeep, LettingGoKeeps, SeeksKeep, BirthsKeep, RestsKeep, VisitsKeep, MarksKeep, RetiresKeep, BeginsKeep, EndsKeep, AsksKeep, PeeksKeep, SplitsKeep, JoinsKeep, ClearsKeep, TakesOutKeep, InstallsKeep, ExchangesKeep};
 
 use crate::kinds::{
@@ -14,6 +15,12 @@ use crate::kinds::{
 use crate::view::{Start, View};
 use atomic_table::{Join, Play, Split, TableRule};
 use fx_base::OpenFile;
+
+/// States that a table has at most 1,024 passes, of which at most 64 install files.
+pub fn limits_are_numbers()
+    ensures most_passes { MOST_PASSES ≡ 1024 }
+    ensures most_installing { MOST_INSTALLING ≡ 64 }
+{}
 
 /// A table that begins with the words and places of its opening keeps the rule, with one seat that has all passes.
 pub fn opening_keeps_rule()
@@ -146,7 +153,7 @@ pub fn exchange_keeps_rule()
     ensures { ExchangesKeep ⟦<Exchanging as Play<Option<OpenFile>, View>>⟧.then }
 {}
 
-/// While the rule holds, no word overflows. A slot has at most 16 takes, and one more for each pass. The word of a node
+/// While the rule holds, no word overflows. A slot has at most the takes of a cold one, and one more for each pass. The word of a node
 /// is above 2 until its file is retired, so no drop finds 2 before that. At most 1,024 changes are in flight, and the
 /// lower half of the control word is between 64,512 and 66,816.
 pub fn words_are_bounded()

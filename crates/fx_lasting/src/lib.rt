@@ -1,8 +1,33 @@
-//! The rule of a file table without a lock that never has to be closed: its words, its kinds of atomic step, and for each
-//! kind the law that it keeps one legal history. A cold file is looked up by an addition to its slot's word, a hot file by
-//! its name in a word of the pass's own. The calls that make these steps are not written yet.
+//! A shared file table without a lock that never has to be closed. A cold file is looked up by an addition to its slot's
+//! word, a hot one by its name in a word of the pass's own; only an open at any slot may wait.
+//!
+//! Begin reading at `calls.rt`, then `specs/Agrees.antt` (the rule that every step keeps) and `layout.rt` (the places of the
+//! words).
 #![tactic(auto)]
 
+mod calls;
+mod change;
+mod close;
 mod kinds;
 pub mod laws;
+mod layout;
+mod letting;
+mod look;
+mod moves;
+mod open;
+mod parts;
+mod pass;
+mod put_any;
+mod queries;
+mod seek;
+mod shared_table;
+mod shell;
+mod table;
+mod tried;
 mod view;
+mod visit;
+
+pub use layout::{MOST_INSTALLING, MOST_PASSES};
+pub use pass::LastingPass;
+pub use table::LastingTable;
+pub use tried::TriedPut;

@@ -12,13 +12,13 @@ use fx_chain::{Completion, Place};
 
 /// The accesses and the completion that a request is said to have made.
 #[derive(Drop)]
-pub(crate) struct Answer<'a> {
+pub(crate) struct Performed<'a> {
     pub(crate) place: Place,
     pub(crate) own: &'a [Access],
     pub(crate) c: &'a Completion,
 }
 
-impl Answer<'_> {
+impl Performed<'_> {
     /// Checks whether the completion has this result and these bytes.
     pub(crate) fn says(&self, res: i32, got: &[u8]) -> bool
         ensures { IsTrue result

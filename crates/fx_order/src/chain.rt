@@ -8,9 +8,9 @@ ghost use Rattle.fx_order.specs.declared.access.Access.{Access as Made};
 ghost use Rattle.fx_order.specs.Requests.{IsChainDone, IsRequestDone};
 
 use crate::access::Access;
-use crate::answer::Answer;
+use crate::answer::Performed;
 use crate::request::is_request_done;
-use crate::setting::Setting;
+use crate::setting::OrderSetting;
 use fx_base::{Errno, NoMemory};
 use fx_chain::{Completion, Op, Place, Request};
 
@@ -70,7 +70,7 @@ fn are_canceled(place: Place, requests: &[Request], completions: &[Completion]) 
 /// completions: up to and including the first one that severs the chain, and the later ones canceled. Returns
 /// `NoMemory` if the allocation for the bytes of a read fails.
 pub(crate) fn is_chain_done(
-    setting: &Setting<'_>,
+    setting: &OrderSetting<'_>,
     place: Place,
     requests: &[Request],
     accesses: &[Access],
@@ -89,7 +89,7 @@ pub(crate) fn is_chain_done(
     };
     let made = accesses_made(setting.size, request, c).min(accesses.len());
     let (own, others) = accesses.split_at(made);
-    if !is_request_done(setting, request, &Answer { place, own, c })? {
+    if !is_request_done(setting, request, &Performed { place, own, c })? {
         return Ok(false);
     }
     let next = Place {

@@ -10,8 +10,8 @@ ghost use Rattle.fx_order.specs.Access.{Puts, Allocates};
 ghost use Rattle.fx_order.specs.Requests.{IsOpenDone, IsRequestDone};
 
 use crate::access::Access;
-use crate::answer::{Answer, puts};
-use crate::setting::Setting;
+use crate::answer::{Performed, puts};
+use crate::setting::OrderSetting;
 use fx_base::{Catalogue, Errno};
 use fx_chain::Target;
 
@@ -59,7 +59,7 @@ fn entry_of(catalogue: &Catalogue, name: &str, own: &[Access]) -> Option<u8>
 }
 
 // Checks an open at a slot.
-fn is_open_at_done(size: u32, entry: u8, slot: u32, answer: &Answer<'_>) -> bool
+fn is_open_at_done(size: u32, entry: u8, slot: u32, answer: &Performed<'_>) -> bool
     ensures { IsTrue result ↔ IsOpenDone size answer.now.place entry (Slot slot) answer.now.own.now
         (completed_of answer.now.c.now) }
 {
@@ -76,7 +76,7 @@ fn is_open_at_done(size: u32, entry: u8, slot: u32, answer: &Answer<'_>) -> bool
 }
 
 // Checks an open at any slot.
-fn is_open_any_done(size: u32, entry: u8, answer: &Answer<'_>) -> bool
+fn is_open_any_done(size: u32, entry: u8, answer: &Performed<'_>) -> bool
     ensures { IsTrue result ↔ IsOpenDone size answer.now.place entry Any answer.now.own.now
         (completed_of answer.now.c.now) }
 {
@@ -96,10 +96,10 @@ fn is_open_any_done(size: u32, entry: u8, answer: &Answer<'_>) -> bool
 
 /// Checks whether an open made these accesses and has this completion.
 pub(crate) fn is_open_done(
-    setting: &Setting<'_>,
+    setting: &OrderSetting<'_>,
     name: &str,
     target: Target,
-    answer: &Answer<'_>,
+    answer: &Performed<'_>,
 ) -> bool
     ensures { IsTrue result ↔ IsRequestDone setting.now.catalogue.now setting.now.size
         answer.now.place (Opens name.now target) answer.now.own.now

@@ -7,20 +7,20 @@ ghost use Rattle.fx_order.specs.Access.{Looks};
 ghost use Rattle.fx_order.specs.Requests.{IsReadDone, IsCloseDone, IsRequestDone, gives};
 
 use crate::access::Access;
-use crate::answer::Answer;
+use crate::answer::Performed;
 use crate::open::is_open_done;
-use crate::setting::Setting;
+use crate::setting::OrderSetting;
 use crate::update::is_update_done;
 use fx_base::{Closed, Errno, NoMemory};
 use fx_chain::{Op, Request};
 
 // Checks whether a read of a file has this completion.
 fn is_given(
-    setting: &Setting<'_>,
+    setting: &OrderSetting<'_>,
     file: &Closed,
     off: u32,
     len: u32,
-    answer: &Answer<'_>,
+    answer: &Performed<'_>,
 ) -> Result<bool, NoMemory>
     ensures { IfOk result (λ yes. IsTrue yes ↔ (completed_of answer.now.c.now
         ≡ gives setting.now.catalogue.now answer.now.place file.now off len)) }
@@ -44,11 +44,11 @@ fn found_at(slot: u32, own: &[Access]) -> Option<Option<Closed>>
 
 // Checks whether a read made these accesses and has this completion.
 fn is_read_done(
-    setting: &Setting<'_>,
+    setting: &OrderSetting<'_>,
     slot: u32,
     off: u32,
     len: u32,
-    answer: &Answer<'_>,
+    answer: &Performed<'_>,
 ) -> Result<bool, NoMemory>
     ensures { IfOk result (λ yes. IsTrue yes ↔ IsReadDone setting.now.catalogue.now setting.now.size
         answer.now.place slot off len answer.now.own.now (completed_of answer.now.c.now)) }
@@ -67,7 +67,7 @@ fn is_read_done(
 }
 
 // Checks whether a close made these accesses and has this completion.
-fn is_close_done(size: u32, slot: u32, answer: &Answer<'_>) -> bool
+fn is_close_done(size: u32, slot: u32, answer: &Performed<'_>) -> bool
     ensures { IsTrue result ↔ IsCloseDone size answer.now.place slot answer.now.own.now
         (completed_of answer.now.c.now) }
 {
@@ -86,9 +86,9 @@ fn is_close_done(size: u32, slot: u32, answer: &Answer<'_>) -> bool
 
 /// Checks whether a request made these accesses and has this completion.
 pub(crate) fn is_request_done(
-    setting: &Setting<'_>,
+    setting: &OrderSetting<'_>,
     request: &Request,
-    answer: &Answer<'_>,
+    answer: &Performed<'_>,
 ) -> Result<bool, NoMemory>
     ensures { IfOk result (λ yes. IsTrue yes ↔ IsRequestDone setting.now.catalogue.now
         setting.now.size answer.now.place (operation_of request.now.op) answer.now.own.now

@@ -8,7 +8,7 @@ ghost use Rattle.fx_order.specs.Requests.{AreChainsDone};
 use crate::access::ChainAccess;
 use crate::chain::is_chain_done;
 use crate::order::accesses_of_chain;
-use crate::setting::Setting;
+use crate::setting::OrderSetting;
 use fx_base::{Catalogue, NoMemory};
 use fx_chain::{Chain, Completion, MOST_MEMBERS, Place, Request};
 use std::alloc::Global;
@@ -67,7 +67,7 @@ pub fn are_chains_done(
     }
     let (own, others) = completions.split_at(members.len());
     let accesses = accesses_of_chain(alloc, chain, ordered.order)?;
-    let setting = Setting {
+    let setting = OrderSetting {
         alloc,
         catalogue: ordered.catalogue,
         size: ordered.size,

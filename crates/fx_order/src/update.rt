@@ -4,8 +4,8 @@ ghost use Rattle.fx_chain.specs.Completed.{completed_of};
 ghost use Rattle.fx_order.specs.Requests.{IsEntryDone, AreEntriesDone, IsUpdateDone};
 
 use crate::access::Access;
-use crate::answer::Answer;
-use crate::setting::Setting;
+use crate::answer::Performed;
+use crate::setting::OrderSetting;
 use fx_base::Errno;
 use fx_chain::{Place, has_bad_entry};
 
@@ -51,10 +51,10 @@ fn are_entries_done(
 
 /// Checks whether an update made these accesses and has this completion.
 pub(crate) fn is_update_done(
-    setting: &Setting<'_>,
+    setting: &OrderSetting<'_>,
     off: u32,
     list: &[i32],
-    answer: &Answer<'_>,
+    answer: &Performed<'_>,
 ) -> bool
     ensures { IsTrue result ↔ IsUpdateDone (length setting.now.catalogue.now) setting.now.size
         answer.now.place off list.now answer.now.own.now (completed_of answer.now.c.now) }

@@ -4,7 +4,7 @@ use Rattle.fx_plain.proofs.Words.{if◌then◌else◌, arith, get_or-eq_default,
 use Rattle.fx_plain.proofs.Words.{state_after, changed_at, action_of, File, Event, Action, Put, Clear, Take, Allocate, Look, IsLegal, Contents}
 use Rattle.fx_plain.proofs.Words.{state_of, file_at}
 use Rattle.fx_plain.specs.Laws.{IsStart}
-use Rattle.fx_plain.specs.Reopening.{IsAtRest}
+use Rattle.fx_plain.specs.Reopening.{IsTableAtRest}
 use Rattle.std.proofs.lemmas.Bool.{false_from_ne_true}
 use Rattle.fx_plain.proofs.Cells.{by_equality}
 use Rattle.fx_plain.proofs.Named.{named, named_same}
@@ -56,7 +56,7 @@ pub inside_behind : (start : State) (h : List Action) → AllowsAll start h → 
 inside_behind start [] may none = none
 inside_behind start (a ∷ h) may none = inside_after (state_after start h) a may.1 (inside_behind start h may.0 none)
 
-pub stays_at_rest : (start end : State) (h : List Event) → IsAtRest start → IsLegal start h end → IsSettled end → IsAtRest end
+pub stays_at_rest : (start end : State) (h : List Event) → IsTableAtRest start → IsLegal start h end → IsSettled end → IsTableAtRest end
 stays_at_rest start end h rest legal settled = record {
   start = begins_by_tally (λ n. let few = tally_start start n rest.start in let all = tally_all start h n few legal.leads.0 in
       let same = ap (tally n) legal.leads.1 in omega arith) settled;
@@ -66,5 +66,5 @@ stays_at_rest start end h rest legal settled = record {
 pub opens_inside : (plain : Contents) (numbers : ℕ) → HasNonePast (opening (state_of plain) numbers)
 opens_inside plain numbers slot le = ap (λ (x : Option ℕ). file_numbered (file_at plain.nodes x) slot) (get_or-eq_default plain.slots None le)
 
-pub opening_is_at_rest : (plain : Contents) (numbers : ℕ) → IsAtRest (opening (state_of plain) numbers)
+pub opening_is_at_rest : (plain : Contents) (numbers : ℕ) → IsTableAtRest (opening (state_of plain) numbers)
 opening_is_at_rest plain numbers = record { start = opening_is_start (state_of plain) numbers; inside = opens_inside plain numbers }

@@ -9,7 +9,7 @@ use Rattle.fx_plain.proofs.LawFiles.{installed_now, used_after}
 use Rattle.fx_plain.proofs.Places.{place_of, number_at, IsIn, AreDistinct, number_at_in, place_below, number_at_place, place_of_number, slot_of}
 use Rattle.fx_plain.proofs.Places.{slot_found, no_slot_found}
 use Rattle.fx_plain.proofs.Renaming.{IsOneToOne, IsNamed, read_at, renamed_state, IsRenamable, InstallsNamed, legal_renamed}
-use Rattle.fx_plain.specs.Reopening.{Renaming, renamed_found, renamed_event, numbers_given, with_number_of, HasOtherNumbers, IsAtRest}
+use Rattle.fx_plain.specs.Reopening.{Renaming, renamed_found, renamed_event, numbers_given, with_number_of, HasOtherNumbers, IsTableAtRest}
 
 -- a number that was used at the start is used afterwards
 used_behind : (start : State) (h : List Action) (n : ℕ) → start.fresh n ≡ false → (state_after start h).fresh n ≡ false
@@ -178,7 +178,7 @@ same_identity : (r : Renaming) (x : Option File) → identity_of (renamed_found 
 same_identity r None = refl
 same_identity r (Some f) = refl
 
-pub opened_anew : (chain : ℕ → ℕ) (numbers : ℕ) (start end : State) (h : List Event) → IsAtRest start
+pub opened_anew : (chain : ℕ → ℕ) (numbers : ℕ) (start end : State) (h : List Event) → IsTableAtRest start
     → start.size + length (numbers_given (map action_of h)) ≤ numbers → IsLegal start h end
     → (r : Renaming) × (left : State) × (r.chain ≡ chain) × IsLegal (opening start numbers) (map (renamed_event r) h) left × HasOtherNumbers end left
 opened_anew chain numbers start end h rest enough legal =

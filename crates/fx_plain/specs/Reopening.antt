@@ -58,28 +58,29 @@ pub record HasOtherNumbers (one other : State) : Type 0 where
 
 -- a table between submissions: the laws' histories may begin there, and it has no file past its
 -- slots
-pub record IsAtRest (st : State) : Type 0 where
+pub record IsTableAtRest (st : State) : Type 0 where
   pub start : IsStart st
   pub inside : (slot : ℕ) → st.size ≤ slot → st.at slot ≡ None
 
 -- a table that is opened is at rest, and is at rest again in each later settled state
 abbrev pub OpeningIsAtRest : Type 0
-OpeningIsAtRest = (plain : Contents) (numbers : ℕ) → IsAtRest (opening (state_of plain) numbers)
+OpeningIsAtRest = (plain : Contents) (numbers : ℕ) → IsTableAtRest (opening
+    (state_of plain) numbers)
 
 abbrev pub StaysAtRest : Type 0
 StaysAtRest =
     (start end : State) (h : List Event)
-    → IsAtRest start
+    → IsTableAtRest start
     → IsLegal start h end
     → IsSettled end
-    → IsAtRest end
+    → IsTableAtRest end
 
 -- what happens to a table at rest may also happen to a table that is opened with its files, if that
 -- has numbers for all installed files; its events may be of other chains
 abbrev pub OpenedAnew : Type 0
 OpenedAnew =
     (chain : ℕ → ℕ) (numbers : ℕ) (start end : State) (h : List Event)
-    → IsAtRest start
+    → IsTableAtRest start
     → start.size + length (numbers_given (map action_of h)) ≤ numbers
     → IsLegal start h end
     → (r : Renaming) × (left : State) × (r.chain ≡ chain)

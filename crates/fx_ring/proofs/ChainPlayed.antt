@@ -8,6 +8,7 @@ use Rattle.fx_ring.proofs.Words.{contains_head, contains_tail, contains_cases, c
 use Rattle.fx_chain.proofs.ChainGoesOn.{explained_count}
 use Rattle.fx_ring.proofs.Parts.{only_first, only_second, not_first, not_second}
 use Rattle.fx_ring.proofs.CompletionPlaces.{explained_of_members}
+use Rattle.fx_table.proofs.Calls.{looks_least}
 
 -- what stands at a further place of a list, counted from 1, and what stands behind that
 pub sum_behind : {X : Type 0} (f : X → ℕ) (xs : List X) (d : X) (i : ℕ) {c : ℕ} → i < c → c ≤ length xs
@@ -39,7 +40,7 @@ pub record GoesOn (v x : PassView) (actions : List Action) (used : Use) : Type 0
   pub own : x.own ≡ map (event_of v) actions ++ v.own
   pub chain : x.chain ≡ v.chain
   pub drawn : x.drawn ≡ v.drawn
-  pub looks_left : x.looks_left + used.looks ≡ v.looks_left
+  pub looks_left : v.looks_left ≤ x.looks_left + used.looks
 
 -- what is said of each chain that a worker drew
 abbrev IsDone : List FileEntry → ℕ → ℕ → List (List Asked) → ℕ → List Action → List Completed → Type 0
@@ -160,7 +161,8 @@ module _ {o : Opening} {catalogue : List FileEntry} {submission : ℕ} {runs : L
   inside = let low = drew.2 in omega arith
 
   goes : GoesOn (drawing o v chain) x played.2.actions played.2.used
-  goes = subst (λ (z : PassView). GoesOn z x played.2.actions played.2.used) drew.3 (assumption played.2.acts.adds)
+  goes = let looks = looks_least played.2.acts.adds in
+      subst (λ (z : PassView). GoesOn z x played.2.actions played.2.used) drew.3 (assumption (looks, played.2.acts.adds))
 
   pub worked_next : HasWorked catalogue (size_of o) submission runs (worker_state x now files)
   worked_next = worked_on worked drew.1 inside are played goes

@@ -2,7 +2,7 @@
 use Rattle.fx_ring.proofs.Words.{◌≡◌, ℕ, suc, ◌+◌, ◌-◌, ◌<◌, ◌≤◌, if◌then◌else◌, ℤ, pos, List, ◌++◌, length, nat_lt, length-append, append_assoc}
 use Rattle.fx_ring.proofs.Words.{append-nil, refl, sym, ap, ◌∙◌, Option, Some, slice_get, drop, slice_index_or, arith, lt-ltb, le-ltb, slice_get_past}
 use Rattle.fx_ring.proofs.Words.{drop-cons, CloseListView, Registered, Closed, State, IsSettled, changed_at, by_equality, file_after, file_listed}
-use Rattle.fx_ring.proofs.Words.{files_after, removed_by, removed_from, tag_at, files_at, SetsList, SetsNumber}
+use Rattle.fx_ring.proofs.Words.{files_after, removed_by_number, removed_from, tag_at, files_at, SetsList, SetsNumber}
 use Rattle.std.proofs.Math.Seq.{drop-length}
 use Rattle.std.proofs.lemmas.Bool.Decides.{nat_tests}
 use Rattle.std.proofs.lemmas.Option.{slice_get-get_or}
@@ -53,10 +53,10 @@ module _ (k : ℕ) (at : ℕ → Option Closed) (off : ℕ) (list : List ℤ) (t
         other slot apart = grind (arith, nat_tests)
 
     -- what the rest of the list removes, with the next number in front
-    pub removed_next : removed_from at (off + i) (drop i list) ≡ removed_by z (at (off + i)) ++ removed_from at (off + (i + 1)) (drop (i + 1) list)
-    removed_next = ap (removed_from at (off + i)) (drop-cons list i (pos 0) inside) ∙ ap (λ (y : ℤ). removed_by y (at (off + i))
+    pub removed_next : removed_from at (off + i) (drop i list) ≡ removed_by_number z (at (off + i)) ++ removed_from at (off + (i + 1)) (drop (i + 1) list)
+    removed_next = ap (removed_from at (off + i)) (drop-cons list i (pos 0) inside) ∙ ap (λ (y : ℤ). removed_by_number y (at (off + i))
         ++ removed_from at (off + i + 1) (drop (suc i) list)) (sym is)
-        ∙ ap (λ (n : ℕ × ℕ). removed_by z (at (off + i)) ++ removed_from at n.0 (drop n.1 list))
+        ∙ ap (λ (n : ℕ × ℕ). removed_by_number z (at (off + i)) ++ removed_from at n.0 (drop n.1 list))
         (let e : off + i + 1 ≡ off + (i + 1) = omega arith in let f : suc i ≡ i + 1 = omega arith in λ j. (e j, f j))
 
 -- the first so many numbers of a list were applied; the rest has still to be removed, and has its room
@@ -92,14 +92,14 @@ module _ {k off : ℕ} {list : List ℤ} {tags : List ℕ} {old cur : State} {be
     here : files_at cur (off + i) ≡ files_at old (off + i)
     here = ap (λ (a : ℕ → Option Closed). a (off + i)) done.at_slots ∙ upto_here k (files_at old) off list tags i number inside refl
 
-    split : removed_from (files_at old) (off + i) (drop i list) ≡ removed_by number (files_at cur (off + i)) ++ rest
-    split = removed_next k (files_at old) off list tags i number inside refl ∙ ap (λ (x : Option Closed). removed_by number x ++ rest) (sym here)
+    split : removed_from (files_at old) (off + i) (drop i list) ≡ removed_by_number number (files_at cur (off + i)) ++ rest
+    split = removed_next k (files_at old) off list tags i number inside refl ∙ ap (λ (x : Option Closed). removed_by_number number x ++ rest) (sym here)
 
-    parts : length (removed_from (files_at old) (off + i) (drop i list)) ≡ length (removed_by number (files_at cur (off + i))) + length rest
-    parts = ap length split ∙ length-append (removed_by number (files_at cur (off + i))) rest
+    parts : length (removed_from (files_at old) (off + i) (drop i list)) ≡ length (removed_by_number number (files_at cur (off + i))) + length rest
+    parts = ap length split ∙ length-append (removed_by_number number (files_at cur (off + i))) rest
 
     -- the next number still has room
-    pub room_next : length (removed_from (files_at old) off list) ≤ before.room → length (removed_by number (files_at cur (off + i))) ≤ mid.room
+    pub room_next : length (removed_from (files_at old) off list) ≤ before.room → length (removed_by_number number (files_at cur (off + i))) ≤ mid.room
     room_next enough = let both = parts in omega arith
 
     pub applied_next : {new : State} {later : CloseListView} → SetsNumber k off i (tag_at tags i) number cur new mid later
@@ -115,7 +115,7 @@ module _ {k off : ℕ} {list : List ℤ} {tags : List ℕ} {old cur : State} {be
               done.at_slots
               ∙ sym (upto_next k (files_at old) off list tags i number inside refl);
           settled = next.settled;
-          closed = ap (λ (l : List Closed). l ++ rest) next.closed ∙ append_assoc mid.files (removed_by number (files_at cur (off + i))) rest
+          closed = ap (λ (l : List Closed). l ++ rest) next.closed ∙ append_assoc mid.files (removed_by_number number (files_at cur (off + i))) rest
               ∙ ap (λ (l : List Closed). mid.files ++ l) (sym split) ∙ done.closed;
           room = omega arith;
         }

@@ -8,8 +8,9 @@ use Rattle.fx_ring.proofs.Words.{sum_by-cons, IsOneHistory, HasWorked, worker_st
 use Rattle.fx_ring.proofs.Words.{start_of, IsSettledSoFar, contains_map, contains_mapped, each_all, table_with_files, chain_less, begun_behind}
 use Rattle.fx_ring.proofs.Words.{sum_by-le}
 use Rattle.fx_plain.specs.History.{held_by, ◌▷▷◌}
-use Rattle.fx_plain.specs.Reopening.{Renaming, renamed, renamed_event, numbers_given, with_number_of, IsAtRest, HasOtherNumbers}
-use Rattle.fx_plain.proofs.AtRest.{opening_is_at_rest, stays_at_rest}
+use Rattle.fx_plain.specs.Reopening.{Renaming, renamed, renamed_event, numbers_given, with_number_of, IsTableAtRest, HasOtherNumbers}
+use Rattle.fx_plain.proofs.AtRest.{stays_at_rest}
+use Rattle.fx_table.proofs.Openings.{begins_at_rest}
 use Rattle.fx_plain.proofs.Behind.{legal_behind}
 use Rattle.fx_plain.proofs.OpenedAnew.{opened_anew}
 use Rattle.fx_chain.proofs.OtherNumbers.{explains, few_given, given_one}
@@ -18,9 +19,9 @@ use Rattle.fx_ring.proofs.Parts.{few_by_key}
 use Rattle.fx_ring.proofs.PartsExplained.{IsShort, drawn_inside, in_order_explained}
 
 -- a table is at rest wherever all is settled
-pub at_rest_of : {o : Opening} {v : PassView} → IsSettledSoFar o v → IsAtRest (state_at o v.own)
+pub at_rest_of : {o : Opening} {v : PassView} → IsSettledSoFar o v → IsTableAtRest (state_at o v.own)
 at_rest_of {o} {v} settled = stays_at_rest (start_of o) (state_at o v.own) v.own
-    (opening_is_at_rest o.contents (numbers_for o.chains)) settled.legal settled.settled
+    (begins_at_rest o) settled.legal settled.settled
 
 -- what others than the pass hold
 

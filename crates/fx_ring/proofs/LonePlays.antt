@@ -5,6 +5,7 @@ use Rattle.fx_ring.proofs.Words.{worker_state, run_of_chain, HasRoom, vec_capaci
 use Rattle.fx_ring.proofs.Words.{PlaysChain, player, HasPlayedAlone, chain_less, chains_to, begun_behind}
 use Rattle.fx_ring.proofs.NewCrew.{IsNew, new_has_worked, new_has_room}
 use Rattle.fx_ring.proofs.ChainPlayed.{GoesOn, drawing, worked_on, room_left, sum_behind}
+use Rattle.fx_table.proofs.Calls.{looks_least}
 
 -- so many chains were played, and there is room for the others
 pub record IsPlaying {P : Type 0} (V : P → PassView) (Fits : P → Type 0) (o : Opening) (catalogue : List FileEntry) (submission : ℕ)
@@ -64,7 +65,7 @@ module _ {P : Type 0} {V : P → PassView} {Fits : P → Type 0} {o : Opening} {
         ∙ ap (λ (l : List Event). l ++ map (chain_less start.chain) so_far.since) (events_less played.2.actions);
     chain = let e = ap (λ (z : PassView). z.chain) drew.3 in omega (arith, e, next, so_far.chain, played.2.acts.adds.chain);
     drawn = ap chains_to (add-one i) ∙ ap (λ (c : ℕ). chains_to i ▷ c) (sym (add-one i));
-    looks_left = let e = ap (λ (z : PassView). z.looks_left) drew.3 in omega (arith, e, played.2.acts.adds.looks_left);
+    looks_left = let e = ap (λ (z : PassView). z.looks_left) drew.3 in omega (arith, e, looks_least played.2.acts.adds);
   }
 
   further : was.chain < i + 1

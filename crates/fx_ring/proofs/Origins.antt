@@ -2,7 +2,7 @@
 use Rattle.fx_ring.proofs.Words.{◌≡◌, ◌≢◌, ◌⊎◌, ℕ, zero, suc, ◌+◌, ◌-◌, ◌<◌, ◌≤◌, false, ℤ, pos, negsuc, List, [], ◌∷◌, ◌++◌, length, length-append}
 use Rattle.fx_ring.proofs.Words.{All, refl, sym, ap, subst, ◌∙◌, Option, Some, None, slice_get, inl, inr, ⊎_elim, arith, list_any, cases_lt}
 use Rattle.fx_ring.proofs.Words.{leb-false, All-append, Mark, Registered, Submitted, Closed, is_bad_entry, RingState, IsRing, HasCounted, file_listed}
-use Rattle.fx_ring.proofs.Words.{removed_by, removed_from, registered, updated, is_bad_file, tag_at}
+use Rattle.fx_ring.proofs.Words.{removed_by_number, removed_from, registered, updated, is_bad_file, tag_at}
 use Rattle.fx_ring.proofs.Numbers.{good_get, good_files}
 use Rattle.fx_ring.proofs.ListSteps.{files_below, files_from}
 use Rattle.fx_ring.proofs.Rings.{IsEntry, counted_still, entry_listed, none_rings}
@@ -63,7 +63,7 @@ registered_rings ring list tags good = updated_rings (record ring { size = lengt
 
 -- what a list removes is of the catalogue, where all was
 removed_entries_by : {entries : ℕ} (z : ℤ) {x : Option Closed}
-    → ((file : Closed) → x ≡ Some file → IsEntry entries file) → All (IsEntry entries) (removed_by z x)
+    → ((file : Closed) → x ≡ Some file → IsEntry entries file) → All (IsEntry entries) (removed_by_number z x)
 removed_entries_by (negsuc (suc n)) has = λ k d inside. absurd (omega arith)
 removed_entries_by {entries} _ {x} has = entry_listed x has
 
@@ -71,10 +71,10 @@ pub removed_entries : (entries : ℕ) (at : ℕ → Option Closed) (slot : ℕ) 
     → ((s : ℕ) (file : Closed) → at s ≡ Some file → IsEntry entries file) → All (IsEntry entries) (removed_from at slot list)
 removed_entries entries at slot [] has = λ k d inside. absurd (omega arith)
 removed_entries entries at slot (z ∷ list) has =
-    All-append (IsEntry entries) (removed_by z (at slot)) (removed_from at (slot + 1) list)
+    All-append (IsEntry entries) (removed_by_number z (at slot)) (removed_from at (slot + 1) list)
     (removed_entries_by z (has slot)) (removed_entries entries at (slot + 1) list has)
 
-none_removed_by : (z : ℤ) → removed_by z None ≡ []
+none_removed_by : (z : ℤ) → removed_by_number z None ≡ []
 none_removed_by (negsuc zero) = refl
 none_removed_by _ = refl
 
@@ -83,7 +83,7 @@ pub none_removed : (slot : ℕ) (list : List ℤ) → removed_from (λ _. None) 
 none_removed slot [] = refl
 none_removed slot (z ∷ list) = ap (λ (x : List Closed × List Closed). x.0 ++ x.1) (λ i. (none_removed_by z i, none_removed (slot + 1) list i))
 
-one_removed_by : (z : ℤ) (x : Option Closed) → length (removed_by z x) ≤ 1
+one_removed_by : (z : ℤ) (x : Option Closed) → length (removed_by_number z x) ≤ 1
 one_removed_by (negsuc (suc n)) x = omega arith
 one_removed_by _ None = omega arith
 one_removed_by _ (Some f) = omega arith
@@ -92,5 +92,5 @@ one_removed_by _ (Some f) = omega arith
 pub few_removed : (at : ℕ → Option Closed) (slot : ℕ) (list : List ℤ) → length (removed_from at slot list) ≤ length list
 few_removed at slot [] = omega arith
 few_removed at slot (z ∷ list) =
-    let both = length-append (removed_by z (at slot)) (removed_from at (slot + 1) list) in
+    let both = length-append (removed_by_number z (at slot)) (removed_from at (slot + 1) list) in
     omega (arith, one_removed_by z (at slot), few_removed at (slot + 1) list, both)

@@ -3,7 +3,7 @@ use Rattle.fx_ring.proofs.Words.{◌≡◌, ℕ, Bool, zero, suc, ◌<◌, List,
 use Rattle.fx_ring.proofs.Words.{◌≢◌, option_to_list, IsPermutation, All-append, All-cons, All-nil, All-permutation, CloseListView, IsInOrderOfMark}
 use Rattle.fx_ring.proofs.Words.{Closed, State, IsSettled, opening, vacant, state_of, identity_of, File, Contents, IsGivenBack, RingContents}
 use Rattle.fx_ring.proofs.Words.{RingState, IsAtRest, IsRing, HasCounted, Mark, Registered, Submitted, ◌≤◌, HasClosed, AreEntries, ring_of, ring_with}
-use Rattle.fx_ring.proofs.Words.{with_table, files_at, same_identity, HasSameFiles, files_in_order, files_of}
+use Rattle.fx_ring.proofs.Words.{with_table, files_at, same_identity, HasSameFiles, ring_files_in_order, files_of_ring}
 use Rattle.fx_plain.proofs.Emptying.{listed}
 use Rattle.fx_plain.specs.State.{files_in_order as files_in_order_of_state, files_of as files_of_state}
 use Rattle.fx_ring.specs.declared.ring.Ring.TheInside.{Inside}
@@ -41,7 +41,7 @@ file_told None told is = absurd (cc)
 file_told (Some f) told is = (f, refl, cc)
 
 -- the files of a table, its files' numbers aside
-pub files_of-state : (at : ℕ → Option File) (n : ℕ) → files_in_order (λ slot. identity_of (at slot)) n ≡ files_in_order_of_state at n
+pub files_of-state : (at : ℕ → Option File) (n : ℕ) → ring_files_in_order (λ slot. identity_of (at slot)) n ≡ files_in_order_of_state at n
 files_of-state at zero = refl
 files_of-state at (suc n) = ap (λ (x : List Closed × List Closed). x.0 ++ x.1) (λ i. (files_of-state at n i, listed (at n) i))
 
@@ -51,12 +51,12 @@ entry_listed None has = λ k d inside. absurd (omega arith)
 entry_listed {entries} (Some file) has = All-cons (IsEntry entries) file [] (has file refl) (All-nil (IsEntry entries))
 
 entries_in_order : {entries : ℕ} (at : ℕ → Option Closed) (n : ℕ)
-    → ((slot : ℕ) (file : Closed) → at slot ≡ Some file → IsEntry entries file) → All (IsEntry entries) (files_in_order at n)
+    → ((slot : ℕ) (file : Closed) → at slot ≡ Some file → IsEntry entries file) → All (IsEntry entries) (ring_files_in_order at n)
 entries_in_order at zero has = λ k d inside. absurd (omega arith)
-entries_in_order {entries} at (suc n) has = All-append (IsEntry entries) (files_in_order at n) (option_to_list (at n))
+entries_in_order {entries} at (suc n) has = All-append (IsEntry entries) (ring_files_in_order at n) (option_to_list (at n))
     (entries_in_order at n has) (entry_listed (at n) (has n))
 
-pub entries_of : (ring : RingState) → IsRing ring → AreEntries ring (files_of ring)
+pub entries_of : (ring : RingState) → IsRing ring → AreEntries ring (files_of_ring ring)
 entries_of ring is = entries_in_order ring.at ring.size is.entries
 
 -- a list of these files, once it is in order
@@ -75,10 +75,10 @@ entries_closed ring {files} {closes} all closed = All-permutation (IsEntry (leng
 -- a list of all files of a ring, once it is in order
 pub all_closed : {ring seen : RingContents} {given : List Closed} (closes : CloseListView) → ring ≡ seen → IsRing (ring_of ring)
     → given ≡ files_of_state (state_of ring.table) → IsPermutation given closes.files → IsInOrderOfMark closes.files
-    → HasClosed (files_of (ring_of seen)) closes × AreEntries (ring_of seen) closes.files
+    → HasClosed (files_of_ring (ring_of seen)) closes × AreEntries (ring_of seen) closes.files
 all_closed {ring} {given} closes same is all permutation order =
     let closed = list_closed (all ∙ sym (files_of-state (state_of ring.table).at (state_of ring.table).size)) permutation order in
-    subst (λ (c : RingContents). HasClosed (files_of (ring_of c)) closes × AreEntries (ring_of c) closes.files) same
+    subst (λ (c : RingContents). HasClosed (files_of_ring (ring_of c)) closes × AreEntries (ring_of c) closes.files) same
     (closed, entries_closed (ring_of ring) (entries_of (ring_of ring) is) closed)
 
 -- a table that was emptied is settled

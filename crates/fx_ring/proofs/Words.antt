@@ -43,8 +43,8 @@ pub use Rattle.fx_ring.specs.OpenRings.{HasPlayedAlone, IsAloneAt, IsKeptOpen, O
 pub use Rattle.fx_ring.specs.OpenRings.{number_if, ring_led_by, ring_shown, table_with_files}
 pub use Rattle.fx_ring.specs.Outcomes.{HasRoomFor}
 pub use Rattle.fx_ring.specs.Playing.{number_of_worker, state_of_worker}
-pub use Rattle.fx_ring.specs.Registration.{file_after, file_listed, files_after, is_bad_file, registered, removed_by, removed_from, updated}
-pub use Rattle.fx_ring.specs.Ring.{AreEntries, HasClosed, HasCounted, IsAtRest, IsRing, RingContents, RingState, files_in_order, files_of, ring_of}
+pub use Rattle.fx_ring.specs.Registration.{file_after, file_listed, files_after, is_bad_file, registered, removed_by_number, removed_from, updated}
+pub use Rattle.fx_ring.specs.Ring.{AreEntries, HasClosed, HasCounted, IsAtRest, IsRing, RingContents, RingState, ring_files_in_order, files_of_ring, ring_of}
 pub use Rattle.fx_ring.specs.Ring.{ring_with, with_table}
 pub use Rattle.fx_ring.specs.Slots.{AreFresh, CanRetire, SetsList, SetsNumber, SetsSlot, closes_of_removed, file_removed, files_at}
 pub use Rattle.fx_ring.specs.Submission.{ExplainsParts, IsOneHistory, Reported}

@@ -6,7 +6,7 @@ use Rattle.fx_ring.proofs.Words.{Contents, state_of, IsLegal, action_of, part_of
 use Rattle.fx_ring.proofs.Words.{size_of, state_at, PassView, IsOfDrawnChains, some_times, part_of_drawn, sum_reverse, sum_map, Completed, Explains}
 use Rattle.fx_ring.proofs.Words.{first_member, Asked, runs_of, all_weights, ring_with, IsOneHistory, WorkerState, HasWorked, run_of_chain}
 use Rattle.fx_ring.proofs.Words.{completions_of_chain, Contains, IsPermutation, contains_map, contains_mapped, contains_reverse, contains_reversed}
-use Rattle.fx_ring.proofs.Words.{each_all, range_with_len, flat_map-map}
+use Rattle.fx_ring.proofs.Words.{each_all, range_with_len, flat_map-map, State, false}
 use Rattle.fx_ring.proofs.ClosesInParts.{closes_of, closes_by_key, closes_sum}
 use Rattle.fx_table.proofs.Chains.{in_part}
 use Rattle.fx_ring.proofs.NumberedParts.{number_within, one_part, all_parts, made_of_parts, parts_reversed, same_parts}
@@ -14,6 +14,7 @@ use Rattle.fx_ring.proofs.CompletionPlaces.{place_key}
 use Rattle.fx_ring.proofs.Rings.{ring_as}
 use Rattle.fx_ring.proofs.Parts.{few_by_key, none_kept}
 use Rattle.fx_ring.proofs.PartsExplained.{IsShort, drawn_inside, one_of_each_request, in_order_explained}
+use Rattle.fx_table.proofs.Openings.{start_is}
 
 abbrev pub pass_of : WorkerState → PassView
 pass_of w = w.pass
@@ -39,6 +40,7 @@ pub record HavePlayed (catalogue : List FileEntry) (submission : ℕ) (runs : Li
   pub worked : All (HasWorked catalogue (size_of o) submission runs) crew
   pub told : All (λ w. w.pass.no_chains_left ≡ true) crew
   pub chains : o.chains ≡ length runs
+  pub ends : o.lasts ≡ false
   pub short : All IsShort runs
   pub are : passes ≡ reverse (map pass_of crew)
   pub numbers : map number_of crew ≡ reverse (range_with_len 1 o.passes)
@@ -162,8 +164,8 @@ one_history {catalogue} {submissions} {requests} {o} {crew} {left} registrations
     record {
       history = history;
       end = state_at o history;
-      legal = subst (λ (n : ℕ). IsLegal (opening (state_of o.contents) (numbers_for n)) history (state_at o history)) played.chains
-          played.closing.legal;
+      legal = subst (λ (st : State). IsLegal st history (state_at o history))
+          (start_is o played.ends ∙ ap (λ (n : ℕ). opening (state_of o.contents) (numbers_for n)) played.chains) played.closing.legal;
       settled = played.closing.settled;
       chains = events_inside played;
       explained = in_order_explained catalogue (size_of o) (submissions + 1) history (flat_map completed_by crew) (runs_of requests) played.short

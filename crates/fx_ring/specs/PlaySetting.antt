@@ -2,7 +2,7 @@
 use Rattle.std.specs.Prelude.{ℕ, ◌+◌}
 use Rattle.fx_plain.specs.Contents.{Contents}
 use Rattle.fx_chain.specs.Operation.{all_asked}
-use Rattle.fx_ring.specs.Playing.{Setting, IsReady, IsDone, setting_of}
+use Rattle.fx_ring.specs.Playing.{Setting, IsReadyForNext, IsDone, setting_of}
 use Rattle.fx_ring.specs.Ring.{ring_with}
 use Rattle.fx_ring.specs.Submission.{IsOneHistory, reported}
 use Rattle.fx_ring.specs.declared.play.Play.{Play}
@@ -18,7 +18,7 @@ setting {t = t} p =
 
 -- the worker can play one more chain
 abbrev pub IsReadyFor : {T R G P : Type 0} {t : _} → Play T R G P t → Worker P → Type 0
-IsReadyFor {t = t} p w = IsReady t.view (t.fits p.table.now) (setting p) w
+IsReadyFor {t = t} p w = IsReadyForNext t.view (t.fits p.table.now) (setting p) w
 
 -- the worker has played its chains, and there are no more
 abbrev pub IsDoneFor : {T R G P : Type 0} {t : _} → Play T R G P t → Worker P → Type 0

@@ -38,7 +38,8 @@ pub record IsBetweenChains {P : Type 0} (V : P → PassView) (Fits : P → Type 
   pub worked : HasWorked s.catalogue s.size s.submission s.runs (state_of_worker V w)
 
 -- it has room for what one more chain may come to
-pub record IsReady {P : Type 0} (V : P → PassView) (Fits : P → Type 0) (s : Setting) (w : Worker P)
+pub record IsReadyForNext {P : Type 0} (V : P → PassView) (Fits : P → Type 0) (s : Setting) (w
+    : Worker P)
     : Type 0 where
   pub between : IsBetweenChains V Fits s w
   pub room : HasRoom s.runs (state_of_worker V w) (vec_capacity w.outcome.completions)

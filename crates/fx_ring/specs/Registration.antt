@@ -81,16 +81,16 @@ files_after k at off list tags slot =
     (at slot)
 
 -- the file that a number of a list removes from its slot
-abbrev pub removed_by : ℤ → Option Identity → List Closed
-removed_by (pos entry) before = option_to_list before
-removed_by (negsuc zero) before = option_to_list before
-removed_by (negsuc (suc n)) before = []
+abbrev pub removed_by_number : ℤ → Option Identity → List Closed
+removed_by_number (pos entry) before = option_to_list before
+removed_by_number (negsuc zero) before = option_to_list before
+removed_by_number (negsuc (suc n)) before = []
 
 -- the files that a list removes, applied from a slot on
 abbrev pub removed_from : (ℕ → Option Identity) → ℕ → List ℤ → List Closed
 removed_from at slot [] = []
 removed_from at slot (number ∷ list) =
-    removed_by number (at slot) ++ removed_from at (slot + 1) list
+    removed_by_number number (at slot) ++ removed_from at (slot + 1) list
 
 -- the ring once the list was registered with its tags
 abbrev pub registered : RingState → List ℤ → List ℕ → RingState

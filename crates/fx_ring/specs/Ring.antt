@@ -65,12 +65,12 @@ abbrev pub without_table : RingState → RingState
 without_table ring = record ring { size = 0; range = (0, 0); at = λ _. None }
 
 -- the files at the first so many slots, in order of slot
-abbrev pub files_in_order : (ℕ → Option Identity) → ℕ → List Identity
-files_in_order at zero = []
-files_in_order at (suc n) = files_in_order at n ++ option_to_list (at n)
+abbrev pub ring_files_in_order : (ℕ → Option Identity) → ℕ → List Identity
+ring_files_in_order at zero = []
+ring_files_in_order at (suc n) = ring_files_in_order at n ++ option_to_list (at n)
 
-abbrev pub files_of : RingState → List Identity
-files_of ring = files_in_order ring.at ring.size
+abbrev pub files_of_ring : RingState → List Identity
+files_of_ring ring = ring_files_in_order ring.at ring.size
 
 -- the ring has counted the registration or the submission that the mark is of
 abbrev pub HasCounted : RingState → Mark → Type 0

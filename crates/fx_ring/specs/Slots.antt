@@ -11,7 +11,7 @@ use Rattle.fx_plain.specs.State.{State, IsSettled}
 use Rattle.fx_plain.specs.Step.{changed_at}
 use Rattle.fx_plain.specs.History.{close_of}
 use Rattle.fx_plain.specs.Table.{identity_of}
-use Rattle.fx_ring.specs.Registration.{file_after, files_after, removed_by, removed_from}
+use Rattle.fx_ring.specs.Registration.{file_after, files_after, removed_by_number, removed_from}
 
 -- the file at each slot, its number aside
 abbrev pub files_at : State → ℕ → Option Identity
@@ -43,7 +43,7 @@ abbrev pub SetsNumber : ℕ → ℕ → ℕ → ℕ → ℤ → State → State 
 SetsNumber k off i tag z old new before after =
     let was = files_at old (off + i) in
     SetsFiles old new (changed_at (files_at old) (off + i) (file_after (Registered k i) tag z was))
-    (removed_by z was) before after
+    (removed_by_number z was) before after
 
 -- the k-th list was applied with its tags, from a slot on
 abbrev pub SetsList : ℕ → ℕ → List ℤ → List ℕ → State → State → CloseListView → CloseListView

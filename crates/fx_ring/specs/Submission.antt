@@ -22,15 +22,15 @@ use Rattle.fx_ring.specs.declared.report.SubmitFault.{SubmitFault}
 use Rattle.fx_ring.specs.declared.report.SubmitFault.TheVariants.{Workers, Cut, TooMany}
 
 -- the first request with a fault, or else what comes later
-abbrev pub or_later : Option CutFault → Option SubmitFault → Option SubmitFault
-or_later None later = later
-or_later (Some fault) later = Some (Cut fault)
+abbrev pub or_later_fault : Option CutFault → Option SubmitFault → Option SubmitFault
+or_later_fault None later = later
+or_later_fault (Some fault) later = Some (Cut fault)
 
 -- why a submission is refused, except when out of memory
 abbrev pub submit_refusal : RingState → List Asked → ℕ → Option SubmitFault
 submit_refusal ring requests workers =
     if workers == 0 || nat_lt MAX_PASSES workers then Some Workers
-    else or_later (fault_of requests)
+    else or_later_fault (fault_of requests)
     (if nat_le MOST_SUBMISSIONS ring.submissions then Some TooMany else None)
 
 -- the completions are those of the chains from this one on, in order of place; each chain's are

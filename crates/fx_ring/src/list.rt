@@ -6,7 +6,7 @@ ghost use Rattle.fx_plain.specs.Contents.{state_of};
 ghost use Rattle.fx_plain.specs.declared.table.TheConstants.{MOST_SLOTS};
 ghost use Rattle.fx_base.specs.declared.catalogue.TheConstants.{MOST_ENTRIES};
 ghost use Rattle.fx_chain.specs.Answers.{is_bad_entry};
-ghost use Rattle.fx_ring.specs.Registration.{is_bad_file, removed_by, removed_from};
+ghost use Rattle.fx_ring.specs.Registration.{is_bad_file, removed_by_number, removed_from};
 ghost use Rattle.fx_ring.specs.Tags.{are_bad_tags, is_bad_tag, tag_at, tags_for};
 ghost use Rattle.fx_ring.specs.Slots.{AreFresh, SetsList, SetsNumber, files_at};
 
@@ -95,7 +95,7 @@ fn apply_number(table: &mut PlainTable, numbers: &NumberList<'_>, i: usize, clos
     requires slots { numbers.now.off + length numbers.now.list.now ≤ (state_of table.old).size }
     requires few_slots { (state_of table.old).size ≤ MOST_SLOTS }
     requires fresh { (state_of table.old).fresh (numbers.now.first + i) ≡ true }
-    requires room { length (removed_by (slice_index_or numbers.now.list.now i (pos 0))
+    requires room { length (removed_by_number (slice_index_or numbers.now.list.now i (pos 0))
         (files_at (state_of table.old) (numbers.now.off + i))) ≤ closes.old.room }
     ensures files { SetsNumber numbers.now.k numbers.now.off i
         (tag_at (tags_for numbers.now.list.now numbers.now.tags) i)

@@ -4,7 +4,7 @@ ghost use Rattle.std.specs.List.{list_any};
 ghost use Rattle.fx_base.specs.declared.errno.Errno.TheVariants.{ENOMEM};
 ghost use Rattle.fx_plain.specs.State.{IsSettled};
 ghost use Rattle.fx_plain.specs.Contents.{state_of};
-ghost use Rattle.fx_ring.specs.Ring.{AreEntries, HasClosed, files_of, ring_of, without_table};
+ghost use Rattle.fx_ring.specs.Ring.{AreEntries, HasClosed, files_of_ring, ring_of, without_table};
 ghost use Rattle.fx_ring.specs.Registration.{files_after, is_bad_file, range_refusal, register_refusal, registered, registered_sparse, removed_from, sparse_refusal, unregister_refusal, update_refusal, updated};
 ghost use Rattle.fx_ring.specs.Tags.{no_tags, tags_for};
 ghost use Rattle.fx_ring.specs.Slots.{files_at};
@@ -204,7 +204,7 @@ impl Ring {
         ensures only_refusal { IfNone (unregister_refusal (ring_of self.old))
             (IsOkUnless result ENOMEM) }
         ensures ok { OnOk result (ring_of self.new ≡ without_table (ring_of self.old)) }
-        ensures closes { IfOk result (λ closes. HasClosed (files_of (ring_of self.old)) closes) }
+        ensures closes { IfOk result (λ closes. HasClosed (files_of_ring (ring_of self.old)) closes) }
         ensures entries { IfOk result (λ closes. AreEntries (ring_of self.old) closes.files) }
         ensures err { OnErr result (self.new ≡ self.old) }
     {

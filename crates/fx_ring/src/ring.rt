@@ -1,6 +1,6 @@
 //! The type of a ring: how one is made, read and ended.
 ghost use Rattle.std.specs.Prelude.{◌≡◌, IfOk, IfErr};
-ghost use Rattle.fx_ring.specs.Ring.{AreEntries, HasClosed, IsRing, files_of, new_ring, ring_of};
+ghost use Rattle.fx_ring.specs.Ring.{AreEntries, HasClosed, IsRing, files_of_ring, new_ring, ring_of};
 
 use fx_base::{Catalogue, CloseList, NoMemory};
 use fx_plain::PlainTable;
@@ -104,7 +104,7 @@ impl Ring {
     /// # Errors
     /// `NoMemory` if the memory of the list is refused. The ring is returned as it was.
     pub fn tear_down(self, alloc: Global) -> Result<CloseList, (Ring, NoMemory)>
-        ensures closes { IfOk result (λ closes. HasClosed (files_of (ring_of self)) closes) }
+        ensures closes { IfOk result (λ closes. HasClosed (files_of_ring (ring_of self)) closes) }
         ensures entries { IfOk result (λ closes. AreEntries (ring_of self) closes.files) }
         ensures refused { IfErr result (λ back. back.0 ≡ self) }
     {

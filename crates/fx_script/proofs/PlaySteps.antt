@@ -1,7 +1,7 @@
 -- A play goes on by some commands.
 use Rattle.fx_script.proofs.Words.{◌≡◌, ℕ, ◌+◌, ◌<◌, ◌≤◌, List, [], ◌∷◌, ◌++◌, length, refl, sym, ap, subst, ◌∙◌, Option, Some, None, append_assoc}
 use Rattle.fx_script.proofs.Words.{drop, take, slice_index_or, inl, inr, arith, append-nil, map-append, take-append-drop, take_all, IfErr-weaker}
-use Rattle.fx_script.proofs.Words.{Appends, IfErr, Result, RingContents, RingState, files_in_order, ring_of, Instruction, instruction_of}
+use Rattle.fx_script.proofs.Words.{Appends, IfErr, Result, RingContents, RingState, ring_files_in_order, ring_of, Instruction, instruction_of}
 use Rattle.fx_script.proofs.Words.{instructions_of, Prints, PrintsAll, PrintsEnd, PrintsFirst, PrintsUpTo, IsPlayFault, Writes, PlayFault}
 use Rattle.std.proofs.lemmas.List.Sorted.{IsPermutation-refl}
 use Rattle.std.proofs.Math.Seq.{drop-cons, take-add}
@@ -126,7 +126,7 @@ pub nothing_left : (ring : RingState) → ring.size ≡ 0 → PrintsEnd ring []
 nothing_left ring none = (
   record { files = []; room = 0 },
   record {
-    same_files = subst (λ (n : ℕ). IsPermutation (files_in_order ring.at n) []) (sym none) (IsPermutation-refl []);
+    same_files = subst (λ (n : ℕ). IsPermutation (ring_files_in_order ring.at n) []) (sym none) (IsPermutation-refl []);
     in_order = λ k d low high. absurd (omega arith);
   },
   refl,

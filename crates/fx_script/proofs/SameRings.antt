@@ -1,7 +1,7 @@
 -- The output of commands on a ring is that on a ring that shows the same.
 use Rattle.fx_script.proofs.Words.{◌≡◌, ℕ, pos, List, [], ◌∷◌, length, sym, subst, ◌∙◌, Option, Some, None, Bool, true, false, nat_le, inl, inr}
-use Rattle.fx_script.proofs.Words.{codes, Asked, RingContents, RingState, files_of, ring_of, without_table, Instruction, MakesSparse, RegistersList}
-use Rattle.fx_script.proofs.Words.{Unregisters, SetsRange, UpdatesRing, SubmitsAll, Answers, IsRefused, Prints, PrintsAll, PrintsClosed, PrintsEnd}
+use Rattle.fx_script.proofs.Words.{codes, Asked, RingContents, RingState, files_of_ring, ring_of, without_table, Instruction, MakesSparse, RegistersList}
+use Rattle.fx_script.proofs.Words.{Unregisters, SetsRange, UpdatesRing, SubmitsAll, CallAnswers, IsCallRefused, Prints, PrintsAll, PrintsClosed, PrintsEnd}
 use Rattle.fx_script.proofs.Words.{PrintsFirst, PrintsReport, PrintsUpTo}
 use Rattle.std.specs.Bool.{MatchBool}
 use Rattle.std.specs.Option.{MatchOption}
@@ -32,22 +32,22 @@ module _ (old same next : RingContents) (line : List ℕ) (is : ring_of same ≡
       (report, same_history old same next asked report is one, subst (λ (r : RingState). line ≡ report_text r.catalogue report) (sym is) text)
 
   prints_same : (command : Instruction) → Prints old command next line → Prints same command next line
-  prints_same (MakesSparse n) p = subst (λ (r : RingState). Answers (sparse_refusal r n)
+  prints_same (MakesSparse n) p = subst (λ (r : RingState). CallAnswers (sparse_refusal r n)
       ((ring_of next ≡ registered_sparse r n) × (line ≡ result_line (codes "sparse") (pos 0)))
-      (IsRefused r (ring_of next) (codes "sparse") line)) (sym is) p
-  prints_same (RegistersList list tags) p = subst (λ (r : RingState). Answers (register_refusal r list (tags_given list tags))
+      (IsCallRefused r (ring_of next) (codes "sparse") line)) (sym is) p
+  prints_same (RegistersList list tags) p = subst (λ (r : RingState). CallAnswers (register_refusal r list (tags_given list tags))
       ((ring_of next ≡ registered r list (tags_given list tags)) × (line ≡ result_line (codes "register") (pos 0)))
-      (IsRefused r (ring_of next) (codes "register") line)) (sym is) p
-  prints_same Unregisters p = subst (λ (r : RingState). Answers (unregister_refusal r)
-      ((ring_of next ≡ without_table r) × PrintsClosed r (files_of r) (result_line (codes "unregister") (pos 0)) line)
-      (IsRefused r (ring_of next) (codes "unregister") line)) (sym is) p
+      (IsCallRefused r (ring_of next) (codes "register") line)) (sym is) p
+  prints_same Unregisters p = subst (λ (r : RingState). CallAnswers (unregister_refusal r)
+      ((ring_of next ≡ without_table r) × PrintsClosed r (files_of_ring r) (result_line (codes "unregister") (pos 0)) line)
+      (IsCallRefused r (ring_of next) (codes "unregister") line)) (sym is) p
   prints_same (SetsRange off len) p = subst (λ (r : RingState). MatchOption (range_refusal r off len)
       ((ring_of next ≡ record r { range = (off, len) }) × (line ≡ result_line (codes "range") (pos 0)))
-      (IsRefused r (ring_of next) (codes "range") line)) (sym is) p
-  prints_same (UpdatesRing off list tags) p = subst (λ (r : RingState). Answers (update_refusal r off list (tags_given list tags))
+      (IsCallRefused r (ring_of next) (codes "range") line)) (sym is) p
+  prints_same (UpdatesRing off list tags) p = subst (λ (r : RingState). CallAnswers (update_refusal r off list (tags_given list tags))
       ((ring_of next ≡ updated r off list (tags_given list tags))
       × PrintsClosed r (removed_from r.at off list) (result_line (codes "regupdate") (pos (length list))) line)
-      (IsRefused r (ring_of next) (codes "regupdate") line)) (sym is) p
+      (IsCallRefused r (ring_of next) (codes "regupdate") line)) (sym is) p
   prints_same (SubmitsAll asked) p = subst (λ (r : RingState). OnSubmit (fault_of asked) (nat_le MOST_SUBMISSIONS r.submissions) r
       (PrintsReport same asked next line)) (sym is) (reports (fault_of asked) (nat_le MOST_SUBMISSIONS old.submissions) (ring_of old) (report_same) p)
 

@@ -3,8 +3,8 @@ pub use Rattle.fx_chain.specs.Operation.{Asked, all_asked}
 pub use Rattle.fx_language.specs.Instruction.{Instruction, MakesSparse, RegistersList, SetsRange, SubmitsAll, Unregisters, UpdatesRing}
 pub use Rattle.fx_language.specs.Instruction.{instruction_of, instructions_of}
 pub use Rattle.fx_language.specs.declared.limits.TheConstants.{LONGEST_SCRIPT}
-pub use Rattle.fx_ring.specs.Ring.{RingContents, RingState, files_in_order, files_of, new_ring, ring_of, without_table}
-pub use Rattle.fx_script.specs.Play.{Answers, IsRefused, Prints, PrintsAll, PrintsClosed, PrintsEnd, PrintsFirst, PrintsReport, PrintsUpTo}
+pub use Rattle.fx_ring.specs.Ring.{RingContents, RingState, ring_files_in_order, files_of_ring, new_ring, ring_of, without_table}
+pub use Rattle.fx_script.specs.Play.{CallAnswers, IsCallRefused, Prints, PrintsAll, PrintsClosed, PrintsEnd, PrintsFirst, PrintsReport, PrintsUpTo}
 pub use Rattle.fx_script.specs.Run.{IsInput, IsInputFault, IsPlayFault, Writes}
 pub use Rattle.fx_script.specs.declared.play_fault.PlayFault.{PlayFault}
 pub use Rattle.fx_table.specs.declared.limits.TheConstants.{CHAIN_NUMBERS, MAX_CHAINS}

@@ -15,7 +15,7 @@ use Rattle.fx_ring.specs.Registration.{range_refusal, register_refusal, register
 use Rattle.fx_ring.specs.Registration.{registered_sparse}
 use Rattle.fx_ring.specs.Registration.{removed_from, sparse_refusal, unregister_refusal}
 use Rattle.fx_ring.specs.Registration.{update_refusal, updated}
-use Rattle.fx_ring.specs.Ring.{HasClosed, RingContents, RingState, files_of, new_ring, ring_of}
+use Rattle.fx_ring.specs.Ring.{HasClosed, RingContents, RingState, files_of_ring, new_ring, ring_of}
 use Rattle.fx_ring.specs.Ring.{without_table}
 use Rattle.fx_ring.specs.Submission.{IsOneHistory, Reported}
 use Rattle.fx_ring.specs.Tags.{tags_given}
@@ -29,13 +29,13 @@ use Rattle.fx_script.specs.Text.{report_text}
 
 -- the answer of a call that allocates: its refusal, if there is one, otherwise success or an
 -- allocation failure
-abbrev pub Answers : Option Errno → Type 0 → (Errno → Type 0) → Type 0
-Answers (Some errno) accepted refused = refused errno
-Answers None accepted refused = accepted ⊎ refused ENOMEM
+abbrev pub CallAnswers : Option Errno → Type 0 → (Errno → Type 0) → Type 0
+CallAnswers (Some errno) accepted refused = refused errno
+CallAnswers None accepted refused = accepted ⊎ refused ENOMEM
 
 -- a refused call: the ring stays, and the line has the negated error
-abbrev pub IsRefused : RingState → RingState → List ℕ → List ℕ → Errno → Type 0
-IsRefused old new word text errno = (new ≡ old) × (text ≡ result_line word (negated errno))
+abbrev pub IsCallRefused : RingState → RingState → List ℕ → List ℕ → Errno → Type 0
+IsCallRefused old new word text errno = (new ≡ old) × (text ≡ result_line word (negated errno))
 
 -- an accepted call that closed these files: its line, and the files' lines, in order of mark
 abbrev pub PrintsClosed : RingState → List Closed → List ℕ → List ℕ → Type 0
@@ -54,32 +54,32 @@ PrintsReport old asked new text =
 -- counts
 abbrev pub Prints : RingContents → Instruction → RingContents → List ℕ → Type 0
 Prints old (MakesSparse n) new text =
-    Answers (sparse_refusal (ring_of old) n)
+    CallAnswers (sparse_refusal (ring_of old) n)
     ((ring_of new ≡ registered_sparse (ring_of old) n)
     × (text ≡ result_line (codes "sparse") (pos 0)))
-    (IsRefused (ring_of old) (ring_of new) (codes "sparse") text)
+    (IsCallRefused (ring_of old) (ring_of new) (codes "sparse") text)
 Prints old (RegistersList list tags) new text =
-    Answers (register_refusal (ring_of old) list (tags_given list tags))
+    CallAnswers (register_refusal (ring_of old) list (tags_given list tags))
     ((ring_of new ≡ registered (ring_of old) list (tags_given list tags))
     × (text ≡ result_line (codes "register") (pos 0)))
-    (IsRefused (ring_of old) (ring_of new) (codes "register") text)
+    (IsCallRefused (ring_of old) (ring_of new) (codes "register") text)
 Prints old Unregisters new text =
-    Answers (unregister_refusal (ring_of old))
+    CallAnswers (unregister_refusal (ring_of old))
     ((ring_of new ≡ without_table (ring_of old))
-    × PrintsClosed (ring_of old) (files_of (ring_of old))
+    × PrintsClosed (ring_of old) (files_of_ring (ring_of old))
     (result_line (codes "unregister") (pos 0)) text)
-    (IsRefused (ring_of old) (ring_of new) (codes "unregister") text)
+    (IsCallRefused (ring_of old) (ring_of new) (codes "unregister") text)
 Prints old (SetsRange off len) new text =
     MatchOption (range_refusal (ring_of old) off len)
     ((ring_of new ≡ record (ring_of old) { range = (off, len) })
     × (text ≡ result_line (codes "range") (pos 0)))
-    (IsRefused (ring_of old) (ring_of new) (codes "range") text)
+    (IsCallRefused (ring_of old) (ring_of new) (codes "range") text)
 Prints old (UpdatesRing off list tags) new text =
-    Answers (update_refusal (ring_of old) off list (tags_given list tags))
+    CallAnswers (update_refusal (ring_of old) off list (tags_given list tags))
     ((ring_of new ≡ updated (ring_of old) off list (tags_given list tags))
     × PrintsClosed (ring_of old) (removed_from (ring_of old).at off list)
     (result_line (codes "regupdate") (pos (length list))) text)
-    (IsRefused (ring_of old) (ring_of new) (codes "regupdate") text)
+    (IsCallRefused (ring_of old) (ring_of new) (codes "regupdate") text)
 Prints old (SubmitsAll asked) new text =
     MatchOption (fault_of asked)
     (MatchBool (nat_le MOST_SUBMISSIONS old.submissions)
@@ -90,7 +90,7 @@ Prints old (SubmitsAll asked) new text =
 -- at the end of the script: the lines of the files that are left, in order of mark
 abbrev pub PrintsEnd : RingState → List ℕ → Type 0
 PrintsEnd ring text =
-    (closes : CloseListView) × HasClosed (files_of ring) closes
+    (closes : CloseListView) × HasClosed (files_of_ring ring) closes
     × (text ≡ teardown_text ring.catalogue closes.files)
 
 -- the commands may print this, one after another, and then the end of the script
@@ -117,15 +117,15 @@ PrintsUpTo ring (command ∷ commands) last text =
     × PrintsUpTo next commands last others
 
 -- a ring with the script's files and without a table
-abbrev pub IsStart : Meaning → RingContents → Type 0
-IsStart meaning ring = ring_of ring ≡ new_ring meaning.catalogue
+abbrev pub IsNewRing : Meaning → RingContents → Type 0
+IsNewRing meaning ring = ring_of ring ≡ new_ring meaning.catalogue
 
 -- the script may print this
 abbrev pub IsText : Meaning → List ℕ → Type 0
 IsText meaning text =
-    (ring : RingContents) × IsStart meaning ring × PrintsAll ring meaning.commands text
+    (ring : RingContents) × IsNewRing meaning ring × PrintsAll ring meaning.commands text
 
 -- the first commands of the script may print this
 abbrev pub IsTextOfFirst : Meaning → List ℕ → Type 0
 IsTextOfFirst meaning text =
-    (ring : RingContents) × IsStart meaning ring × PrintsFirst ring meaning.commands text
+    (ring : RingContents) × IsNewRing meaning ring × PrintsFirst ring meaning.commands text

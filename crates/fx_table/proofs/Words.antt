@@ -17,7 +17,7 @@ pub use Rattle.std.proofs.lemmas.List.{reverse-append}
 pub use Rattle.std.proofs.lemmas.List.Elements.{Contains-append_cases, Contains-append_left, Contains-append_right}
 pub use Rattle.std.proofs.lemmas.List.Sums.{sum_by-append, sum_by-cons}
 pub use Rattle.std.specs.List.{range_with_len}
-pub use Rattle.std.specs.Prelude.{Contains, None, count_by, sum_by}
+pub use Rattle.std.specs.Prelude.{Bool, Contains, None, count_by, sum_by}
 pub use lib.ListN.{get_elem?}
 pub use mathlib.Core.List.{map-append}
 pub use mathlib.Core.Logic.{dite}

@@ -2,6 +2,7 @@ pub mod Numbers
 pub mod Files
 pub mod Opening
 pub mod Pass
+pub mod Tasks
 pub mod Calls
 pub mod Closing
 pub mod Turns

@@ -1,5 +1,5 @@
 -- The opening of a shared table, and the states that histories lead to from there.
-use Rattle.std.specs.Prelude.{◌≡◌, ℕ, ◌≤◌, List, map}
+use Rattle.std.specs.Prelude.{◌≡◌, ℕ, ◌≤◌, Bool, true, false, ◌&&◌, not, nat_lt, List, map}
 use Rattle.fx_plain.specs.State.{State, opening, IsSettled}
 use Rattle.fx_plain.specs.Contents.{Contents, state_of}
 use Rattle.fx_plain.specs.History.{state_after, action_of}
@@ -17,10 +17,17 @@ pub record Opening : Type 0 where
   pub passes : ℕ
   -- the number of file numbers of each chain
   pub numbers : ℕ
+  -- the flag that numbers and look-ups never run out
+  pub lasts : Bool
 
 abbrev pub opening_of_chains : Contents → ℕ → ℕ → ℕ → Opening
-opening_of_chains plain chains numbers passes =
-    record { contents = plain; chains = chains; passes = passes; numbers = numbers }
+opening_of_chains plain chains numbers passes = record {
+  contents = plain;
+  chains = chains;
+  passes = passes;
+  numbers = numbers;
+  lasts = false;
+}
 
 -- an opening whose chains have all `CHAIN_NUMBERS` numbers
 abbrev pub opening_with : Contents → ℕ → ℕ → Opening
@@ -34,11 +41,30 @@ pub record IsOpenedFor (plain : Contents) (count most crew : ℕ) (o : Opening) 
   pub passes : o.passes ≡ crew
   pub numbers : (most ≤ o.numbers) × (o.numbers ≤ CHAIN_NUMBERS)
 
-abbrev pub start_of : Opening → State
-start_of o = opening (state_of o.contents) (numbers_for o.chains)
+-- the opening of a table that lasts, which has no chains
+abbrev pub lasting_opening : Contents → ℕ → Opening
+lasting_opening plain passes = record {
+  contents = plain;
+  chains = 0;
+  passes = passes;
+  numbers = 0;
+  lasts = true;
+}
 
 abbrev pub size_of : Opening → ℕ
 size_of o = (state_of o.contents).size
+
+-- the test that the number, `numbers` of which are prepared, is fresh in a table of `size` slots
+-- when passes begin: in a table that lasts, each number from the size on is
+abbrev pub is_fresh_at_first : Bool → ℕ → ℕ → ℕ → Bool
+is_fresh_at_first false size numbers number = not (nat_lt number size) && nat_lt number numbers
+is_fresh_at_first true size numbers number = not (nat_lt number size)
+
+-- the state in which passes begin
+abbrev pub start_of : Opening → State
+start_of o = record (opening (state_of o.contents) (numbers_for o.chains)) {
+  fresh = is_fresh_at_first o.lasts (size_of o) (numbers_for o.chains);
+}
 
 abbrev pub range_of : Opening → ℕ × ℕ
 range_of o = (state_of o.contents).range

@@ -73,17 +73,28 @@ pub record IsFront (o : Opening) (v : PassView) : Type 0 where
   pub legal : IsLegal (start_of o) v.front (state_at o v.front)
   pub mine : part_of_pass v.number v.front ≡ v.own
 
+-- the values that a table which doesn't last returns for a file
 abbrev pub hold_of : File → Hold
 hold_of f = record { node = f.number; entry = f.identity.entry }
 
 abbrev pub retired_of : File → ℕ → Retired
 retired_of f takes = record { node = f.number; entry = f.identity.entry; takes = takes }
 
--- the hold is that of the file that the pass looked up
-abbrev pub IsHoldOf : PassView → Hold → Type 0
-IsHoldOf v hold = (f : File) × (v.doing ≡ Holding f) × (hold ≡ hold_of f)
+-- the value that a look-up returns for a file has the file's entry, and is `hold_of` the file
+-- unless the table lasts
+pub record IsFileHold (o : Opening) (f : File) (hold : Hold) : Type 0 where
+  pub entry : hold.entry ≡ f.identity.entry
+  pub same : o.lasts ≡ false → hold ≡ hold_of f
 
--- the value is that of the file that the pass removed
+-- the value that a removal returns for a file, in the same way
+pub record IsFileRemoval (o : Opening) (f : File) (retired : Retired) : Type 0 where
+  pub entry : retired.entry ≡ f.identity.entry
+  pub same : o.lasts ≡ false → retired ≡ retired_of f retired.takes
+
+-- the hold is the one that the pass got for the file that it looked up
+abbrev pub IsHoldOf : PassView → Hold → Type 0
+IsHoldOf v hold = (f : File) × (v.doing ≡ Holding f hold)
+
+-- the value is the one that the pass got for the file that it removed
 abbrev pub IsRetiredOf : PassView → Retired → Type 0
-IsRetiredOf v retired =
-    (f : File) × (takes : ℕ) × (v.doing ≡ Retiring f takes) × (retired ≡ retired_of f takes)
+IsRetiredOf v retired = (f : File) × (v.doing ≡ Retiring f retired)

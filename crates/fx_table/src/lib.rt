@@ -1,17 +1,19 @@
 //! The contract of a file table that threads share, each thread by a pass of its own.
 //!
-//! [`FileTable`] is that contract: all that other crates know of a shared table. Each call's clause names the events
-//! that it adds to its pass, and [`FileTable::close`] says that the events of all passes are one legal history. Begin
-//! reading at `specs/Pass.antt` and `table.rt`.
+//! [`SharedTable`] is that contract: all that other crates know of a shared table. Each call's clause names the events
+//! that it adds to its pass, and [`SharedTable::close`] says that the events of all passes are one legal history.
+//! [`FileTable`] adds the calls that a submission needs. Begin reading at `specs/Pass.antt` and `shared_table.rt`.
 #![tactic(auto)]
 
+mod file_table;
 pub mod laws;
 mod limits;
-mod table;
+mod shared_table;
 mod values;
 
+pub use file_table::FileTable;
 pub use limits::{
     CHAIN_NUMBERS, FIRST_CHAIN_NUMBER, MAX_CHAINS, MAX_PASSES, PASS_LOOKS, numbers_for,
 };
-pub use table::FileTable;
-pub use values::{Doing, Empty, Hold, LookFault, Retired};
+pub use shared_table::SharedTable;
+pub use values::{Doing, Empty, Hold, LookFault, LookUp, Retired, Task};

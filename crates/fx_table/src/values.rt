@@ -1,4 +1,5 @@
 //! The values that the calls of a shared table return (this project's own).
+use fx_base::OpenFile;
 use fx_plain::File;
 
 /// The hold of a file that a pass looked up and has not released. It must be consumed: the compiler rejects a program
@@ -8,7 +9,7 @@ use fx_plain::File;
 /// until its `release` gets the same value again, and no table is closed while a pass isn't idle. A hold made elsewhere
 /// is accepted only if it is that same value.
 pub struct Hold {
-    /// The number of the file in its table.
+    /// The number of the file in its table, or in a table that lasts the number of its node there.
     pub node: u32,
     /// The catalogue entry of the file, from 0.
     pub entry: u8,
@@ -21,7 +22,7 @@ pub struct Hold {
 /// until its `retire` gets the same value again, and no table is closed while a pass isn't idle. A value made elsewhere
 /// is accepted only if it is that same value.
 pub struct Retired {
-    /// The number of the file in its table.
+    /// The number of the file in its table, or in a table that lasts the number of its node there.
     pub node: u32,
     /// The catalogue entry of the file, from 0.
     pub entry: u8,
@@ -29,10 +30,18 @@ pub struct Retired {
     pub takes: u32,
 }
 
+/// The result of a look-up of a shared table. It must be consumed: the compiler rejects a program that drops one.
+pub struct LookUp {
+    /// The hold of the file at the slot, or the reason why there is none.
+    pub found: Result<Hold, LookFault>,
+    /// A removed file that this look-up was the last to use, to be closed. It is `None` unless the table lasts.
+    pub freed: Option<OpenFile>,
+}
+
 /// The reason why a look-up returned no file (io_uring_enter(2), "IOSQE_FIXED_FILE").
 #[derive(Clone, Copy, Debug, PartialEq, Eq)]
 pub enum LookFault {
-    /// The pass has no look-ups left (EAGAIN).
+    /// The pass has no look-ups left (EAGAIN). A table that lasts never returns it.
     Spent,
     /// The slot is empty (EBADF).
     Empty,
@@ -44,6 +53,17 @@ pub struct Empty;
 
 /// The activity of a pass, as contracts see it. No code creates a value of it.
 pub enum Doing {
+    /// Nothing.
+    Idle,
+    /// The pass looked the file up, got this hold and hasn't released it.
+    Holding(File, Hold),
+    /// The pass removed the file, got this value and hasn't retired it.
+    Retiring(File, Retired),
+}
+
+/// The activity of a pass of a table whose holds and removals name files by their numbers, as contracts of such tables
+/// see it. No code creates a value of it.
+pub enum Task {
     /// Nothing.
     Idle,
     /// The pass looked the file up and hasn't released it.

@@ -1,5 +1,5 @@
 //! Memory for the bytes of reads. By its contract a read may fail for lack of memory; here none does. The built program
-//! plays scripts of every size (scripts/check-limits).
+//! plays scripts of every size (tests/check-limits).
 use crate::setting::{TABLES, end, in_chain, read, registered_ring, submit};
 use fx_chain::{LONGEST_READ, OpenGate};
 use std::test::Fail;

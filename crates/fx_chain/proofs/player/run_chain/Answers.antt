@@ -3,11 +3,12 @@ use Rattle.fx_chain.proofs.Words.{size_of, completed_of, all_completed, first_me
 use Rattle.fx_chain.proofs.ActsInTurn.{so_nothing}
 use Rattle.fx_chain.proofs.Asking.{asked_more, asked_length}
 use Rattle.fx_chain.proofs.ChainGoesOn.{any_severs-push, answers_next, explained_count, weighs_from}
+use Rattle.fx_table.proofs.Calls.{looks_least, numbers_least}
 use Rattle.fx_chain.proofs.player.run_chain.Goals as goal
 
 pub loop-i-init : goal.loop-i-init
 loop-i-init g c =
-    let seen = (g.met.T.FileTable g.world.𝓛 g.world.𝓜 g.world.𝓡 ((λ s x. x), (λ x. x), (λ x. x), λ x. x)).fronts _ _ c.requires.fits in
+    let seen = (g.met.T.SharedTable g.world.𝓛 g.world.𝓜 g.world.𝓡 ((λ s x. x), (λ x. x), (λ x. x), λ x. x)).fronts _ _ c.requires.fits in
     record {
       kept = (refl, refl, c.requires.fits);
       idle = c.requires.idle;
@@ -27,7 +28,7 @@ loop-i-preserved g c =
     let ensures = c.next_answer-completion.ensures in
     let inside : c.loop-i.i < length requests = rw c.members-count.ensures at c.loop-i-test.true in
     let (cs, out_is, severed_is, plays) = i.done in
-    let o = g.T.FileTable.opening c.args.table.now in
+    let o = g.T.SharedTable.opening c.args.table.now in
     let first = first_member c.args.submission c.args.chain in
     let n = c.loop-i.i in
     let asked = all_asked (take n requests) in
@@ -42,8 +43,8 @@ loop-i-preserved g c =
     record {
       kept = (ensures.kept.0 ∙ i.kept.0, ensures.kept.1 ∙ i.kept.1, ensures.kept.2);
       idle = answered.acts.adds.now;
-      looks = omega arith;
-      numbers = omega arith;
+      looks = omega (arith, looks_least answered.acts.adds);
+      numbers = omega (arith, numbers_least answered.acts.adds);
       room = omega arith;
       count = search rules;
       capacity = search rules;

@@ -5,7 +5,7 @@ use Rattle.fx_chain.proofs.removal.clear.Goals as goal
 cleared : (o : Opening) (v w : PassView) (slot : ℕ) (removed : Option Retired) → Cleared o v slot removed w
     → Removed o v (Clear slot) no_use removed w
 cleared o v w slot None adds = adds
-cleared o v w slot (Some x) adds = adds
+cleared o v w slot (Some x) (f, value, adds) = (f, adds)
 
 pub returns-clause-removed : goal.returns-clause-removed
 returns-clause-removed g c =

@@ -1,16 +1,16 @@
-use Rattle.fx_chain.proofs.Words.{ℕ, Option, Some, None, refl, Closed, Put, Placed, one_number, new_file, Opening, PassView, Retired}
+use Rattle.fx_chain.proofs.Words.{ℕ, Option, Some, None, refl, Put, one_number, Opening, PassView, Retired}
+use Rattle.fx_plain.specs.declared.event.File.{File}
+use Rattle.fx_table.specs.Calls.{PlacedFile}
 use Rattle.fx_chain.proofs.ActsInTurn.{Removed, removes}
 use Rattle.fx_chain.proofs.removal.put.Goals as goal
 
-placed : (o : Opening) (v w : PassView) (slot : ℕ) (file : Closed) (removed : Option Retired) → Placed o v slot file removed w
-    → Removed o v (Put slot (new_file o v file)) one_number removed w
-placed o v w slot file None adds = adds
-placed o v w slot file (Some x) adds = adds
+placed : (o : Opening) (v w : PassView) (slot : ℕ) (new : File) (removed : Option Retired) → PlacedFile o v slot new removed w
+    → Removed o v (Put slot new) one_number removed w
+placed o v w slot new None adds = adds
+placed o v w slot new (Some x) (f, value, adds) = (f, adds)
 
 pub returns-clause-removed : goal.returns-clause-removed
 returns-clause-removed g c =
-    let v = g.T.FileTable.view c.args.player.now.pass.now in
-    let o = g.T.FileTable.opening c.args.context.now.table.now in
-    let (r, is, does) = removes _ (Put c.args.slot (new_file o v c.args.file)) one_number _ (λ r. refl)
-    (placed _ v _ _ _ _ c.put-removed.ensures.placed) c.retire.ensures.retired in
-    (r, does)
+    let (new, its, adds) = c.put-removed.ensures.placed in
+    let (r, is, does) = removes _ (Put c.args.slot new) one_number _ (λ r. refl) (placed _ _ _ _ new _ adds) c.retire.ensures.retired in
+    (new, r, its.identity, does)

@@ -7,7 +7,7 @@ use Rattle.fx_chain.proofs.removal.take.Goals as goal
 taken : (o : Opening) (v w : PassView) (slot : ℕ) (result : Result Retired Empty) (removed : Option Retired) → removed ≡ result_ok result
     → Taken o v slot result w → Removed o v (Take slot) no_use removed w
 taken o v w slot (Err e) removed is adds = rw is adds
-taken o v w slot (Ok x) removed is adds = rw is adds
+taken o v w slot (Ok x) removed is (f, value, adds) = rw is (f, adds)
 
 pub returns-clause-removed : goal.returns-clause-removed
 returns-clause-removed g c =

@@ -13,7 +13,7 @@ loop-i-preserved g c =
     let is = c.loop-i.invariant in
     let count = as_many requests c.args.chains.now c.requires.members in
     let inside : c.loop-i.i + 1 ≤ length (runs_of (all_asked requests)) = omega (arith, count, c.loop-i-test.true) in
-    let next : Some c.in-Some._drawn ≡ Some ((g.T.FileTable.view c.loop-i.pass).chain + 1) =
+    let next : Some c.in-Some._drawn ≡ Some ((g.T.SharedTable.view c.loop-i.pass).chain + 1) =
     c.in-Some.ensures.next c.requires.alone is.played.more (omega (arith, is.played.chain, c.requires.chains, inside, count)) in
     goes_on is inside (cc next) c.in-Some.ensures.drawn c.members_of_chain.ensures.run c.run_chain.ensures.played c.run_chain.ensures.fits
     c.run_chain.ensures.capacity

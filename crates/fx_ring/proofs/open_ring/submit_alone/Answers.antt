@@ -7,9 +7,9 @@ use Rattle.fx_ring.proofs.open_ring.submit_alone.Goals as goal
 
 pub returns-clause-played : goal.returns-clause-played
 returns-clause-played g c registrations =
-    let V : g.row.T-Pass.Denot → PassView = λ p. g.T.FileTable.view p in
+    let V : g.row.T-Pass.Denot → PassView = λ p. g.T.SharedTable.view p in
     let s = c.args.submission.now in
-    let o = g.T.FileTable.opening c.args.table.now in
+    let o = g.T.SharedTable.opening c.args.table.now in
     let asked = all_asked s.requests.now in
     let before = V c.args.pass.now in
     let p = c.play_alone.ensures.played in
@@ -18,7 +18,7 @@ returns-clause-played g c registrations =
     let one = part_is_one_history p.since s.earlier asked alone.few_slots (runs_within c.args.chains.now c.requires.members c.requires.within)
     alone.settled
     (subst (λ (v : PassView). Rattle.fx_table.specs.Settling.IsSettledSoFar o v) c.settle.ensures.same c.settle.ensures.settled)
-    (authors_of alone.settled ((g.met.T.FileTable g.world.𝓛 g.world.𝓜 g.world.𝓡 ((λ s x. x), (λ x. x), (λ x. x), λ x. x)).fronts _ _ alone.fits))
+    (authors_of alone.settled ((g.met.T.SharedTable g.world.𝓛 g.world.𝓜 g.world.𝓡 ((λ s x. x), (λ x. x), (λ x. x), λ x. x)).fronts _ _ alone.fits))
     p.own p.worked (λ chain low high. all_drawn (length c.args.chains.now) chain low (omega (arith, high, count))) registrations
     c.sort.ensures.completions c.sort.ensures.in_order
     (record { same_files = c.sort.ensures.closes; in_order = c.sort.ensures.in_order_of_mark }) in

@@ -10,18 +10,18 @@ use Rattle.fx_ring.proofs.submission.play_open.Goals.{After-close-left}
 use Rattle.fx_ring.proofs.submission.play_open.Goals as goal
 
 pub gather-requires-clause-count : goal.gather-requires-clause-count
-gather-requires-clause-count g c = c.requires.room.count ∙ sym (as_many_passes g.T.FileTable.view c.args.passes.items _ c.requires.new)
+gather-requires-clause-count g c = c.requires.room.count ∙ sym (as_many_passes g.T.SharedTable.view c.args.passes.items _ c.requires.new)
 
 pub gather-requires-clause-room : goal.gather-requires-clause-room
 gather-requires-clause-room g c =
-    let count = as_many_passes g.T.FileTable.view c.args.passes.items _ c.requires.new in
+    let count = as_many_passes g.T.SharedTable.view c.args.passes.items _ c.requires.new in
     let room = c.requires.room.crew in
     omega arith
 
 pub work_crew-requires-clause-ready : goal.work_crew-requires-clause-ready
 work_crew-requires-clause-ready g c κs within =
-    let V : g.row.T-Pass.Denot → PassView = λ p. g.T.FileTable.view p in
-    let ready = all_gathered (λ p. g.T.FileTable.fits c.args.table p × IsIdle (V p)) _ _ _ c.gather.ensures.passes c.requires.ready in
+    let V : g.row.T-Pass.Denot → PassView = λ p. g.T.SharedTable.view p in
+    let ready = all_gathered (λ p. g.T.SharedTable.fits c.args.table p × IsIdle (V p)) _ _ _ c.gather.ensures.passes c.requires.ready in
     let few = accepted-length (all_asked c.args.submission.now.requests.now) c.args.submission.now.accepted in
     let new = all_gathered (λ p. IsNew PASS_LOOKS (V p)) _ _ _ c.gather.ensures.passes (all_new V c.args.passes.items _ c.requires.new) in
     let room = all_gathered (HasRoomFor (all_asked c.args.submission.now.requests.now)) _ _ _ c.gather.ensures.outcomes c.requires.room.outcomes in
@@ -36,21 +36,22 @@ work_crew-requires-clause-ready g c κs within =
 
 pub close-left-requires-clause-ready : goal.close-left-requires-clause-ready
 close-left-requires-clause-ready g c =
-    all_scattered (λ p. g.T.FileTable.fits c.args.table p × IsIdle (g.T.FileTable.view p)) _ _ _ c.scatter.ensures.passes
+    all_scattered (λ p. g.T.SharedTable.fits c.args.table p × IsIdle (g.T.SharedTable.view p)) _ _ _ c.scatter.ensures.passes
     (λ k d l. let is = (c.work_crew.ensures.done k d l).between in (is.fits, is.idle))
 
 -- the crew has played, and its passes are back
 module _ (g : Over) (c : After-close-left g) where
   abbrev V : g.row.T-Pass.Denot → PassView
-  V p = g.T.FileTable.view p
+  V p = g.T.SharedTable.view p
 
   abbrev ws : List (Worker g.row.T-Pass.Denot)
   ws = c.work_crew.new.crew.items
 
   played : HavePlayed c.args.submission.now.catalogue.now (c.args.submission.now.earlier + 1) (runs_of (all_asked c.args.submission.now.requests.now))
-      (g.T.FileTable.opening c.args.table) (states V ws) (map V c.scatter.new.passes.items) c.close-left.result
+      (g.T.SharedTable.opening c.args.table) (states V ws) (map V c.scatter.new.passes.items) c.close-left.result
   played = crew_has_played V c.args.submission.now.requests.now c.args.chains.now c.args.passes.items c.gather.new.crew.items ws
-      c.requires.members c.requires.within c.requires.chains c.requires.new c.gather.ensures.passes c.work_crew.ensures.numbers
+      c.requires.members c.requires.within c.requires.chains
+      ((g.met.T.FileTable g.world.𝓛 g.world.𝓜 g.world.𝓡 ((λ s x. x), (λ x. x), (λ x. x), λ x. x)).ends c.args.table) c.requires.new c.gather.ensures.passes c.work_crew.ensures.numbers
       c.scatter.ensures.passes (λ k d l. (c.work_crew.ensures.done k d l).between.worked)
       (λ k d l. (c.work_crew.ensures.done k d l).all_drawn) c.close-left.ensures
 
@@ -79,7 +80,7 @@ returns-clause-played g c registrations =
     let a = (goal.at.returns-clause-played g c).After-close-left in
     let s = c.args.submission.now in
     let asked = all_asked s.requests.now in
-    subst (λ (r : Reported). IsOneHistory (ring_with s.catalogue.now (g.T.FileTable.opening c.args.table).contents s.earlier registrations) asked r
+    subst (λ (r : Reported). IsOneHistory (ring_with s.catalogue.now (g.T.SharedTable.opening c.args.table).contents s.earlier registrations) asked r
     (ring_with s.catalogue.now c.close-left.result (s.earlier + 1) registrations)) (sym c.report.ensures)
     (one_history registrations (played g a)
     (subst (λ (l : List Completed). IsPermutation l (all_completed c.sort.new.self.completions.items))

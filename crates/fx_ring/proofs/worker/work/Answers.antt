@@ -13,19 +13,19 @@ run_chain-requires-clause-looks g c κs within =
     omega (
       arith,
       length-map c.members_of_chain.result.now asked_of,
-      (enough (g.T.FileTable.opening c.args.play.now.table.now)
+      (enough (g.T.SharedTable.opening c.args.play.now.table.now)
           c.loop-chain.invariant.ready.room (count c.args.play.now) c.in-Some.ensures.drawn c.members_of_chain.ensures.run).0,
     )
 
 pub run_chain-requires-clause-room : goal.run_chain-requires-clause-room
-run_chain-requires-clause-room g c κs within = (enough (g.T.FileTable.opening c.args.play.now.table.now) c.loop-chain.invariant.ready.room
+run_chain-requires-clause-room g c κs within = (enough (g.T.SharedTable.opening c.args.play.now.table.now) c.loop-chain.invariant.ready.room
     (count c.args.play.now) c.in-Some.ensures.drawn c.members_of_chain.ensures.run).2
 
 pub run_chain-requires-clause-out : goal.run_chain-requires-clause-out
 run_chain-requires-clause-out g c κs within =
     let same = length-map c.members_of_chain.result.now asked_of in
     let before = length-map c.loop-chain.worker.outcome.completions.items completed_of in
-    let room = (enough (g.T.FileTable.opening c.args.play.now.table.now) c.loop-chain.invariant.ready.room (count c.args.play.now)
+    let room = (enough (g.T.SharedTable.opening c.args.play.now.table.now) c.loop-chain.invariant.ready.room (count c.args.play.now)
     c.in-Some.ensures.drawn c.members_of_chain.ensures.run).1 in
     omega arith
 
@@ -55,7 +55,7 @@ returns-clause-done g c =
       between = record {
         fits = c.in_default.ensures.fits;
         idle = ap (λ (v : PassView). v.doing) drawn ∙ b.idle;
-        worked = worked_all (g.T.FileTable.opening c.args.play.now.table.now) b.worked drawn;
+        worked = worked_all (g.T.SharedTable.opening c.args.play.now.table.now) b.worked drawn;
       };
       all_drawn = ap (λ (v : PassView). v.no_chains_left) drawn;
     }

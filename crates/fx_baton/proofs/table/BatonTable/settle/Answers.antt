@@ -1,5 +1,6 @@
 use Rattle.fx_baton.proofs.Words.{subst, arith, Start, IsKept}
 use Rattle.fx_baton.proofs.Settling.{may_observe, settles}
+use Rattle.fx_table.proofs.Tasks.{idle_task}
 use Rattle.fx_baton.proofs.table.BatonTable.settle.Goals as goal
 
 pub load-requires : goal.load-requires
@@ -11,4 +12,4 @@ pub returns-clause-settled : goal.returns-clause-settled
 returns-clause-settled c =
     let t = c.args.self.now.table.shared in let f = c.requires in let o = c.load.ensures.2 in
     let r = subst (λ (z : Start). IsKept z o.last) f.fits.seated.start o.rule in
-    rw o.same (settles t.table_id t.key c.args.pass.now f.fits f.idle f.alone o.last r o.seat o.view)
+    rw o.same (settles t.table_id t.key c.args.pass.now f.fits (idle_task _ f.idle) f.alone o.last r o.seat o.view)

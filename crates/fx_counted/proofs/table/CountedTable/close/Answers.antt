@@ -3,7 +3,7 @@ use Rattle.fx_counted.proofs.Words.{each_all, IsPassOfTable}
 use Rattle.fx_table.proofs.Dealing.{IsReady, fits}
 use Rattle.fx_table.proofs.Gathering.{gathered}
 use Rattle.fx_counted.proofs.Gathered.{all_idle, closes}
-use Rattle.fx_counted.proofs.Going.{its_doing}
+use Rattle.fx_counted.proofs.Going.{its_idle}
 use Rattle.fx_counted.proofs.table.CountedTable.close.Goals as goal
 
 pub gather-seat-requires-clause-passes : goal.gather-seat-requires-clause-passes
@@ -13,7 +13,7 @@ gather-seat-requires-clause-passes c =
     each_all (λ (p : CountedPass). IsIdleSeatOf c.args.self p.seat) others (λ p h.
     let all : Contains ps p = rw c.in-Some.ensures.items (Contains-append_left others (c.in-Some.first ∷ []) p h) in
     let ready = All-contains (IsReady (IsPassOfTable c.args.self) view_of) ps p c.requires.ready all in
-    let its = ready.0 in let idle = its_doing its ready.1 in assumption (its, idle))
+    let its = ready.0 in let idle = its_idle its ready.1 in assumption (its, idle))
 
 pub finish-requires-clause-idle : goal.finish-requires-clause-idle
 finish-requires-clause-idle c s r at =

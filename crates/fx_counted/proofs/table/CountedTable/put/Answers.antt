@@ -1,5 +1,5 @@
 use Rattle.fx_counted.proofs.Words.{◌≡◌, ℕ, [], ◌∷◌, ap, ◌∙◌, subst, arith, Some, ◌▷◌, numbered, Put, takes_in, slot_word_of, Adds, one_number}
-use Rattle.fx_counted.proofs.Words.{place_of, pass_of, view_of, opening_of_table, retiring, Bool, sym, File, List, Log, None, Option, Retired}
+use Rattle.fx_counted.proofs.Words.{place_of, pass_of, view_of, opening_of_table, activity_of, retiring, Bool, sym, File, List, Log, None, Option, Retired}
 use Rattle.fx_counted.proofs.Words.{first_log, is_idle, option_map, refl, rest, is_some, retired_of, Between}
 use Rattle.std.proofs.lemmas.Bool.{not-false, not-true}
 use Rattle.std.specs.Prelude.{not}
@@ -58,7 +58,7 @@ returns c =
           (idle_if_none went.replaced takes _ c.is_none-pass.ensures (c.removed_in-replaced.ensures went.replaced went.names));
       placed = placed_so o v c.args.slot went.replaced takes _ (pass_of m.0) (c.removed_in-replaced.ensures went.replaced went.names) n file file
           c.next_number-number.ensures.number refl
-          (subst (λ (s : ℕ). Adds o v ([] ▷ Put s (numbered n file) went.replaced) (retiring went.replaced takes) one_number (pass_of m.0))
+          (subst (λ (s : ℕ). Adds o v ([] ▷ Put s (numbered n file) went.replaced) (activity_of (retiring went.replaced takes)) one_number (pass_of m.0))
           (slot_at c.args.self.now c.slot_place.ensures) (adds_so fits goes));
       steps = omega (arith, goes.steps);
     }

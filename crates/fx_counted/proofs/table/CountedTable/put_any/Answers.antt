@@ -1,5 +1,6 @@
-use Rattle.fx_counted.proofs.Words.{inr, ◌∙◌, arith, Some, HasPlace}
+use Rattle.fx_counted.proofs.Words.{inr, refl, ◌∙◌, arith, Some, HasPlace}
 use Rattle.fx_counted.proofs.Going.{its_pass, adds_so, goes_one, goes_then}
+use Rattle.fx_table.proofs.Removing.{new_here}
 use Rattle.fx_counted.proofs.table.CountedTable.put_any.Goals as goal
 
 pub returns-in-Some-clause-allocated : goal.returns-in-Some-clause-allocated
@@ -8,7 +9,7 @@ returns-in-Some-clause-allocated g c =
     let below = c.in-Some.ensures.slot in
     let found = rw c.identity-identity.ensures at c.in-Some.ensures.found in
     let placed = goes_then (goes_one c.put_in.ensures.born) found.0.1 in
-    (omega arith, rw c.next_number-number.ensures.number at (adds_so c.requires.fits placed))
+    (omega arith, (_, new_here _ _ 0 _ _ _ c.next_number-number.ensures.number refl, adds_so c.requires.fits placed))
 
 pub returns-in-None-clause-allocated : goal.returns-in-None-clause-allocated
 returns-in-None-clause-allocated g c =

@@ -1,7 +1,7 @@
-use Rattle.fx_counted.proofs.Words.{ℕ, ◌<◌, ◌≡◌, [], refl, sym, ap, ◌∙◌, arith, subst, Some, ◌▷◌, Close, File, no_use, Retired, retire_amount_of}
+use Rattle.fx_counted.proofs.Words.{ℕ, ◌<◌, ◌≡◌, [], refl, sym, ap, ◌∙◌, arith, subst, Some, ◌▷◌, Close, File, no_use, Retired, retired_of, retire_amount_of}
 use Rattle.fx_counted.proofs.Words.{Goes, node_place, HasPlace, pass_of, state_after_all, IsInside, TakesOut, Change, Start, Idle, Retiring, Between}
 use Rattle.fx_counted.proofs.Calling.{node_inside}
-use Rattle.fx_counted.proofs.Going.{its_pass, its_doing, adds_so, still_pass, let_go, out_place, out_and_home}
+use Rattle.fx_counted.proofs.Going.{its_pass, its_removal, adds_so, still_pass, let_go, out_place, out_and_home}
 use Rattle.fx_counted.proofs.LettingGo.{retires_keep}
 use Rattle.fx_counted.proofs.table.CountedTable.retire.Goals.{After-fetch_sub-found}
 use Rattle.fx_counted.proofs.table.CountedTable.retire.Goals as goal
@@ -10,12 +10,12 @@ pub fetch_sub-found-requires : goal.fetch_sub-found-requires
 fetch_sub-found-requires c =
     let t = c.args.self.now in
     let fits = c.requires.fits in
-    let (f, takes, doing, value) = c.requires.removed in
-    let work = its_doing fits doing in
+    let (f, doing) = c.requires.removed in
+    let (work, value) = its_removal fits doing in
     let is = c.node_place-place.ensures ∙ ap (λ (r : Retired). node_place t.size r.node) value in (
       fits.table,
       node_inside t (subst (IsInside t.table.shared.key) work fits.seated.inside) is,
-      retires_keep _ _ _ _ _ takes f c.args.pass.now.seat.me _ (its_pass fits) work (rw t.same_size at is)
+      retires_keep _ _ _ _ _ c.args.retired.takes f c.args.pass.now.seat.me _ (its_pass fits) work (rw t.same_size at is)
           (c.retire_amount-amount.ensures ∙ ap (λ (r : Retired). retire_amount_of r.takes) value),
     )
 
@@ -24,8 +24,11 @@ module _ (c : After-fetch_sub-found) where
   abbrev file : File
   file = c.requires.removed.0
 
-  work : c.args.pass.now.seat.me.0.work ≡ Between (Retiring file c.requires.removed.1)
-  work = its_doing c.requires.fits c.requires.removed.2
+  its : (c.args.pass.now.seat.me.0.work ≡ Between (Retiring file c.args.retired.takes)) × (c.args.retired ≡ retired_of file c.args.retired.takes)
+  its = its_removal c.requires.fits c.requires.removed.1
+
+  work : c.args.pass.now.seat.me.0.work ≡ Between (Retiring file c.args.retired.takes)
+  work = its.0
 
   closes : c.fetch_sub-found.result ≡ c.retire_amount-amount.result → TakesOut c.args.pass.now.seat.me [] file c.fetch_sub-found.new.seat.me
   closes is = c.fetch_sub-found.ensures.2.closes file _ work is
@@ -33,20 +36,20 @@ module _ (c : After-fetch_sub-found) where
   place : c.fetch_sub-found.result ≡ c.retire_amount-amount.result
       → HasPlace c.args.self.now.table.shared.key c.args.retired.node (Some file.identity) c.fetch_sub-found.new.seat.me
   place is = subst (λ (n : ℕ). HasPlace c.args.self.now.table.shared.key n (Some file.identity) c.fetch_sub-found.new.seat.me)
-      (sym (ap (λ (r : Retired). r.node) c.requires.removed.3)) (out_place (its_pass c.requires.fits) c.requires.fits.places (closes is))
+      (sym (ap (λ (r : Retired). r.node) its.1)) (out_place (its_pass c.requires.fits) c.requires.fits.places (closes is))
 
 pub returns-then-found-amount : goal.returns-then-found-amount
 returns-then-found-amount c =
     let a = (goal.at.returns-then-found-amount c).After-fetch_sub-found in
     let fits = c.requires.fits in
-    let (f, takes, doing, value) = c.requires.removed in
+    let (f, doing) = c.requires.removed in
     let went = c.fetch_sub-found.ensures.2.waits f _ (work a) c.if-found-amount.true in
     let goes = let_go fits.seated.change went.0 in
     let held = subst (λ (z : Start). 0 < (state_after_all z (pass_of c.fetch_sub-found.new.seat.me.0).front).holds f.number)
     fits.seated.start went.1 in
     record {
       fits = still_pass _ fits goes c.fetch_sub-found.ensures.0 (went.0.carried ∙ fits.places) tt refl refl (omega arith) (omega arith) refl;
-      retired = (f, takes, doing, value, (held, adds_so fits goes));
+      retired = (f, doing, (held, adds_so fits goes));
       steps = let few = goes.steps in omega arith;
     }
 
@@ -59,13 +62,13 @@ pub returns : goal.returns
 returns c =
     let a = (goal.at.returns c).After-fetch_sub-found in
     let fits = c.requires.fits in
-    let (f, takes, doing, value) = c.requires.removed in
+    let (f, doing) = c.requires.removed in
     let is : c.fetch_sub-found.result ≡ c.retire_amount-amount.result = omega (arith, c.if-found-amount.false) in
     let goes = subst (λ (z : Change). Goes c.args.pass.now.seat.me ([] ▷ Close f) no_use (Between Idle) z 2 c.take_out.new.seat.me)
     fits.seated.change (out_and_home (closes a is) c.take_out.ensures.rests) in
     record {
       fits = still_pass _ fits goes (c.take_out.ensures.table ∙ c.fetch_sub-found.ensures.0) c.take_out.ensures.empty tt refl refl (omega arith)
           (omega arith) refl;
-      retired = (f, takes, doing, value, (c.take_out.ensures.file (file a).identity (place a is), adds_so fits goes));
+      retired = (f, doing, (c.take_out.ensures.file (file a).identity (place a is), adds_so fits goes));
       steps = let few = goes.steps in omega arith;
     }

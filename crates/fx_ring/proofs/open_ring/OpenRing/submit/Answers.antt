@@ -8,14 +8,14 @@ use Rattle.fx_ring.proofs.open_ring.OpenRing.submit.Goals as goal
 pub returns-in-Some-clause-refused : goal.returns-in-Some-clause-refused
 returns-in-Some-clause-refused g c =
     let same = sym (ap (λ (opened : OpenRingContents). (ring_of opened.ring).submissions) c.self.view_is)
-    ∙ counts_shown g.T.FileTable.view c.self.inside.catalogue (g.T.FileTable.opening c.self.inside.table) c.self.inside.submissions
+    ∙ counts_shown g.T.SharedTable.view c.self.inside.catalogue (g.T.SharedTable.opening c.self.inside.table) c.self.inside.submissions
     c.self.inside.registrations c.self.inside.passes.items in
     rw (sym (c.refusal_behind.ensures.value (ring_of c.args.self.now.ring) same) ∙ c.in-Some.is) refl
 
 pub returns-in-Some-clause-only_refusal : goal.returns-in-Some-clause-only_refusal
 returns-in-Some-clause-only_refusal g c =
     let same = sym (ap (λ (opened : OpenRingContents). (ring_of opened.ring).submissions) c.self.view_is)
-    ∙ counts_shown g.T.FileTable.view c.self.inside.catalogue (g.T.FileTable.opening c.self.inside.table) c.self.inside.submissions
+    ∙ counts_shown g.T.SharedTable.view c.self.inside.catalogue (g.T.SharedTable.opening c.self.inside.table) c.self.inside.submissions
     c.self.inside.registrations c.self.inside.passes.items in
     rw (sym (c.refusal_behind.ensures.value (ring_of c.args.self.now.ring) same) ∙ c.in-Some.is) tt
 
@@ -24,7 +24,7 @@ submit_alone-report-requires-clause-looks g c κs within =
     let chains = c.as_slice-chains.result.now in
     let asked = all_asked c.args.requests.now in
     let members : map (members_of asked) chains ≡ runs_of asked = search rules in
-    looks_suffice g.T.FileTable.view (λ p. g.T.FileTable.fits c.self.inside.table p) _ _ _ _ _ _ _ _ (length chains) (search rules)
+    looks_suffice g.T.SharedTable.view (λ p. g.T.SharedTable.fits c.self.inside.table p) _ _ _ _ _ _ _ _ (length chains) (search rules)
     (few_of_chains c.args.requests.now chains members (search rules)) c.self.inside.passes.items c.self.invariant c.index_mut.ensures.value
 
 pub invariant_of-self : goal.invariant_of-self
@@ -34,7 +34,7 @@ invariant_of-self g c =
     let members : map (members_of asked) chains ≡ runs_of asked = search rules in
     let few = few_of_chains c.args.requests.now chains members (search rules) in
     let looks = c.submit_alone-report.ensures.looks in
-    (kept_behind g.T.FileTable.view (λ p. g.T.FileTable.fits c.self.inside.table p) _ _ _ _ _ _ _ _ _
+    (kept_behind g.T.SharedTable.view (λ p. g.T.SharedTable.fits c.self.inside.table p) _ _ _ _ _ _ _ _ _
     c.submit_alone-report.ensures.alone (search rules) c.in_default.ensures.few c.submit_alone-report.ensures.chain (omega (arith, few, looks))
     (c.submit_alone-report.ensures.played c.self.inside.registrations) c.self.inside.passes.items c.self.invariant c.index_mut.ensures.value).0
 
@@ -45,7 +45,7 @@ returns-clause-entries g c =
     let members : map (members_of asked) chains ≡ runs_of asked = search rules in
     let few = few_of_chains c.args.requests.now chains members (search rules) in
     let looks = c.submit_alone-report.ensures.looks in
-    (kept_behind g.T.FileTable.view (λ p. g.T.FileTable.fits c.self.inside.table p) _ _ _ _ _ _ _ _ _
+    (kept_behind g.T.SharedTable.view (λ p. g.T.SharedTable.fits c.self.inside.table p) _ _ _ _ _ _ _ _ _
     c.submit_alone-report.ensures.alone (search rules) c.in_default.ensures.few c.submit_alone-report.ensures.chain (omega (arith, few, looks))
     (c.submit_alone-report.ensures.played c.self.inside.registrations) c.self.inside.passes.items c.self.invariant c.index_mut.ensures.value).1
 

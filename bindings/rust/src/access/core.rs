@@ -1,0 +1,61 @@
+//! The C interface of the verified core (`crates/fx_server_c`), or the stand-in for it. A worker of the core is one pass of its
+//! table. A value is known to the core by its tag, which it returns to whoever has to drop the value.
+#![allow(dead_code)]
+
+/// A worker of the core.
+#[repr(C)]
+pub(crate) struct Core {
+    _private: [u8; 0],
+    _marker: std::marker::PhantomData<(*mut u8, std::marker::PhantomPinned)>,
+}
+
+/// The call is done.
+pub(crate) const DONE: i64 = 0;
+/// The call is done, and it returned the tag of a value that nobody uses any more.
+pub(crate) const CLOSED: i64 = 1;
+/// The slot is empty.
+pub(crate) const EMPTY: i64 = -1;
+/// There is no such slot.
+pub(crate) const NO_SLOT: i64 = -2;
+/// The worker holds a value.
+pub(crate) const BUSY: i64 = -3;
+/// The worker holds no value.
+pub(crate) const IDLE: i64 = -4;
+/// The worker doesn't install values.
+pub(crate) const NO_BLOCK: i64 = -5;
+/// Every slot has a value.
+pub(crate) const FULL: i64 = -6;
+/// The slots changed during the round.
+pub(crate) const AGAIN: i64 = -7;
+/// An argument is out of range.
+pub(crate) const BAD: i64 = -8;
+/// An allocation failed.
+pub(crate) const NO_MEMORY: i64 = -9;
+
+/// The largest number of slots.
+pub(crate) const MOST_SLOTS: u32 = 256;
+/// The largest number of workers.
+pub(crate) const MOST_WORKERS: u32 = 1024;
+/// The largest number of workers that install values.
+pub(crate) const MOST_INSTALLING: u32 = 64;
+
+#[cfg(yachtbanyan_stand_in)]
+pub(crate) use super::stand_in::*;
+
+#[cfg(not(yachtbanyan_stand_in))]
+unsafe extern "C" {
+    pub(crate) fn yacht_core_open(
+        slots: u32,
+        installing: u32,
+        workers: *mut *mut Core,
+        count: usize,
+    ) -> i64;
+    pub(crate) fn yacht_core_close(worker: *mut Core);
+    pub(crate) fn yacht_core_nodes(worker: *mut Core) -> i64;
+    pub(crate) fn yacht_core_next(worker: *mut Core) -> i64;
+    pub(crate) fn yacht_core_look(worker: *mut Core, slot: u32, freed: *mut u64) -> i64;
+    pub(crate) fn yacht_core_release(worker: *mut Core, closed: *mut u64) -> i64;
+    pub(crate) fn yacht_core_put(worker: *mut Core, slot: u32, tag: u64, closed: *mut u64) -> i64;
+    pub(crate) fn yacht_core_put_any(worker: *mut Core, tag: u64) -> i64;
+    pub(crate) fn yacht_core_take(worker: *mut Core, slot: u32, closed: *mut u64) -> i64;
+}

@@ -1,0 +1,250 @@
+//! An unproved stand-in for the core, in plain Rust, with the core's interface: for sanitizers, which see all of it. It counts holds by
+//! takes, as the core does of cold files. It is never part of a library that is handed out (`--cfg yachtbanyan_stand_in`).
+//!
+//! A slot's word has the node and one, shifted by 32 bits, and the number of takes. A node's word is 0 where the node is free,
+//! `BORN` less what was released while its file is in a slot, and 1 and what is still held after that.
+use super::core::{Core, AGAIN, BAD, BUSY, CLOSED, DONE, EMPTY, FULL, IDLE, NO_BLOCK, NO_SLOT};
+use super::core::{MOST_INSTALLING, MOST_SLOTS, MOST_WORKERS};
+use std::cell::UnsafeCell;
+use std::sync::atomic::{AtomicU64, Ordering::SeqCst};
+use std::sync::Arc;
+
+const BORN: u64 = (1 << 32) + 1;
+const TAKES: u64 = (1 << 32) - 1;
+
+struct Table {
+    slots: Vec<AtomicU64>,
+    nodes: Vec<AtomicU64>,
+    // by node: written by who has the free node, read by who closes its file
+    tags: Vec<UnsafeCell<u64>>,
+    // how many installations and removals there were
+    changes: AtomicU64,
+    block: usize,
+}
+
+// SAFETY: a tag is written before its node is installed and read after the last hold ended, which the words order.
+unsafe impl Sync for Table {}
+// SAFETY: as above.
+unsafe impl Send for Table {}
+
+struct Worker {
+    table: Arc<Table>,
+    // the worker's block of nodes, if it installs
+    first: Option<usize>,
+    next: Option<usize>,
+    held: Option<usize>,
+}
+
+impl Table {
+    fn close(&self, node: usize) -> u64 {
+        // SAFETY: nobody holds the node, and it is free only after the store.
+        let tag = unsafe { *self.tags[node].get() };
+        self.nodes[node].store(0, SeqCst);
+        tag
+    }
+
+    // Ends one hold of a node, or the last `count` that are owed to it. Returns the tag if that closes its file.
+    fn subtract(&self, node: usize, count: u64) -> Option<u64> {
+        let left = self.nodes[node].fetch_sub(count, SeqCst) - count;
+        (left == 1).then(|| self.close(node))
+    }
+
+    fn retire(&self, word: u64) -> Option<u64> {
+        self.changes.fetch_add(1, SeqCst);
+        self.subtract((word >> 32) as usize - 1, (1 << 32) - (word & TAKES))
+    }
+}
+
+impl Worker {
+    fn next(&mut self) -> Option<usize> {
+        let first = self.first?;
+        if self.next.is_none() {
+            let block = first..first + self.table.block;
+            self.next = block
+                .into_iter()
+                .find(|&it| self.table.nodes[it].load(SeqCst) == 0);
+        }
+        self.next
+    }
+
+    // Makes a node for the tag. Returns the word that installs it.
+    fn begin(&mut self, tag: u64) -> Option<u64> {
+        let node = self.next()?;
+        // SAFETY: the node is free, and this worker's.
+        unsafe { *self.table.tags[node].get() = tag };
+        self.table.nodes[node].store(BORN, SeqCst);
+        Some((node as u64 + 1) << 32)
+    }
+
+    fn look(&mut self, slot: usize) -> i64 {
+        let Some(word) = self.table.slots.get(slot) else {
+            return NO_SLOT;
+        };
+        if word.load(SeqCst) >> 32 == 0 {
+            return EMPTY;
+        }
+        match (word.fetch_add(1, SeqCst) >> 32) as usize {
+            0 => EMPTY,
+            name => {
+                self.held = Some(name - 1);
+                name as i64 - 1
+            }
+        }
+    }
+
+    // One round over the slots.
+    fn round(&mut self, word: u64) -> i64 {
+        let before = self.table.changes.load(SeqCst);
+        for (slot, it) in self.table.slots.iter().enumerate() {
+            let old = it.load(SeqCst);
+            if old >> 32 == 0 && it.compare_exchange(old, word, SeqCst, SeqCst).is_ok() {
+                self.table.changes.fetch_add(1, SeqCst);
+                return slot as i64;
+            }
+        }
+        if self.table.changes.load(SeqCst) == before {
+            FULL
+        } else {
+            AGAIN
+        }
+    }
+}
+
+fn answer(closed: Option<u64>, out: &mut u64) -> i64 {
+    match closed {
+        Some(tag) => {
+            *out = tag;
+            CLOSED
+        }
+        None => DONE,
+    }
+}
+
+// SAFETY of all below: as of the core's functions, a handle is valid, and one call at a time uses it.
+unsafe fn worker<'a>(handle: *mut Core) -> &'a mut Worker {
+    // SAFETY: the handle came from `yacht_core_open`.
+    unsafe { &mut *handle.cast() }
+}
+
+pub(crate) unsafe fn yacht_core_open(
+    slots: u32,
+    installing: u32,
+    out: *mut *mut Core,
+    count: usize,
+) -> i64 {
+    let is_right = (1..=MOST_SLOTS).contains(&slots)
+        && (1..=MOST_INSTALLING.min(count as u32)).contains(&installing)
+        && count <= MOST_WORKERS as usize;
+    if !is_right {
+        return BAD;
+    }
+    let block = slots as usize + count;
+    let nodes = installing as usize * block;
+    let words = |count: usize| (0..count).map(|_| AtomicU64::new(0)).collect();
+    let table = Arc::new(Table {
+        slots: words(slots as usize),
+        nodes: words(nodes),
+        tags: (0..nodes).map(|_| UnsafeCell::new(0)).collect(),
+        changes: AtomicU64::new(0),
+        block,
+    });
+    for at in 0..count {
+        let first = (at < installing as usize).then_some(at * block);
+        let it = Worker {
+            table: Arc::clone(&table),
+            first,
+            next: None,
+            held: None,
+        };
+        // SAFETY: there is room for `count` handles.
+        unsafe { *out.add(at) = Box::into_raw(Box::new(it)).cast() };
+    }
+    DONE
+}
+
+pub(crate) unsafe fn yacht_core_close(handle: *mut Core) {
+    // SAFETY: the handle is used no more.
+    drop(unsafe { Box::from_raw(handle.cast::<Worker>()) });
+}
+
+pub(crate) unsafe fn yacht_core_nodes(handle: *mut Core) -> i64 {
+    unsafe { worker(handle) }.table.nodes.len() as i64
+}
+
+pub(crate) unsafe fn yacht_core_next(handle: *mut Core) -> i64 {
+    unsafe { worker(handle) }
+        .next()
+        .map_or(NO_BLOCK, |node| node as i64)
+}
+
+pub(crate) unsafe fn yacht_core_look(handle: *mut Core, slot: u32, freed: *mut u64) -> i64 {
+    let it = unsafe { worker(handle) };
+    unsafe { *freed = 0 };
+    if it.held.is_some() {
+        return BUSY;
+    }
+    it.look(slot as usize)
+}
+
+pub(crate) unsafe fn yacht_core_release(handle: *mut Core, closed: *mut u64) -> i64 {
+    let it = unsafe { worker(handle) };
+    let Some(node) = it.held.take() else {
+        return IDLE;
+    };
+    answer(it.table.subtract(node, 1), unsafe { &mut *closed })
+}
+
+pub(crate) unsafe fn yacht_core_put(
+    handle: *mut Core,
+    slot: u32,
+    tag: u64,
+    closed: *mut u64,
+) -> i64 {
+    let it = unsafe { worker(handle) };
+    if it.held.is_some() {
+        return BUSY;
+    }
+    if slot as usize >= it.table.slots.len() {
+        return NO_SLOT;
+    }
+    let Some(word) = it.begin(tag) else {
+        return NO_BLOCK;
+    };
+    it.next = None;
+    it.table.changes.fetch_add(1, SeqCst);
+    match it.table.slots[slot as usize].swap(word, SeqCst) {
+        old if old >> 32 == 0 => DONE,
+        old => answer(it.table.retire(old), unsafe { &mut *closed }),
+    }
+}
+
+pub(crate) unsafe fn yacht_core_put_any(handle: *mut Core, tag: u64) -> i64 {
+    let it = unsafe { worker(handle) };
+    if it.held.is_some() {
+        return BUSY;
+    }
+    let Some(word) = it.begin(tag) else {
+        return NO_BLOCK;
+    };
+    let slot = it.round(word);
+    if slot >= 0 {
+        it.next = None;
+    } else {
+        it.table.nodes[(word >> 32) as usize - 1].store(0, SeqCst);
+    }
+    slot
+}
+
+pub(crate) unsafe fn yacht_core_take(handle: *mut Core, slot: u32, closed: *mut u64) -> i64 {
+    let it = unsafe { worker(handle) };
+    if it.held.is_some() {
+        return BUSY;
+    }
+    let Some(word) = it.table.slots.get(slot as usize) else {
+        return NO_SLOT;
+    };
+    match word.swap(0, SeqCst) {
+        old if old >> 32 == 0 => EMPTY,
+        old => answer(it.table.retire(old), unsafe { &mut *closed }),
+    }
+}

@@ -1,0 +1,278 @@
+//! The words of the lasting table, in plain, unproved Rust: the proved table is measured against it. A cold file is looked
+//! up by an addition to its slot's word, a hot one by its node in the pass's own hold word.
+use crate::table::{read_entry, File, Shape, Table};
+use std::cell::UnsafeCell;
+use std::hint::black_box;
+use std::sync::atomic::{AtomicU64, Ordering::SeqCst};
+
+// The words of a node: without a file, with a closed one, and at its birth.
+const FREE: u64 = 0;
+const CLOSED: u64 = 1;
+const BORN: u64 = (1 << 32) + 1;
+
+// A slot's word: the node + 1 from bit 40 on, the entry, the hot bit, and the takes.
+const HOT: u64 = 1 << 31;
+const COLD_TAKES: u64 = 16;
+
+// A marked hold word.
+const MARK: u64 = 1 << 32;
+
+// One more pass in a change of the range, in the control word, and the bias that is added there to the full slots.
+const ONE_CHANGE: u64 = 1 << 32;
+const BIAS: u64 = 65_536;
+
+/// A word on a cache line of its own.
+#[repr(align(64))]
+struct Line(AtomicU64);
+
+fn line(word: u64) -> Line {
+    Line(AtomicU64::new(word))
+}
+
+/// The lasting table, unproved.
+pub struct LastingWords {
+    slots: Vec<Line>,
+    holds: Vec<Line>,
+    nodes: Vec<AtomicU64>,
+    places: Vec<UnsafeCell<Option<File>>>,
+    control: Line,
+    /// The number of nodes of each pass.
+    block: usize,
+    in_range: bool,
+}
+
+// A place is written by the pass that its node is born to, and emptied by the one that brings its word to `CLOSED`.
+unsafe impl Sync for LastingWords {}
+
+/// A pass: its number, and the node of its block at which its next search begins.
+pub struct Pass {
+    number: usize,
+    next: usize,
+}
+
+/// A file that a pass looked up: by a take of its node, or by its hold word.
+struct Held {
+    word: u64,
+    node: usize,
+    by_take: bool,
+}
+
+fn node_in(word: u64) -> Option<usize> {
+    ((word >> 40) as usize).checked_sub(1)
+}
+
+impl LastingWords {
+    fn come_out(&self, node: usize) {
+        let file = unsafe { (*self.places[node].get()).take() };
+        self.nodes[node].store(FREE, SeqCst);
+        black_box(file.expect("a file at its node"));
+    }
+
+    fn drop_one(&self, node: usize) {
+        if self.nodes[node].fetch_sub(1, SeqCst) == CLOSED + 1 {
+            self.come_out(node);
+        }
+    }
+
+    fn empty_hold(&self, pass: &Pass, node: usize) {
+        if self.holds[pass.number].0.swap(0, SeqCst) & MARK != 0 {
+            self.drop_one(node);
+        }
+    }
+
+    fn take_at(&self, slot: usize) -> Option<Held> {
+        let word = self.slots[slot].0.fetch_add(1, SeqCst);
+        if word & (HOT - 1) >= COLD_TAKES {
+            self.slots[slot].0.fetch_or(HOT, SeqCst);
+        }
+        let node = node_in(word)?;
+        Some(Held {
+            word,
+            node,
+            by_take: true,
+        })
+    }
+
+    fn look_up(&self, pass: &Pass, slot: usize) -> Option<Held> {
+        let word = self.slots[slot].0.load(SeqCst);
+        let node = node_in(word)?;
+        if word & HOT == 0 {
+            return self.take_at(slot);
+        }
+        self.holds[pass.number].0.store(node as u64 + 1, SeqCst);
+        let again = self.slots[slot].0.load(SeqCst);
+        if again >> 40 == word >> 40 && again & HOT != 0 {
+            return Some(Held {
+                word,
+                node,
+                by_take: false,
+            });
+        }
+        self.empty_hold(pass, node);
+        self.take_at(slot)
+    }
+
+    fn release(&self, pass: &Pass, held: Held) {
+        if held.by_take {
+            self.drop_one(held.node);
+        } else {
+            self.empty_hold(pass, held.node);
+        }
+    }
+
+    // Marks the hold words of the other passes that name the node, and returns how many it marked.
+    fn mark_holds(&self, pass: &Pass, node: usize) -> u64 {
+        let name = node as u64 + 1;
+        let is_marked = |(at, it): (usize, &Line)| {
+            at != pass.number
+                && it.0.load(SeqCst) == name
+                && it
+                    .0
+                    .compare_exchange(name, name | MARK, SeqCst, SeqCst)
+                    .is_ok()
+        };
+        self.holds
+            .iter()
+            .enumerate()
+            .filter(|it| is_marked(*it))
+            .count() as u64
+    }
+
+    fn retire(&self, pass: &Pass, word: u64) {
+        let Some(node) = node_in(word) else {
+            return;
+        };
+        let mut left = word & (HOT - 1);
+        if word & HOT != 0 {
+            left += self.mark_holds(pass, node);
+        }
+        let amount = BORN - CLOSED - left;
+        if self.nodes[node].fetch_sub(amount, SeqCst) == amount + CLOSED {
+            self.come_out(node);
+        }
+    }
+
+    fn install(&self, pass: &mut Pass, file: File) -> u64 {
+        let first = pass.number * self.block;
+        while self.nodes[first + pass.next].load(SeqCst) != FREE {
+            pass.next = (pass.next + 1) % self.block;
+        }
+        let node = first + pass.next;
+        pass.next = (pass.next + 1) % self.block;
+        self.nodes[node].store(BORN, SeqCst);
+        let word = (node as u64 + 1) << 40 | u64::from(file.entry) << 32;
+        unsafe { *self.places[node].get() = Some(file) };
+        word
+    }
+
+    fn change(&self, slot: usize, word: u64) -> u64 {
+        if !self.in_range {
+            return self.slots[slot].0.swap(word, SeqCst);
+        }
+        self.control.0.fetch_add(ONE_CHANGE, SeqCst);
+        let found = self.slots[slot].0.swap(word, SeqCst);
+        let delta = u64::from(word >> 40 != 0).wrapping_sub(u64::from(found >> 40 != 0));
+        self.control
+            .0
+            .fetch_sub(ONE_CHANGE.wrapping_sub(delta), SeqCst);
+        found
+    }
+
+    fn try_slot(&self, slot: usize, word: u64) -> bool {
+        let found = self.slots[slot].0.load(SeqCst);
+        if node_in(found).is_some() {
+            return false;
+        }
+        self.control.0.fetch_add(ONE_CHANGE, SeqCst);
+        let is_mine = self.slots[slot]
+            .0
+            .compare_exchange(found, word, SeqCst, SeqCst)
+            .is_ok();
+        self.control
+            .0
+            .fetch_sub(ONE_CHANGE - u64::from(is_mine), SeqCst);
+        is_mine
+    }
+
+    fn is_full(&self) -> bool {
+        self.control.0.load(SeqCst) == BIAS + self.slots.len() as u64
+    }
+}
+
+impl Table for LastingWords {
+    type Pass = Pass;
+
+    fn open(shape: Shape) -> LastingWords {
+        let Shape {
+            slots,
+            full,
+            in_range,
+            threads,
+            ..
+        } = shape;
+        let block = 2 * (slots + threads);
+        let nodes = block * threads;
+        let slot = |n| line(if n < full { (n as u64 + 1) << 40 } else { 0 });
+        let node = |n| AtomicU64::new(if n < full { BORN } else { FREE });
+        let place = |n| UnsafeCell::new((n < full).then_some(File { entry: 0, mark: 0 }));
+        LastingWords {
+            slots: (0..slots).map(slot).collect(),
+            holds: (0..threads).map(|_| line(0)).collect(),
+            nodes: (0..nodes).map(node).collect(),
+            places: (0..nodes).map(place).collect(),
+            control: line(BIAS + if in_range { full as u64 } else { 0 }),
+            block,
+            in_range,
+        }
+    }
+
+    fn pass(&self, thread: usize) -> Pass {
+        Pass {
+            number: thread,
+            next: 0,
+        }
+    }
+
+    fn look(&self, pass: &mut Pass, slot: usize) -> u64 {
+        let Some(held) = self.look_up(pass, slot) else {
+            return 0;
+        };
+        let word = held.word;
+        self.release(pass, held);
+        word
+    }
+
+    fn read(&self, pass: &mut Pass, slot: usize, catalogue: &[Vec<u8>], into: &mut Vec<u8>) {
+        if let Some(held) = self.look_up(pass, slot) {
+            read_entry(catalogue, (held.word >> 32) as u8, into);
+            self.release(pass, held);
+        }
+    }
+
+    fn put(&self, pass: &mut Pass, slot: usize, file: File) {
+        let word = self.install(pass, file);
+        self.retire(pass, self.change(slot, word));
+    }
+
+    // Asks before each round whether every slot is full.
+    fn put_any(&self, pass: &mut Pass, file: File) -> Option<usize> {
+        if self.is_full() {
+            return None;
+        }
+        let word = self.install(pass, file);
+        loop {
+            if let Some(slot) = (0..self.slots.len()).find(|it| self.try_slot(*it, word)) {
+                return Some(slot);
+            }
+            if self.is_full() {
+                node_in(word).map(|it| self.come_out(it));
+                return None;
+            }
+            std::thread::yield_now();
+        }
+    }
+
+    fn take(&self, pass: &mut Pass, slot: usize) {
+        self.retire(pass, self.change(slot, 0));
+    }
+}

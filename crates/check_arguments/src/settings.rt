@@ -1,0 +1,221 @@
+//! The settings that a command line gives.
+use crate::ending::NoVerdict;
+use clap::{Arg, ArgAction, ArgMatches, Command, Error, value_parser};
+use fx_script::PlayFault;
+use std::alloc::{AllocError, Global};
+use std::convert::AsStr;
+use std::env;
+use std::io::ErrorKind;
+
+const ABOUT: &str =
+    "Judges whether the rules of io_uring's fixed file table allow a text for a script, \
+                     for instance what a kernel printed for it";
+
+/// The version, as the file VERSION has it.
+const VERSION: &str = "2.0.0";
+
+const STATUSES: &str = "\
+It prints `legal` and an order of requests for each accepted submission that gives the text;
+`not legal` and the command at which the text breaks; or `undecided`, if no order was found or
+ruled out within the limits. The exit status is then 0, 1 or 6.
+With --keep-going it goes on after a break from the ring that the text shows there, if it shows
+one, and prints every break.
+With --history it prints, for a legal text, every event of the table on a line: the request,
+the event, and the files then at the slots. scripts/draw-history draws it.
+With --may it lists the answers of the request at a place, as 1.1.2, if no allocation fails.
+With --all it counts the texts that the rules allow if no allocation fails, and lists the first
+N of them. Each answer or text comes with orders that give it.
+A script is what `fixfiles` plays, and a text is what `fixfiles`, or a kernel, prints for it.
+
+An order is a line `order S: 1.1.1 1.2.1.0 1.1.2`: the requests of submission S, done one at a
+time in this order, give the text. Each is named by its submission, its chain and its member,
+from 1, and an update's by the entry of its list too, from 0.
+
+Exit status:
+  0  the text is legal, all answers or texts are counted, or help or the version was printed
+  1  the text is not legal
+  2  an argument is invalid
+  3  the script is invalid; its first fault is printed on standard error
+  4  the script or the text couldn't be read, or the verdict couldn't be written
+  5  an allocation failed
+  6  the text is undecided, or there may be more answers or texts";
+
+// The default of `--states`.
+const STATES: u32 = 1_000_000;
+
+// The default of `--memory`.
+const MEMORY: u32 = 1_024;
+
+/// The largest `--memory`: a TiB.
+const MOST_MEMORY: i64 = 1_048_576;
+
+/// The settings of a command line.
+#[derive(Clone, Copy)]
+pub struct Settings<'a> {
+    /// The largest number of states of a part of a submission.
+    pub states: u32,
+    /// The largest number of MiB of these states.
+    pub memory: u32,
+    /// True if a whole history is printed instead of the orders.
+    pub history: bool,
+    /// True if the text is judged after its first break, too.
+    pub keep_going: bool,
+    /// True if the answers of a request are listed.
+    pub may: bool,
+    /// The largest number of texts to list, or `None` if no list is requested.
+    pub all: Option<u32>,
+    /// The script's path, or `-` for standard input.
+    pub script: &'a str,
+    /// The text's path, or `-` for standard input. With `may` it is the place of a request, and with `all` it is empty.
+    pub text: &'a str,
+}
+
+/// Returns the words of the command line, the program's name first.
+///
+/// # Errors
+/// `Fault` if an allocation fails, `NoText` if an argument isn't UTF-8.
+pub fn words(rt: &HostRuntime) -> Result<Vec<String>, NoVerdict> {
+    match env::args(rt) {
+        Ok(args) => Ok(args.collect(rt.alloc())?),
+        Err(error) if error.kind() == ErrorKind::OutOfMemory => {
+            Err(NoVerdict::Fault(PlayFault::NoMemory))
+        }
+        Err(_) => Err(NoVerdict::NoText),
+    }
+}
+
+fn states_argument<'a>(alloc: Global) -> Arg<'a> {
+    Arg::new(alloc, "states")
+        .long("states")
+        .value_name("N")
+        .value_parser(value_parser!(u32))
+        .default_value("1000000")
+        .help("Largest number of states of a part of a submission; with more it is undecided")
+}
+
+fn memory_argument<'a>(alloc: Global) -> Arg<'a> {
+    Arg::new(alloc, "memory")
+        .long("memory")
+        .value_name("MIB")
+        .value_parser(value_parser!(u32).range(1..=MOST_MEMORY))
+        .default_value("1024")
+        .help("Largest number of MiB of these states; with more it is undecided")
+}
+
+fn history_argument<'a>(alloc: Global) -> Arg<'a> {
+    Arg::new(alloc, "history")
+        .long("history")
+        .action(ArgAction::SetTrue)
+        .help("Prints instead of the orders a whole legal history that gives the text")
+}
+
+fn keep_going_argument<'a>(alloc: Global) -> Result<Arg<'a>, AllocError> {
+    Arg::new(alloc, "keep-going")
+        .long("keep-going")
+        .action(ArgAction::SetTrue)
+        .help("Goes on after a break from the ring that the text shows, and prints every break")
+        .conflicts_with("may")?
+        .conflicts_with("all")
+}
+
+fn may_argument<'a>(alloc: Global) -> Arg<'a> {
+    Arg::new(alloc, "may")
+        .long("may")
+        .action(ArgAction::SetTrue)
+        .help("Lists the answers of the request whose place, as 1.1.2, follows instead of TEXT")
+}
+
+fn all_argument<'a>(alloc: Global) -> Result<Arg<'a>, AllocError> {
+    Arg::new(alloc, "all")
+        .long("all")
+        .value_name("N")
+        .value_parser(value_parser!(u32))
+        .num_args(0..=1)
+        .require_equals(true)
+        .default_missing_value("100")
+        .help("Lists every text of the script, the first N of them; by default 100")
+        .conflicts_with("may")?
+        .conflicts_with("history")
+}
+
+fn script_argument<'a>(alloc: Global) -> Arg<'a> {
+    Arg::new(alloc, "script")
+        .value_name("SCRIPT")
+        .required(true)
+        .help("The script, or - for standard input")
+}
+
+fn text_argument<'a>(alloc: Global) -> Result<Arg<'a>, AllocError> {
+    Arg::new(alloc, "text")
+        .value_name("TEXT")
+        .help("The text, or - for standard input; with --may the place of a request")
+        .required_unless_present("all")?
+        .required_unless_present("may")
+}
+
+fn command<'a>(alloc: Global) -> Result<Command<'a>, AllocError> {
+    Command::new(alloc, "fixcheck")
+        .version(VERSION)
+        .about(ABOUT)
+        .after_help(STATUSES)
+        .arg(states_argument(alloc))?
+        .arg(memory_argument(alloc))?
+        .arg(history_argument(alloc))?
+        .arg(keep_going_argument(alloc)?)?
+        .arg(may_argument(alloc))?
+        .arg(all_argument(alloc)?)?
+        .arg(script_argument(alloc))?
+        .arg(text_argument(alloc)?)
+}
+
+// Returns the number of states, which has a default.
+fn states_of(matches: &ArgMatches<'_>) -> u32 {
+    matches.get_one::<u32>("states").unwrap_or(STATES)
+}
+
+// Returns the number of MiB, which has a default.
+fn memory_of(matches: &ArgMatches<'_>) -> u32 {
+    matches.get_one::<u32>("memory").unwrap_or(MEMORY)
+}
+
+// Checks that the words after the options are those that the options take.
+fn check_words(
+    alloc: Global,
+    matches: &ArgMatches<'_>,
+    script: &str,
+    text: Option<&str>,
+) -> Result<(), NoVerdict> {
+    if matches.contains_id("all") && text.is_some() {
+        return Err(NoVerdict::TextWithAll(format!(in alloc; "{script}")?));
+    }
+    if matches.get_flag("may") && text.is_none() {
+        return Err(NoVerdict::NoPlaceGiven);
+    }
+    if script == "-" && text == Some("-") {
+        return Err(NoVerdict::TwoInputs);
+    }
+    Ok(())
+}
+
+/// Returns what the words of a command line ask for.
+///
+/// # Errors
+/// Those of clap: help or the version is requested, an argument is unknown, missing or invalid, or an allocation fails. Of this
+/// program's own: `TextWithAll` if a text follows the script of `--all`, `NoPlaceGiven` if no place follows that of `--may`, and
+/// `TwoInputs` if both the script and the text are `-`.
+pub fn settings_in<'a, S: AsStr>(alloc: Global, words: &'a [S]) -> Result<Settings<'a>, NoVerdict> {
+    let matches = command(alloc)?.try_get_matches_from(words)?;
+    let script = matches.get_str("script").unwrap_or("-");
+    let text = matches.get_str("text");
+    check_words(alloc, &matches, script, text)?;
+    Ok(Settings {
+        states: states_of(&matches),
+        memory: memory_of(&matches),
+        history: matches.get_flag("history"),
+        keep_going: matches.get_flag("keep-going"),
+        may: matches.get_flag("may"),
+        all: matches.get_one::<u32>("all"),
+        script,
+        text: text.unwrap_or(""),
+    })
+}

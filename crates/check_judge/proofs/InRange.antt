@@ -1,0 +1,117 @@
+-- The lines of an accepted submission's report have numbers that their types have.
+use Rattle.check_judge.proofs.Words.{◌≡◌, inl, inr, ℕ, zero, suc, ◌+◌, ◌<◌, ◌≤◌, ◌^◌, ◌==◌, pos, List, [], ◌∷◌, length, take, drop, All, refl, subst}
+use Rattle.check_judge.proofs.Words.{arith, Option, Some, None, slice_get, get_or_from_slice_get, slice_get_within, All-append, All-cons, All-get_or}
+use Rattle.check_judge.proofs.Words.{All-head, All-nil, All-tail, has_name, FileEntry, Errno, ENOENT, EBADF, ENFILE, Completed, completed}
+use Rattle.check_judge.proofs.Words.{next_member}
+use Rattle.check_judge.proofs.Words.{canceled, first_member, severs, Asked, Operation, Opens, Reads, Closes, Updates, Place, Target, Slot, Any}
+use Rattle.check_judge.proofs.Words.{accesses_of, accesses_of_chain, Access, ChainAccess, IsOpenDone, IsRequestDone, IsChainDone, AreChainsDone}
+use Rattle.check_judge.proofs.Words.{either_way, AreFiles, allocates, puts, updates, length-drop, get_or-drop, get_or-take, get_or_past, length-take}
+use Rattle.check_judge.proofs.Words.{IsCompletionInRange, IsPlaceInRange, cases_lt, ltb-false, or_parts, refusal, bytes_at, part_of, LONGEST_ENTRY}
+use Rattle.check_judge.proofs.Words.{ECANCELED, both_parts}
+use Rattle.std.specs.List.{AllByRecursion}
+use Rattle.hex.specs.Hex.{IsBytes}
+use Rattle.check_judge.proofs.OfChain.{possible_of_chain}
+use Rattle.check_judge.specs.Claims.{IsAllocationInRange}
+use Rattle.fx_order.proofs.RequestCases.{closes, reads}
+
+-- an element of a list of which each is so
+all_got : {A : Type 0} (P : A → Type 0) (xs : List A) (i : ℕ) {x : A} → All P xs → slice_get xs i ≡ Some x → P x
+all_got P xs i {x} all is = subst P (get_or_from_slice_get xs i x x is) (All-get_or P xs i x (slice_get_within xs i x is) all)
+
+no_bytes : IsBytes []
+no_bytes zero = omega arith
+no_bytes (suc i) = omega arith
+
+taken_bytes : (n : ℕ) (xs : List ℕ) → IsBytes xs → IsBytes (take n xs)
+taken_bytes n xs fits i = elim (cases_lt i n) [
+  | inl low ↦ rw (get_or-take n xs i 0 low) (fits i)
+  | inr past ↦ rw (get_or_past (take n xs) i 0 (omega (arith, length-take n xs))) (omega arith)
+]
+
+left_bytes : (n : ℕ) (xs : List ℕ) → IsBytes xs → IsBytes (drop n xs)
+left_bytes n xs fits i = rw get_or-drop (fits (n + i))
+
+-- bytes that a read gives
+record AreGiven (got : List ℕ) : Type 0 where
+  small : length got < 2 ^ 31
+  bytes : IsBytes got
+
+given : {catalogue : List FileEntry} (entry off len : ℕ) → AreFiles catalogue → AreGiven (bytes_at catalogue entry off len)
+given {catalogue} entry off len are = of (slice_get catalogue entry) refl
+  where
+    of : (x : Option FileEntry) → slice_get catalogue entry ≡ x → AreGiven (part_of x off len)
+    of None is = record { small = omega arith; bytes = no_bytes }
+    of (Some file) is =
+        let small : length file.bytes ≤ LONGEST_ENTRY = all_got (λ (f : FileEntry). length f.bytes ≤ LONGEST_ENTRY) catalogue entry are.catalogue.small is in
+        let bytes : IsBytes file.bytes = all_got (λ (f : FileEntry). IsBytes f.bytes) catalogue entry are.bytes is in
+        record {
+          small = omega (arith, length-take len (drop off file.bytes), length-drop off file.bytes);
+          bytes = taken_bytes len (drop off file.bytes) (left_bytes off file.bytes bytes);
+        }
+
+error : {place : Place} → IsPlaceInRange place → (errno : Errno) → IsCompletionInRange (refusal place errno)
+error {place} is ENOENT = record { place = is; res = omega arith; got = no_bytes }
+error {place} is _ = record { place = is; res = omega arith; got = no_bytes }
+
+number_in_range : {n : ℕ} {place : Place} → IsPlaceInRange place → n < 2 ^ 31 → IsCompletionInRange (completed place (pos n) [])
+number_in_range {place} is few = record { place = is; res = few; got = no_bytes }
+
+module _ (catalogue : List FileEntry) (are : AreFiles catalogue) (size : ℕ) (small : size ≤ 256) (range : ℕ × ℕ) where
+  abbrev AreInside : List Access → Type 0
+  AreInside accesses = AllByRecursion (IsAllocationInRange size range) accesses
+
+  module _ (place : Place) (is : IsPlaceInRange place) where
+    open_so : (entry : ℕ) (target : Target) (accesses : List Access) {c : Completed} → AreInside accesses
+        → IsOpenDone size place entry target accesses c → IsCompletionInRange c
+    open_so entry (Slot slot) accesses {c} inside done =
+        puts size place (λ _. IsCompletionInRange) (error is) accesses c entry slot (λ _. number_in_range is (omega arith)) done
+    open_so entry Any accesses {c} inside done =
+        allocates size place (λ own d. AreInside own → IsCompletionInRange d) (λ errno _. error is errno) accesses c entry
+        (λ slot within. let low = within.0.0 in number_in_range is (omega arith)) (λ _. error is ENFILE) done inside
+
+    request_so : (operation : Operation) (accesses : List Access) {c : Completed} → AreInside accesses
+        → IsRequestDone catalogue size place operation accesses c → IsCompletionInRange c
+    request_so (Opens name target) accesses {c} inside =
+        either_way (has_name name catalogue) (λ _ x. open_so x.0 target accesses inside x.2) (λ _ x. rw x.1 (error is ENOENT))
+    request_so (Reads slot off len) accesses {c} inside =
+        reads size place (λ _. IsCompletionInRange) (error is) accesses c catalogue slot off len (error is EBADF) (λ file.
+        let g = given file.entry off len are in record { place = is; res = g.small; got = g.bytes })
+    request_so (Closes slot) accesses {c} inside =
+        closes size place (λ _. IsCompletionInRange) (error is) accesses c slot (error is EBADF) (λ _. number_in_range is (omega arith))
+    request_so (Updates off list) accesses {c} inside =
+        updates size place (λ _. IsCompletionInRange) (error is) accesses c (length catalogue) off list (λ fine _ _.
+        let within : off + length list ≤ size = ltb-false size (off + length list) (or_parts (length list == 0) _ fine).1 in
+        number_in_range is (omega arith))
+
+  moved : {place : Place} (n : ℕ) → IsPlaceInRange place → place.member + suc n < 2 ^ 32 → IsPlaceInRange (next_member place)
+  moved n is few = record { submission = is.submission; chain = is.chain; member = omega arith }
+
+  canceled_so : (place : Place) (requests : List Asked) → IsPlaceInRange place → place.member + length requests < 2 ^ 32
+      → All IsCompletionInRange (canceled place requests)
+  canceled_so place [] is few = All-nil IsCompletionInRange
+  canceled_so place (r ∷ rs) is few =
+      All-cons IsCompletionInRange (refusal place ECANCELED) (canceled (next_member place) rs) (error is ECANCELED)
+      (canceled_so (next_member place) rs (moved (length rs) is few) (omega arith))
+
+  chain_so : (place : Place) (requests : List Asked) (accesses : List Access) (cs : List Completed) → IsPlaceInRange place
+      → place.member + length requests < 2 ^ 32 → AreInside accesses → IsChainDone catalogue size place requests accesses cs
+      → All IsCompletionInRange cs
+  chain_so place [] accesses cs is few inside x = rw x.1 (All-nil IsCompletionInRange)
+  chain_so place (r ∷ rs) accesses cs is few inside x =
+      let (front, behind) = both_parts (IsAllocationInRange size range) x.0 x.1 (rw x.4 at inside) in
+      let next : IsPlaceInRange (next_member place) = moved (length rs) is few in
+      rw x.5 (All-cons IsCompletionInRange x.2 x.3 (request_so place is r.operation x.0 front x.6)
+      (either_way {R = All IsCompletionInRange x.3} (severs r x.2) (λ _ y. rw y.1 (canceled_so (next_member place) rs next (omega arith)))
+      (λ _ y. chain_so (next_member place) rs x.1 x.3 next (omega arith) behind y) x.7))
+
+  -- the completions of an order
+  pub chains_so : {submission : ℕ} (first : ℕ) (runs : List (List Asked)) (order : List ChainAccess) (cs : List Completed) → submission < 2 ^ 32
+      → first + length runs < 2 ^ 32 → All (λ run. length run ≤ 16) runs → AreInside (accesses_of order)
+      → AreChainsDone catalogue size submission first runs order cs → All IsCompletionInRange cs
+  chains_so first [] order cs low few short inside x = rw x (All-nil IsCompletionInRange)
+  chains_so {submission} first (run ∷ runs) order cs low few short inside x =
+      let one : length run ≤ 16 = All-head (λ (r : List Asked). length r ≤ 16) run runs short in
+      rw x.2 (All-append IsCompletionInRange x.0 x.1
+      (chain_so (first_member submission first) run (accesses_of_chain first order) x.0
+      (record { submission = low; chain = omega arith; member = omega arith }) (omega arith) (possible_of_chain size range first order inside) x.3)
+      (chains_so (first + 1) runs order x.1 low (omega arith) (All-tail (λ (r : List Asked). length r ≤ 16) run runs short) inside x.4))

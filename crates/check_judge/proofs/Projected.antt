@@ -1,0 +1,183 @@
+-- An order whose accesses the claims tell of is, at some slots alone, an order of the claims of these slots.
+use Rattle.check_judge.proofs.ClaimWords.{◌≡◌, ◌⊎◌, inl, inr, ℕ, zero, suc, ◌+◌, ◌<◌, ◌≤◌, true, false, List, [], ◌∷◌, length, map, drop, refl, sym}
+use Rattle.check_judge.proofs.ClaimWords.{◌∙◌}
+use Rattle.check_judge.proofs.ClaimWords.{arith, All, Contains, slice_get, slice_index, slice_index_or, slice_set, Option, Some, AllZip}
+use Rattle.check_judge.proofs.ClaimWords.{option_to_list}
+use Rattle.check_judge.proofs.ClaimWords.{length-map, length-set, All-contains, Contains-append_right, slice_get_within, Closed, contains_head}
+use Rattle.check_judge.proofs.ClaimWords.{contains_tail}
+use Rattle.check_judge.proofs.ClaimWords.{Table, Permits, PermitsAll, table_with, table_after, removed_by, removed_in, accesses_of, accesses_of_chain}
+use Rattle.check_judge.proofs.ClaimWords.{Access}
+use Rattle.check_judge.proofs.ClaimWords.{ChainAccess, Fits, touched, Standing, AreClaims, HasNoOrder, table_of_slots, Vec, eq-eqb, ◌==◌, IsEndOfClaims, Ends}
+use Rattle.check_judge.proofs.ClaimWords.{cells_after, is_staying, may_stay, next, IsCell, ShowsFile, starting, AreStrands, has_slot, seen, Cell}
+use Rattle.check_judge.proofs.ClaimWords.{Claim}
+use Rattle.check_judge.proofs.ClaimWords.{Resident, Strand, All-weaker, ne_eqb, true≢false, length-drop, drop_more, drop_all, cases_Bool}
+use Rattle.check_judge.proofs.ClaimWords.{list_all-from_AllPass, same_Some, slice_get_cases, slice_get_past, AllZip-long, of_chain, not_own}
+use Rattle.check_judge.proofs.ClaimWords.{contains_cases}
+use Rattle.check_judge.proofs.ClaimWords.{contains_none, Slots, each_set}
+use Rattle.check_search.specs.Machine.{HasNoEnd}
+use Rattle.check_judge.proofs.CellSteps.{allowed, cells_follow, at_after, moved, some_or_none, untouched}
+use Rattle.check_judge.proofs.OfChain.{of_its_chain}
+use Rattle.std.proofs.lemmas.List.Folds.{list_any_at}
+use Rattle.check_search.proofs.SlotsKept.{slots_after}
+
+-- the first one of the claims that are left
+first_left : {closes : List Closed} (claims : List Claim) (n : ℕ) {a : Access} (rest : List Access) → AllZip (Fits closes) (drop n claims) (a ∷ rest)
+    → (claim : Claim) × (slice_get claims n ≡ Some claim) × Fits closes claim a × AllZip (Fits closes) (drop (n + 1) claims) rest
+first_left claims n rest all = elim (slice_get_cases claims n).1 [
+  | inl here ↦ let left = rw (drop_more claims n here.0 here.1, here.3) at all in (here.0, here.2, left.0, left.1)
+  | inr past ↦ absurd (rw (drop_all n claims past.0) at all)
+]
+
+-- the strand of a chain, and where it stands
+abbrev IsAmong : List Strand → ℕ → Type 0
+IsAmong strands chain = (i : ℕ) × (strand : Strand) × (slice_get strands i ≡ Some strand) × (strand.chain ≡ chain)
+
+module _ (closes : List Closed) (strands : List Strand) (first : List Cell)
+    (once : (i j : ℕ) (one other : Strand) → slice_get strands i ≡ Some one → slice_get strands j ≡ Some other → one.chain ≡ other.chain → i ≡ j) where
+  -- the claims that are left tell of the accesses that are left, at these slots
+  record Left (table : Table) (at : Standing) (order : List ChainAccess) : Type 0 where
+    fits : (i : ℕ) (strand : Strand) → slice_get strands i ≡ Some strand
+        → AllZip (Fits closes) (drop (slice_index at.places i) strand.claims.items) (seen first (accesses_of_chain strand.chain order))
+    each : (x : ChainAccess) → Contains order x → IsAmong strands x.chain ⊎ (has_slot first (touched x.access) ≡ false)
+    long : length at.places ≡ length strands
+    slots : (o : Option ℕ) → has_slot at.cells o ≡ has_slot first o
+    cells : All (IsCell table closes) at.cells
+
+  -- an access of another slot
+  passed : {table : Table} (at : Standing) (x : ChainAccess) (order : List ChainAccess) → has_slot first (touched x.access) ≡ false
+      → All (IsCell (table_with table x.access) closes) at.cells → Left table at (x ∷ order) → Left (table_with table x.access) at order
+  passed at x order out cells left = record {
+    fits = λ i strand is. elim (of_chain x order strand.chain) [
+      | inl same ↦ rw (same.1, out) at (left.fits i strand is)
+      | inr other ↦ rw other.1 at (left.fits i strand is)
+    ];
+    each = λ y has. left.each y (contains_tail x order y has);
+    long = left.long;
+    slots = left.slots;
+    cells = cells;
+  }
+
+  -- an access of one of these slots is the next claim of its chain
+  stepped : (table : Table) (at : Standing) (x : ChainAccess) (order : List ChainAccess) → has_slot first (touched x.access) ≡ true
+      → Permits table x.access → ((f : Closed) → removed_by x.access ≡ Some f → Contains closes f) → Left table at (x ∷ order)
+      → (i : ℕ) (strand : Strand) → slice_get strands i ≡ Some strand → strand.chain ≡ x.chain
+      → (mid : Standing) × (next strands at i ≡ Some mid) × Left (table_with table x.access) mid order
+  stepped table at x order inside may closed left i strand is own =
+      let n = slice_index at.places i in
+      let told = first_left strand.claims.items n (seen first (accesses_of_chain strand.chain order))
+      (rw (eq-eqb x.chain strand.chain (sym own), inside) at (left.fits i strand is)) in
+      let here = left.slots (touched x.access) ∙ inside in
+      let within : i < length at.places = let among = slice_get_within strands i strand is in let long = left.long in omega arith in (
+        record { places = slice_set at.places i (n + 1); cells = cells_after at.cells told.0 },
+        rw (is, told.1, allowed closes table at.cells x.access left.cells may here closed told.0 told.2),
+        record {
+          fits = λ j. each_set (λ (k m : ℕ). (other : Strand) → slice_get strands k ≡ Some other
+              → AllZip (Fits closes) (drop m other.claims.items) (seen first (accesses_of_chain other.chain order))) at.places i (n + 1) 0 within
+              (λ other at_i. rw (sym (same_Some strand other (sym is ∙ at_i))) told.3) j
+              (λ apart other at_j. rw (not_own x order other.chain (λ same. apart (once j i other strand at_j is (same ∙ sym own))))
+              at (left.fits j other at_j));
+          each = λ y has. left.each y (contains_tail x order y has);
+          long = length-set at.places i (n + 1) ∙ left.long;
+          slots = λ o. rw (slots_after at.cells told.0 o) (left.slots o);
+          cells = cells_follow closes table at.cells x.access left.cells may here closed told.0 told.2;
+        },
+      )
+
+  -- cells of other slots than an access's
+  cells_passed : {table : Table} (a : Access) (cells : List Cell) → Permits table a → has_slot cells (touched a) ≡ false
+      → All (IsCell table closes) cells → All (IsCell (table_with table a) closes) cells
+  cells_passed {table} a cells may out all = λ k d lt.
+      let cell = slice_index_or cells k d in
+      let same : (table_with table a).at cell.slot ≡ table.at cell.slot = elim (some_or_none (touched a)) [
+        | inl there ↦ rw (
+          at_after table a there.1 may,
+          ne_eqb cell.slot there.0 (λ here. true≢false (sym (list_any_at (λ (c : Cell). c.slot == there.0)
+              cells k d lt (eq-eqb cell.slot there.0 here)) ∙ (rw there.1 at out))),
+        )
+        | inr none ↦ rw (untouched table a none)
+      ] in
+      moved table closes a cell cell.file (all k d lt) (rw same (all k d lt).shows)
+
+  -- a cell whose file the closes don't have
+  stays : (found : Option Closed) (shown : Option Resident) → ShowsFile closes found shown
+      → ((file : Closed) → found ≡ Some file → Contains closes file → ⊥) → may_stay shown ≡ true
+  stays found shown shows stay = grind arith
+
+  -- no claim is left where no access is, and no file that the closes have
+  ended : {table : Table} (at : Standing) → Left table at [] → ((slot : ℕ) (file : Closed) → table.at slot ≡ Some file → Contains closes file → ⊥)
+      → IsEndOfClaims strands at
+  ended {table} at left stay = record {
+    stay = list_all-from_AllPass is_staying at.cells (All-weaker (IsCell table closes) (λ cell. is_staying cell ≡ true)
+        (λ cell is. stays (table.at cell.slot) cell.file is.shows (stay cell.slot)) at.cells left.cells);
+    over = λ c. elim (some_or_none (slice_get strands c)) [
+      | inl there ↦
+          let n = slice_index at.places c in
+          let claims = there.0.claims.items in
+          let none = AllZip-long (Fits closes) (drop n claims) [] (left.fits c there.0 there.1) in
+          rw there.1 (slice_get_past claims n (omega (arith, length-drop n claims)))
+      | inr none ↦ rw none
+    ];
+  }
+
+  -- along the order
+  along : (order : List ChainAccess) {table : Table} (at : Standing) → Left table at order → PermitsAll table (accesses_of order)
+      → ((file : Closed) → Contains (removed_in (accesses_of order)) file → Contains closes file)
+      → ((slot : ℕ) (file : Closed) → (table_after table (accesses_of order)).at slot ≡ Some file → Contains closes file → ⊥)
+      → (path : List ℕ) × Ends strands at path
+  along [] {table} at left may removed stay = ([], ended at left stay)
+  along (x ∷ order) {table} at left may removed stay =
+      let closed : (f : Closed) → removed_by x.access ≡ Some f → Contains closes f =
+      λ f is. removed f (rw is (contains_head f (removed_in (accesses_of order)))) in
+      let later : (f : Closed) → Contains (removed_in (accesses_of order)) f → Contains closes f =
+      λ f has. removed f (Contains-append_right (option_to_list (removed_by x.access)) (removed_in (accesses_of order)) f has) in
+      elim (cases_Bool (has_slot first (touched x.access))) [
+        | inl inside ↦ elim (left.each x (contains_head x order)) [
+          | inl there ↦
+              let step = stepped table at x order inside may.0 closed left there.0 there.1 there.2 there.3 in
+              let rest = along order step.0 step.2 may.1 later stay in
+              (there.0 ∷ rest.0, (step.0, step.1, rest.1))
+          | inr out ↦ absurd (true≢false (sym inside ∙ out))
+        ]
+        | inr out ↦
+            along order at
+            (passed at x order out (cells_passed x.access at.cells may.0 (left.slots (touched x.access) ∙ out) left.cells) left) may.1 later stay
+      ]
+
+all_zero : (l : List Strand) (k : ℕ) → slice_index (map (λ (strand : Strand). 0) l) k ≡ 0
+all_zero [] k = refl
+all_zero (x ∷ l) zero = refl
+all_zero (x ∷ l) (suc k) = all_zero l k
+
+-- where nothing is seen of accesses, each is of another slot
+unseen : (cells : List Cell) (accesses : List Access) {a : Access} → Contains accesses a → seen cells accesses ≡ [] → has_slot cells (touched a) ≡ false
+unseen cells [] {a} has none = absurd (contains_none a has)
+unseen cells (b ∷ accesses) {a} has none = elim (cases_Bool (has_slot cells (touched b))) [
+  | inl inside ↦ let bad = rw inside at none in absurd (cc)
+  | inr out ↦ elim (contains_cases b accesses a has) [
+    | inl same ↦ rw same out
+    | inr later ↦ unseen cells accesses later (rw out at none)
+  ]
+]
+
+-- where no order of some slots' claims leads to an end, the claims of the chains, of which these strands are, tell of no order
+pub no_order : (slots : Slots) (closes : List Closed) (chains : List (Vec Claim)) (cells : List Cell) (strands same : List Strand)
+    → All (IsCell (table_of_slots slots) closes) cells
+    → ((closes : List Closed) (order : List ChainAccess) → AreClaims closes chains order → AreStrands closes cells (length chains) order strands)
+    → same ≡ strands → HasNoEnd same (starting same cells) → HasNoOrder (table_of_slots slots) closes chains
+unfolding HasNoEnd
+no_order slots closes chains cells strands same all strands_are is none order played told =
+    let are = strands_are closes order told in
+    let begins : Left closes strands cells are.once (table_of_slots slots) (starting strands cells) order = record {
+      fits = λ i strand at. rw (all_zero strands i) (are.fits i strand at);
+      each = λ x has.
+          let within = All-contains (λ y. (1 ≤ y.chain) × (y.chain ≤ length chains)) order x played.within has in
+          elim (are.each x.chain within.0 within.1) [
+            | inl there ↦ inl there
+            | inr none_seen ↦ inr (unseen cells (accesses_of_chain x.chain order) (of_its_chain order has) none_seen)
+          ];
+      long = length-map strands (λ strand. 0);
+      slots = λ o. refl;
+      cells = all;
+    } in
+    let path = along closes strands cells are.once order (starting strands cells) begins played.permitted played.removed played.stay in
+    (rw is at none) path.0 path.1

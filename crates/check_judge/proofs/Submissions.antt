@@ -1,0 +1,118 @@
+-- An accepted submission whose lines a text goes on with.
+use Rattle.check_judge.proofs.Words.{◌≡◌, ℕ, ◌+◌, ◌≤◌, List, length, map, filter, not, ◌==◌, take, sym, ap, subst, ◌∙◌, arith, Some, refl, lt-leb}
+use Rattle.check_judge.proofs.Words.{FileEntry, tags_of, all_completed, Asked, runs_of, IsOneOrder, ChainAccess, MOST_SLOTS, RingState, IsRing}
+use Rattle.check_judge.proofs.Words.{ring_of}
+use Rattle.check_judge.proofs.Words.{Reported, MOST_SUBMISSIONS, SubmitsAll, report_text, Closed, named_close_of, lines_in, ReportLines, lines_of}
+use Rattle.check_judge.proofs.Words.{lines_text}
+use Rattle.check_judge.proofs.Words.{named_closes, CameBy, told_report, RingSlots, Told, IsRingKept, BeginsWith, MayPrintBy, AreAccessPlaces, AreChainsDone}
+use Rattle.check_judge.proofs.Words.{Order}
+use Rattle.check_judge.proofs.Words.{ring_with_slots, printed_lines, IsOrderOf, ring_left, HasLines}
+use Rattle.fx_order.proofs.Histories.{each_order_is_a_history}
+use Rattle.std.proofs.lemmas.Simd.{map-map}
+use Rattle.check_judge.proofs.OneAnswer.{submitted}
+use Rattle.check_judge.proofs.OrderFiles.{IsCounted, left_in_range}
+
+-- the lines of what is told are those that were read
+pub told_lines : (catalogue : List FileEntry) (lines : ReportLines) (files : List Closed)
+    → named_closes catalogue files ≡ map named_close_of lines.closed.items
+    → map (λ file. file.tag) (filter (λ file. not (file.tag == 0)) files) ≡ lines.tags.items
+    → (number room : ℕ) → lines_of catalogue (record {
+      submission = number;
+      completions = all_completed lines.completions.items;
+      closes = record { files = files; room = room };
+    }) ≡ lines_in lines
+told_lines catalogue lines files closed tags number room =
+    let all : map (λ completion. completion.user_data) (tags_of files) ≡ lines.tags.items = rw map-map tags in
+    λ i. record { completions = all_completed lines.completions.items; closed = closed i; tags = all i }
+
+-- the tags of files are those that are told of them
+pub tags_again : {files others : List Closed} → files ≡ others
+    → map (λ file. file.tag) (filter (λ file. not (file.tag == 0)) files) ≡ map (λ completion. completion.user_data) (tags_of others)
+tags_again same = rw (same, map-map)
+
+module _ {catalogue : List FileEntry} {old : RingSlots} {asked : List Asked} (s : IsCounted catalogue old asked) (new : RingSlots) (told : Told) where
+  abbrev before : RingState
+  before = ring_with_slots catalogue old
+
+  abbrev after : RingState
+  after = ring_with_slots catalogue new
+
+  abbrev Came : List ChainAccess → Type 0
+  Came accesses = CameBy before asked told accesses after
+
+  -- an order of the submission, at the ring behind it
+  pub ordered_is : {accesses : List ChainAccess} → Came accesses → IsOrderOf accesses before asked (told_report before told 0)
+  ordered_is came = rw (came 0).1 at (came 0).0.is
+
+  abbrev AreDone : List ChainAccess → Type 0
+  AreDone accesses =
+      AreChainsDone catalogue (length new.slots.at.items) new.submissions 1 (runs_of asked) accesses (all_completed told.completions.items)
+
+  pub ordered_done : {accesses : List ChainAccess} → Came accesses → AreDone accesses
+  ordered_done {accesses} came =
+      let one = (came 0).0 in
+      rw (ap (λ (r : RingState). r.size) one.after, ap (λ (r : RingState). r.submissions) one.after) (ordered_is came).done
+
+  abbrev PlacesAt : ℕ → ℕ → Order → Type 0
+  PlacesAt size submission order =
+      AreAccessPlaces catalogue size submission (runs_of asked) (all_completed told.completions.items) order.accesses.items order.places.items
+
+  pub accepted_goes : (order : Order) (lines : ReportLines) {text : List ℕ} {count : ℕ} → Came order.accesses.items
+      → order.submission ≡ new.submissions
+      → (AreDone order.accesses.items → PlacesAt (length new.slots.at.items) new.submissions order) → HasLines catalogue lines told
+      → BeginsWith text count (lines_text (lines_in lines))
+      → (count ≤ length text) × MayPrintBy before (SubmitsAll asked) after (take count text) (Some order)
+  accepted_goes order lines {text} {count} came numbered listed has begins = (
+    begins.inside,
+    λ ring same.
+        let report : Reported = told_report before told 0 in
+        let printed : take count text ≡ report_text ring.catalogue report =
+        begins.is_line ∙ ap lines_text (sym (has (old.submissions + 1) 0)) ∙ sym (printed_lines catalogue report)
+        ∙ ap (λ (r : RingState). report_text r.catalogue report) (sym same) in
+        let small : (ring_of ring).size ≤ MOST_SLOTS = subst (λ (r : RingState). r.size ≤ MOST_SLOTS) (sym same) s.kept.few_slots in
+        let accesses : List ChainAccess = order.accesses.items in
+        let first : IsOneOrder before asked report after = (came 0).0 in
+        let is : IsOrderOf accesses before asked report = ordered_is came in
+        let size : length new.slots.at.items ≡ length old.slots.at.items = ap (λ (r : RingState). r.size) first.after in
+        let led : after ≡ ring_left accesses before = first.after ∙ ap (λ (l : List ChainAccess). ring_left l before) (came 0).1 in
+        let counted : new.submissions ≡ old.submissions + 1 = ap (λ (r : RingState). r.submissions) first.after in
+        let one : IsOneOrder (ring_of ring) asked report after = subst (λ (r : RingState). IsOneOrder r asked report after) (sym same) first in
+        let history = each_order_is_a_history ring asked report after small s.accepted one in
+        let next = history.0 in (
+          next,
+          history.1,
+          (submitted asked s.accepted (lt-leb MOST_SUBMISSIONS old.submissions s.few) ring next (take count text) same).1
+              (report, history.2, printed),
+          (
+            asked,
+            refl,
+            record {
+              report = report;
+              history = history.2;
+              printed = printed;
+              explained = subst (λ (r : RingState). IsOrderOf accesses r asked report) (sym same) is;
+              left = history.1 ∙ led ∙ ap (ring_left accesses) (sym same);
+              submission = numbered ∙ counted;
+              places = subst (λ (r : RingState). AreAccessPlaces r.catalogue r.size report.submission (runs_of asked) report.completions accesses order.places.items)
+                  (sym same) (subst (λ (z : ℕ × ℕ). PlacesAt z.0 z.1 order) (λ t. (size t, counted t)) (listed (ordered_done came)));
+            },
+          ),
+        ),
+  )
+
+  pub same_slots : {accesses : List ChainAccess} → Came accesses → length new.slots.at.items ≤ MOST_SLOTS
+  same_slots came = rw (ap (λ (r : RingState). r.size) (came 0).0.after) s.kept.few_slots
+
+  pub accepted_keeps : {accesses : List ChainAccess} → Came accesses → IsRing after → IsRingKept catalogue new
+  accepted_keeps came is =
+      let one = (came 0).0 in
+      let counted : new.submissions ≡ old.submissions + 1 = ap (λ (r : RingState). r.submissions) one.after in
+      let few = s.few in
+      record {
+        few_slots = same_slots came;
+        few_submissions = omega arith;
+        few_registrations = rw (ap (λ (r : RingState). r.registrations) one.after) s.kept.few_registrations;
+        is_ring = is;
+        files = s.kept.files;
+        in_range = left_in_range s one;
+      }

@@ -1,0 +1,16 @@
+use Rattle.check_judge.proofs.Words.{◌≡◌, ◌+◌, ◌<◌, ℕ, Some, length, map, replicate, slice_get, slice_index_or, take, Vec, places_of_chain}
+use Rattle.check_judge.proofs.Words.{AccessPlace}
+use Rattle.check_judge.proofs.Merged.{count_of}
+use Rattle.check_judge.proofs.places.in_order.Given as goal
+
+abbrev pub invariant-loop-list : goal.invariant-loop-list
+invariant-loop-list l = l.next.items ≡ replicate l._list-index 0
+
+abbrev pub invariant-loop-x : goal.invariant-loop-x
+invariant-loop-x l = record {
+  size : length l.next.items ≡ length l.lists;
+  counts : (k : ℕ) → k < length l.lists → slice_index_or l.next.items k 0 ≡ count_of (k + 1) (take l.x-index l.order);
+  chains : map (λ p. p.chain) l.places.items ≡ map (λ x. x.chain) (take l.x-index l.order);
+  listed : (k : ℕ) (list : Vec AccessPlace) → slice_get l.lists k ≡ Some list
+      → places_of_chain (k + 1) l.places.items ≡ take (count_of (k + 1) (take l.x-index l.order)) list.items;
+}

@@ -1,0 +1,100 @@
+-- What completions tell of the accesses that were made: claims, one for each access.
+use Rattle.std.specs.Prelude.{◌≡◌, ℕ, ◌+◌, ◌<◌, ◌≤◌, true, List, slice_get, slice_index_or, Option}
+use Rattle.std.specs.Prelude.{Some, None, Result, Ok, Err}
+use Rattle.std.specs.Global.{Vec}
+use Rattle.std.specs.List.{AllZip, AllByRecursion}
+use Rattle.fx_base.specs.Identity.{Identity}
+use Rattle.fx_base.specs.declared.open_file.Closed.{Closed}
+use Rattle.fx_order.specs.Access.{removed_by, accesses_of_chain}
+use Rattle.fx_order.specs.declared.access.Access.TheVariants.{Looks, Puts, Clears, Takes, Allocates}
+use Rattle.fx_order.specs.declared.access.Access.TheVariants.{FindsFull}
+use Rattle.fx_order.specs.declared.access.Access.{Access}
+use Rattle.fx_order.specs.declared.access.ChainAccess.{ChainAccess}
+use Rattle.check_search.specs.Residents.{IsResident}
+use Rattle.check_search.specs.declared.claim.Wants.{Wants}
+use Rattle.check_search.specs.declared.claim.Wants.TheVariants.{Anything, Nothing, NothingToTake}
+use Rattle.check_search.specs.declared.claim.Wants.TheVariants.{Something, Bytes}
+use Rattle.check_search.specs.declared.claim.Leaves.{Leaves}
+use Rattle.check_search.specs.declared.claim.Leaves.TheVariants.{Same, Empty, File}
+use Rattle.check_search.specs.declared.claim.Claim.{Claim}
+use Rattle.check_search.specs.declared.claim.Claim.TheVariants.{At, Full}
+use Rattle.check_judge.specs.declared.stop.Stop.{Stop}
+use Rattle.check_judge.specs.declared.stop.Stop.TheVariants.{Refuted, Unknown, NoMemory}
+
+-- the slot of an access
+abbrev pub touched : Access → Option ℕ
+touched (Looks slot found) = Some slot
+touched (Puts slot file removed) = Some slot
+touched (Clears slot removed) = Some slot
+touched (Takes slot removed) = Some slot
+touched (Allocates slot file) = Some slot
+touched FindsFull = None
+
+-- the file that it found there
+abbrev pub found_by : Access → Option Identity
+found_by (Looks slot found) = found
+found_by (Puts slot file removed) = removed
+found_by (Clears slot removed) = removed
+found_by (Takes slot removed) = removed
+found_by (Allocates slot file) = None
+found_by FindsFull = None
+
+-- the file that is there then
+abbrev pub left_by : Access → Option Identity
+left_by (Looks slot found) = found
+left_by (Puts slot file removed) = Some file
+left_by (Clears slot removed) = None
+left_by (Takes slot removed) = None
+left_by (Allocates slot file) = Some file
+left_by FindsFull = None
+
+-- the file that was found is one that the claim speaks of
+abbrev pub Wanted : Wants → Option Identity → Type 0
+Wanted Anything found = Unit {0}
+Wanted Nothing found = found ≡ None
+Wanted NothingToTake found = found ≡ None
+Wanted Something found = (file : Identity) × (found ≡ Some file)
+Wanted (Bytes fits) found =
+    (file : Identity) × (found ≡ Some file) × (slice_index_or fits file.entry true ≡ true)
+
+-- the access removed what it found, if it found a file
+abbrev pub RemovesFound : Access → Type 0
+RemovesFound access = removed_by access ≡ found_by access
+
+-- what the claim says of the slot then
+abbrev pub LeavesSo : List Closed → Leaves → Access → Type 0
+LeavesSo closes Same access = left_by access ≡ found_by access
+LeavesSo closes Empty access = RemovesFound access × (left_by access ≡ None)
+LeavesSo closes (File resident) access =
+    RemovesFound access
+    × ((file : Identity) × (left_by access ≡ Some file) × IsResident closes file resident)
+
+-- the access is one that the claim speaks of
+abbrev pub Fits : List Closed → Claim → Access → Type 0
+Fits closes (At slot wants leaves) access =
+    (touched access ≡ Some slot) × Wanted wants (found_by access) × LeavesSo closes leaves access
+Fits closes Full access = access ≡ FindsFull
+
+-- these are the claims of all that was done so, or nothing was
+abbrev pub Tells : (List Access → Type 0) → List Closed → Result (Vec Claim) Stop → Type 0
+Tells IsDone closes (Ok claims) =
+    (accesses : List Access) → IsDone accesses → AllZip (Fits closes) claims.items accesses
+Tells IsDone closes (Err (Refuted reason)) = (accesses : List Access) → IsDone accesses → ⊥
+Tells IsDone closes (Err Unknown) = Unit {0}
+Tells IsDone closes (Err NoMemory) = Unit {0}
+
+-- an allocation is at a slot of the table and of its allocation range
+abbrev pub IsAllocationInRange : ℕ → ℕ × ℕ → Access → Type 0
+IsAllocationInRange size range (Allocates slot file) =
+    (slot < size) × (range.0 ≤ slot) × (slot < range.0 + range.1)
+IsAllocationInRange size range _ = Unit {0}
+
+-- done so, by accesses that this table may permit
+abbrev pub Possibly : ℕ → ℕ × ℕ → (List Access → Type 0) → List Access → Type 0
+Possibly size range IsDone accesses =
+    AllByRecursion (IsAllocationInRange size range) accesses × IsDone accesses
+
+-- the claims of each chain, the first one's first, are those of its accesses of an order
+abbrev pub AreClaims : List Closed → List (Vec Claim) → List ChainAccess → Type 0
+AreClaims closes chains order = (k : ℕ) (claims : Vec Claim) → slice_get chains k ≡ Some claims
+    → AllZip (Fits closes) claims.items (accesses_of_chain (k + 1) order)

@@ -1,0 +1,70 @@
+-- Whose the accesses of an order are: which member of which chain makes each.
+use Rattle.std.specs.Prelude.{◌≡◌, ℕ, ◌+◌, ◌==◌, ℤ, negsuc, int_le, List, [], ◌∷◌, ◌++◌, map}
+use Rattle.std.specs.Prelude.{filter, length, replicate, Option, Some, None, if◌then◌else◌}
+use Rattle.std.specs.Bool.{MatchBool}
+use Rattle.fx_base.specs.Catalogue.{FileEntry}
+use Rattle.fx_chain.specs.Completed.{Completed, next_member}
+use Rattle.fx_chain.specs.Explains.{canceled, first_member, severs}
+use Rattle.fx_chain.specs.Operation.{Asked, Operation, Opens, Reads, Closes, Updates}
+use Rattle.fx_chain.specs.declared.completion.Place.{Place}
+use Rattle.fx_order.specs.Access.{accesses_of_chain}
+use Rattle.fx_order.specs.Requests.{IsRequestDone}
+use Rattle.fx_order.specs.declared.access.Access.{Access}
+use Rattle.fx_order.specs.declared.access.ChainAccess.{ChainAccess}
+use Rattle.fx_order.specs.declared.listed_order.AccessPlace.{AccessPlace}
+
+-- the place of an access: that of its request, and of an update's the place in its list
+abbrev pub place_at : Place → Option ℕ → AccessPlace
+place_at place entry = record { chain = place.chain; member = place.member; entry = entry }
+
+-- the places of an update's entries, from a place in its list on, without the skips
+abbrev pub entry_places : Place → ℕ → List ℤ → List AccessPlace
+entry_places place in_list [] = []
+entry_places place in_list (entry ∷ list) =
+    (if int_le (negsuc 0) entry then place_at place (Some in_list) ∷ [] else [])
+    ++ entry_places place (in_list + 1) list
+
+-- the places of the accesses that a request made
+abbrev pub own_places : Place → Operation → List Access → List AccessPlace
+own_places place (Opens name target) own = replicate (length own) (place_at place None)
+own_places place (Reads slot off len) own = replicate (length own) (place_at place None)
+own_places place (Closes slot) own = replicate (length own) (place_at place None)
+own_places place (Updates off list) own = if length own == 0 then [] else entry_places place 0 list
+
+-- the members of a chain from this place on make these accesses, one after another, and answer so,
+-- as `IsChainDone` has it; and these are the places of the accesses
+abbrev pub IsChainListed : List FileEntry → ℕ → Place → List Asked → List Access
+    → List AccessPlace → List Completed → Type 0
+IsChainListed catalogue size place [] accesses places completions =
+    (accesses ≡ []) × (places ≡ []) × (completions ≡ [])
+IsChainListed catalogue size place (request ∷ requests) accesses places completions =
+    (own : List Access) × (others : List Access) × (behind : List AccessPlace)
+    × (c : Completed) × (cs : List Completed)
+    × (accesses ≡ own ++ others) × (completions ≡ c ∷ cs)
+    × (places ≡ own_places place request.operation own ++ behind)
+    × IsRequestDone catalogue size place request.operation own c
+    × MatchBool (severs request c)
+    ((others ≡ []) × (behind ≡ []) × (cs ≡ canceled (next_member place) requests))
+    (IsChainListed catalogue size (next_member place) requests others behind cs)
+
+abbrev pub places_of_chain : ℕ → List AccessPlace → List AccessPlace
+places_of_chain chain places = filter (λ p. p.chain == chain) places
+
+-- the same of the chains from this one on, each by its own accesses of the order
+abbrev pub AreChainsListed : List FileEntry → ℕ → ℕ → ℕ → List (List Asked) → List ChainAccess
+    → List AccessPlace → List Completed → Type 0
+AreChainsListed catalogue size submission chain [] order places completions = completions ≡ []
+AreChainsListed catalogue size submission chain (run ∷ runs) order places completions =
+    (own : List Completed) × (others : List Completed) × (completions ≡ own ++ others)
+    × IsChainListed catalogue size (first_member submission chain) run
+    (accesses_of_chain chain order) (places_of_chain chain places) own
+    × AreChainsListed catalogue size submission (chain + 1) runs order places others
+
+-- the places of an order's accesses: each is of the chain that makes the access, and those of a
+-- chain are of the members that make them
+pub record AreAccessPlaces (catalogue : List FileEntry) (size submission : ℕ) (runs : List
+    (List Asked))
+    (completions : List Completed) (order : List ChainAccess) (places : List AccessPlace)
+    : Type 0 where
+  pub chains : map (λ p. p.chain) places ≡ map (λ x. x.chain) order
+  pub members : AreChainsListed catalogue size submission 1 runs order places completions

@@ -1,0 +1,108 @@
+-- What lines tell of a submission.
+use Rattle.std.specs.Prelude.{◌≡◌, ◌⊎◌, ◌<◌, ℕ, pos, List, ◌∷◌, length, All, Result, Ok, Err}
+use Rattle.std.specs.Prelude.{slice_get, Some}
+use Rattle.std.specs.Global.{Vec}
+use Rattle.fx_base.specs.Catalogue.{FileEntry, IsCatalogue}
+use Rattle.fx_base.specs.CloseList.{IsInOrderOfMark}
+use Rattle.fx_base.specs.declared.mark.Mark.{Mark}
+use Rattle.fx_base.specs.declared.mark.Mark.TheVariants.{Submitted}
+use Rattle.fx_base.specs.declared.open_file.Closed.{Closed}
+use Rattle.fx_chain.specs.Completed.{Completed, all_completed}
+use Rattle.fx_chain.specs.Operation.{Asked, Operation, Opens, Updates}
+use Rattle.fx_order.specs.Slots.{table_of_slots}
+use Rattle.fx_order.specs.declared.slots.Slots.{Slots}
+use Rattle.check_judge.specs.declared.told.Told.{Told}
+use Rattle.check_lines.specs.Lines.{lines_of}
+use Rattle.check_lines.specs.LinesView.{lines_in}
+use Rattle.check_lines.specs.declared.report_lines.ReportLines.{ReportLines}
+use Rattle.fx_ring.specs.Submission.{Reported}
+use Rattle.check_judge.specs.declared.judgement.Fault.{Fault}
+
+-- a report of what is told has these lines, whichever submission it is of
+abbrev pub HasLines : List FileEntry → ReportLines → Told → Type 0
+HasLines catalogue lines told = (number room : ℕ) → lines_of catalogue (record {
+  submission = number;
+  completions = all_completed told.completions.items;
+  closes = record { files = told.closes.items; room = room };
+}) ≡ lines_in lines
+
+-- the file is at a slot
+abbrev pub IsFileAtSlot : Slots → Closed → Type 0
+IsFileAtSlot slots file = (slot : ℕ) × ((table_of_slots slots).at slot ≡ Some file)
+
+-- no file at a slot has the mark
+abbrev pub HasNone : Slots → Mark → Type 0
+HasNone slots mark =
+    (slot : ℕ) (file : Closed) → (table_of_slots slots).at slot ≡ Some file → file.mark ≡ mark → ⊥
+
+-- a submission may close the file: one at a slot, or one without a tag whose mark none there has
+pub record MayBeClosed (catalogue : List FileEntry) (slots : Slots) (file : Closed) : Type 0 where
+  pub inside : file.entry < length catalogue
+  pub from : IsFileAtSlot slots file ⊎ ((file.tag ≡ 0) × HasNone slots file.mark)
+
+-- the files at slots are told apart by their marks, and the catalogue's by their names
+pub record AreApart (catalogue : List FileEntry) (slots : Slots) : Type 0 where
+  pub names : IsCatalogue catalogue
+  pub marks : (file other : Closed) → IsFileAtSlot slots file → IsFileAtSlot slots other
+      → file.mark ≡ other.mark → file ≡ other
+
+-- no two files of a list have one mark
+abbrev pub HasDistinctMarks : List Closed → Type 0
+HasDistinctMarks files = (i j : ℕ) (one other : Closed) → slice_get files i ≡ Some one
+    → slice_get files j ≡ Some other → one.mark ≡ other.mark → i ≡ j
+
+-- files in order of mark, no two with one mark, each of which a submission may close
+pub record MayCloseAll (catalogue : List FileEntry) (slots : Slots) (files : List Closed) :
+    Type 0 where
+  pub each : All (MayBeClosed catalogue slots) files
+  pub in_order : IsInOrderOfMark files
+  pub distinct : HasDistinctMarks files
+
+-- these files are told, and each line tells one
+abbrev pub TellsFiles : Result (Vec Closed) ℕ → List Closed → Type 0
+TellsFiles (Ok told) files = told.items ≡ files
+TellsFiles (Err line) files = ⊥
+
+-- these files are told, and no fault
+abbrev pub TellsCloses : Result Told Fault → List Closed → Type 0
+TellsCloses (Ok told) files = told.closes.items ≡ files
+TellsCloses (Err fault) files = ⊥
+
+-- the place in its list at which a request may install a file
+abbrev pub InstallsAt : Operation → ℕ → Type 0
+InstallsAt (Opens name target) entry = entry ≡ 0
+InstallsAt (Updates off list) entry = (file : ℕ) × (slice_get list entry ≡ Some (pos file))
+InstallsAt _ entry = ⊥
+
+-- the request, which completed so, installed a file with the mark
+pub record Installed (asked : Asked) (c : Completed) (mark : Mark) : Type 0 where
+  pub entry : ℕ
+  pub is_mark : mark ≡ Submitted c.place.submission c.place.chain c.place.member entry
+  pub listed : InstallsAt asked.operation entry
+  pub res : ℕ
+  pub accepted : c.res ≡ pos res
+
+-- one of the requests did, the first by the first completion, and so on
+abbrev pub OneInstalled : List Asked → List Completed → Mark → Type 0
+OneInstalled (asked ∷ requests) (c ∷ completions) mark =
+    Installed asked c mark ⊎ OneInstalled requests completions mark
+OneInstalled _ _ mark = ⊥
+
+-- each file was at a slot, or a request installed it
+abbrev pub AreFrom : Slots → List Asked → List Completed → List Closed → Type 0
+AreFrom slots requests completions files =
+    All (λ file. IsFileAtSlot slots file ⊎ OneInstalled requests completions file.mark) files
+
+-- whatever report has these lines, of files that a submission may close, they tell its files
+abbrev pub TellsAll : List FileEntry → Slots → ReportLines → Result Told Fault → Type 0
+TellsAll catalogue slots lines told =
+    (report : Reported) → MayCloseAll catalogue slots report.closes.files
+    → lines_of catalogue report ≡ lines_in lines → TellsCloses told report.closes.files
+
+-- the same, where each was at a slot or is one that a request installed
+abbrev pub TellsKnown :
+    List FileEntry → Slots → List Asked → ReportLines → Result Told Fault → Type 0
+TellsKnown catalogue slots requests lines told =
+    (report : Reported) → MayCloseAll catalogue slots report.closes.files
+    → AreFrom slots requests report.completions report.closes.files
+    → lines_of catalogue report ≡ lines_in lines → TellsCloses told report.closes.files

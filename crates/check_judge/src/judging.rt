@@ -1,0 +1,142 @@
+//! The verdict on what was reported of a submission.
+ghost use Rattle.std.specs.Prelude.{◌≡◌, ◌+◌, ◌<◌, ◌≤◌, ◌^◌, IfOk, IsTrue, OnErr, length, false};
+ghost use Rattle.fx_plain.specs.declared.table.TheConstants.{MOST_SLOTS};
+ghost use Rattle.fx_chain.specs.Accepted.{IsAccepted};
+ghost use Rattle.fx_chain.specs.Operation.{all_asked};
+ghost use Rattle.fx_ring.specs.Ring.{IsRing};
+ghost use Rattle.fx_order.specs.Slots.{ring_with_slots};
+ghost use Rattle.check_judge.specs.Verdict.{CameBy, IsToldOutcome, IsVerdict};
+
+use crate::chain_claims::{ToldChains, claims_of_chains};
+use crate::part::{PartVerdict, TableTold, judge_table};
+use crate::request_claims::ClaimSetting;
+use crate::stop::Stop;
+use crate::told::Told;
+use crate::verdict::Verdict;
+use check_search::{Doubt, Limits};
+use fx_base::{Catalogue, NoMemory};
+use fx_chain::{Request, cut};
+use fx_order::{ChainAccess, RingSlots, SubmissionReport, slots_left};
+use std::alloc::Global;
+
+/// What is judged: what was told of a submission's requests.
+#[derive(Drop)]
+struct Case<'a> {
+    alloc: Global,
+    catalogue: &'a Catalogue,
+    requests: &'a [Request],
+    told: &'a Told,
+    pub ghost accepted: { IsAccepted (all_asked requests.now) },
+}
+
+// Makes an order, if what was told came of it; the ring is then the one behind the submission.
+fn confirm(case: &Case<'_>, ring: &mut RingSlots, order: &[ChainAccess]) -> Result<bool, NoMemory>
+    requires ring { IsRing (ring_with_slots case.now.catalogue.now ring.old) }
+    requires few_slots { length ring.old.slots.at.items ≤ MOST_SLOTS }
+    requires few { ring.old.submissions + 1 < 2 ^ 32 }
+    ensures came { IfOk result (λ yes. IsTrue yes → CameBy
+        (ring_with_slots case.now.catalogue.now ring.old) (all_asked case.now.requests.now)
+        case.now.told.now order.now (ring_with_slots case.now.catalogue.now ring.new)) }
+    ensures ring { IsRing (ring_with_slots case.now.catalogue.now ring.new) }
+    ensures stays { IfOk result (λ yes. yes ≡ false
+        → ring_with_slots case.now.catalogue.now ring.new
+        ≡ ring_with_slots case.now.catalogue.now ring.old) }
+    ensures no_memory { OnErr result (ring_with_slots case.now.catalogue.now ring.new
+        ≡ ring_with_slots case.now.catalogue.now ring.old) }
+{
+    let submitted = SubmissionReport {
+        catalogue: case.catalogue,
+        submissions: ring.submissions,
+        requests: case.requests,
+        completions: &case.told.completions,
+        closes: &case.told.closes,
+    };
+    let Some(left) = slots_left(case.alloc, &submitted, &ring.slots, order)? else {
+        return Ok(false);
+    };
+    ring.slots = left;
+    ring.submissions += 1;
+    Ok(true)
+}
+
+// What was told, as a search has it: no order of the accesses that the completions tell of is known to be missing, or one
+// is known to be that has to be made.
+fn judge_told(case: &Case<'_>, ring: &RingSlots, limits: Limits) -> Result<PartVerdict, NoMemory>
+    requires ring { IsRing (ring_with_slots case.now.catalogue.now ring.now) }
+    requires few_slots { length ring.now.slots.at.items ≤ MOST_SLOTS }
+    requires few { ring.now.submissions + 1 < 2 ^ 32 }
+    ensures { IfOk result (IsToldOutcome (ring_with_slots case.now.catalogue.now ring.now)
+        (all_asked case.now.requests.now) case.now.told.now) }
+{
+    let chains = cut(case.alloc, case.requests)?;
+    let setting = ClaimSetting {
+        catalogue: case.catalogue,
+        size: ring.slots.at.len() as u32,
+        range: ring.slots.range,
+        closes: &case.told.closes,
+    };
+    let parts = ToldChains {
+        submission: ring.submissions + 1,
+        requests: case.requests,
+        chains: &chains,
+        completions: &case.told.completions,
+    };
+    let claims = match claims_of_chains(case.alloc, &setting, &parts) {
+        Ok(claims) => claims,
+        Err(Stop::Refuted(reason)) => return Ok(PartVerdict::Refuted(reason)),
+        Err(Stop::Unknown) => return Ok(PartVerdict::Unsettled(Doubt::NotShown)),
+        Err(Stop::NoMemory) => return Err(NoMemory),
+    };
+    let table = TableTold {
+        slots: &ring.slots,
+        closes: &case.told.closes,
+        chains: &claims,
+    };
+    judge_table(case.alloc, &table, limits)
+}
+
+/// Judges whether `told` is the result of some order of the requests, done one at a time, at `ring` with `catalogue`. If the
+/// verdict is `Legal`, `ring` becomes the ring after the submission; else it stays as it was. `limits` apply to each part of the
+/// submission that has slots of its own. The verdict is `Undecided` if it wasn't shown within them: by `TooManyStates` or
+/// `TooMuchMemory` if a search reached a limit, by `NotShown` if the result of a search was not confirmed. The caller has checked
+/// that no request has a fault ([`fx_chain::check`]).
+///
+/// # Errors
+/// `NoMemory` if an allocation fails. The ring stays as it was.
+pub fn judge_submission(
+    alloc: Global,
+    catalogue: &Catalogue,
+    ring: &mut RingSlots,
+    requests: &[Request],
+    told: &Told,
+    limits: Limits,
+) -> Result<Verdict, NoMemory>
+    requires accepted { IsAccepted (all_asked requests.now) }
+    requires ring { IsRing (ring_with_slots catalogue.now ring.old) }
+    requires few_slots { length ring.old.slots.at.items ≤ MOST_SLOTS }
+    requires few { ring.old.submissions + 1 < 2 ^ 32 }
+    ensures verdict { IfOk result (λ verdict.
+        IsVerdict (ring_with_slots catalogue.now ring.old) (all_asked requests.now) told.now verdict
+        (ring_with_slots catalogue.now ring.new)) }
+    ensures ring { IsRing (ring_with_slots catalogue.now ring.new) }
+    ensures no_memory { OnErr result
+        (ring_with_slots catalogue.now ring.new ≡ ring_with_slots catalogue.now ring.old) }
+{
+    let case = Case {
+        alloc,
+        catalogue,
+        requests,
+        told,
+    };
+    let outcome = judge_told(&case, ring, limits)?;
+    match outcome {
+        PartVerdict::Order(order) => {
+            if confirm(&case, ring, &order)? {
+                return Ok(Verdict::Legal(order));
+            }
+            Ok(Verdict::Undecided(Doubt::NotShown))
+        }
+        PartVerdict::Refuted(reason) => Ok(Verdict::NotLegal(reason)),
+        PartVerdict::Unsettled(doubt) => Ok(Verdict::Undecided(doubt)),
+    }
+}

@@ -1,0 +1,280 @@
+//! What was told of the slots of a table, judged slot by slot and by slots that chains have in common.
+ghost use Rattle.std.specs.Prelude.{◌≡◌, ◌<◌, ◌+◌, ◌^◌, All, IfOk, length, ℕ};
+ghost use Rattle.fx_order.specs.Slots.{table_of_slots};
+ghost use Rattle.check_judge.specs.Played.{IsCell, IsOutcome};
+
+use crate::brought::has_unknown;
+use crate::full::{is_range_empty, with_full};
+use crate::refuted::judge_counts;
+use crate::strands::strands_of;
+use crate::verdict::Reason;
+use check_search::{
+    Cell, Claim, Doubt, FEW_STATES, Found, Leaves, Limits, Steps, Strand, Wants, Web, apply,
+    cell_at, claim_of, components, explore, resident_for, shows_no_end,
+};
+use fx_base::{Closed, NoMemory};
+use fx_order::{Access, ChainAccess, Slots};
+use std::alloc::Global;
+
+/// The result of a search.
+#[derive(Debug, Drop)]
+pub enum PartVerdict {
+    /// An order, which is still to be made.
+    Order(Vec<ChainAccess>),
+    /// There is no order.
+    Refuted(Reason),
+    /// Neither was shown within the limits.
+    Unsettled(Doubt),
+}
+
+/// What was told of a table: the files that were closed, and the claims of each chain.
+#[derive(Clone, Copy)]
+pub(crate) struct TableTold<'a> {
+    pub slots: &'a Slots,
+    pub closes: &'a [Closed],
+    pub chains: &'a [Vec<Claim>],
+}
+
+/// A slot as it is before the submission.
+pub(crate) fn cell_of(table: &TableTold<'_>, slot: usize) -> Cell
+    requires inside { slot < length table.now.slots.now.at.items }
+    requires small { length table.now.slots.now.at.items < 2 ^ 32 }
+    ensures { IsCell (table_of_slots table.now.slots.now) table.now.closes.now result }
+{
+    let (first, len) = table.slots.range;
+    let inside = first as usize <= slot && slot < first as usize + len as usize;
+    Cell {
+        slot: slot as u32,
+        in_range: inside,
+        file: table.slots.at[slot].map(|file| resident_for(table.closes, file)),
+    }
+}
+
+// The access that a claim tells of, where this was at the slot.
+fn access_of(claim: &Claim, found: Option<Closed>) -> Access {
+    match claim {
+        Claim::Full => Access::FindsFull,
+        Claim::At(slot, wants, leaves) => match (wants, leaves) {
+            (Wants::NothingToTake, _) => Access::Takes(*slot, None),
+            (_, Leaves::Same) => Access::Looks(*slot, found),
+            (Wants::Something, Leaves::Empty) => Access::Takes(*slot, found),
+            (_, Leaves::Empty) => Access::Clears(*slot, found),
+            (Wants::Nothing, Leaves::File(resident)) => Access::Allocates(*slot, resident.file),
+            (_, Leaves::File(resident)) => Access::Puts(*slot, resident.file, found),
+        },
+    }
+}
+
+// The accesses of an order of claims.
+fn accesses_along(
+    alloc: Global,
+    strands: &[Strand],
+    cells: &[Cell],
+    order: &[usize],
+) -> Result<Vec<ChainAccess>, NoMemory> {
+    let mut cells = Vec::from_slice(alloc, cells)?;
+    let mut places = Vec::new(alloc);
+    for _ in strands {
+        places.push(0usize)?;
+    }
+    let mut accesses = Vec::new(alloc);
+    for at in order {
+        let (Some(claim), Some(strand)) = (claim_of(strands, &places, *at), strands.get(*at)) else {
+            break;
+        };
+        let found = match claim {
+            Claim::At(slot, _, _) => cell_at(&cells, *slot).map(|resident| resident.file),
+            Claim::Full => None,
+        };
+        let access = access_of(claim, found);
+        accesses.push(ChainAccess {
+            chain: strand.chain,
+            access,
+        })?;
+        apply(&mut cells, claim);
+        if *at < places.len() {
+            places[*at] = places[*at].saturating_add(1);
+        }
+    }
+    Ok(accesses)
+}
+
+// Whether what was told of these slots comes of an order of the accesses there.
+fn judge_part(
+    alloc: Global,
+    table: &TableTold<'_>,
+    cells: &[Cell],
+    limits: Limits,
+    reason: Reason,
+) -> Result<PartVerdict, NoMemory>
+    requires cells { All (IsCell (table_of_slots table.now.slots.now) table.now.closes.now)
+        cells.now }
+    requires few { length table.now.chains.now + 1 < 2 ^ 32 }
+    ensures { IfOk result (IsOutcome (table_of_slots table.now.slots.now) table.now.closes.now
+        table.now.chains.now) }
+{
+    let strands = strands_of(alloc, cells, table.chains)?;
+    let steps = Steps::new(alloc, &strands, cells)?;
+    let (rows, found) = explore(alloc, &steps, limits)?;
+    match found {
+        Found::Order(order) => {
+            let accesses = accesses_along(alloc, &strands, cells, &order)?;
+            Ok(PartVerdict::Order(accesses))
+        }
+        Found::NoEnd => {
+            let web = Web { steps, rows };
+            if !shows_no_end(alloc, &strands, cells, &web)? {
+                return Ok(PartVerdict::Unsettled(Doubt::NotShown));
+            }
+            Ok(PartVerdict::Refuted(reason))
+        }
+        Found::Stopped(doubt) => Ok(PartVerdict::Unsettled(doubt)),
+    }
+}
+
+// The first slot where what was told of it alone comes of no order. A slot that is a part by itself is left out.
+fn judge_slots(
+    alloc: Global,
+    table: &TableTold<'_>,
+    parts: &[Vec<usize>],
+    limits: Limits,
+) -> Result<PartVerdict, NoMemory>
+    requires small { length table.now.slots.now.at.items < 2 ^ 32 }
+    requires few { length table.now.chains.now + 1 < 2 ^ 32 }
+    ensures { IfOk result (IsOutcome (table_of_slots table.now.slots.now) table.now.closes.now
+        table.now.chains.now) }
+{
+    for i in 0..parts.len() {
+        if parts[i].len() < 2 {
+            continue;
+        }
+        for slot in &parts[i] {
+            if *slot >= table.slots.at.len() {
+                continue;
+            }
+            let cells = [cell_of(table, *slot)];
+            let outcome = judge_part(alloc, table, &cells, limits, Reason::Slot(*slot as u32))?;
+            if let PartVerdict::Refuted(reason) = outcome {
+                return Ok(PartVerdict::Refuted(reason));
+            }
+        }
+    }
+    Ok(PartVerdict::Unsettled(Doubt::NotShown))
+}
+
+/// The slots of a part as they are before the submission.
+pub(crate) fn cells_of(
+    alloc: Global,
+    table: &TableTold<'_>,
+    slots: &[usize],
+) -> Result<Vec<Cell>, NoMemory>
+    requires small { length table.now.slots.now.at.items < 2 ^ 32 }
+    ensures { IfOk result (λ cells. All (IsCell (table_of_slots table.now.slots.now)
+        table.now.closes.now) cells.items) }
+{
+    let mut cells = Vec::new(alloc);
+    for slot in slots {
+        if *slot < table.slots.at.len() {
+            cells.push(cell_of(table, *slot))?;
+        }
+    }
+    Ok(cells)
+}
+
+// Where a part's slots are one, it is that slot that has no order, and else its chains.
+fn reason_of(slots: &[usize]) -> Reason {
+    match slots {
+        [slot] => Reason::Slot(u32::try_from(*slot).unwrap_or(u32::MAX)),
+        _ => Reason::Chains,
+    }
+}
+
+// What was told, judged by parts of the table that no chain joins.
+fn judge_components(
+    alloc: Global,
+    table: &TableTold<'_>,
+    parts: &[Vec<usize>],
+    limits: Limits,
+) -> Result<PartVerdict, NoMemory>
+    requires small { length table.now.slots.now.at.items < 2 ^ 32 }
+    requires few { length table.now.chains.now + 1 < 2 ^ 32 }
+    ensures { IfOk result (IsOutcome (table_of_slots table.now.slots.now) table.now.closes.now
+        table.now.chains.now) }
+{
+    let mut order = Vec::new(alloc);
+    let mut doubt: Option<Doubt> = None;
+    for i in 0..parts.len() {
+        let cells = cells_of(alloc, table, &parts[i])?;
+        let outcome = judge_part(alloc, table, &cells, limits, reason_of(&parts[i]))?;
+        match outcome {
+            PartVerdict::Order(mut own) => order.append(&mut own)?,
+            PartVerdict::Refuted(reason) => return Ok(PartVerdict::Refuted(reason)),
+            PartVerdict::Unsettled(other) => doubt = Some(other),
+        }
+    }
+    if let Some(doubt) = doubt {
+        return Ok(PartVerdict::Unsettled(doubt));
+    }
+    if is_range_empty(table.slots) {
+        order = with_full(alloc, table.chains, &order)?;
+    }
+    Ok(PartVerdict::Order(order))
+}
+
+// Limits for a first search, before slots are judged by themselves.
+fn first_limits(table: &TableTold<'_>, limits: Limits) -> Limits {
+    let mut states = FEW_STATES;
+    for claims in table.chains {
+        states = states.saturating_add(claims.len());
+    }
+    Limits {
+        states: states.min(limits.states),
+        ..limits
+    }
+}
+
+// What was told, judged by searches: of the parts through few states, then of the slots by themselves, and then of the parts.
+fn judge_searched(
+    alloc: Global,
+    table: &TableTold<'_>,
+    limits: Limits,
+) -> Result<PartVerdict, NoMemory>
+    requires small { length table.now.slots.now.at.items < 2 ^ 32 }
+    requires few { length table.now.chains.now + 1 < 2 ^ 32 }
+    ensures { IfOk result (IsOutcome (table_of_slots table.now.slots.now) table.now.closes.now
+        table.now.chains.now) }
+{
+    let parts = components(alloc, table.slots.at.len(), table.slots.range, table.chains)?;
+    let first = judge_components(alloc, table, &parts, first_limits(table, limits))?;
+    if let PartVerdict::Order(order) = first {
+        return Ok(PartVerdict::Order(order));
+    }
+    if let PartVerdict::Refuted(reason) = judge_slots(alloc, table, &parts, limits)? {
+        return Ok(PartVerdict::Refuted(reason));
+    }
+    match first {
+        PartVerdict::Refuted(reason) => Ok(PartVerdict::Refuted(reason)),
+        _ => judge_components(alloc, table, &parts, limits),
+    }
+}
+
+/// Whether what was told of a table comes of an order.
+pub(crate) fn judge_table(
+    alloc: Global,
+    table: &TableTold<'_>,
+    limits: Limits,
+) -> Result<PartVerdict, NoMemory>
+    requires small { length table.now.slots.now.at.items < 2 ^ 32 }
+    requires few { length table.now.chains.now + 1 < 2 ^ 32 }
+    ensures { IfOk result (IsOutcome (table_of_slots table.now.slots.now) table.now.closes.now
+        table.now.chains.now) }
+{
+    if has_unknown(table) {
+        return Ok(PartVerdict::Refuted(Reason::Closes));
+    }
+    let outcome = judge_counts(alloc, table)?;
+    match outcome {
+        PartVerdict::Refuted(reason) => Ok(PartVerdict::Refuted(reason)),
+        _ => judge_searched(alloc, table, limits),
+    }
+}

@@ -1,0 +1,210 @@
+//! The places of the requests that make the accesses of an order.
+ghost use Rattle.std.specs.Prelude.{◌≡◌, ◌≤◌, ◌<◌, ◌+◌, ◌++◌, ◌^◌, ℕ, All, IfOk, OnOk, List, length, map, slice_get, Some};
+ghost use Rattle.std.specs.Global.{Vec as Items};
+ghost use Rattle.fx_base.specs.Catalogue.{FileEntry};
+ghost use Rattle.fx_chain.specs.Accepted.{IsChain, members_of};
+ghost use Rattle.fx_chain.specs.Completed.{all_completed, completed_of};
+ghost use Rattle.fx_chain.specs.Operation.{all_asked, operation_of};
+ghost use Rattle.fx_order.specs.Requests.{AreChainsDone, IsChainDone, IsRequestDone};
+ghost use Rattle.fx_order.specs.declared.access.Access.{Access};
+ghost use Rattle.fx_order.specs.declared.access.ChainAccess.{ChainAccess as Made};
+ghost use Rattle.check_judge.specs.PlaceLists.{AreListsOf, IsListFor};
+ghost use Rattle.check_judge.specs.Places.{AreAccessPlaces, IsChainListed, entry_places, own_places, places_of_chain};
+ghost use Rattle.fx_order.specs.declared.listed_order.AccessPlace.{AccessPlace as Listed};
+
+use fx_base::NoMemory;
+use fx_chain::{Chain, Completion, Op, Place, Request};
+use fx_order::{AccessPlace, ChainAccess, accesses_made, members};
+use std::alloc::Global;
+
+/// The completions of a submission's requests, done at a table of `size` slots.
+#[derive(Clone, Copy)]
+pub(crate) struct Answered<'a> {
+    pub size: u32,
+    pub submission: u32,
+    pub requests: &'a [Request],
+    pub chains: &'a [Chain],
+    pub completions: &'a [Completion],
+}
+
+// Puts the places of an update's entries behind others.
+fn push_entries(places: &mut Vec<AccessPlace>, place: Place, list: &[i32]) -> Result<(), NoMemory>
+    ensures { OnOk result (places.new.items ≡ places.old.items ++ entry_places place 0 list.now) }
+{
+    for (entry, number) in list.iter().enumerate() {
+        if *number >= -1 {
+            places.push(AccessPlace {
+                chain: place.chain,
+                member: place.member,
+                entry: Some(entry),
+            })?;
+        }
+    }
+    Ok(())
+}
+
+// Puts the places of a request's accesses behind others.
+fn push_own(
+    places: &mut Vec<AccessPlace>,
+    size: u32,
+    place: Place,
+    request: &Request,
+    c: &Completion,
+) -> Result<(), NoMemory>
+    ensures { OnOk result ((catalogue : List FileEntry) (own : List Access)
+        → IsRequestDone catalogue size place (operation_of request.now.op) own (completed_of c.now)
+        → places.new.items ≡ places.old.items ++ own_places place (operation_of request.now.op) own) }
+{
+    let made = accesses_made(size, request, c);
+    if let Op::Update { off: _, list } = &request.op {
+        if made > 0 {
+            push_entries(places, place, list)?;
+        }
+        return Ok(());
+    }
+    for _access in 0..made {
+        places.push(AccessPlace {
+            chain: place.chain,
+            member: place.member,
+            entry: None,
+        })?;
+    }
+    Ok(())
+}
+
+// Puts the places of the accesses of a chain's members, from this place on, behind others.
+fn push_chain(
+    places: &mut Vec<AccessPlace>,
+    size: u32,
+    place: Place,
+    requests: &[Request],
+    completions: &[Completion],
+) -> Result<(), NoMemory>
+    requires { place.member + length requests.now < 2 ^ 32 }
+    ensures { OnOk result ((catalogue : List FileEntry) (accesses : List Access)
+        → IsChainDone catalogue size place (all_asked requests.now) accesses
+        (all_completed completions.now)
+        → (own : List Listed) × (places.new.items ≡ places.old.items ++ own)
+        × IsChainListed catalogue size place (all_asked requests.now) accesses own
+        (all_completed completions.now)) }
+{
+    let [request, requests @ ..] = requests else {
+        return Ok(());
+    };
+    let [c, completions @ ..] = completions else {
+        return Ok(());
+    };
+    push_own(places, size, place, request, c)?;
+    if request.severs(c) {
+        return Ok(());
+    }
+    let next = Place {
+        member: place.member + 1,
+        ..place
+    };
+    push_chain(places, size, next, requests, completions)
+}
+
+// Puts the places of the chains from this one on behind others, a list for each chain.
+fn push_lists(
+    alloc: Global,
+    lists: &mut Vec<Vec<AccessPlace>>,
+    answered: &Answered<'_>,
+    chain: u32,
+    chains: &[Chain],
+    completions: &[Completion],
+) -> Result<(), NoMemory>
+    requires within { All (IsChain (all_asked answered.now.requests.now)) chains.now }
+    requires numbers { chain + length chains.now < 2 ^ 32 }
+    ensures { OnOk result ((catalogue : List FileEntry) (order : List Made)
+        → AreChainsDone catalogue answered.now.size answered.now.submission chain
+        (map (members_of (all_asked answered.now.requests.now)) chains.now) order
+        (all_completed completions.now)
+        → (own : List (Items Listed)) × (lists.new.items ≡ lists.old.items ++ own)
+        × AreListsOf catalogue answered.now.size answered.now.submission chain
+        (map (members_of (all_asked answered.now.requests.now)) chains.now) order own
+        (all_completed completions.now)) }
+{
+    let [first, chains @ ..] = chains else {
+        return Ok(());
+    };
+    let members = members(answered.requests, *first);
+    if completions.len() < members.len() {
+        return Ok(());
+    }
+    let (own, others) = completions.split_at(members.len());
+    let place = Place {
+        submission: answered.submission,
+        chain,
+        member: 1,
+    };
+    let mut places = Vec::new(alloc);
+    push_chain(&mut places, answered.size, place, members, own)?;
+    lists.push(places)?;
+    push_lists(alloc, lists, answered, chain + 1, chains, others)
+}
+
+// The places of all chains, as an order has their accesses.
+fn in_order(
+    alloc: Global,
+    lists: &[Vec<AccessPlace>],
+    order: &[ChainAccess],
+) -> Result<Vec<AccessPlace>, NoMemory>
+    requires chains { All (λ x. (1 ≤ x.chain) × (x.chain ≤ length lists.now)) order.now }
+    requires lists { (k : ℕ) (list : Items Listed) → slice_get lists.now k ≡ Some list
+        → IsListFor order.now (k + 1) list.items }
+    ensures chains { IfOk result (λ places.
+        map (λ p. p.chain) places.items ≡ map (λ x. x.chain) order.now) }
+    ensures lists { IfOk result (λ places. (k : ℕ) (list : Items Listed)
+        → slice_get lists.now k ≡ Some list
+        → places_of_chain (k + 1) places.items ≡ list.items) }
+{
+    let mut next = Vec::new(alloc);
+    for _list in lists {
+        next.push(0usize)?;
+    }
+    let mut places = Vec::new(alloc);
+    for x in order {
+        let chain = x.chain as usize - 1;
+        let at = next[chain];
+        places.push(lists[chain][at])?;
+        next[chain] = at + 1;
+    }
+    Ok(places)
+}
+
+/// Returns the place of the request that makes each access of an order. The order must give the completions.
+///
+/// # Errors
+/// `NoMemory` if an allocation fails.
+pub(crate) fn places_of(
+    alloc: Global,
+    answered: &Answered<'_>,
+    order: &[ChainAccess],
+) -> Result<Vec<AccessPlace>, NoMemory>
+    requires within { All (IsChain (all_asked answered.now.requests.now)) answered.now.chains.now }
+    requires few { 1 + length answered.now.chains.now < 2 ^ 32 }
+    requires chains { All (λ x. (1 ≤ x.chain) × (x.chain ≤ length answered.now.chains.now)) order.now }
+    requires done { (catalogue : List FileEntry) × AreChainsDone catalogue answered.now.size
+        answered.now.submission 1
+        (map (members_of (all_asked answered.now.requests.now)) answered.now.chains.now) order.now
+        (all_completed answered.now.completions.now) }
+    ensures { IfOk result (λ places. (catalogue : List FileEntry)
+        → AreChainsDone catalogue answered.now.size answered.now.submission 1
+        (map (members_of (all_asked answered.now.requests.now)) answered.now.chains.now)
+        order.now (all_completed answered.now.completions.now)
+        → AreAccessPlaces catalogue answered.now.size answered.now.submission
+        (map (members_of (all_asked answered.now.requests.now)) answered.now.chains.now)
+        (all_completed answered.now.completions.now) order.now places.items) }
+{
+    let mut lists = Vec::new(alloc);
+    push_lists(
+        alloc,
+        &mut lists,
+        answered,
+        1,
+        answered.chains,
+        answered.completions,
+    )?;
+    in_order(alloc, &lists, order)
+}

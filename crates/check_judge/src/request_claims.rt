@@ -1,0 +1,265 @@
+//! The claims of one request, from its completion.
+ghost use Rattle.std.specs.Prelude.{◌≡◌, ◌↔◌, ◌≤◌, ◌<◌, ◌+◌, ◌^◌, ◌∷◌, [], List, IfOk, IsTrue, length, slice_index_or, true, ℕ, Some};
+ghost use Rattle.fx_base.specs.Catalogue.{name_at};
+ghost use Rattle.fx_base.specs.declared.open_file.Closed.{Closed as FileAt};
+ghost use Rattle.fx_chain.specs.Accepted.{IsWithinLimits};
+ghost use Rattle.fx_chain.specs.Completed.{completed_of};
+ghost use Rattle.fx_chain.specs.Operation.{Opens, asked_of, operation_of};
+ghost use Rattle.fx_chain.specs.declared.request.Target.TheVariants.{Slot, Any};
+ghost use Rattle.fx_order.specs.Requests.{IsRefused, IsOpenDone, IsReadDone, IsCloseDone, IsRequestDone, gives};
+ghost use Rattle.fx_order.specs.declared.access.Access.{Access as OneAccess};
+ghost use Rattle.check_judge.specs.Claims.{Fits, Possibly, Tells};
+
+use crate::stop::Stop;
+use crate::update_claims::claims_of_update;
+use crate::verdict::Reason;
+use check_search::{Claim, Leaves, Wants, resident_for};
+use fx_base::{Catalogue, Closed, Errno, NoMemory};
+use fx_chain::{Completion, LONGEST_READ, Op, Place, Request, Target};
+use std::alloc::Global;
+
+/// What is known where claims are looked for.
+#[derive(Clone, Copy)]
+pub(crate) struct ClaimSetting<'a> {
+    pub catalogue: &'a Catalogue,
+    /// How many slots there are.
+    pub size: u32,
+    /// The first slot of the allocation range, and how many slots it has.
+    pub range: (u32, u32),
+    /// The files that are told to be closed.
+    pub closes: &'a [Closed],
+}
+
+/// The claims of a request that didn't come to the table.
+pub(crate) fn refused(
+    alloc: Global,
+    place: Place,
+    errno: Errno,
+    c: &Completion,
+) -> Result<Vec<Claim>, Stop>
+    ensures { (closes : List FileAt)
+        → Tells (λ own. IsRefused place errno own (completed_of c.now)) closes result }
+{
+    if !c.is_refusal(place, errno) {
+        return Err(Stop::Refuted(Reason::Member(place)));
+    }
+    Ok(Vec::new(alloc))
+}
+
+// A single claim.
+fn one(alloc: Global, claim: Claim) -> Result<Vec<Claim>, Stop>
+    ensures { (closes : List FileAt) → Tells (λ own. (access : OneAccess)
+        × (own ≡ access ∷ []) × Fits closes claim access) closes result }
+{
+    let mut claims = Vec::new(alloc);
+    claims.push(claim)?;
+    Ok(claims)
+}
+
+// The claims of an open at a slot.
+fn claims_of_open_at(
+    alloc: Global,
+    setting: &ClaimSetting<'_>,
+    place: Place,
+    opened: (u8, u32),
+    c: &Completion,
+) -> Result<Vec<Claim>, Stop>
+    ensures { Tells (λ own. IsOpenDone setting.now.size place opened.0 (Slot opened.1) own
+        (completed_of c.now)) setting.now.closes.now result }
+{
+    let (entry, slot) = opened;
+    if setting.size == 0 {
+        return refused(alloc, place, Errno::ENXIO, c);
+    }
+    if slot >= setting.size {
+        return refused(alloc, place, Errno::EINVAL, c);
+    }
+    if !c.is_answer(place, 0, &[]) {
+        return Err(Stop::Refuted(Reason::Member(place)));
+    }
+    let file = resident_for(setting.closes, place.installed(0, entry));
+    one(alloc, Claim::At(slot, Wants::Anything, Leaves::File(file)))
+}
+
+// Whether a slot is one of the table and of its allocation range.
+fn is_in_range(setting: &ClaimSetting<'_>, slot: u32) -> bool
+    ensures { IsTrue result ↔ ((slot < setting.now.size) × (setting.now.range.0 ≤ slot)
+        × (slot < setting.now.range.0 + setting.now.range.1)) }
+{
+    let (first, len) = setting.range;
+    slot < setting.size && first <= slot && (slot as u64) < first as u64 + len as u64
+}
+
+// The claims of an open at any slot.
+fn claims_of_open_any(
+    alloc: Global,
+    setting: &ClaimSetting<'_>,
+    place: Place,
+    entry: u8,
+    c: &Completion,
+) -> Result<Vec<Claim>, Stop>
+    ensures { Tells (Possibly setting.now.size setting.now.range (λ own.
+        IsOpenDone setting.now.size place entry Any own (completed_of c.now)))
+        setting.now.closes.now result }
+{
+    if setting.size == 0 {
+        return refused(alloc, place, Errno::ENFILE, c);
+    }
+    if c.is_refusal(place, Errno::ENFILE) {
+        return one(alloc, Claim::Full);
+    }
+    if c.res < 0 || !c.is_answer(place, c.res, &[]) {
+        return Err(Stop::Refuted(Reason::Member(place)));
+    }
+    let slot = c.res as u32;
+    if !is_in_range(setting, slot) {
+        return Err(Stop::Refuted(Reason::Member(place)));
+    }
+    let file = resident_for(setting.closes, place.installed(0, entry));
+    one(alloc, Claim::At(slot, Wants::Nothing, Leaves::File(file)))
+}
+
+// Which catalogue entries have the bytes that a read gave.
+fn fits_of(
+    alloc: Global,
+    catalogue: &Catalogue,
+    place: Place,
+    read: (u32, u32),
+    c: &Completion,
+) -> Result<[bool; 256], NoMemory>
+    requires { read.1 ≤ LONGEST_READ }
+    ensures { IfOk result (λ fits. (file : FileAt)
+        → completed_of c.now ≡ gives catalogue.now place file read.0 read.1
+        → slice_index_or fits file.entry true ≡ true) }
+{
+    let (off, len) = read;
+    let mut fits = [true; 256];
+    let mut got = Vec::new(alloc);
+    for entry in 0..catalogue.len() {
+        got.clear();
+        got.reserve(len as usize)?;
+        let res = catalogue.read_into(entry as u8, off, len, &mut got);
+        if !c.is_answer(place, res as i32, &got) {
+            fits[entry as usize] = false;
+        }
+    }
+    Ok(fits)
+}
+
+// The claims of a read.
+fn claims_of_read(
+    alloc: Global,
+    setting: &ClaimSetting<'_>,
+    place: Place,
+    read: (u32, u32, u32),
+    c: &Completion,
+) -> Result<Vec<Claim>, Stop>
+    requires { read.2 ≤ LONGEST_READ }
+    ensures { Tells (λ own. IsReadDone setting.now.catalogue.now setting.now.size place read.0 read.1
+        read.2 own (completed_of c.now)) setting.now.closes.now result }
+{
+    let (slot, off, len) = read;
+    if slot >= setting.size {
+        return refused(alloc, place, Errno::EBADF, c);
+    }
+    if len > 0 && c.is_refusal(place, Errno::ENOMEM) {
+        return Ok(Vec::new(alloc));
+    }
+    if c.is_refusal(place, Errno::EBADF) {
+        return one(alloc, Claim::At(slot, Wants::Nothing, Leaves::Same));
+    }
+    if c.place != place || c.res < 0 {
+        return Err(Stop::Refuted(Reason::Member(place)));
+    }
+    let fits = fits_of(alloc, setting.catalogue, place, (off, len), c)?;
+    one(alloc, Claim::At(slot, Wants::Bytes(fits), Leaves::Same))
+}
+
+// The claims of a close.
+fn claims_of_close(
+    alloc: Global,
+    setting: &ClaimSetting<'_>,
+    place: Place,
+    slot: u32,
+    c: &Completion,
+) -> Result<Vec<Claim>, Stop>
+    ensures { Tells (λ own. IsCloseDone setting.now.size place slot own (completed_of c.now))
+        setting.now.closes.now result }
+{
+    if setting.size == 0 {
+        return refused(alloc, place, Errno::ENXIO, c);
+    }
+    if slot >= setting.size {
+        return refused(alloc, place, Errno::EINVAL, c);
+    }
+    if c.is_refusal(place, Errno::EBADF) {
+        return one(alloc, Claim::At(slot, Wants::NothingToTake, Leaves::Same));
+    }
+    if !c.is_answer(place, 0, &[]) {
+        return Err(Stop::Refuted(Reason::Member(place)));
+    }
+    one(alloc, Claim::At(slot, Wants::Something, Leaves::Empty))
+}
+
+// Whether an entry is the only one that has this name.
+fn is_only(catalogue: &Catalogue, name: &str, entry: u8) -> bool
+    ensures { IsTrue result → ((other : ℕ)
+        → name_at catalogue.now other ≡ Some name.now → other ≡ entry) }
+{
+    for other in 0..catalogue.len() {
+        if other != entry as u32 && catalogue.name_of(other as u8) == name {
+            return false;
+        }
+    }
+    true
+}
+
+// The claims of an open.
+fn claims_of_open(
+    alloc: Global,
+    setting: &ClaimSetting<'_>,
+    place: Place,
+    opened: (&str, Target),
+    c: &Completion,
+) -> Result<Vec<Claim>, Stop>
+    ensures { Tells (Possibly setting.now.size setting.now.range (λ own. IsRequestDone
+        setting.now.catalogue.now setting.now.size place (Opens opened.entry.0.now opened.entry.1) own
+        (completed_of c.now))) setting.now.closes.now result }
+{
+    let (name, target) = opened;
+    let Some(entry) = setting.catalogue.find(name) else {
+        return refused(alloc, place, Errno::ENOENT, c);
+    };
+    if !is_only(setting.catalogue, name, entry) {
+        return Err(Stop::Unknown);
+    }
+    match target {
+        Target::Slot(slot) => claims_of_open_at(alloc, setting, place, (entry, slot), c),
+        Target::Any => claims_of_open_any(alloc, setting, place, entry, c),
+    }
+}
+
+/// The claims of a request.
+pub(crate) fn claims_of_request(
+    alloc: Global,
+    setting: &ClaimSetting<'_>,
+    place: Place,
+    request: &Request,
+    c: &Completion,
+) -> Result<Vec<Claim>, Stop>
+    requires { IsWithinLimits (asked_of request.now) }
+    ensures { Tells (Possibly setting.now.size setting.now.range (λ own. IsRequestDone
+        setting.now.catalogue.now setting.now.size place (operation_of request.now.op) own
+        (completed_of c.now))) setting.now.closes.now result }
+{
+    match &request.op {
+        Op::Open { name, target } => {
+            claims_of_open(alloc, setting, place, (name.as_str(), *target), c)
+        }
+        Op::Read { slot, off, len } => {
+            claims_of_read(alloc, setting, place, (*slot, *off, *len), c)
+        }
+        Op::Close { slot } => claims_of_close(alloc, setting, place, *slot, c),
+        Op::Update { off, list } => claims_of_update(alloc, setting, place, (*off, list), c),
+    }
+}

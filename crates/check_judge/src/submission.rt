@@ -1,0 +1,200 @@
+//! Plays submissions against a text.
+ghost use Rattle.std.specs.Prelude.{◌≡◌, ◌<◌, ◌≤◌, All, IfOk, List, OnOk, length};
+ghost use Rattle.fx_base.specs.Catalogue.{FileEntry};
+ghost use Rattle.fx_plain.specs.declared.table.TheConstants.{MOST_SLOTS};
+ghost use Rattle.fx_chain.specs.Accepted.{IsAccepted};
+ghost use Rattle.fx_chain.specs.Completed.{all_completed};
+ghost use Rattle.fx_chain.specs.Operation.{all_asked};
+ghost use Rattle.fx_chain.specs.Runs.{runs_of};
+ghost use Rattle.fx_ring.specs.declared.ring.TheConstants.{MOST_SUBMISSIONS};
+ghost use Rattle.fx_language.specs.Instruction.{SubmitsAll};
+ghost use Rattle.check_judge.specs.Answer.{IsCommandVerdict};
+ghost use Rattle.check_judge.specs.Kept.{IsRingKept};
+ghost use Rattle.check_judge.specs.Places.{AreAccessPlaces};
+ghost use Rattle.fx_order.specs.Requests.{AreChainsDone};
+ghost use Rattle.check_judge.specs.Told.{AreApart, HasLines, TellsAll, TellsKnown};
+ghost use Rattle.fx_table.specs.declared.limits.TheConstants.{MAX_CHAINS};
+
+use crate::answer::CommandVerdict;
+use crate::blame::wrong_line;
+use crate::closed_files::{files_told, tags_told, wrong_order, wrong_tag};
+use crate::judgement::Fault;
+use crate::judging::judge_submission;
+use crate::known::unknown_file;
+use crate::met::meet;
+use crate::places::{Answered, places_of};
+use crate::told::Told;
+use crate::verdict::Verdict;
+use check_lines::{ReportLines, read_report};
+use check_search::Limits;
+use fx_base::{Catalogue, NoMemory};
+use fx_chain::{Request, check, cut};
+use fx_order::{ChainAccess, Order, RingSlots};
+use fx_ring::MOST_SUBMISSIONS;
+use fx_script::{refused_line, too_many_line};
+use std::alloc::Global;
+
+// What lines tell of a submission, or else which line can't be.
+fn told_by(
+    alloc: Global,
+    catalogue: &Catalogue,
+    ring: &RingSlots,
+    lines: ReportLines,
+) -> Result<Result<Told, Fault>, NoMemory>
+    ensures lines { IfOk result (λ told. IfOk told (HasLines catalogue.now lines)) }
+    ensures only { IfOk result (λ told. AreApart catalogue.now ring.now.slots
+        → TellsAll catalogue.now ring.now.slots lines told) }
+{
+    let ReportLines {
+        completions,
+        closed,
+        tags,
+    } = lines;
+    let closes = match files_told(alloc, catalogue, &ring.slots, &closed)? {
+        Ok(files) => files,
+        Err(i) => {
+            let wanted = format!(in alloc; "a closed file by its mark and its own name")?;
+            return Ok(Err(Fault::Line(completions.len().saturating_add(i), wanted)));
+        }
+    };
+    if let Some(i) = wrong_order(&closes) {
+        let wanted = format!(in alloc; "the closed files in order of mark, each once")?;
+        return Ok(Err(Fault::Line(completions.len().saturating_add(i), wanted)));
+    }
+    let wanted = tags_told(alloc, &closes)?;
+    if let Some(i) = wrong_tag(&wanted, &tags) {
+        let behind = completions.len().saturating_add(closes.len());
+        let wanted = format!(in alloc; "the tags of the closed files, in their order")?;
+        return Ok(Err(Fault::Line(behind.saturating_add(i), wanted)));
+    }
+    Ok(Ok(Told {
+        completions,
+        closes,
+    }))
+}
+
+// The same, where each closed file was at a slot or is one that a request installed.
+fn told_of(
+    alloc: Global,
+    catalogue: &Catalogue,
+    ring: &RingSlots,
+    requests: &[Request],
+    lines: ReportLines,
+) -> Result<Result<Told, Fault>, NoMemory>
+    ensures lines { IfOk result (λ told. IfOk told (HasLines catalogue.now lines)) }
+    ensures only { IfOk result (λ told. AreApart catalogue.now ring.now.slots
+        → TellsKnown catalogue.now ring.now.slots (all_asked requests.now) lines told) }
+{
+    let told = match told_by(alloc, catalogue, ring, lines)? {
+        Ok(told) => told,
+        Err(fault) => return Ok(Err(fault)),
+    };
+    if let Some(i) = unknown_file(&ring.slots, requests, &told) {
+        let wanted = format!(in alloc; "a file that was at a slot, or that a request installed")?;
+        return Ok(Err(Fault::Line(told.completions.len().saturating_add(i), wanted)));
+    }
+    Ok(Ok(told))
+}
+
+// An order of a submission that was looked through; the ring has counted it.
+fn order_of(
+    alloc: Global,
+    ring: &RingSlots,
+    requests: &[Request],
+    told: &Told,
+    accesses: Vec<ChainAccess>,
+) -> Result<Order, NoMemory>
+    requires accepted { IsAccepted (all_asked requests.now) }
+    requires few_slots { length ring.now.slots.at.items ≤ MOST_SLOTS }
+    requires chains { All (λ x. (1 ≤ x.chain)
+        × (x.chain ≤ length (runs_of (all_asked requests.now)))) accesses.items }
+    requires done { (catalogue : List FileEntry) × AreChainsDone catalogue
+        (length ring.now.slots.at.items) ring.now.submissions 1 (runs_of (all_asked requests.now))
+        accesses.items (all_completed told.now.completions.items) }
+    ensures accesses { IfOk result (λ order. order.accesses ≡ accesses) }
+    ensures submission { IfOk result (λ order. order.submission ≡ ring.now.submissions) }
+    ensures places { IfOk result (λ order. (catalogue : List FileEntry) → AreChainsDone catalogue
+        (length ring.now.slots.at.items) ring.now.submissions 1 (runs_of (all_asked requests.now))
+        accesses.items (all_completed told.now.completions.items)
+        → AreAccessPlaces catalogue (length ring.now.slots.at.items) ring.now.submissions
+        (runs_of (all_asked requests.now)) (all_completed told.now.completions.items)
+        accesses.items order.places.items) }
+{
+    let chains = cut(alloc, requests)?;
+    let answered = Answered {
+        size: ring.slots.at.len() as u32,
+        submission: ring.submissions,
+        requests,
+        chains: &chains,
+        completions: &told.completions,
+    };
+    let places = places_of(alloc, &answered, &accesses)?;
+    Ok(Order {
+        submission: ring.submissions,
+        accesses,
+        places,
+    })
+}
+
+// A submission of which no request has a fault, and which is counted.
+fn play_accepted(
+    alloc: Global,
+    catalogue: &Catalogue,
+    ring: &mut RingSlots,
+    requests: &[Request],
+    text: &[u8],
+    limits: Limits,
+) -> Result<CommandVerdict, NoMemory>
+    requires accepted { IsAccepted (all_asked requests.now) }
+    requires few { ring.old.submissions < MOST_SUBMISSIONS }
+    requires chains { length (runs_of (all_asked requests.now)) ≤ MAX_CHAINS }
+    requires kept { IsRingKept catalogue.now ring.old }
+    ensures answer { IfOk result (λ answer. IsCommandVerdict catalogue.now ring.old
+        (SubmitsAll (all_asked requests.now)) text.now answer ring.new) }
+    ensures kept { OnOk result (IsRingKept catalogue.now ring.new) }
+{
+    let number = ring.submissions + 1;
+    let Some(front) = read_report(alloc, text, requests.len())? else {
+        return Ok(CommandVerdict::Broken(wrong_line(alloc, number, requests, text)?));
+    };
+    let (lines, rest) = front;
+    let told = match told_of(alloc, catalogue, ring, requests, lines)? {
+        Ok(told) => told,
+        Err(fault) => return Ok(CommandVerdict::Broken(fault)),
+    };
+    match judge_submission(alloc, catalogue, ring, requests, &told, limits)? {
+        Verdict::Legal(accesses) => {
+            let order = order_of(alloc, ring, requests, &told, accesses)?;
+            Ok(CommandVerdict::Printed(text.len() - rest.len(), Some(order)))
+        }
+        Verdict::NotLegal(reason) => Ok(CommandVerdict::Broken(Fault::Order(number, reason))),
+        Verdict::Undecided(doubt) => Ok(CommandVerdict::Undecided(doubt)),
+    }
+}
+
+/// Plays a submission: refused, or accepted if an order of its requests gives the report that the text begins with. The limits hold
+/// for the states of each part that has slots of its own.
+///
+/// # Errors
+/// `NoMemory` if an allocation fails.
+pub(crate) fn play_submission(
+    alloc: Global,
+    catalogue: &Catalogue,
+    ring: &mut RingSlots,
+    requests: &[Request],
+    text: &[u8],
+    limits: Limits,
+) -> Result<CommandVerdict, NoMemory>
+    requires { IsRingKept catalogue.now ring.old }
+    ensures answer { IfOk result (λ answer. IsCommandVerdict catalogue.now ring.old
+        (SubmitsAll (all_asked requests.now)) text.now answer ring.new) }
+    ensures kept { OnOk result (IsRingKept catalogue.now ring.new) }
+{
+    if let Err(fault) = check(requests) {
+        return Ok(CommandVerdict::of(meet(text, refused_line(alloc, fault)?)));
+    }
+    if ring.submissions >= MOST_SUBMISSIONS {
+        return Ok(CommandVerdict::of(meet(text, too_many_line(alloc)?)));
+    }
+    play_accepted(alloc, catalogue, ring, requests, text, limits)
+}

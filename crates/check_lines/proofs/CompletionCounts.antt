@@ -1,0 +1,20 @@
+-- The number of completions of a submission.
+use Rattle.check_lines.proofs.Words.{◌≡◌, ℕ, ◌+◌, List, [], ◌∷◌, length, ap, ◌∙◌, arith, length-append, FileEntry, state_of, Event, Completed, Asked}
+use Rattle.check_lines.proofs.Words.{runs_of, are_runs, ExplainsParts}
+use Rattle.std.specs.Prelude.{flat_map}
+use Rattle.fx_chain.proofs.ChainGoesOn.{explained_count}
+use Rattle.check_lines.specs.Laws.{ReportsHaveEachRequest}
+
+parts_count : (catalogue : List FileEntry) (size submission chain : ℕ) (runs : List (List Asked)) (history : List Event) (completions : List Completed)
+    → ExplainsParts catalogue size submission chain runs history completions → length completions ≡ length (flat_map (λ run. run) runs)
+parts_count catalogue size submission chain [] history completions are = ap length are
+parts_count catalogue size submission chain (run ∷ runs) history completions (own, others, whole, explained, more) =
+    let here : length own ≡ length run = explained_count catalogue size _ run _ own explained in
+    let there : length others ≡ length (flat_map (λ run. run) runs) = parts_count catalogue size submission (chain + 1) runs history others more in
+    let all = ap length whole in let both = length-append own others in
+    let apart = length-append run (flat_map (λ run. run) runs) in omega arith
+
+pub each_request : ReportsHaveEachRequest
+each_request old asked report new one =
+    parts_count old.catalogue (state_of old.table).size report.submission 1 (runs_of asked) one.history report.completions one.explained
+    ∙ ap length (are_runs asked).whole

@@ -1,0 +1,8 @@
+use Rattle.std.proofs.Common.{◌≡◌, ◌+◌, length, take}
+use Rattle.check_lines.proofs.call_closes.close_all.Given as goal
+
+abbrev pub invariant-loop-file : goal.invariant-loop-file
+invariant-loop-file l = record {
+  files : l.closes.files ≡ take l.file-index l.files;
+  room : l.closes.room + l.file-index ≡ length l.files;
+}

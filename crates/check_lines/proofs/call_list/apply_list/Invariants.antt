@@ -1,0 +1,17 @@
+use Rattle.std.proofs.Common.{◌≡◌, ◌+◌, ◌++◌, drop}
+use Rattle.fx_order.specs.Slots.{table_of_slots}
+use Rattle.fx_ring.specs.Registration.{removed_from}
+use Rattle.fx_ring.specs.Tags.{tags_for}
+use Rattle.fx_ring.proofs.ListSteps.{files_upto}
+use Rattle.check_lines.proofs.call_list.apply_list.Given as goal
+use Rattle.check_lines.specs.InRange.{AreInRange}
+
+abbrev pub invariant-loop-i : goal.invariant-loop-i
+invariant-loop-i l = record {
+  table : table_of_slots l.slots ≡ record (table_of_slots l.fn.slots) {
+    at = files_upto l.k (table_of_slots l.fn.slots).at l.off l.list (tags_for l.list l.tags) l.i;
+  };
+  in_range : AreInRange (table_of_slots l.fn.slots).at → AreInRange (table_of_slots l.slots).at;
+  removed : l.removed.items ++ removed_from (table_of_slots l.fn.slots).at (l.off + l.i) (drop l.i l.list)
+      ≡ removed_from (table_of_slots l.fn.slots).at l.off l.list;
+}

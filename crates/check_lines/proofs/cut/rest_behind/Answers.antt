@@ -1,0 +1,8 @@
+use Rattle.std.proofs.lemmas.Bool.Decides.{Decides-eqb}
+use Rattle.std.proofs.lemmas.Slice.Eq.{strip_prefix_is}
+use Rattle.check_lines.proofs.Cuts.{behind_is}
+use Rattle.check_lines.proofs.cut.rest_behind.Goals as goal
+
+pub returns : goal.returns
+returns c = behind_is c.args.text.now c.args.expected.now c.strip_prefix.result
+    (strip_prefix_is Decides-eqb c.args.text.now c.args.expected.now c.strip_prefix.result c.strip_prefix.ensures.cases)

@@ -1,0 +1,34 @@
+-- Laws of printed lines (this project's own).
+use Rattle.std.specs.Prelude.{◌≡◌, ℕ, ℤ, List, ◌++◌, length, IsTrue}
+use Rattle.fx_chain.specs.Operation.{Asked}
+use Rattle.fx_ring.specs.Ring.{RingContents}
+use Rattle.fx_ring.specs.Submission.{IsOneHistory, Reported}
+use Rattle.fx_language.specs.Instruction.{Instruction}
+use Rattle.fx_script.specs.Play.{PrintsAll}
+use Rattle.fx_base.specs.Name.{is_name}
+use Rattle.check_lines.specs.Lines.{HasNoCloses, IsResultInRange, is_without}
+use Rattle.fx_print.specs.Text.{result_line}
+
+-- a text begins with at most one line of a word and a result
+abbrev pub BeginsWithOneResult : Type 0
+BeginsWithOneResult =
+    (word : List ℕ) (res other : ℤ) (behind more : List ℕ)
+    → IsResultInRange res → IsResultInRange other
+    → result_line word res ++ behind ≡ result_line word other ++ more
+    → (res ≡ other) × (behind ≡ more)
+
+-- the text of commands never begins with a line of a closed file or of a tag
+abbrev pub PlaysBeginWithNoClose : Type 0
+PlaysBeginWithNoClose =
+    (ring : RingContents) (commands : List Instruction) (text : List ℕ)
+    → PrintsAll ring commands text → HasNoCloses text
+
+-- the report of a submission has a completion for each of its requests
+abbrev pub ReportsHaveEachRequest : Type 0
+ReportsHaveEachRequest =
+    (old : RingContents) (asked : List Asked) (report : Reported) (new : RingContents)
+    → IsOneHistory old asked report new → length report.completions ≡ length asked
+
+-- the name of a catalogue entry has no line end
+abbrev pub NamesHaveNoLineEnd : Type 0
+NamesHaveNoLineEnd = (name : List ℕ) → IsTrue (is_name name) → IsTrue (is_without 10 name)

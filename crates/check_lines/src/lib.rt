@@ -1,0 +1,23 @@
+//! Parses the printed lines of a submission's report: each printed report is parsed, and each parsed report was printed so. Makes
+//! calls between two submissions on slots whose files are known: the errors that a call returns, the files that it leaves at the
+//! slots, and the files that it closes.
+#![tactic(auto)]
+
+mod call_closes;
+mod call_list;
+mod call_refusal;
+mod closed_line;
+mod completion_line;
+mod cut;
+pub mod laws;
+mod number;
+mod report_lines;
+
+pub use call_closes::{close_in_order, files_at};
+pub use call_list::{apply_list, empty_slots};
+pub use call_refusal::{
+    range_refusal, register_refusal, sparse_refusal, unregister_refusal, update_refusal,
+};
+pub use closed_line::ClosedLine;
+pub use cut::rest_behind;
+pub use report_lines::{ReportLines, read_report};

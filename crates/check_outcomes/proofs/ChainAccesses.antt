@@ -1,0 +1,143 @@
+-- A chain's next access, and what is left of the chain behind it.
+use Rattle.fx_order.proofs.Words.{◌≡◌, ℕ, ◌+◌, ◌<◌, ◌≤◌, List, [], ◌∷◌, ◌++◌, length, refl, sym, ap, ◌∙◌, arith, append_assoc, nil_from_length}
+use Rattle.fx_order.proofs.Words.{Option, Some, None, if◌then◌else◌, MatchBool, FileEntry, length-append, append-nil, by_equality, either_way}
+use Rattle.fx_order.proofs.Words.{AllByRecursion, Completed, next_member, canceled, severs, Asked, Place, IsChainDone, IsRequestDone}
+use Rattle.check_outcomes.proofs.ChoiceWords.{Access, HasMemory, IsNextOf, Rest, Rules, over, rest_at, settled_at, behind, step_of}
+
+abbrev pub last_of : List Access → Option Access
+last_of [] = None
+last_of (a ∷ []) = Some a
+last_of (a ∷ b ∷ l) = last_of (b ∷ l)
+
+last_of-end : (front : List Access) (a : Access) → last_of (front ++ a ∷ []) ≡ Some a
+last_of-end [] a = refl
+last_of-end (x ∷ []) a = refl
+last_of-end (x ∷ y ∷ front) a = last_of-end (y ∷ front) a
+
+-- a shorter front
+longer : (front : List Access) {accesses : List Access} (own : List Access) {others : List Access} → front ++ accesses ≡ own ++ others
+    → length front ≤ length own → (mid : List Access) × (own ≡ front ++ mid) × (accesses ≡ mid ++ others)
+longer [] own is few = (own, refl, is)
+longer (x ∷ front) [] is few = absurd (omega arith)
+longer (x ∷ front) {accesses} (y ∷ own) {others} is few =
+    let head : y ≡ x = cc in
+    let tail : front ++ accesses ≡ own ++ others = cc in
+    let (mid, own_is, rest) = longer front own tail (omega arith) in
+    (mid, (λ i. head i ∷ own_is i), rest)
+
+-- the rules tell rightly how many accesses each request makes that finds memory, and what it answers
+abbrev pub AreRight : List FileEntry → ℕ → Rules → Type 0
+AreRight catalogue size rules = (place : Place) (request : Asked) (own : List Access) (c : Completed)
+    → IsRequestDone catalogue size place request.operation own c → HasMemory c
+    → (length own ≡ rules.count request) × (c ≡ rules.answer place request (last_of own))
+
+module _ (catalogue : List FileEntry) (size : ℕ) (rules : Rules) (right : AreRight catalogue size rules) where
+  -- the accesses that are left of a chain, and what it still answers
+  pub record IsRest (rest : Rest) (accesses : List Access) (cs : List Completed) : Type 0 where
+    pub front : List Access
+    pub made : length front ≡ rest.made
+    pub done : IsChainDone catalogue size rest.place rest.requests (front ++ accesses) cs
+
+  -- the first request that is left has accesses left
+  abbrev pub IsReady : Place → List Asked → ℕ → Type 0
+  IsReady place [] made = made ≡ 0
+  IsReady place (request ∷ requests) made = made < rules.count request
+
+  -- these were answered up to now, and the chain goes on from this place by these accesses, to what it tells in the end
+  pub record Goes (now : List Completed × Rest) (accesses : List Access) (final : List Completed) : Type 0 where
+    pub later : List Completed
+    pub whole : final ≡ now.0 ++ later
+    pub memory : AllByRecursion HasMemory later
+    pub ready : IsReady now.1.place now.1.requests now.1.made
+    pub rest_is : IsRest now.1 accesses later
+
+  pub told_first : (told : List Completed) {now : List Completed × Rest} {accesses : List Access} {cs final : List Completed} → final ≡ told ++ cs
+      → Goes now accesses cs → Goes (told ++ now.0, now.1) accesses final
+  told_first told {now} whole goes = record {
+    later = goes.later;
+    whole = whole ∙ (λ i. told ++ goes.whole i) ∙ sym (append_assoc told now.0 goes.later);
+    memory = goes.memory;
+    ready = goes.ready;
+    rest_is = goes.rest_is;
+  }
+
+  over_now : {told cs : List Completed} {accesses : List Access} → accesses ≡ [] → cs ≡ told → Goes (told, over) accesses cs
+  over_now {told} none is = record {
+    later = [];
+    whole = is ∙ sym (append-nil told);
+    memory = tt;
+    ready = refl;
+    rest_is = record { front = []; made = refl; done = (none, refl) };
+  }
+
+  abbrev Behind : Place → Asked → List Asked → Completed → List Access → List Completed → Type 0
+  Behind place request requests c others cs = MatchBool (severs request c) ((others ≡ []) × (cs ≡ canceled (next_member place) requests))
+      (IsChainDone catalogue size (next_member place) requests others cs)
+
+  goes_behind : (place : Place) (request : Asked) (requests : List Asked) {c : Completed} {others : List Access} {cs : List Completed}
+      → (IsChainDone catalogue size (next_member place) requests others cs → Goes (settled_at rules (next_member place) requests) others cs)
+      → Behind place request requests c others cs → Goes (behind rules place request requests c) others (c ∷ cs)
+  goes_behind place request requests {c} goes = either_way (severs request c) (λ cut x. rw cut (over_now x.0 (λ i. c ∷ x.1 i)))
+      (λ on x. rw on (told_first (c ∷ []) refl (goes x)))
+
+  pub settles : (place : Place) (requests : List Asked) {accesses : List Access} {cs : List Completed} → AllByRecursion HasMemory cs
+      → IsChainDone catalogue size place requests accesses cs → Goes (settled_at rules place requests) accesses cs
+  settles place [] memory x = over_now x.0 x.1
+  settles place (request ∷ requests) {accesses} {cs} memory x =
+      let (own, others, c, later, are, whole, done, on) = x in
+      let mem = rw whole at memory in
+      by_equality (rules.count request) 0
+      (λ b. Goes (if b then behind rules place request requests (rules.answer place request None) else ([], rest_at place (request ∷ requests) 0))
+      accesses cs)
+      (λ zero.
+      let so = right place request own c done mem.0 in
+      let none : own ≡ [] = nil_from_length own (so.0 ∙ zero) in
+      let answer = rw none at so.1 in
+      rw (whole, are, none, ← answer) (goes_behind place request requests (settles (next_member place) requests mem.1) on))
+      (λ some. record {
+        later = cs;
+        whole = refl;
+        memory = memory;
+        ready = omega arith;
+        rest_is = record { front = []; made = refl; done = x };
+      })
+
+  -- no access is left: the chain is over, and was told whole
+  pub ends : {place : Place} (requests : List Asked) {made : ℕ} {cs : List Completed} → AllByRecursion HasMemory cs → IsReady place requests made
+      → IsRest (rest_at place requests made) [] cs → (requests ≡ []) × (cs ≡ [])
+  ends [] memory ready is = (refl, is.done.1)
+  ends {place} (request ∷ requests) memory ready is =
+      let (own, others, c, rest, are, whole, done, on) = is.done in
+      let mem = rw whole at memory in
+      let many = (right place request own c done mem.0).0 in
+      let long = simp length-append at (ap length are) in
+      absurd (omega arith)
+
+  -- an access is made: it is the next one of the first request that is left, and the chain goes on
+  pub steps : {place : Place} (requests : List Asked) {made : ℕ} {a : Access} {accesses : List Access} {cs : List Completed}
+      → AllByRecursion HasMemory cs → IsReady place requests made → IsRest (rest_at place requests made) (a ∷ accesses) cs
+      → IsNextOf catalogue size place requests made a × Goes (step_of rules place requests made a) accesses cs
+  steps [] memory ready is = let none = simp length-append at (ap length is.done.0) in absurd (omega arith)
+  steps {place} (request ∷ requests) {made} {a} {accesses} {cs} memory ready is =
+      let front : List Access = is.front ++ a ∷ [] in
+      let long : length front ≡ made + 1 = omega (arith, length-append is.front (a ∷ [])) in
+      let (own, others, c, rest, are, whole, done, on) = is.done in
+      let mem = rw whole at memory in
+      let so = right place request own c done mem.0 in
+      let (mid, own_is, accesses_are) = longer front own (append_assoc is.front (a ∷ []) accesses ∙ are) (omega arith) in (
+        (is.front, mid, c, is.made, rw (own_is, append_assoc is.front (a ∷ []) mid) at done),
+        by_equality (rules.count request) (made + 1)
+            (λ b. Goes (if b then behind rules place request requests (rules.answer place request (Some a))
+            else ([], rest_at place (request ∷ requests) (made + 1))) accesses cs)
+            (λ last.
+            let none : mid ≡ [] = nil_from_length mid (omega (arith, ap length own_is, length-append front mid)) in
+            let answer = rw (own_is, none, append-nil, last_of-end) at so.1 in
+            rw (whole, accesses_are, none, ← answer) (goes_behind place request requests (settles (next_member place) requests mem.1) on))
+            (λ more. record {
+              later = cs;
+              whole = refl;
+              memory = memory;
+              ready = omega arith;
+              rest_is = record { front = front; made = long; done = rw append_assoc is.done };
+            }),
+      )

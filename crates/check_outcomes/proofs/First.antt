@@ -1,0 +1,97 @@
+-- An order of a submission begins at its first state.
+use Rattle.fx_order.proofs.Words.{◌≡◌, ℕ, ◌+◌, ◌<◌, ◌≤◌, ◌==◌, List, [], ◌∷◌, ◌++◌, length, refl, sym, ap, ◌∙◌, arith, if◌then◌else◌, Bool, ⊎_elim}
+use Rattle.fx_order.proofs.Words.{inr, FileEntry, Completed, Asked, runs_of, first_member, Table, accesses_of, accesses_of_chain, AreChainsDone}
+use Rattle.fx_order.proofs.Words.{IsOneOrder, table_after, AllByRecursion, RingState, Reported, eq-eqb}
+use Rattle.check_outcomes.proofs.ChoiceWords.{ChainAccess, cases_eq, ne_eqb, at_itself, HasMemory, Rest, rules_of, settled_at, AreAllStates}
+use Rattle.check_outcomes.proofs.ChoiceWords.{AreAtStart}
+use Rattle.check_outcomes.proofs.ChoiceWords.{HasEnd, IsListed, StateView, EachOutcomeIsListed, told_from}
+use Rattle.check_outcomes.proofs.Requests.{are_right}
+use Rattle.check_outcomes.proofs.ChainAccesses.{settles}
+use Rattle.check_outcomes.proofs.PartByPart.{order_by_part}
+use Rattle.fx_order.proofs.ChainFront.{both_parts}
+use Rattle.check_outcomes.proofs.Playing.{OfChain, Comes, both_said, runs_on}
+
+-- the same of each chain, the same whole
+pub told_same : (f g : ℕ → List Completed) (chain : ℕ) (runs : List (List Asked)) → ((q : ℕ) → chain ≤ q → q < chain + length runs → f q ≡ g q)
+    → told_from f chain runs ≡ told_from g chain runs
+told_same f g chain [] same = refl
+told_same f g chain (run ∷ runs) same =
+    λ i. same chain (omega arith) (omega arith) i ++ told_same f g (chain + 1) runs (λ q low high. same q (omega arith) (omega arith)) i
+
+all_told : (P : Completed → Type 0) (told : ℕ → List Completed) (chain : ℕ) (runs : List (List Asked))
+    → ((q : ℕ) → chain ≤ q → q < chain + length runs → AllByRecursion P (told q)) → AllByRecursion P (told_from told chain runs)
+all_told P told chain [] each = tt
+all_told P told chain (run ∷ runs) each = both_said P (told chain) (told_from told (chain + 1) runs) (each chain (omega arith) (omega arith))
+    (all_told P told (chain + 1) runs (λ q low high. each q (omega arith) (omega arith)))
+
+-- each chain is at its first request that comes to the table, and `Begins` has what it was told up to there
+module _ (catalogue : List FileEntry) (size submission : ℕ) (order : List ChainAccess) (rests : ℕ → Rest) (Begins : ℕ → List Completed → Type 0) where
+  abbrev settled : ℕ → List Asked → List Completed × Rest
+  settled chain run = settled_at (rules_of catalogue size) (first_member submission chain) run
+
+  -- how a chain goes on to this
+  abbrev Own : ℕ → List Completed → Type 0
+  Own q final = (told : List Completed) × Begins q told × OfChain catalogue size (rests q) told final (accesses_of_chain q order)
+
+  -- the list of a chain in front of those of the others
+  abbrev put : ℕ → List Completed → (ℕ → List Completed) → ℕ → List Completed
+  put chain own others q = if q == chain then own else others q
+
+  pub record Found (chain : ℕ) (runs : List (List Asked)) (completions : List Completed) : Type 0 where
+    pub finals : ℕ → List Completed
+    pub whole : completions ≡ told_from finals chain runs
+    pub each : (q : ℕ) → chain ≤ q → q < chain + length runs → Own q (finals q)
+
+  module _ (AreAt : ℕ → List (List Asked) → Type 0) (one_at : (chain : ℕ) (run : List Asked) (runs : List (List Asked)) → AreAt chain (run ∷ runs)
+      → Begins chain (settled chain run).0 × (rests chain ≡ (settled chain run).1) × AreAt (chain + 1) runs) where
+    pub find : (chain : ℕ) (runs : List (List Asked)) (completions : List Completed) → AllByRecursion HasMemory completions
+        → AreChainsDone catalogue size submission chain runs order completions → AreAt chain runs → Found chain runs completions
+    find chain [] completions memory done start =
+        record { finals = λ q. []; whole = done; each = λ q low high. absurd (omega arith) }
+    find chain (run ∷ runs) completions memory (own, others, whole, made, done) start =
+        let mem = both_parts HasMemory own others (rw whole at memory) in
+        let (begins, rest_is, start_on) = one_at chain run runs start in
+        let f = find (chain + 1) runs others mem.1 done start_on in
+        let goes = settles catalogue size (rules_of catalogue size) (are_right catalogue size) (first_member submission chain) run mem.0 made in
+        let all = put chain own f.finals in
+        let same = told_same f.finals all (chain + 1) runs (λ q low high. rw (ne_eqb q chain (λ at. omega arith))) in
+        record {
+          finals = all;
+          whole = rw (at_itself chain own (f.finals chain), ← same, ← f.whole) whole;
+          each = λ q low high. ⊎_elim
+              (λ at. rw (eq-eqb q chain at, at, rest_is) ((settled chain run).0, begins, goes))
+              (λ other. rw (ne_eqb q chain other) (f.each q (omega arith) (omega arith)))
+              (cases_eq q chain);
+        }
+
+-- whatever is to be said of the answers
+pub all_said : (idle : Rest → Bool) (says : Completed → Type 0) (old : RingState) (requests : List Asked) (states : List StateView)
+    → AreAllStates idle says old requests states → (report : Reported) (left : RingState) → AllByRecursion HasMemory report.completions
+    → IsOneOrder old requests report left → AllByRecursion says report.completions × HasEnd old requests idle states left
+all_said idle says old requests states all report left memory any =
+    let runs = runs_of requests in
+    let one = order_by_part all.parts old requests report left all.apart any in
+    let f = find old.catalogue old.size report.submission one.order all.first.rests (λ q told. AllByRecursion says told)
+    (λ chain left. AreAtStart (rules_of old.catalogue old.size) says report.submission chain left all.first) (λ chain run left start. start)
+    1 runs report.completions memory one.is.done (rw one.is.submission all.begins.chains) in
+    let comes : Comes old.catalogue old.size says idle all.idling (length runs) f.finals all.first one.order = record {
+      permitted = rw all.begins.table one.is.permitted;
+      within = one.is.chains;
+      each = λ q low high. inr (f.each q low (omega arith));
+    } in
+    let (end, inside, run) = runs_on old.catalogue old.size says idle all.idling (length runs) f.finals all.parts all.closed one.order one.by
+    all.inside comes in (
+      rw f.whole (all_told says f.finals 1 runs (λ q low high. run.said q low (omega arith))),
+      record {
+        state = end;
+        inside = inside;
+        over = run.over;
+        leaves = one.after ∙ (λ i. record old {
+          at = ((sym (run.table_is ∙ ap (λ (t : Table). table_after t (accesses_of one.order)) all.begins.table)) i).at;
+          submissions = old.submissions + 1;
+        });
+      },
+    )
+
+pub each_outcome_is_listed : EachOutcomeIsListed
+each_outcome_is_listed place answers idle = all_said idle (IsListed place answers)

@@ -1,0 +1,52 @@
+-- How a chain goes on, counted in members that are done.
+use Rattle.fx_order.proofs.Words.{◌≡◌, ℕ, suc, ◌+◌, ◌==◌, true, false, List, [], ◌∷◌, ◌++◌, drop, refl, sym, ap, ◌∙◌, arith, Some, None, append-nil}
+use Rattle.fx_order.proofs.Words.{append_assoc, Completed, severs, Asked, Place, Completion, all_completed, completed_of, map-append, next_member}
+use Rattle.fx_order.proofs.Words.{eq-eqb}
+use Rattle.check_outcomes.proofs.Words.{Access, Rules, Settles, moved, rest_for, Progress, ne_eqb, drop-drop, StepsChain}
+
+-- what was told, and one answer behind it
+pub pushed : (before : List Completion) {after : List Completion} (c : Completion) {d : Completed} → after ≡ before ++ c ∷ [] → completed_of c ≡ d
+    → all_completed after ≡ all_completed before ++ d ∷ []
+pushed before c is same = rw (is, ← same) (map-append completed_of before (c ∷ []))
+
+moved_on : (place : Place) (n : ℕ) → moved (next_member place) n ≡ moved place (1 + n)
+moved_on place n = let same : place.member + 1 + n ≡ place.member + (1 + n) = omega arith in λ i. record place { member = same i }
+
+pub settled_on : {rules : Rules} {place : Place} {request : Asked} {requests : List Asked} {before middle after : List Completed} {passed : ℕ}
+    → (rules.count request == 0) ≡ true → severs request (rules.answer place request None) ≡ false
+    → middle ≡ before ++ rules.answer place request None ∷ [] → Settles rules (next_member place) requests middle after passed
+    → Settles rules place (request ∷ requests) before after (1 + passed)
+settled_on {place = place} {passed = passed} none on first rest =
+    let more : 1 + passed ≡ suc passed = omega arith in
+    record {
+      told = rw (none, on) (rw (first, append_assoc) at rest.told);
+      rest = rw (none, on, ← moved_on place passed, more) rest.rest;
+      within = omega arith;
+    }
+
+module _ {rules : Rules} {place : Place} {run : List Asked} {progress : Progress} {a : Access} where
+  pub steps_over : {before : List Completed} → drop progress.done run ≡ [] → StepsChain rules place run progress a before before progress
+  steps_over {before} none = record { told = rw none (sym (append-nil before)); rest = rw none refl }
+
+  module _ {request : Asked} {requests : List Asked} (is : drop progress.done run ≡ request ∷ requests) where
+    pub steps_more : {before : List Completed} {next : Progress} → (rules.count request ≡ progress.made + 1 → ⊥)
+        → next.done ≡ progress.done → next.made ≡ progress.made + 1 → StepsChain rules place run progress a before before next
+    steps_more {before} more done made = record {
+      told = rw (is, ne_eqb _ _ more) (sym (append-nil before));
+      rest = rw (done, made, is, ne_eqb _ _ more) refl;
+    }
+
+    pub steps_on : {before middle after : List Completed} {next : Progress} {c : Completed} {passed : ℕ} → rules.count request ≡ progress.made + 1
+        → c ≡ rules.answer (moved place progress.done) request (Some a) → severs request c ≡ false
+        → middle ≡ before ++ c ∷ [] → Settles rules (next_member (moved place progress.done)) requests middle after passed
+        → next.done ≡ progress.done + 1 + passed → next.made ≡ 0 → StepsChain rules place run progress a before after next
+    steps_on {next = next} {passed = passed} last answers on first settles done made =
+        let place_is : place.member + next.done ≡ place.member + progress.done + 1 + passed = omega arith in
+        let sum : progress.done + suc passed ≡ next.done = omega arith in
+        let left : drop next.done run ≡ drop passed requests =
+        rw (← sum) (sym (drop-drop (suc passed) progress.done run) ∙ ap (drop (suc passed)) is) in
+        record {
+          told = rw (is, eq-eqb _ _ last, ← answers, on) (rw (first, append_assoc) at settles.told);
+          rest = rw (is, eq-eqb _ _ last, ← answers, on)
+              ((λ i. rest_for (record place { member = place_is i }) (left i) (made i)) ∙ sym settles.rest);
+        }

@@ -1,0 +1,5 @@
+use Rattle.fx_order.proofs.Words.{length}
+use Rattle.check_outcomes.proofs.chain.+cancel.Given as goal
+
+abbrev pub decreases-cancel : goal.decreases-cancel
+decreases-cancel l = length l.requests.now

@@ -1,0 +1,6 @@
+use Rattle.fx_order.proofs.Words.{◌<◌, ℕ, slice_index_or}
+use Rattle.check_outcomes.proofs.Words.{IsStateExploredBy, PlayState}
+use Rattle.check_outcomes.proofs.closed.are_states_explored.Given as goal
+
+abbrev pub invariant-loop-state : goal.invariant-loop-state
+invariant-loop-state l = (k : ℕ) (d : PlayState) → k < l.state-index → IsStateExploredBy l.claimed (slice_index_or l.claimed.found.now.states.items k d)

@@ -1,0 +1,5 @@
+use Rattle.fx_order.proofs.Words.{length}
+use Rattle.check_outcomes.proofs.possible_report.+are_told.Given as goal
+
+abbrev pub decreases-are_told : goal.decreases-are_told
+decreases-are_told l = length l.answers.now

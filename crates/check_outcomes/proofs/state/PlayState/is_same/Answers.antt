@@ -1,0 +1,19 @@
+use Rattle.fx_order.proofs.Words.{◌≡◌, ◌∙◌, sym, refl}
+use Rattle.check_outcomes.proofs.Words.{Progress}
+use Rattle.std.proofs.Common.{rules}
+use Rattle.std.specs.Bool.{Decides}
+use Rattle.std.proofs.lemmas.Bool.{not-false}
+use Rattle.std.proofs.lemmas.Slice.Eq.{slice_eq-Decides}
+use Rattle.fx_order.proofs.EqualFiles.{file_Decides}
+use Rattle.check_outcomes.specs.contracts.chain.ProgressPartialEq.TheImpl.{eq-value}
+use Rattle.check_outcomes.proofs.state.PlayState.is_same.Goals as goal
+
+progress_Decides : (a b : Progress) → Decides (eq-value.it a b) (a ≡ b)
+progress_Decides a b = search rules
+
+pub returns-then-are_all_same-clause-chains : goal.returns-then-are_all_same-clause-chains
+returns-then-are_all_same-clause-chains c = λ _.
+    (slice_eq-Decides progress_Decides _ _ _ refl).0 (not-false _ (sym c.ne.ensures ∙ c.if-ne.false))
+
+pub returns-then-are_all_same-clause-removed : goal.returns-then-are_all_same-clause-removed
+returns-then-are_all_same-clause-removed c = (slice_eq-Decides file_Decides _ _ _ c.eq.ensures).0

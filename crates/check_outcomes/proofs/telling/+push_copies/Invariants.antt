@@ -1,0 +1,5 @@
+use Rattle.fx_order.proofs.Words.{length}
+use Rattle.check_outcomes.proofs.telling.+push_copies.Given as goal
+
+abbrev pub decreases-push_copies : goal.decreases-push_copies
+decreases-push_copies l = length l.more.now

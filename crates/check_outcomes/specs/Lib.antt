@@ -1,0 +1,12 @@
+pub mod Answering
+pub mod Rests
+pub mod Parts
+pub mod Idle
+pub mod Nodes
+pub mod Choices
+pub mod Stands
+pub mod Tellings
+pub mod Views
+pub mod Outcomes
+pub mod Listed
+pub mod Reports

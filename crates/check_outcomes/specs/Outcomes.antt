@@ -1,0 +1,112 @@
+-- What may come of a submission where each request finds memory.
+use Rattle.std.specs.Prelude.{◌≡◌, ◌+◌, ◌<◌, List, All, Contains, length, map, IsPermutation}
+use Rattle.fx_chain.specs.Completed.{Completed, all_completed, completed_of}
+use Rattle.fx_chain.specs.Operation.{Asked}
+use Rattle.fx_chain.specs.declared.completion.Place.{Place}
+use Rattle.fx_order.specs.Order.{IsOrderOf, ring_left}
+use Rattle.fx_order.specs.Slots.{ring_of_slots}
+use Rattle.fx_order.specs.declared.access.ChainAccess.{ChainAccess}
+use Rattle.fx_order.specs.declared.slots.Slots.{Slots}
+use Rattle.fx_ring.specs.Ring.{RingContents, RingState, ring_of}
+use Rattle.fx_ring.specs.Submission.{IsOneHistory, Reported, reported}
+use Rattle.check_outcomes.specs.Rests.{HasMemory}
+use Rattle.check_outcomes.specs.declared.end.PossibleEnd.{PossibleEnd}
+use Rattle.check_outcomes.specs.declared.outcome.PossibleAnswer.{PossibleAnswer}
+use Rattle.check_outcomes.specs.declared.possible_report.PossibleReport.{PossibleReport}
+
+-- one history of the ring's table comes to this report and leaves this ring, and each request finds
+-- memory
+pub record MayReport (ring : RingContents) (requests : List Asked) (report : Reported)
+    (left : RingContents) : Type 0 where
+  pub history : IsOneHistory ring requests report left
+  pub memory : All HasMemory report.completions
+
+-- a request of the submission may answer so, where this ring is left
+pub record MayAnswer (ring : RingContents) (requests : List Asked) (c : Completed)
+    (left : RingContents) : Type 0 where
+  pub report : Reported
+  pub may : MayReport ring requests report left
+  pub inside : Contains report.completions c
+
+-- the submission may leave this ring
+pub record MayLeave (ring : RingContents) (requests : List Asked) (left : RingContents)
+    : Type 0 where
+  pub report : Reported
+  pub may : MayReport ring requests report left
+
+-- the ring behind a submission that leaves these slots
+abbrev pub ring_behind : RingState → Slots → RingState
+ring_behind old slots =
+    ring_of_slots old.catalogue slots (old.submissions + 1) old.registrations
+
+-- the requests' accesses, in this order, come to this report and leave these slots, and each
+-- request finds memory
+pub record IsReportBy (old : RingState) (requests : List Asked) (order : List ChainAccess)
+    (report : Reported) (slots : Slots) : Type 0 where
+  pub is : IsOrderOf order old requests report
+  pub memory : All HasMemory report.completions
+  pub leaves : ring_behind old slots ≡ ring_left order old
+
+-- an answer at the place that comes of each ring with this state, by the order that stands with it
+pub record IsAnswer (old : RingState) (requests : List Asked) (place : Place) (answer
+    : PossibleAnswer)
+    : Type 0 where
+  pub report : Reported
+  pub by : IsReportBy old requests answer.order.items report answer.slots
+  pub inside : Contains report.completions (completed_of answer.completion)
+  pub there : answer.completion.place ≡ place
+  pub may : (ring : RingContents) → ring_of ring ≡ old
+      → (left : RingContents) × (ring_of left ≡ ring_behind old answer.slots)
+      × MayAnswer ring requests (completed_of answer.completion) left
+
+abbrev pub answered : List PossibleAnswer → List Completed
+answered answers = map (λ answer. completed_of answer.completion) answers
+
+-- whatever the request at the place may answer is one of these answers
+abbrev pub HasEachAnswer : RingState → List Asked → Place → List PossibleAnswer → Type 0
+HasEachAnswer old requests place answers =
+    (ring left : RingContents) (c : Completed) → ring_of ring ≡ old
+    → MayAnswer ring requests c left → c.place ≡ place → Contains (answered answers) c
+
+-- an end that each ring with this state comes to, by the order that stands with it
+pub record IsEnd (old : RingState) (requests : List Asked) (end : PossibleEnd) : Type 0 where
+  pub report : Reported
+  pub by : IsReportBy old requests end.order.items report end.slots
+  pub may : (ring : RingContents) → ring_of ring ≡ old
+      → (left : RingContents) × (ring_of left ≡ ring_behind old end.slots)
+      × MayLeave ring requests left
+
+-- the rings that these ends are
+abbrev pub rings_behind : RingState → List PossibleEnd → List RingState
+rings_behind old ends = map (λ end. ring_behind old end.slots) ends
+
+-- the state of whatever ring the submission may leave is that of one of these ends
+abbrev pub HasEachEnd : RingState → List Asked → List PossibleEnd → Type 0
+HasEachEnd old requests ends =
+    (ring left : RingContents) → ring_of ring ≡ old → MayLeave ring requests left
+    → Contains (rings_behind old ends) (ring_of left)
+
+-- a report that comes of each ring with this state, by the order that stands with it
+pub record IsPossible (old : RingState) (requests : List Asked) (possible : PossibleReport)
+    : Type 0 where
+  pub by : IsReportBy old requests possible.order.items (reported possible.report) possible.slots
+  pub may : (ring : RingContents) → ring_of ring ≡ old
+      → (left : RingContents) × (ring_of left ≡ ring_behind old possible.slots)
+      × MayReport ring requests (reported possible.report) left
+  pub entries : All (λ file. file.entry < length old.catalogue) possible.report.closes.files
+
+-- it tells of this report, whose files are in order of mark too, and leaves this ring
+pub record TellsOf (old : RingState) (report : Reported) (left : RingState)
+    (possible : PossibleReport) : Type 0 where
+  pub submission : report.submission ≡ possible.report.submission
+  pub completions : report.completions ≡ all_completed possible.report.completions.items
+  pub closes : IsPermutation possible.report.closes.files report.closes.files
+  pub leaves : left ≡ ring_behind old possible.slots
+
+-- whatever report the submission may come to, one of these tells of it
+abbrev pub HasEachReport : RingState → List Asked → List PossibleReport → Type 0
+HasEachReport old requests reports =
+    (ring left : RingContents) (report : Reported) → ring_of ring ≡ old
+    → MayReport ring requests report left
+    → (possible : PossibleReport) × Contains reports possible
+    × TellsOf old report (ring_of left) possible

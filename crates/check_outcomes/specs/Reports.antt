@@ -1,0 +1,91 @@
+-- The states of a submission with what was told on the way to them, so that their ends are reports.
+use Rattle.std.specs.Prelude.{◌≡◌, ℕ, ◌+◌, ◌≤◌, List, [], ◌∷◌, ◌++◌, length, All, Contains}
+use Rattle.std.specs.Prelude.{IsPermutation}
+use Rattle.std.specs.Option.{option_to_list}
+use Rattle.fx_base.specs.Catalogue.{FileEntry}
+use Rattle.fx_base.specs.declared.open_file.Closed.{Closed}
+use Rattle.fx_chain.specs.Completed.{Completed}
+use Rattle.fx_chain.specs.Explains.{first_member}
+use Rattle.fx_chain.specs.Operation.{Asked}
+use Rattle.fx_chain.specs.Runs.{runs_of}
+use Rattle.fx_ring.specs.Ring.{RingState}
+use Rattle.fx_ring.specs.Submission.{Reported}
+use Rattle.fx_order.specs.Access.{Permits, removed_by}
+use Rattle.fx_order.specs.declared.access.Access.{Access}
+use Rattle.fx_order.specs.Order.{IsOneOrder, table_of}
+use Rattle.check_outcomes.specs.Rests.{HasMemory, IsNext, Rules, rules_of, settled_at, step}
+use Rattle.check_outcomes.specs.Idle.{has_none}
+use Rattle.check_outcomes.specs.Parts.{AreParts, Parts}
+use Rattle.check_outcomes.specs.Nodes.{HasTurn, IsOver, LeadsByAccess, StateView, ring_at}
+use Rattle.check_outcomes.specs.Nodes.{told_from}
+
+-- a state, with what was answered and which files were taken from their slots on the way to it
+pub record ToldState : Type 0 where
+  pub state : StateView
+  -- of each chain, by its number from 1
+  pub told : ℕ → List Completed
+  pub removed : List Closed
+
+-- an access of a chain leads from one to the other
+pub record LeadsOn (rules : Rules) (here : ToldState) (chain : ℕ) (a : Access) (next : ToldState)
+    : Type 0 where
+  pub leads : LeadsByAccess rules here.state chain a next.state
+  pub own : next.told chain ≡ here.told chain ++ (step rules (here.state.rests chain) a).0
+  pub others : (other : ℕ) → 1 ≤ other → (other ≡ chain → ⊥) → next.told other ≡ here.told other
+  pub removed : IsPermutation (here.removed ++ option_to_list (removed_by a)) next.removed
+
+-- the list has each one that an access leads to from one of it, part by part
+abbrev pub AreToldClosed : List FileEntry → ℕ → Parts → ℕ → List ToldState → Type 0
+AreToldClosed catalogue size parts chains states =
+    (here : ToldState) → Contains states here → (chain : ℕ) → 1 ≤ chain → chain ≤ chains
+    → HasTurn has_none parts chains here.state chain
+    → (a : Access) → IsNext catalogue size (here.state.rests chain) a
+    → Permits here.state.table a
+    → (next : ToldState) × Contains states next
+    × LeadsOn (rules_of catalogue size) here chain a next
+
+-- each chain from this one on is at its first request that comes to the table, and was told what
+-- was answered up to there
+abbrev pub AreToldAtStart : Rules → ℕ → ℕ → List (List Asked) → ToldState → Type 0
+AreToldAtStart rules submission chain [] here = Unit {0}
+AreToldAtStart rules submission chain (run ∷ runs) here =
+    (here.told chain ≡ (settled_at rules (first_member submission chain) run).0)
+    × (here.state.rests chain ≡ (settled_at rules (first_member submission chain) run).1)
+    × AreToldAtStart rules submission (chain + 1) runs here
+
+-- the first one of a submission
+pub record IsToldFirst (old : RingState) (requests : List Asked) (here : ToldState)
+    : Type 0 where
+  pub table : here.state.table ≡ table_of old
+  pub removed : here.removed ≡ []
+  pub chains : AreToldAtStart (rules_of old.catalogue old.size) (old.submissions + 1) 1
+      (runs_of requests) here
+
+-- the list has the first one, and each one that is reached from it part by part
+pub record AreAllTold (old : RingState) (requests : List Asked) (states : List ToldState)
+    : Type 0 where
+  pub parts : Parts
+  pub apart : AreParts (table_of old) parts 1 (runs_of requests)
+  pub first : ToldState
+  pub begins : IsToldFirst old requests first
+  pub inside : Contains states first
+  pub closed : AreToldClosed old.catalogue old.size parts (length (runs_of requests)) states
+
+-- one of them is over, tells of this report, and leaves this ring
+pub record HasReport (old : RingState) (requests : List Asked) (states : List ToldState)
+    (report : Reported) (left : RingState) : Type 0 where
+  pub here : ToldState
+  pub inside : Contains states here
+  pub over : IsOver has_none (length (runs_of requests)) here.state
+  pub completions : report.completions ≡ told_from here.told 1 (runs_of requests)
+  pub closes : IsPermutation here.removed report.closes.files
+  pub leaves : left ≡ ring_at old here.state
+
+-- whatever comes of a submission, where no request lacks memory, one of the list that is over tells
+-- of
+abbrev pub EachReportIsListed : Type 0
+EachReportIsListed =
+    (old : RingState) (requests : List Asked) (states : List ToldState)
+    → AreAllTold old requests states
+    → (report : Reported) (left : RingState) → All HasMemory report.completions
+    → IsOneOrder old requests report left → HasReport old requests states report left

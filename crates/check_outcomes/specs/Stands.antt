@@ -1,0 +1,51 @@
+-- Where a chain is, by how many of its members are done.
+use Rattle.std.specs.Prelude.{◌≡◌, ℕ, ◌+◌, ◌≤◌, ◌==◌, ◌&&◌, nat_le, Bool, false, List, []}
+use Rattle.std.specs.Prelude.{◌∷◌, ◌++◌, length, drop, Contains, Option, Some, None}
+use Rattle.fx_base.specs.Catalogue.{FileEntry}
+use Rattle.fx_chain.specs.Completed.{Completed}
+use Rattle.fx_chain.specs.Operation.{Asked}
+use Rattle.fx_chain.specs.declared.completion.Place.{Place}
+use Rattle.fx_order.specs.Access.{Table, Permits}
+use Rattle.fx_order.specs.declared.access.Access.{Access}
+use Rattle.check_outcomes.specs.Rests.{IsNext, Rest, Rules, over, rest_at, settled_at, step}
+use Rattle.check_outcomes.specs.declared.chain.Progress.{Progress}
+
+-- the place of a member, so many behind this one
+abbrev pub moved : Place → ℕ → Place
+moved place n = record place { member = place.member + n }
+
+abbrev pub rest_for : Place → List Asked → ℕ → Rest
+rest_for place [] made = over
+rest_for place (request ∷ requests) made = rest_at place (request ∷ requests) made
+
+-- where a chain is that has its first member at this place
+abbrev pub rest_in : Place → List Asked → Progress → Rest
+rest_in place run progress =
+    rest_for (moved place progress.done) (drop progress.done run) progress.made
+
+-- the requests from this place on that don't come to the table were answered, so many of them or
+-- the whole chain, behind what was told before
+pub record Settles (rules : Rules) (place : Place) (requests : List Asked)
+    (before after : List Completed) (passed : ℕ) : Type 0 where
+  pub told : after ≡ before ++ (settled_at rules place requests).0
+  pub rest : (settled_at rules place requests).1
+      ≡ rest_for (moved place passed) (drop passed requests) 0
+  pub within : passed ≤ length requests
+
+-- an access leads a chain on, and this is told behind what was told before
+pub record StepsChain (rules : Rules) (place : Place) (run : List Asked) (progress : Progress)
+    (a : Access) (before after : List Completed) (next : Progress) : Type 0 where
+  pub told : after ≡ before ++ (step rules (rest_in place run progress) a).0
+  pub rest : rest_in place run next ≡ (step rules (rest_in place run progress) a).1
+
+-- the list has each access that the chain may make next and the table permits
+abbrev pub HasEachNext : List FileEntry → Table → Rest → List Access → Type 0
+HasEachNext catalogue table rest choices =
+    (a : Access) → IsNext catalogue table.size rest a → Permits table a → Contains choices a
+
+-- the request that is asked for, if there is one, is that at this place or one behind it
+abbrev pub asks_from : Option Place → Place → Bool
+asks_from None place = false
+asks_from (Some own) place =
+    own.submission == place.submission
+    && (own.chain == place.chain && nat_le place.member own.member)

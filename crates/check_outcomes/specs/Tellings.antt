@@ -1,0 +1,28 @@
+-- What was told on the way to the states of the program.
+use Rattle.std.specs.Prelude.{◌≡◌, ℕ, ◌<◌, List, [], ◌∷◌, ◌++◌, length, map, slice_index_or}
+use Rattle.std.specs.Prelude.{slice_set, IsPermutation}
+use Rattle.std.specs.Option.{option_to_list}
+use Rattle.std.specs.Global.{Vec}
+use Rattle.fx_chain.specs.Completed.{Completed, all_completed}
+use Rattle.fx_chain.specs.declared.completion.Completion.{Completion}
+use Rattle.fx_order.specs.Access.{removed_by}
+use Rattle.fx_order.specs.declared.access.Access.{Access}
+use Rattle.check_outcomes.specs.declared.telling.WayReport.{WayReport}
+
+-- what each chain answered
+abbrev pub answers_of : List (Vec Completion) → List (List Completed)
+answers_of answers = map (λ own. all_completed own.items) answers
+
+-- all of it, one chain behind another
+abbrev pub all_told : List (List Completed) → List Completed
+all_told [] = []
+all_told (own ∷ others) = own ++ all_told others
+
+-- what was told behind an access of a chain, by the chain's number from 0, that answers this
+pub record IsToldOn (before : WayReport) (i : ℕ) (a : Access) (own : List Completed)
+    (after : WayReport) : Type 0 where
+  pub there : i < length before.answers.items
+  pub answers : answers_of after.answers.items ≡ slice_set (answers_of before.answers.items) i
+      (slice_index_or (answers_of before.answers.items) i [] ++ own)
+  pub removed : IsPermutation (before.removed.items ++ option_to_list (removed_by a))
+      after.removed.items

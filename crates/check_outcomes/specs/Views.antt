@@ -1,0 +1,110 @@
+-- What the states of the program say of a submission.
+use Rattle.std.specs.Prelude.{◌≡◌, ℕ, ◌+◌, ◌-◌, ◌<◌, ◌==◌, ◌&&◌, not, Bool, true, false, List, []}
+use Rattle.std.specs.Prelude.{length, map, slice_index_or, All, if◌then◌else◌}
+use Rattle.std.specs.List.{list_all}
+use Rattle.fx_chain.specs.Completed.{Completed}
+use Rattle.fx_chain.specs.Explains.{first_member}
+use Rattle.fx_chain.specs.Operation.{Asked, all_asked}
+use Rattle.fx_chain.specs.Runs.{runs_of}
+use Rattle.fx_order.specs.Slots.{table_of_slots}
+use Rattle.fx_order.specs.declared.access.Access.{Access}
+use Rattle.check_outcomes.specs.Rests.{Rest, Rules, rules_of, step}
+use Rattle.fx_order.specs.declared.slots.Slots.{Slots}
+use Rattle.check_outcomes.specs.Parts.{Parts, StaysIn}
+use Rattle.check_outcomes.specs.Idle.{is_read}
+use Rattle.check_outcomes.specs.Nodes.{HasTurn, IsOver, StateView, LeadsByAccess}
+use Rattle.check_outcomes.specs.Reports.{ToldState}
+use Rattle.check_outcomes.specs.Stands.{asks_from, rest_in}
+use Rattle.check_outcomes.specs.Tellings.{answers_of}
+use Rattle.check_outcomes.specs.declared.chain.Progress.{Progress}
+use Rattle.check_outcomes.specs.declared.parts.PartNumbers.{PartNumbers}
+use Rattle.check_outcomes.specs.declared.state.PlayState.{PlayState}
+use Rattle.check_outcomes.specs.declared.submission.PlayedSubmission.{PlayedSubmission}
+
+-- the run of a chain, by the chain's number from 1
+abbrev pub run_at : List (List Asked) → ℕ → List Asked
+run_at runs chain = slice_index_or runs (chain - 1) []
+
+abbrev pub not_begun : Progress
+not_begun = record { done = 0; made = 0 }
+
+abbrev pub view_of_state : ℕ → List (List Asked) → PlayState → StateView
+view_of_state submission runs state = record {
+  table = table_of_slots state.slots;
+  rests = λ chain. rest_in (first_member submission chain) (run_at runs chain)
+      (slice_index_or state.chains.items (chain - 1) not_begun);
+}
+
+-- with what was told on the way
+abbrev pub told_state_of : ℕ → List (List Asked) → PlayState → ToldState
+told_state_of submission runs state = record {
+  state = view_of_state submission runs state;
+  told = λ chain. slice_index_or (answers_of state.telling.answers.items) (chain - 1) [];
+  removed = state.telling.removed.items;
+}
+
+abbrev pub runs_in : PlayedSubmission → List (List Asked)
+runs_in submission = runs_of (all_asked submission.requests.now)
+
+abbrev pub view_in : PlayedSubmission → PlayState → StateView
+view_in submission state = view_of_state submission.number (runs_in submission) state
+
+abbrev pub views_in : PlayedSubmission → List PlayState → List StateView
+views_in submission states = map (view_in submission) states
+
+abbrev pub rules_in : PlayedSubmission → Rules
+rules_in submission = rules_of submission.setting.catalogue.now submission.setting.size
+
+-- an access of a chain leads to the next state, and this is answered on the way
+pub record IsStepTo (submission : PlayedSubmission) (state : PlayState) (i : ℕ) (a : Access)
+    (answers : List Completed) (next : PlayState) : Type 0 where
+  pub told : answers ≡ (step (rules_in submission) ((view_in submission state).rests (i + 1)) a).0
+  pub leads : LeadsByAccess (rules_in submission) (view_in submission state) (i + 1) a
+      (view_in submission next)
+
+-- the parts that the numbers tell of
+abbrev pub parts_by_numbers : PartNumbers → Parts
+parts_by_numbers numbers = record {
+  of_chain = λ chain. slice_index_or numbers.of_chain.items (chain - 1) 0;
+  of_slot = λ slot. slice_index_or numbers.of_slot.items slot 0;
+}
+
+-- the requests of a chain stay in its part, by the chain's number from 0
+abbrev pub IsInPart : PlayedSubmission → Slots → PartNumbers → ℕ → Type 0
+IsInPart submission slots numbers i =
+    All (λ request. StaysIn (table_of_slots slots) (parts_by_numbers numbers).of_slot
+    (slice_index_or numbers.of_chain.items i 0) request.operation)
+    (slice_index_or (runs_in submission) i [])
+
+abbrev pub ArePartsIn : PlayedSubmission → Slots → PartNumbers → Type 0
+ArePartsIn submission slots numbers =
+    (i : ℕ) → i < length submission.chains.now → IsInPart submission slots numbers i
+
+-- no request of the chain is left, or nothing but reads, and nobody asks what these answer
+abbrev pub is_state_idle : PlayedSubmission → Rest → Bool
+is_state_idle submission rest =
+    if length rest.requests == 0 then true
+    else (if submission.tells then false
+    else (list_all (λ request. is_read request.operation) rest.requests
+    && not (asks_from submission.asked rest.place)))
+
+-- whether a chain is, by its number from 0
+abbrev pub is_idle_at : PlayedSubmission → PlayState → ℕ → Bool
+is_idle_at submission state i = is_state_idle submission ((view_in submission state).rests (i + 1))
+
+-- each chain of a part before this chain's is idle, by the chain's number from 0
+abbrev pub HasTurnIn : PlayedSubmission → PartNumbers → PlayState → ℕ → Type 0
+HasTurnIn submission numbers state i =
+    HasTurn (is_state_idle submission) (parts_by_numbers numbers) (length (runs_in submission))
+    (view_in submission state) (i + 1)
+
+-- each chain is
+abbrev pub IsOverIn : PlayedSubmission → PlayState → Type 0
+IsOverIn submission state =
+    IsOver (is_state_idle submission) (length (runs_in submission)) (view_in submission state)
+
+-- no chain of a part behind this one has its turn
+abbrev pub IsTurnOf : PlayedSubmission → PartNumbers → PlayState → ℕ → Type 0
+IsTurnOf submission numbers state part =
+    (i : ℕ) → part < slice_index_or numbers.of_chain.items i 0
+    → HasTurnIn submission numbers state i → ⊥

@@ -1,0 +1,252 @@
+//! A search for all states of a submission. Nothing is proved of what it meets: the states are looked through
+//! (`crate::closed`), and what was found is confirmed by an order (`crate::confirm`).
+
+use crate::chain::{Progress, chain_accesses, settle};
+use crate::closed::is_among;
+use crate::found::{FoundStates, FoundStep, key_of};
+use crate::parts::{part_at, part_numbers, waits};
+use crate::state::{PlayState, next_state};
+use crate::submission::PlayedSubmission;
+use crate::telling::{WayReport, push_copies};
+use check_search::Limits;
+use fx_base::NoMemory;
+use fx_chain::{Completion, Op, Place, Request};
+use fx_order::{Access, Slots};
+use indexmap::IndexSet;
+use std::alloc::Global;
+
+/// The first state of a submission at these slots. What each chain answers there is added to its list.
+pub(crate) fn start(
+    submission: &PlayedSubmission<'_>,
+    slots: &Slots,
+    told: &mut Vec<Completion>,
+) -> Result<PlayState, NoMemory> {
+    let alloc = submission.setting.alloc;
+    let mut chains = Vec::new(alloc);
+    let mut telling = WayReport::none(alloc);
+    for i in 0..submission.chains.len() {
+        let own = submission.members(i);
+        let mut answers = Vec::new(alloc);
+        let done = settle(&submission.setting, submission.first(i), own, &mut answers)?;
+        chains.push(Progress { done, made: 0 })?;
+        push_copies(alloc, told, &answers)?;
+        if submission.tells {
+            telling.answers.push(answers)?;
+        }
+    }
+    Ok(PlayState {
+        slots: slots.copy(alloc)?,
+        chains,
+        telling,
+    })
+}
+
+/// The accesses that a chain may make next in a state, by the chain's number from 0.
+pub(crate) fn accesses_of(
+    submission: &PlayedSubmission<'_>,
+    state: &PlayState,
+    i: usize,
+) -> Result<Vec<Access>, NoMemory> {
+    let setting = &submission.setting;
+    if state.slots.at.len() > setting.size as usize || i >= submission.chains.len() {
+        return Ok(Vec::new(setting.alloc));
+    }
+    let Some(progress) = state.chains.get(i) else {
+        return Ok(Vec::new(setting.alloc));
+    };
+    let own = submission.members(i);
+    chain_accesses(setting, &state.slots, submission.first(i), own, *progress)
+}
+
+// What a state keeps of a request: its answer, the bytes of a read, and the files that it removed, each with its numbers in the
+// key.
+fn weight_of(request: &Request) -> usize {
+    let removed: usize = match &request.op {
+        Op::Update { list, .. } => list.len(),
+        _ => 1,
+    };
+    let got = match &request.op {
+        Op::Read { len, .. } => *len as usize,
+        _ => 0,
+    };
+    removed
+        .saturating_mul(56)
+        .saturating_add(got)
+        .saturating_add(48)
+}
+
+// What a state keeps of what was told on the way to it.
+fn weight_told(submission: &PlayedSubmission<'_>) -> usize {
+    let mut weight: usize = 0;
+    if !submission.tells {
+        return weight;
+    }
+    for request in submission.requests {
+        weight = weight.saturating_add(weight_of(request));
+    }
+    weight.saturating_add(submission.chains.len().saturating_mul(32))
+}
+
+// How many states may be met. A slot of a state takes 40 bytes, and its numbers in the
+// key up to 48; a chain takes 16 and 16; and beside them a state has its lists, a step and a place in the hash table, whose
+// blocks may just have been doubled.
+fn room_for(submission: &PlayedSubmission<'_>, limits: Limits) -> usize {
+    let slots = (submission.setting.size as usize).saturating_mul(88);
+    let chains = submission.chains.len().saturating_mul(32);
+    let weight = slots.saturating_add(chains).saturating_add(768);
+    let weight = weight.saturating_add(weight_told(submission));
+    limits
+        .states
+        .min(limits.bytes.checked_div(weight).unwrap_or(0))
+}
+
+/// A search: what it found, the numbers of the states that it has still to look at, and how many states it may meet.
+#[derive(Debug, Drop)]
+struct Search {
+    found: FoundStates,
+    open: Vec<usize>,
+    most: usize,
+}
+
+impl Search {
+    // Notes a state, unless it is known, and the step that led to it. Whether there was room.
+    fn add(&mut self, state: PlayState, from: Option<FoundStep>) -> Result<bool, NoMemory> {
+        let found = &mut self.found;
+        let key = key_of(found.alloc, &state)?;
+        if found.keys.contains(&key) {
+            return Ok(true);
+        }
+        if found.states.len() >= self.most {
+            return Ok(false);
+        }
+        self.open.push(found.states.len())?;
+        found.keys.insert(key)?;
+        found.states.push(state)?;
+        found.from.push(from)?;
+        Ok(true)
+    }
+
+    // Notes the answers at the place that aren't known, and the step that gave them.
+    fn note(
+        &mut self,
+        place: Option<Place>,
+        told: Vec<Completion>,
+        by: Option<FoundStep>,
+    ) -> Result<(), NoMemory> {
+        let found = &mut self.found;
+        for c in told {
+            if place == Some(c.place) && !is_among(&found.answers, &c) {
+                found.answers.push(c)?;
+                found.by.push(by)?;
+            }
+        }
+        Ok(())
+    }
+
+    // Follows each access that a chain may make next in a state. Whether there was room for the states.
+    fn follow(
+        &mut self,
+        submission: &PlayedSubmission<'_>,
+        state: usize,
+        chain: usize,
+    ) -> Result<bool, NoMemory> {
+        let Some(here) = self.found.states.get(state) else {
+            return Ok(true);
+        };
+        let accesses = accesses_of(submission, here, chain)?;
+        for access in accesses {
+            let Some(here) = self.found.states.get(state) else {
+                return Ok(true);
+            };
+            let mut told = Vec::new(submission.setting.alloc);
+            let Some(next) = next_state(submission, here, chain, &access, &mut told)? else {
+                continue;
+            };
+            let step = FoundStep {
+                state,
+                chain,
+                access,
+            };
+            self.note(submission.asked, told, Some(step))?;
+            if !self.add(next, Some(step))? {
+                return Ok(false);
+            }
+        }
+        Ok(true)
+    }
+
+    // Whether a chain is idle in a state, or of a part behind the one whose turn it is.
+    fn is_left_alone(
+        &self,
+        submission: &PlayedSubmission<'_>,
+        turn: Option<usize>,
+        state: usize,
+        chain: usize,
+    ) -> bool {
+        let Some(here) = self.found.states.get(state) else {
+            return true;
+        };
+        waits(&self.found.numbers, turn, chain)
+            || chain >= submission.chains.len()
+            || here.is_idle(submission, chain)
+    }
+
+    // Follows each chain of the part whose turn it is in a state. Whether there was room for the states.
+    fn follow_part(
+        &mut self,
+        submission: &PlayedSubmission<'_>,
+        state: usize,
+    ) -> Result<bool, NoMemory> {
+        let Some(here) = self.found.states.get(state) else {
+            return Ok(true);
+        };
+        let turn = part_at(submission, &self.found.numbers, here);
+        for chain in 0..submission.chains.len() {
+            if !self.is_left_alone(submission, turn, state, chain)
+                && !self.follow(submission, state, chain)?
+            {
+                return Ok(false);
+            }
+        }
+        Ok(true)
+    }
+
+    // Looks at the states that were met last first, so that ends are met early. Whether there was room for all.
+    fn run(&mut self, submission: &PlayedSubmission<'_>) -> Result<bool, NoMemory> {
+        for _ in 0..self.most {
+            let Some(state) = self.open.pop() else {
+                return Ok(true);
+            };
+            if !self.follow_part(submission, state)? {
+                return Ok(false);
+            }
+        }
+        Ok(self.open.is_empty())
+    }
+}
+
+/// Looks for all states of a submission at these slots, and for what is answered at the place on the way, if there is one. It
+/// goes no further than the limits.
+pub(crate) fn explore(
+    submission: &PlayedSubmission<'_>,
+    slots: &Slots,
+    limits: Limits,
+) -> Result<FoundStates, NoMemory> {
+    let alloc = submission.setting.alloc;
+    let mut search = Search {
+        found: FoundStates::new(alloc, part_numbers(submission, slots)?),
+        open: Vec::new(alloc),
+        most: room_for(submission, limits),
+    };
+    let mut told = Vec::new(alloc);
+    let first = start(submission, slots, &mut told)?;
+    search.note(submission.asked, told, None)?;
+    let is_whole = search.add(first, None)? && search.run(submission)?;
+    let Search {
+        mut found,
+        open: _,
+        most: _,
+    } = search;
+    found.is_whole = is_whole;
+    Ok(found)
+}

@@ -1,0 +1,162 @@
+//! The states that a search met.
+ghost use Rattle.std.specs.Prelude.{ℕ, IfOk, IsTrue, Contains, List, map};
+ghost use Rattle.fx_chain.specs.Operation.{Asked};
+ghost use Rattle.check_outcomes.specs.Views.{told_state_of, view_of_state};
+
+use crate::parts::PartNumbers;
+use crate::state::PlayState;
+use crate::telling::WayReport;
+use fx_base::{Closed, Mark, NoMemory};
+use fx_chain::Completion;
+use fx_order::Access;
+use indexmap::IndexSet;
+use std::alloc::Global;
+
+/// An access of a chain, by the chain's number from 0, in a state, by the state's number.
+#[derive(Clone, Copy, Debug)]
+pub struct FoundStep {
+    /// The state.
+    pub state: usize,
+    /// The chain.
+    pub chain: usize,
+    /// The access.
+    pub access: Access,
+}
+
+/// The states that a search met, in the order in which it met them, and what was answered on the way at the place that is
+/// asked for. Each is a hint, and nothing is proved of it.
+#[derive(Debug, Drop)]
+pub struct FoundStates {
+    /// What memory is from.
+    pub alloc: Global,
+    /// The parts of the submission.
+    pub numbers: PartNumbers,
+    /// The states.
+    pub states: Vec<PlayState>,
+    /// The states in numbers, for looking them up.
+    pub keys: IndexSet<Vec<u32>>,
+    /// The step that led to each state; `None` for the first one.
+    pub from: Vec<Option<FoundStep>>,
+    /// The answers, each once.
+    pub answers: Vec<Completion>,
+    /// The step that gave each answer; `None` where no access did.
+    pub by: Vec<Option<FoundStep>>,
+    /// Whether all were met, each access of each state followed.
+    pub is_whole: bool,
+}
+
+// Adds the numbers of a file at the end.
+fn push_file(key: &mut Vec<u32>, file: &Option<Closed>) -> Result<(), NoMemory> {
+    let Some(file) = file else {
+        key.push(0)?;
+        return Ok(());
+    };
+    match file.mark {
+        Mark::Registered { k, i } => {
+            key.push(1)?;
+            key.push(k)?;
+            key.push(i)?;
+        }
+        Mark::Submitted {
+            submission,
+            chain,
+            member,
+            entry,
+        } => {
+            key.push(2)?;
+            key.push(submission)?;
+            key.push(chain)?;
+            key.push(member)?;
+            key.push(entry)?;
+        }
+    }
+    Ok(())
+}
+
+// A number that is small, as it is.
+fn number_of(n: usize) -> u32 {
+    n.min(u32::MAX as usize) as u32
+}
+
+// A number and one more as one number. Which number it is is the FNV-1a hash's choice.
+fn mixed(hash: u64, n: u64) -> u64 {
+    (hash ^ n).wrapping_mul(0x100_0000_01b3)
+}
+
+// Some answers as one number.
+fn hash_of(hash: u64, answers: &[Completion]) -> u64 {
+    let mut hash = mixed(hash, answers.len() as u64);
+    for c in answers {
+        hash = mixed(hash, u64::from(c.res < 0));
+        hash = mixed(hash, u64::from(c.res.unsigned_abs()));
+        hash = mixed(hash, c.got.len() as u64);
+        for byte in &c.got {
+            hash = mixed(hash, *byte as u64);
+        }
+    }
+    hash
+}
+
+// Adds what was told at the end, the answers as two numbers: states that only their answers tell apart are taken for one where
+// these agree by chance, and then it is seen that the list isn't whole.
+fn push_telling(key: &mut Vec<u32>, telling: &WayReport) -> Result<(), NoMemory> {
+    let mut hash = 0xcbf2_9ce4_8422_2325;
+    for own in &telling.answers {
+        hash = hash_of(hash, own);
+    }
+    key.push((hash >> 32) as u32)?;
+    key.push((hash % (1 << 32)) as u32)?;
+    for file in &telling.removed {
+        push_file(key, &Some(*file))?;
+    }
+    Ok(())
+}
+
+/// A state in numbers.
+pub(crate) fn key_of(alloc: Global, state: &PlayState) -> Result<Vec<u32>, NoMemory> {
+    let mut key = Vec::new(alloc);
+    for progress in &state.chains {
+        key.push(number_of(progress.done))?;
+        key.push(number_of(progress.made))?;
+    }
+    for file in &state.slots.at {
+        push_file(&mut key, file)?;
+    }
+    push_telling(&mut key, &state.telling)?;
+    Ok(key)
+}
+
+impl FoundStates {
+    /// No state yet.
+    pub(crate) fn new(alloc: Global, numbers: PartNumbers) -> FoundStates {
+        FoundStates {
+            alloc,
+            numbers,
+            states: Vec::new(alloc),
+            keys: IndexSet::new(alloc),
+            from: Vec::new(alloc),
+            answers: Vec::new(alloc),
+            by: Vec::new(alloc),
+            is_whole: false,
+        }
+    }
+
+    /// Whether a state is among those that were met.
+    pub(crate) fn has(&self, state: &PlayState) -> Result<bool, NoMemory>
+        ensures view { IfOk result (λ yes. IsTrue yes → (submission : ℕ) (runs : List (List Asked))
+            → Contains (map (view_of_state submission runs) self.now.states.items)
+            (view_of_state submission runs state.now)) }
+        ensures told { IfOk result (λ yes. IsTrue yes → (submission : ℕ) (runs : List (List Asked))
+            → Contains (map (told_state_of submission runs) self.now.states.items)
+            (told_state_of submission runs state.now)) }
+    {
+        let key = key_of(self.alloc, state)?;
+        let Some(number) = self.keys.get_index_of(&key) else {
+            return Ok(false);
+        };
+        match self.states.get(number) {
+            Some(there) => Ok(there.is_same(state)),
+            None => Ok(false),
+        }
+    }
+}

@@ -1,0 +1,28 @@
+//! The outcomes of a submission if no allocation fails: the answers of a request, the rings after it, its reports. Each has an
+//! order of accesses that leads to it. If `are_all` is true, a list is proved to be complete. It rests on the accesses that a
+//! request makes, and the answer that it has then.
+#![tactic(auto)]
+
+mod answering;
+mod chain;
+mod choice;
+mod closed;
+mod confirm;
+mod end;
+mod explore;
+mod found;
+pub mod laws;
+mod outcome;
+mod parts;
+mod player;
+mod possible_report;
+mod setting;
+mod state;
+mod submission;
+mod telling;
+
+pub use answering::{answer, count};
+pub use choice::next_accesses;
+pub use end::{PossibleEnd, PossibleEnds, may_leave};
+pub use outcome::{PossibleAnswer, PossibleAnswers, RequestQuestion, may_answer};
+pub use possible_report::{PossibleReport, PossibleReports, may_report};

@@ -1,0 +1,236 @@
+//! The parts of a submission: chains that may come to one slot are in one part. The parts are played one after another, so that
+//! the states of one aren't met again beside each state of another.
+ghost use Rattle.std.specs.Prelude.{◌≡◌, ◌⊎◌, ◌<◌, ◌≤◌, ℕ, All, IfSome, IsTrue, Some, length, slice_index_or};
+ghost use Rattle.fx_chain.specs.Operation.{asked_of, operation_of};
+ghost use Rattle.fx_order.specs.Slots.{table_of_slots};
+ghost use Rattle.check_outcomes.specs.Parts.{MayComeTo, StaysIn};
+ghost use Rattle.check_outcomes.specs.Views.{ArePartsIn, IsInPart, IsTurnOf, parts_by_numbers};
+
+use crate::state::PlayState;
+use crate::submission::PlayedSubmission;
+use fx_base::NoMemory;
+use fx_chain::{Op, Request, Target};
+use fx_order::Slots;
+
+/// The number of the part that each chain is in, the first one first, and of the part that each slot belongs to. Each is a hint,
+/// which [`are_parts`] looks at.
+#[derive(Debug, Drop)]
+pub struct PartNumbers {
+    /// The parts of the chains.
+    pub of_chain: Vec<usize>,
+    /// The parts of the slots.
+    pub of_slot: Vec<usize>,
+}
+
+// The slots that a request may come to: the first one, and the one behind the last one.
+fn slots_of(slots: &Slots, op: &Op) -> (usize, usize)
+    ensures { (slot : ℕ) → MayComeTo (table_of_slots slots.now) (operation_of op.now) slot
+        → (result.0 ≤ slot) × (slot < result.1) }
+{
+    match op {
+        Op::Open { name: _, target } => match target {
+            Target::Slot(slot) => (*slot as usize, *slot as usize + 1),
+            Target::Any => {
+                let (first, len) = slots.range;
+                (first as usize, first as usize + len as usize)
+            }
+        },
+        Op::Read {
+            slot,
+            off: _,
+            len: _,
+        } => (*slot as usize, *slot as usize + 1),
+        Op::Close { slot } => (*slot as usize, *slot as usize + 1),
+        Op::Update { off, list } => (*off as usize, *off as usize + list.len()),
+    }
+}
+
+// Whether each slot from one up to another belongs to a part.
+fn belong_to(of_slot: &[usize], part: usize, from: usize, to: usize) -> bool
+    ensures { IsTrue result → (slot : ℕ) → slot < length of_slot.now → from ≤ slot → slot < to
+        → slice_index_or of_slot.now slot 0 ≡ part }
+{
+    for slot in from..to.min(of_slot.len()) {
+        if of_slot[slot] != part {
+            return false;
+        }
+    }
+    true
+}
+
+// Whether a request stays in a part.
+fn stays_in(numbers: &PartNumbers, slots: &Slots, part: usize, request: &Request) -> bool
+    requires { length slots.now.at.items ≤ length numbers.now.of_slot.items }
+    ensures { IsTrue result → StaysIn (table_of_slots slots.now) (parts_by_numbers numbers.now).of_slot part
+        (asked_of request.now).operation }
+{
+    let (from, to) = slots_of(slots, &request.op);
+    belong_to(&numbers.of_slot, part, from, to)
+}
+
+// Whether each of these requests stays in a part.
+fn stay_in(numbers: &PartNumbers, slots: &Slots, part: usize, requests: &[Request]) -> bool
+    requires { length slots.now.at.items ≤ length numbers.now.of_slot.items }
+    ensures { IsTrue result → All (λ r. StaysIn (table_of_slots slots.now)
+        (parts_by_numbers numbers.now).of_slot part (asked_of r).operation) requests.now }
+{
+    for request in requests {
+        if !stays_in(numbers, slots, part, request) {
+            return false;
+        }
+    }
+    true
+}
+
+// Whether a chain of a submission stays in its part.
+fn is_in_part(
+    submission: &PlayedSubmission<'_>,
+    slots: &Slots,
+    numbers: &PartNumbers,
+    i: usize,
+) -> bool
+    requires inside { i < length submission.now.chains.now }
+    requires many { length slots.now.at.items ≤ length numbers.now.of_slot.items }
+    ensures { IsTrue result → IsInPart submission.now slots.now numbers.now i }
+{
+    match numbers.of_chain.get(i) {
+        Some(part) => stay_in(numbers, slots, *part, submission.members(i)),
+        None => false,
+    }
+}
+
+/// Whether each chain of a submission at these slots stays in its part.
+pub(crate) fn are_parts(
+    submission: &PlayedSubmission<'_>,
+    slots: &Slots,
+    numbers: &PartNumbers,
+) -> bool
+    ensures { IsTrue result → ArePartsIn submission.now slots.now numbers.now }
+{
+    if numbers.of_slot.len() < slots.at.len() {
+        return false;
+    }
+    for i in 0..submission.chains.len() {
+        if !is_in_part(submission, slots, numbers, i) {
+            return false;
+        }
+    }
+    true
+}
+
+// The part of a chain where it is earlier than another one, and else that one.
+fn earlier(turn: Option<usize>, numbers: &PartNumbers, i: usize) -> Option<usize>
+    ensures { (result ≡ turn) ⊎ (result ≡ Some (slice_index_or numbers.now.of_chain.items i 0)) }
+{
+    let Some(own) = numbers.of_chain.get(i) else {
+        return turn;
+    };
+    match turn {
+        Some(part) if part <= *own => turn,
+        _ => Some(*own),
+    }
+}
+
+// The part whose turn it is, where one more chain is looked at.
+fn turn_with(
+    submission: &PlayedSubmission<'_>,
+    numbers: &PartNumbers,
+    state: &PlayState,
+    turn: Option<usize>,
+    i: usize,
+) -> Option<usize>
+    requires inside { i < length submission.now.chains.now }
+    requires turn { IfSome turn (IsTurnOf submission.now numbers.now state.now) }
+    ensures { IfSome result (IsTurnOf submission.now numbers.now state.now) }
+{
+    if state.is_idle(submission, i) {
+        return turn;
+    }
+    earlier(turn, numbers, i)
+}
+
+/// The part whose turn it is in a state: the first one with a chain that isn't idle, if there is one.
+pub(crate) fn part_at(
+    submission: &PlayedSubmission<'_>,
+    numbers: &PartNumbers,
+    state: &PlayState,
+) -> Option<usize>
+    ensures { IfSome result (IsTurnOf submission.now numbers.now state.now) }
+{
+    let mut turn: Option<usize> = None;
+    for i in 0..submission.chains.len() {
+        turn = turn_with(submission, numbers, state, turn, i);
+    }
+    turn
+}
+
+/// Whether a chain is of a part behind the one whose turn it is.
+pub(crate) fn waits(numbers: &PartNumbers, turn: Option<usize>, i: usize) -> bool
+    ensures { IsTrue result → (part : ℕ) × (turn ≡ Some part)
+        × (part < slice_index_or numbers.now.of_chain.items i 0) }
+{
+    match turn {
+        Some(part) => match numbers.of_chain.get(i) {
+            Some(own) => part < *own,
+            None => false,
+        },
+        None => false,
+    }
+}
+
+// The part of a slot that no request was seen to come to.
+const NO_PART: usize = usize::MAX;
+
+impl PartNumbers {
+    // Makes one part of two.
+    fn join(&mut self, part: usize, other: usize) {
+        for number in &mut self.of_chain {
+            if *number == other {
+                *number = part;
+            }
+        }
+        for number in &mut self.of_slot {
+            if *number == other {
+                *number = part;
+            }
+        }
+    }
+
+    // Notes that a chain may come to a slot.
+    fn add(&mut self, i: usize, slot: usize) {
+        let (Some(own), Some(other)) = (self.of_chain.get(i), self.of_slot.get(slot)) else {
+            return;
+        };
+        let (own, other) = (*own, *other);
+        if other == NO_PART {
+            self.of_slot[slot] = own;
+        } else if other != own {
+            self.join(own.min(other), own.max(other));
+        }
+    }
+}
+
+/// The parts of a submission at these slots, each with the number of its first chain.
+pub(crate) fn part_numbers(
+    submission: &PlayedSubmission<'_>,
+    slots: &Slots,
+) -> Result<PartNumbers, NoMemory> {
+    let alloc = submission.setting.alloc;
+    let mut numbers = PartNumbers {
+        of_chain: Vec::new(alloc),
+        of_slot: Vec::new(alloc),
+    };
+    for _ in &slots.at {
+        numbers.of_slot.push(NO_PART)?;
+    }
+    for i in 0..submission.chains.len() {
+        numbers.of_chain.push(i)?;
+        for request in submission.members(i) {
+            let (from, to) = slots_of(slots, &request.op);
+            for slot in from..to.min(slots.at.len()) {
+                numbers.add(i, slot);
+            }
+        }
+    }
+    Ok(numbers)
+}

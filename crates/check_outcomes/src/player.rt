@@ -1,0 +1,155 @@
+//! A play of a submission, access by access. Nothing is proved of it: what it comes to is confirmed (`crate::confirm`).
+
+use crate::explore::{accesses_of, start};
+use crate::found::{FoundStates, FoundStep};
+use crate::state::{PlayState, next_state};
+use crate::submission::PlayedSubmission;
+use fx_base::{Closed, NoMemory};
+use fx_chain::Completion;
+use fx_order::{Access, ChainAccess, Slots};
+
+// More accesses than a chain may make.
+const MOST_ACCESSES: usize = 1 << 16;
+
+/// What an order of a submission comes to.
+#[derive(Debug, Drop)]
+pub(crate) struct OrderPlay {
+    /// The order.
+    pub(crate) order: Vec<ChainAccess>,
+    /// What the requests answer, in order of place.
+    pub(crate) completions: Vec<Completion>,
+    /// The files that are closed, in order of mark.
+    pub(crate) closes: Vec<Closed>,
+}
+
+// The steps that led to a state, and the last one.
+fn steps_to(
+    submission: &PlayedSubmission<'_>,
+    found: &FoundStates,
+    last: FoundStep,
+) -> Result<Vec<FoundStep>, NoMemory> {
+    let mut steps = Vec::new(submission.setting.alloc);
+    let mut step = last;
+    for _ in 0..found.states.len() {
+        steps.push(step)?;
+        match found.from.get(step.state) {
+            Some(Some(earlier)) => step = *earlier,
+            _ => break,
+        }
+    }
+    steps.reverse();
+    Ok(steps)
+}
+
+/// A play of a submission, access by access.
+#[derive(Debug, Drop)]
+struct Player {
+    state: PlayState,
+    order: Vec<ChainAccess>,
+    told: Vec<Vec<Completion>>,
+    closes: Vec<Closed>,
+}
+
+impl Player {
+    // Makes an access, if it may be made.
+    fn play(
+        &mut self,
+        submission: &PlayedSubmission<'_>,
+        chain: usize,
+        access: Access,
+    ) -> Result<bool, NoMemory> {
+        let mut told = Vec::new(submission.setting.alloc);
+        let Some(next) = next_state(submission, &self.state, chain, &access, &mut told)? else {
+            return Ok(false);
+        };
+        self.state = next;
+        if let Some(own) = self.told.get_mut(chain) {
+            own.append(&mut told)?;
+        }
+        if let Some(file) = access.removed() {
+            self.closes.push(file)?;
+        }
+        self.order.push(ChainAccess {
+            chain: (chain.min(u32::MAX as usize - 1) + 1) as u32,
+            access,
+        })?;
+        Ok(true)
+    }
+
+    // Makes the first access that a chain may make next.
+    fn play_first(
+        &mut self,
+        submission: &PlayedSubmission<'_>,
+        chain: usize,
+    ) -> Result<bool, NoMemory> {
+        for access in accesses_of(submission, &self.state, chain)? {
+            if self.play(submission, chain, access)? {
+                return Ok(true);
+            }
+        }
+        Ok(false)
+    }
+}
+
+// The play of a submission at its start.
+fn begin(submission: &PlayedSubmission<'_>, slots: &Slots) -> Result<Player, NoMemory> {
+    let alloc = submission.setting.alloc;
+    let mut all = Vec::new(alloc);
+    let state = start(submission, slots, &mut all)?;
+    let mut told = Vec::new(alloc);
+    for _ in submission.chains {
+        told.push(Vec::new(alloc))?;
+    }
+    for c in all {
+        let chain = (c.place.chain as usize).max(1) - 1;
+        if let Some(own) = told.get_mut(chain) {
+            own.push(c)?;
+        }
+    }
+    Ok(Player {
+        state,
+        order: Vec::new(alloc),
+        told,
+        closes: Vec::new(alloc),
+    })
+}
+
+/// A play of a submission at these slots that begins with the steps up to this one, and goes on to the end of each chain, one
+/// chain after another.
+pub(crate) fn play_to(
+    submission: &PlayedSubmission<'_>,
+    slots: &Slots,
+    found: &FoundStates,
+    last: Option<FoundStep>,
+) -> Result<OrderPlay, NoMemory> {
+    let alloc = submission.setting.alloc;
+    let mut player = begin(submission, slots)?;
+    if let Some(last) = last {
+        for step in steps_to(submission, found, last)? {
+            player.play(submission, step.chain, step.access)?;
+        }
+    }
+    for chain in 0..submission.chains.len() {
+        for _ in 0..MOST_ACCESSES {
+            if !player.play_first(submission, chain)? {
+                break;
+            }
+        }
+    }
+    let Player {
+        state: _,
+        order,
+        told,
+        mut closes,
+    } = player;
+    closes.sort_unstable_by_key(|file| file.mark);
+    let mut completions = Vec::new(alloc);
+    for mut own in told {
+        completions.append(&mut own)?;
+    }
+    Ok(OrderPlay {
+        order,
+        completions,
+        closes,
+    })
+}

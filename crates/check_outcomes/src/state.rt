@@ -1,0 +1,192 @@
+//! A state of a submission that is played by an order, and where an access leads from it.
+ghost use Rattle.std.specs.Prelude.{◌≡◌, ◌<◌, []};
+ghost use Rattle.std.specs.Prelude.{IfOk, IfSome, IsTrue, length, slice_index_or, slice_set};
+ghost use Rattle.fx_chain.specs.Completed.{all_completed};
+ghost use Rattle.fx_chain.specs.Operation.{asked_of};
+ghost use Rattle.std.specs.List.{list_all};
+ghost use Rattle.fx_order.specs.Access.{Permits, table_with};
+ghost use Rattle.fx_order.specs.Slots.{table_of_slots};
+ghost use Rattle.check_outcomes.specs.Idle.{is_read};
+ghost use Rattle.check_outcomes.specs.Tellings.{IsToldOn, answers_of};
+ghost use Rattle.check_outcomes.specs.Views.{IsOverIn, IsStepTo, is_idle_at, not_begun};
+
+use crate::chain::{Progress, left, step};
+use crate::submission::PlayedSubmission;
+use crate::telling::{WayReport, are_all_same};
+use fx_base::NoMemory;
+use fx_chain::{Completion, Op, Request};
+use fx_order::{Access, Slots};
+use std::alloc::Global;
+
+/// The files at the slots, and how far each chain has come, the first one first.
+#[derive(Debug, Drop)]
+pub struct PlayState {
+    /// The slots.
+    pub slots: Slots,
+    /// The chains.
+    pub chains: Vec<Progress>,
+    /// What was told on the way, where the submission keeps it.
+    pub telling: WayReport,
+}
+
+// Whether each of these requests is a read.
+fn are_reads(requests: &[Request]) -> bool
+    ensures { result ≡ list_all (λ request. is_read (asked_of request).operation) requests.now }
+{
+    for request in requests {
+        if !matches!(request.op, Op::Read { .. }) {
+            return false;
+        }
+    }
+    true
+}
+
+impl PlayState {
+    /// Whether both are one.
+    pub(crate) fn is_same(&self, other: &PlayState) -> bool
+        ensures table { IsTrue result
+            → table_of_slots self.now.slots ≡ table_of_slots other.now.slots }
+        ensures chains { IsTrue result → self.now.chains.items ≡ other.now.chains.items }
+        ensures answers { IsTrue result → answers_of self.now.telling.answers.items
+            ≡ answers_of other.now.telling.answers.items }
+        ensures removed { IsTrue result
+            → self.now.telling.removed.items ≡ other.now.telling.removed.items }
+    {
+        if !self.slots.is_same(&other.slots) || self.chains != other.chains {
+            return false;
+        }
+        are_all_same(&self.telling.answers, &other.telling.answers)
+            && self.telling.removed == other.telling.removed
+    }
+
+    /// How far a chain has come, by its number from 0.
+    pub(crate) fn progress(&self, i: usize) -> Progress
+        ensures { result ≡ slice_index_or self.now.chains.items i not_begun }
+    {
+        match self.chains.get(i) {
+            Some(progress) => *progress,
+            None => Progress { done: 0, made: 0 },
+        }
+    }
+
+    /// Whether a chain is idle, by its number from 0: no request of it is left, or nothing but reads, and nobody asks what these
+    /// answer.
+    pub(crate) fn is_idle(&self, submission: &PlayedSubmission<'_>, i: usize) -> bool
+        requires { i < length submission.now.chains.now }
+        ensures { result ≡ is_idle_at submission.now self.now i }
+    {
+        let progress = self.progress(i);
+        let left = left(submission.members(i), progress.done);
+        if left.is_empty() {
+            return true;
+        }
+        if submission.tells {
+            return false;
+        }
+        are_reads(left) && !submission.asks_behind(i, progress.done)
+    }
+
+    /// Whether each chain is idle.
+    pub(crate) fn is_over(&self, submission: &PlayedSubmission<'_>) -> bool
+        ensures { IsOverIn submission.now self.now → IsTrue result }
+    {
+        for i in 0..submission.chains.len() {
+            if !self.is_idle(submission, i) {
+                return false;
+            }
+        }
+        true
+    }
+}
+
+// The table behind an access.
+fn slots_with(alloc: Global, slots: &Slots, access: &Access) -> Result<Slots, NoMemory>
+    requires { Permits (table_of_slots slots.now) access.now }
+    ensures { IfOk result (λ after.
+        table_of_slots after ≡ table_with (table_of_slots slots.now) access.now) }
+{
+    let mut after = slots.copy(alloc)?;
+    after.make(access);
+    Ok(after)
+}
+
+// How far the chains have come, where one of them has come further.
+fn chains_with(
+    alloc: Global,
+    chains: &[Progress],
+    i: usize,
+    after: Progress,
+) -> Result<Vec<Progress>, NoMemory>
+    requires { i < length chains.now }
+    ensures { IfOk result (λ all. all.items ≡ slice_set chains.now i after) }
+{
+    let mut all = Vec::from_slice(alloc, chains)?;
+    all[i] = after;
+    Ok(all)
+}
+
+// What was told behind an access of a chain, by the chain's number from 0, that answers this: nothing, where the submission
+// doesn't keep it.
+fn telling_after(
+    submission: &PlayedSubmission<'_>,
+    telling: &WayReport,
+    i: usize,
+    own: &[Completion],
+    access: &Access,
+) -> Result<Option<WayReport>, NoMemory>
+    ensures { IfOk result (λ after. IfSome after (λ after. IsTrue submission.now.tells
+        → IsToldOn telling.now i access.now (all_completed own.now) after)) }
+{
+    let alloc = submission.setting.alloc;
+    if !submission.tells {
+        return Ok(Some(WayReport::none(alloc)));
+    }
+    if i >= telling.answers.len() {
+        return Ok(None);
+    }
+    let after = telling.after(alloc, i, own, access)?;
+    Ok(Some(after))
+}
+
+/// Where an access of a chain leads, by the chain's number from 0, and what is answered on the way; `None` where the state
+/// isn't one of the submission, or its table doesn't permit the access.
+pub(crate) fn next_state(
+    submission: &PlayedSubmission<'_>,
+    state: &PlayState,
+    i: usize,
+    access: &Access,
+    told: &mut Vec<Completion>,
+) -> Result<Option<PlayState>, NoMemory>
+    requires { told.old.items ≡ [] }
+    ensures step { IfOk result (λ next. IfSome next (IsStepTo submission.now state.now i access.now
+        (all_completed told.new.items))) }
+    ensures told { IfOk result (λ next. IfSome next (λ next. IsTrue submission.now.tells
+        → IsToldOn state.now.telling i access.now (all_completed told.new.items) next.telling)) }
+{
+    let alloc = submission.setting.alloc;
+    if state.slots.at.len() != submission.setting.size as usize || !state.slots.permits(access) {
+        return Ok(None);
+    }
+    if i >= submission.chains.len() {
+        return Ok(None);
+    }
+    let Some(progress) = state.chains.get(i) else {
+        return Ok(None);
+    };
+    if progress.made > u32::MAX as usize {
+        return Ok(None);
+    }
+    let own = submission.members(i);
+    let place = submission.first(i);
+    let after = step(&submission.setting, place, own, *progress, *access, told)?;
+    let chains = chains_with(alloc, &state.chains, i, after)?;
+    let slots = slots_with(alloc, &state.slots, access)?;
+    let Some(telling) = telling_after(submission, &state.telling, i, told, access)? else {
+        return Ok(None);
+    };
+    Ok(Some(PlayState {
+        slots,
+        chains,
+        telling,
+    }))
+}

@@ -1,0 +1,116 @@
+//! What was told on the way to a state of a submission.
+ghost use Rattle.std.specs.Prelude.{◌≡◌, ◌++◌, ◌<◌, IfOk, IsPermutation, IsTrue, length};
+ghost use Rattle.std.specs.Option.{option_to_list};
+ghost use Rattle.fx_chain.specs.Completed.{all_completed};
+ghost use Rattle.fx_order.specs.Access.{removed_by};
+ghost use Rattle.check_outcomes.specs.Tellings.{IsToldOn, answers_of};
+
+use fx_base::{Closed, NoMemory};
+use fx_chain::Completion;
+use fx_order::Access;
+use std::alloc::Global;
+
+/// The answers and the removed files on the way to a state.
+#[derive(Debug, Drop)]
+pub struct WayReport {
+    /// The answers of each chain, in order of chains.
+    pub answers: Vec<Vec<Completion>>,
+    /// The files that were taken from their slots, in order of mark.
+    pub removed: Vec<Closed>,
+}
+
+/// Whether both lists have the same completions, in the same order.
+pub(crate) fn are_same(some: &[Completion], others: &[Completion]) -> bool
+    ensures { IsTrue result → all_completed some.now ≡ all_completed others.now }
+{
+    some == others
+}
+
+/// Whether both lists have the same completions of each chain.
+pub(crate) fn are_all_same(some: &[Vec<Completion>], others: &[Vec<Completion>]) -> bool
+    ensures { IsTrue result → answers_of some.now ≡ answers_of others.now }
+{
+    some == others
+}
+
+/// Adds the same completions at the end.
+pub(crate) fn push_copies(
+    alloc: Global,
+    all: &mut Vec<Completion>,
+    more: &[Completion],
+) -> Result<(), NoMemory>
+    ensures { IfOk result (λ _. all_completed all.new.items
+        ≡ all_completed all.old.items ++ all_completed more.now) }
+{
+    let [c, more @ ..] = more else {
+        return Ok(());
+    };
+    all.push(c.copy(alloc)?)?;
+    push_copies(alloc, all, more)
+}
+
+// Adds the same lists at the end.
+fn push_lists(
+    alloc: Global,
+    all: &mut Vec<Vec<Completion>>,
+    more: &[Vec<Completion>],
+) -> Result<(), NoMemory>
+    ensures { IfOk result (λ _. answers_of all.new.items
+        ≡ answers_of all.old.items ++ answers_of more.now) }
+{
+    let [own, more @ ..] = more else {
+        return Ok(());
+    };
+    let mut copy = Vec::new(alloc);
+    push_copies(alloc, &mut copy, own)?;
+    all.push(copy)?;
+    push_lists(alloc, all, more)
+}
+
+// The files that were taken behind an access, in order of mark.
+fn removed_after(
+    alloc: Global,
+    removed: &[Closed],
+    access: &Access,
+) -> Result<Vec<Closed>, NoMemory>
+    ensures { IfOk result (λ after. IsPermutation
+        (removed.now ++ option_to_list (removed_by access.now)) after.items) }
+{
+    let mut after = Vec::from_slice(alloc, removed)?;
+    if let Some(file) = access.removed() {
+        after.push(file)?;
+    }
+    after.sort_unstable_by_key(|file| file.mark);
+    Ok(after)
+}
+
+impl WayReport {
+    /// Nothing yet.
+    pub(crate) fn none(alloc: Global) -> WayReport {
+        WayReport {
+            answers: Vec::new(alloc),
+            removed: Vec::new(alloc),
+        }
+    }
+
+    /// What was told behind an access of a chain, by the chain's number from 0, that answers this.
+    pub(crate) fn after(
+        &self,
+        alloc: Global,
+        i: usize,
+        own: &[Completion],
+        access: &Access,
+    ) -> Result<WayReport, NoMemory>
+        requires { i < length self.now.answers.items }
+        ensures { IfOk result (IsToldOn self.now i access.now (all_completed own.now)) }
+    {
+        let mut answers = Vec::new(alloc);
+        push_lists(alloc, &mut answers, &self.answers)?;
+        let mut mine = Vec::new(alloc);
+        push_copies(alloc, &mut mine, &self.answers[i])?;
+        push_copies(alloc, &mut mine, own)?;
+        answers[i] = mine;
+        let removed = removed_after(alloc, &self.removed, access)?;
+        Ok(WayReport { answers, removed })
+    }
+}

@@ -1,0 +1,19 @@
+-- What is at some slots alone.
+use Rattle.std.specs.Prelude.{ℕ, ◌==◌, Bool, List, Option, Some, None}
+use Rattle.std.specs.List.{list_any}
+use Rattle.check_search.specs.declared.cell.Cell.{Cell}
+use Rattle.check_search.specs.declared.claim.Claim.{Claim}
+use Rattle.check_search.specs.declared.claim.Claim.TheVariants.{At, Full}
+
+-- a claim or an access of this slot, or of the allocation range where there is none, is of one of
+-- these slots
+abbrev pub has_slot : List Cell → Option ℕ → Bool
+has_slot cells (Some slot) = list_any (λ cell. cell.slot == slot) cells
+has_slot cells None = list_any (λ cell. cell.in_range) cells
+
+abbrev pub slot_claimed : Claim → Option ℕ
+slot_claimed (At slot wants leaves) = Some slot
+slot_claimed Full = None
+
+abbrev pub keeps : List Cell → Claim → Bool
+keeps cells claim = has_slot cells (slot_claimed claim)

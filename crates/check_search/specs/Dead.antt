@@ -1,0 +1,28 @@
+-- A claim that waits for a file that doesn't come.
+use Rattle.std.specs.Prelude.{◌≡◌, ◌⊎◌, ℕ, ◌≤◌, ◌==◌, ◌||◌, not, Bool, true, false, List}
+use Rattle.std.specs.Prelude.{slice_get, slice_index, Some, None}
+use Rattle.check_search.specs.Machine.{Standing, cell_at, may_find, may_leave}
+use Rattle.check_search.specs.declared.claim.Claim.{Claim}
+use Rattle.check_search.specs.declared.claim.Claim.TheVariants.{At, Full}
+use Rattle.check_search.specs.declared.claim.Leaves.TheVariants.{Same, Empty, File}
+use Rattle.check_search.specs.declared.strand.Strand.{Strand}
+
+-- the other claim changes nothing at the slot, or leaves what the claim may not be made with
+abbrev pub no_help : ℕ → Claim → Claim → Bool
+no_help slot claim (At at wants Same) = true
+no_help slot claim (At at wants Empty) = not (at == slot) || not (may_find claim None)
+no_help slot claim (At at wants (File resident)) =
+    not (at == slot) || not (may_find claim (Some resident))
+no_help slot claim Full = true
+
+-- no claim that is still to be made helps
+abbrev pub NoneHelps : List Strand → List ℕ → ℕ → Claim → Type 0
+NoneHelps strands places slot claim = (c k : ℕ) (strand : Strand) (other : Claim)
+    → slice_get strands c ≡ Some strand → slice_index places c ≤ k
+    → slice_get strand.claims.items k ≡ Some other → no_help slot claim other ≡ true
+
+-- the claim may not be made with what is at the slot, and that stays, or what may come is no better
+pub record IsHopeless (strands : List Strand) (at : Standing) (slot : ℕ) (claim : Claim)
+    : Type 0 where
+  pub unfit : may_find claim (cell_at at.cells slot) ≡ false
+  pub stays : (may_leave (cell_at at.cells slot) ≡ false) ⊎ NoneHelps strands at.places slot claim

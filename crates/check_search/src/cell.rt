@@ -1,0 +1,128 @@
+//! A slot as the states of a search have it.
+ghost use Rattle.std.specs.Prelude.{◌≡◌, IsTrue, ◌↔◌};
+ghost use Rattle.std.specs.List.{list_all};
+ghost use Rattle.check_search.specs.Machine.{allows, cell_at, cells_after, is_staying, is_taken, may_find, may_leave, suits, with_cell};
+
+use crate::claim::{Claim, Leaves, Resident, Wants};
+
+/// A slot, and what is there.
+#[derive(Clone, Copy, Debug, PartialEq, Eq)]
+pub struct Cell {
+    /// The slot.
+    pub slot: u32,
+    /// Whether the slot is in the allocation range.
+    pub in_range: bool,
+    /// The file at the slot, or `None`.
+    pub file: Option<Resident>,
+}
+
+/// Returns the file at `slot`, or `None` where the slot is empty or not among `cells`.
+pub fn cell_at(cells: &[Cell], slot: u32) -> Option<Resident>
+    ensures { result ≡ cell_at cells.now slot }
+{
+    for cell in cells {
+        if cell.slot == slot {
+            return cell.file;
+        }
+    }
+    None
+}
+
+// Whether the file found is one that a claim speaks of.
+fn suits(wants: &Wants, found: Option<Resident>) -> bool
+    ensures { result ≡ suits wants.now found }
+{
+    match wants {
+        Wants::Anything => true,
+        Wants::Nothing => found.is_none(),
+        Wants::NothingToTake => found.is_none(),
+        Wants::Something => found.is_some(),
+        Wants::Bytes(fits) => match found {
+            Some(resident) => fits[resident.file.entry as usize],
+            None => false,
+        },
+    }
+}
+
+/// Whether what was found may be removed: it is no file, or one that the closes have.
+pub(crate) fn may_leave(found: Option<Resident>) -> bool
+    ensures { result ≡ may_leave found }
+{
+    match found {
+        Some(resident) => resident.leaves,
+        None => true,
+    }
+}
+
+/// Whether a claim may be made where this is at its slot.
+pub(crate) fn may_find(claim: &Claim, found: Option<Resident>) -> bool
+    ensures { result ≡ may_find claim.now found }
+{
+    match claim {
+        Claim::At(_, wants, leaves) => {
+            suits(wants, found) && (matches!(leaves, Leaves::Same) || may_leave(found))
+        }
+        Claim::Full => true,
+    }
+}
+
+// Whether each slot of the allocation range has a file.
+fn are_taken(cells: &[Cell]) -> bool
+    ensures { result ≡ list_all is_taken cells.now }
+{
+    for cell in cells {
+        if cell.in_range && cell.file.is_none() {
+            return false;
+        }
+    }
+    true
+}
+
+/// Whether no slot has a file that the closes have.
+pub(crate) fn are_staying(cells: &[Cell]) -> bool
+    ensures { result ≡ list_all is_staying cells.now }
+{
+    for cell in cells {
+        if let Some(resident) = cell.file {
+            if resident.leaves {
+                return false;
+            }
+        }
+    }
+    true
+}
+
+/// Whether the access that a claim tells of may be made where the slots have these files.
+pub(crate) fn is_allowed(cells: &[Cell], claim: &Claim) -> bool
+    ensures { result ≡ allows cells.now claim.now }
+{
+    match claim {
+        Claim::At(slot, _, _) => may_find(claim, cell_at(cells, *slot)),
+        Claim::Full => are_taken(cells),
+    }
+}
+
+// Writes what is at a slot.
+fn write(cells: &mut [Cell], slot: u32, file: Option<Resident>)
+    ensures { cells.new ≡ with_cell cells.old slot file }
+{
+    for i in 0..cells.len() {
+        if cells[i].slot == slot {
+            cells[i].file = file;
+        }
+    }
+}
+
+/// Applies the access of a claim to `cells`: the file at its slot is replaced, removed or left as it is.
+pub fn apply(cells: &mut [Cell], claim: &Claim)
+    ensures { cells.new ≡ cells_after cells.old claim.now }
+{
+    match claim {
+        Claim::At(slot, _, leaves) => match leaves {
+            Leaves::Same => {}
+            Leaves::Empty => write(cells, *slot, None),
+            Leaves::File(resident) => write(cells, *slot, Some(*resident)),
+        },
+        Claim::Full => {}
+    }
+}

@@ -1,0 +1,210 @@
+//! The check of a search that found no order: whether its states show that there is none.
+ghost use Rattle.std.specs.Prelude.{◌≡◌, ◌↔◌, IfOk, IfSome, IsTrue, All, Contains, Some};
+ghost use Rattle.check_search.specs.Machine.{HasNoEnd, IsExplored, IsLookedThrough, LeadsInside, StepLeadsInside, TestLeadsInside, view};
+ghost use Rattle.check_search.specs.Packed.{all_unpacked, unpacked};
+ghost use Rattle.check_search.specs.Starts.{starting};
+
+use crate::cell::Cell;
+use crate::claim::Claim;
+use crate::counted::is_uneven;
+use crate::dead::is_dead_by;
+use crate::node::{SearchNode, claim_of, is_test, start_of};
+use crate::search::Rows;
+use crate::steps::Steps;
+use crate::strand::Strand;
+use fx_base::NoMemory;
+use std::alloc::Global;
+
+/// The states that a search met, and the steps that it took. What the steps say of a state is a hint only, and is checked.
+#[derive(Drop)]
+pub struct Web<'a> {
+    /// The steps.
+    pub steps: Steps<'a>,
+    /// The states.
+    pub rows: Rows,
+}
+
+// Whether a state has this number among the states.
+fn is_at(
+    alloc: Global,
+    web: &Web<'_>,
+    number: Option<usize>,
+    node: &SearchNode,
+) -> Result<bool, NoMemory>
+    ensures { IfOk result (λ yes. IsTrue yes
+        → Contains (all_unpacked web.now.steps.packing web.now.rows.keys) (view node.now)) }
+{
+    let Some(number) = number else {
+        return Ok(false);
+    };
+    let Some(row) = web.rows.get_index(number) else {
+        return Ok(false);
+    };
+    let there = web.steps.packing.unpack(alloc, row)?;
+    Ok(there.is_same(node))
+}
+
+/// A state, as it is and packed.
+#[derive(Clone, Copy)]
+struct Here<'a> {
+    node: &'a SearchNode,
+    row: &'a [u16],
+}
+
+// Whether the files of the slot of a chain's next claim don't come out even at a state behind it.
+fn is_uneven_behind(strands: &[Strand], node: &SearchNode, next: &SearchNode, chain: usize) -> bool
+    ensures { IsTrue result → HasNoEnd strands.now (view next.now) }
+{
+    match claim_of(strands, &node.places, chain) {
+        Some(Claim::At(slot, _, _)) => is_uneven(strands, next, *slot),
+        _ => false,
+    }
+}
+
+// Whether the next claim of a chain leads to one of the states if it may be made, or to one that can be seen to lead to no
+// end.
+fn step_leads_inside(
+    alloc: Global,
+    strands: &[Strand],
+    web: &Web<'_>,
+    here: &Here<'_>,
+    chain: usize,
+) -> Result<bool, NoMemory>
+    ensures { IfOk result (λ yes. IsTrue yes → StepLeadsInside strands.now
+        (all_unpacked web.now.steps.packing web.now.rows.keys) (view here.now.node.now) chain) }
+{
+    let Some(next) = here.node.next(alloc, strands, chain)? else {
+        return Ok(true);
+    };
+    let row = web.steps.row_after(alloc, here.row, chain)?;
+    if is_at(alloc, web, web.rows.get_index_of(&row), &next)? {
+        return Ok(true);
+    }
+    if is_dead_by(
+        strands,
+        &next,
+        web.steps.hopeless_behind(here.row, &row, chain),
+    ) {
+        return Ok(true);
+    }
+    Ok(is_uneven_behind(strands, here.node, &next, chain))
+}
+
+// Whether each step from a state leads to one of the states.
+#[tactic(auto, unfolding(crate::specs::Machine::LeadsInside))]
+fn leads_inside(
+    alloc: Global,
+    strands: &[Strand],
+    web: &Web<'_>,
+    here: &Here<'_>,
+) -> Result<bool, NoMemory>
+    ensures { IfOk result (λ yes. IsTrue yes → LeadsInside strands.now
+        (all_unpacked web.now.steps.packing web.now.rows.keys) (view here.now.node.now)) }
+{
+    for chain in 0..strands.len() {
+        if !step_leads_inside(alloc, strands, web, here, chain)? {
+            return Ok(false);
+        }
+    }
+    Ok(true)
+}
+
+// Whether the next claim of a chain only tests, may be made, and leads to one of the states.
+fn test_leads_inside(
+    alloc: Global,
+    strands: &[Strand],
+    web: &Web<'_>,
+    here: &Here<'_>,
+    chain: usize,
+) -> Result<bool, NoMemory>
+    ensures { IfOk result (λ yes. IsTrue yes → TestLeadsInside strands.now
+        (all_unpacked web.now.steps.packing web.now.rows.keys) (view here.now.node.now) chain) }
+{
+    let Some(claim) = claim_of(strands, &here.node.places, chain) else {
+        return Ok(false);
+    };
+    if !is_test(claim) {
+        return Ok(false);
+    }
+    let Some(next) = here.node.next(alloc, strands, chain)? else {
+        return Ok(false);
+    };
+    let row = web.steps.row_after(alloc, here.row, chain)?;
+    if !is_at(alloc, web, web.rows.get_index_of(&row), &next)? {
+        return Ok(false);
+    }
+    Ok(true)
+}
+
+// Whether a state was looked at: by one step that only tests, where there is one, and else by all steps.
+#[tactic(auto, unfolding(crate::specs::Machine::IsExplored))]
+fn is_explored(
+    alloc: Global,
+    strands: &[Strand],
+    web: &Web<'_>,
+    here: &Here<'_>,
+) -> Result<bool, NoMemory>
+    ensures { IfOk result (λ yes. IsTrue yes → IsExplored strands.now
+        (all_unpacked web.now.steps.packing web.now.rows.keys) (view here.now.node.now)) }
+{
+    match web.steps.test_of(here.row, web.steps.empty(here.row)) {
+        Some(chain) => test_leads_inside(alloc, strands, web, here, chain),
+        None => leads_inside(alloc, strands, web, here),
+    }
+}
+
+// Whether a state is no end, and was looked at.
+fn is_looked_through(
+    alloc: Global,
+    strands: &[Strand],
+    web: &Web<'_>,
+    row: &[u16],
+) -> Result<bool, NoMemory>
+    ensures { IfOk result (λ yes. IsTrue yes → IsLookedThrough strands.now
+        (all_unpacked web.now.steps.packing web.now.rows.keys) (unpacked web.now.steps.packing row.now)) }
+{
+    let node = web.steps.packing.unpack(alloc, row)?;
+    if node.is_end(strands) {
+        return Ok(false);
+    }
+    is_explored(alloc, strands, web, &Here { node: &node, row })
+}
+
+// Whether each state is no end, and was looked at.
+fn is_closed(alloc: Global, strands: &[Strand], web: &Web<'_>) -> Result<bool, NoMemory>
+    ensures { IfOk result (λ yes. IsTrue yes → All (λ row. IsLookedThrough strands.now
+        (all_unpacked web.now.steps.packing web.now.rows.keys) (unpacked web.now.steps.packing row.items))
+        web.now.rows.keys) }
+{
+    let rows = web.rows.as_slice();
+    for row in rows {
+        if !is_looked_through(alloc, strands, web, row)? {
+            return Ok(false);
+        }
+    }
+    Ok(true)
+}
+
+/// Checks whether the states that a search met show that no order leads to an end.
+///
+/// # Errors
+/// `NoMemory` if an allocation fails.
+pub fn shows_no_end(
+    alloc: Global,
+    strands: &[Strand],
+    cells: &[Cell],
+    web: &Web<'_>,
+) -> Result<bool, NoMemory>
+    ensures { IfOk result (λ yes. IsTrue yes
+        → HasNoEnd strands.now (starting strands.now cells.now)) }
+{
+    let Some(first) = web.rows.get_index(0) else {
+        return Ok(false);
+    };
+    let node = web.steps.packing.unpack(alloc, first)?;
+    let start = start_of(alloc, strands, cells)?;
+    if !node.is_same(&start) {
+        return Ok(false);
+    }
+    is_closed(alloc, strands, web)
+}

@@ -1,0 +1,87 @@
+//! Claims: what a completion says of one access to the table.
+ghost use Rattle.std.specs.Prelude.{◌≡◌, ◌↔◌, IsTrue, Contains, List};
+ghost use Rattle.check_search.specs.Residents.{IsResident};
+
+use fx_base::Closed;
+
+/// A file at a slot, and whether it is in the list of closes.
+#[derive(Clone, Copy, Debug, PartialEq, Eq)]
+pub struct Resident {
+    /// The file.
+    pub file: Closed,
+    /// Whether the file is in the list of closes.
+    pub leaves: bool,
+}
+
+/// The condition on what an access found at its slot.
+#[derive(Clone, Copy, Debug)]
+pub enum Wants {
+    /// A file or no file.
+    Anything,
+    /// No file.
+    Nothing,
+    /// No file, where a close looked for one.
+    NothingToTake,
+    /// A file.
+    Something,
+    /// A file of one of these catalogue entries, by their numbers: those whose bytes the completion has.
+    Bytes([bool; 256]),
+}
+
+/// The content of the slot after an access.
+#[derive(Clone, Copy, Debug)]
+pub enum Leaves {
+    /// What was there before.
+    Same,
+    /// No file.
+    Empty,
+    /// This file.
+    File(Resident),
+}
+
+/// A claim: an access that a completion reports.
+#[derive(Clone, Copy, Debug)]
+pub enum Claim {
+    /// An access of a slot.
+    At(u32, Wants, Leaves),
+    /// Each slot of the allocation range had a file.
+    Full,
+}
+
+/// Returns `file` with the mark whether `closes` has it.
+pub fn resident_for(closes: &[Closed], file: Closed) -> Resident
+    ensures { IsResident closes.now file result }
+{
+    Resident {
+        file,
+        leaves: has(closes, file),
+    }
+}
+
+// Whether a file is where it belongs in a list that is in order of mark.
+fn is_in_order_there(files: &[Closed], file: Closed) -> bool
+    ensures { IsTrue result → Contains files.now file }
+{
+    match files.binary_search_by_key(&file.mark, |other| other.mark) {
+        Ok(i) => match files.get(i) {
+            Some(other) => *other == file,
+            None => false,
+        },
+        Err(_) => false,
+    }
+}
+
+// Whether a list has a file. It is looked for first where it belongs, if the list is in order of mark, as closes are.
+fn has(files: &[Closed], file: Closed) -> bool
+    ensures { IsTrue result ↔ Contains files.now file }
+{
+    if is_in_order_there(files, file) {
+        return true;
+    }
+    for other in files {
+        if *other == file {
+            return true;
+        }
+    }
+    false
+}

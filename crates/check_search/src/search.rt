@@ -1,0 +1,117 @@
+//! The search for an order. Nothing is proved of what it finds: its result is checked (`crate::certificate`).
+
+use crate::doubt::Doubt;
+use crate::limits::Limits;
+use crate::plans::{EACH, Plan, played};
+use crate::steps::Steps;
+use crate::tracks::Tracks;
+use crate::walk::Walk;
+use fx_base::NoMemory;
+use indexmap::IndexSet;
+use std::alloc::Global;
+
+/// The result of a search.
+#[derive(Debug, Drop)]
+pub enum Found {
+    /// The chains whose claims, made in this order, lead to an end, by their places in the list.
+    Order(Vec<usize>),
+    /// The search met each state that can be reached, and none is an end.
+    NoEnd,
+    /// The search found neither within its limits.
+    Stopped(Doubt),
+}
+
+/// The states that a search met, packed, in the order in which it met them.
+pub type Rows = IndexSet<Vec<u16>>;
+
+// How many bytes a state takes besides its numbers: a list with a block of memory, a place in the set and in its hash table,
+// and a place on the way. Each of these lists may just be moved to one of twice the length.
+const BESIDE: usize = 256;
+
+/// How many states are met, whether they are kept, and what is said where these don't suffice.
+#[derive(Clone, Copy)]
+pub(crate) struct SearchRoom {
+    pub states: usize,
+    pub keeps: bool,
+    pub doubt: Doubt,
+}
+
+// The room for states like this one, whose numbers have two bytes each.
+fn room_for(row: &[u16], limits: Limits) -> SearchRoom {
+    let weight = row.len().saturating_mul(2).saturating_add(BESIDE);
+    let states = limits.bytes.checked_div(weight).unwrap_or(0);
+    let doubt = if states < limits.states {
+        Doubt::TooMuchMemory
+    } else {
+        Doubt::TooManyStates
+    };
+    SearchRoom {
+        states: states.min(limits.states),
+        keeps: true,
+        doubt,
+    }
+}
+
+/// Looks for an end by a plan, in all orders.
+pub(crate) fn search(
+    alloc: Global,
+    steps: &Steps<'_>,
+    plan: Plan,
+    room: SearchRoom,
+) -> Result<(Rows, Found), NoMemory> {
+    let mut walk = Walk::new(alloc, steps, None, plan, room)?;
+    let found = walk.run()?;
+    Ok((walk.rows, found))
+}
+
+/// Looks for an end by a plan, in the orders of some tracks. Where there is none it answers which slots kept the chains that were
+/// farthest.
+pub(crate) fn search_along(
+    alloc: Global,
+    steps: &Steps<'_>,
+    tracks: &Tracks,
+    plan: Plan,
+    room: SearchRoom,
+) -> Result<(Vec<usize>, Found), NoMemory> {
+    let mut walk = Walk::new(alloc, steps, Some(tracks), plan, room)?;
+    let found = walk.run()?;
+    Ok((walk.blocked, found))
+}
+
+// How many states are met with all chains before some are left out.
+const FIRST_STATES: usize = 10_000;
+
+/// The number of states, beyond one for each claim, of a first search: the text of one worker needs one state for each claim.
+pub const FEW_STATES: usize = 1_000;
+
+/// Searches for an end within `limits`. If a small number of states isn't enough, it first tries plans that find what some number
+/// of workers played.
+///
+/// # Errors
+/// `NoMemory` if an allocation fails.
+pub fn explore(
+    alloc: Global,
+    steps: &Steps<'_>,
+    limits: Limits,
+) -> Result<(Rows, Found), NoMemory> {
+    let room = room_for(&steps.start(alloc)?, limits);
+    let first = FIRST_STATES.max(steps.count().saturating_add(FEW_STATES));
+    if room.states > first {
+        let few = SearchRoom {
+            states: first,
+            ..room
+        };
+        let (rows, found) = search(alloc, steps, EACH, few)?;
+        if !matches!(found, Found::Stopped(_)) {
+            return Ok((rows, found));
+        }
+        let rest = SearchRoom {
+            states: room.states.saturating_sub(first),
+            ..room
+        };
+        if let Some(order) = played(alloc, steps, rest)? {
+            return Ok((rows, Found::Order(order)));
+        }
+    }
+    search(alloc, steps, EACH, room)
+}

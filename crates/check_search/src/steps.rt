@@ -1,0 +1,379 @@
+//! The claims of a part by numbers, and the state of a search that goes through them. Nothing is promised of it.
+
+use crate::cell::{Cell, may_find, may_leave};
+use crate::claim::{Claim, Leaves, Resident};
+use crate::dead::is_no_help;
+use crate::node::is_test;
+use crate::packed::Packing;
+use crate::step::{ClaimAt, ClaimStep, bit_behind, number_at, set_number};
+use crate::strand::Strand;
+use crate::tally::Tally;
+use fx_base::NoMemory;
+use std::alloc::Global;
+
+/// The claims of chains at some slots.
+#[derive(Drop)]
+pub struct Steps<'a> {
+    pub packing: Packing,
+    // The claims of each chain.
+    chains: Vec<Vec<ClaimStep<'a>>>,
+    // For each slot its claims: the chain, and the place among the chain's.
+    at: Vec<Vec<(usize, usize)>>,
+    // For each slot the classes of its claims.
+    classes: Vec<Tally<'a>>,
+    // How many claims there are.
+    count: usize,
+}
+
+// The place of a slot among those of a part.
+fn cell_of(cells: &[Cell], slot: u32) -> Option<usize> {
+    for i in 0..cells.len() {
+        if cells[i].slot == slot {
+            return Some(i);
+        }
+    }
+    None
+}
+
+// Notes a file of a slot, and answers its number.
+fn number_for(
+    files: &mut [Vec<Option<Resident>>],
+    cell: usize,
+    file: Resident,
+) -> Result<u16, NoMemory> {
+    if cell >= files.len() {
+        return Ok(0);
+    }
+    let number = files[cell].len();
+    files[cell].push(Some(file))?;
+    Ok(u16::try_from(number).unwrap_or(u16::MAX))
+}
+
+impl<'a> Steps<'a> {
+    /// Returns the claims of `strands` at `cells` by numbers.
+    ///
+    /// # Errors
+    /// `NoMemory` if an allocation fails.
+    pub fn new(
+        alloc: Global,
+        strands: &'a [Strand],
+        cells: &[Cell],
+    ) -> Result<Steps<'a>, NoMemory> {
+        let mut files = Vec::new(alloc);
+        let mut at = Vec::new(alloc);
+        let mut classes = Vec::new(alloc);
+        for cell in cells {
+            let mut own: Vec<Option<Resident>> = Vec::new(alloc);
+            own.push(None)?;
+            if cell.file.is_some() {
+                own.push(cell.file)?;
+            }
+            files.push(own)?;
+            at.push(Vec::new(alloc))?;
+            classes.push(Tally::new(alloc))?;
+        }
+        let packing = Packing {
+            chains: strands.len(),
+            cells: Vec::from_slice(alloc, cells)?,
+            files,
+        };
+        let mut steps = Steps {
+            packing,
+            chains: Vec::new(alloc),
+            at,
+            classes,
+            count: 0,
+        };
+        for strand in strands {
+            steps.push_chain(alloc, &strand.claims)?;
+        }
+        Ok(steps)
+    }
+
+    fn push_chain(&mut self, alloc: Global, claims: &'a [Claim]) -> Result<(), NoMemory> {
+        let chain = self.chains.len();
+        let mut own = Vec::with_capacity(alloc, claims.len())?;
+        for k in 0..claims.len() {
+            let step = self.step_of(&claims[k])?;
+            if let Some(cell) = step.cell {
+                if cell < self.at.len() {
+                    self.at[cell].push((chain, k))?;
+                }
+            }
+            own.push(step)?;
+        }
+        self.count = self.count.saturating_add(claims.len());
+        self.chains.push(own)?;
+        Ok(())
+    }
+
+    fn step_of(&mut self, claim: &'a Claim) -> Result<ClaimStep<'a>, NoMemory> {
+        let Claim::At(slot, _, leaves) = claim else {
+            return Ok(ClaimStep {
+                claim,
+                cell: None,
+                left: None,
+                class: 0,
+                bit: 0,
+            });
+        };
+        let cell = cell_of(&self.packing.cells, *slot);
+        let left = match (leaves, cell) {
+            (Leaves::Empty, _) => Some(0),
+            (Leaves::File(file), Some(cell)) => Some(number_for(
+                &mut self.packing.files,
+                cell,
+                *file,
+            )?),
+            _ => None,
+        };
+        let class = match cell {
+            Some(cell) if cell < self.classes.len() => self.classes[cell].class_of(claim)?,
+            _ => 0,
+        };
+        let before = match cell {
+            Some(cell) => self.at.get(cell).map(|claims| claims.len()),
+            None => None,
+        };
+        Ok(ClaimStep {
+            claim,
+            cell,
+            left,
+            class,
+            bit: bit_behind(before),
+        })
+    }
+
+    /// The state where no claim was made.
+    pub fn start(&self, alloc: Global) -> Result<Vec<u16>, NoMemory> {
+        let mut row = Vec::new(alloc);
+        for _ in &self.chains {
+            row.push(0)?;
+        }
+        for cell in &self.packing.cells {
+            row.push(u16::from(cell.file.is_some()))?;
+        }
+        Ok(row)
+    }
+
+    /// Returns the number of chains.
+    pub fn chains(&self) -> usize {
+        self.chains.len()
+    }
+
+    /// How many claims there are.
+    pub(crate) fn count(&self) -> usize {
+        self.count
+    }
+
+    /// The claim that a chain makes next.
+    pub(crate) fn next_of(&self, row: &[u16], chain: usize) -> Option<ClaimStep<'a>> {
+        let steps = self.chains.get(chain)?;
+        steps.get(number_at(row, chain) as usize).copied()
+    }
+
+    /// The claims of a slot, each with its chain, those of the first chain first.
+    pub(crate) fn claims_at(
+        &self,
+        alloc: Global,
+        cell: usize,
+    ) -> Result<Vec<(usize, ClaimStep<'a>)>, NoMemory> {
+        let mut claims = Vec::new(alloc);
+        let Some(places) = self.at.get(cell) else {
+            return Ok(claims);
+        };
+        for (chain, k) in places {
+            if let Some(step) = self.chains.get(*chain).and_then(|own| own.get(*k)) {
+                claims.push((*chain, *step))?;
+            }
+        }
+        Ok(claims)
+    }
+
+    // The claim of a chain at a place, where it is still to be made.
+    fn left_at(&self, row: &[u16], at: ClaimAt) -> Option<&'a Claim> {
+        let (chain, k) = at;
+        if k < number_at(row, chain) as usize {
+            return None;
+        }
+        let step = self.chains.get(chain)?.get(k)?;
+        Some(step.claim)
+    }
+
+    /// The file number at a slot.
+    pub(crate) fn file_number(&self, row: &[u16], cell: usize) -> u16 {
+        number_at(row, self.chains.len().saturating_add(cell))
+    }
+
+    /// The file at a slot.
+    pub fn file(&self, row: &[u16], cell: usize) -> Option<Resident> {
+        self.packing
+            .file_at(cell, self.file_number(row, cell) as usize)
+    }
+
+    /// Whether a claim may be made, where this many slots of the allocation range are empty.
+    pub(crate) fn allows(&self, row: &[u16], step: &ClaimStep<'_>, empty: usize) -> bool {
+        match step.cell {
+            Some(cell) => may_find(step.claim, self.file(row, cell)),
+            None => empty == 0,
+        }
+    }
+
+    /// Checks whether a slot is in the allocation range.
+    pub fn is_in_range(&self, cell: usize) -> bool {
+        matches!(self.packing.cells.get(cell), Some(cell) if cell.in_range)
+    }
+
+    /// How many slots of the allocation range are empty.
+    pub(crate) fn empty(&self, row: &[u16]) -> usize {
+        let mut empty = 0usize;
+        for i in 0..self.packing.cells.len() {
+            if self.packing.cells[i].in_range && self.file_number(row, i) == 0 {
+                empty = empty.saturating_add(1);
+            }
+        }
+        empty
+    }
+
+    /// The claims of each slot, all of them still to be made.
+    pub fn tallies(&self, alloc: Global) -> Result<Vec<Tally<'a>>, NoMemory> {
+        let mut tallies = Vec::with_capacity(alloc, self.classes.len())?;
+        for classes in &self.classes {
+            tallies.push(classes.copy(alloc)?)?;
+        }
+        for steps in &self.chains {
+            for step in steps {
+                if let Some(cell) = step.cell {
+                    if cell < tallies.len() {
+                        tallies[cell].count_claim(step.class, step.claim, true);
+                    }
+                }
+            }
+        }
+        Ok(tallies)
+    }
+
+    /// Whether no slot has a file that the closes have.
+    pub(crate) fn is_staying(&self, row: &[u16]) -> bool {
+        for i in 0..self.packing.cells.len() {
+            if matches!(self.file(row, i), Some(file) if file.leaves) {
+                return false;
+            }
+        }
+        true
+    }
+
+    /// A chain whose next claim only tests and may be made, where this many slots of the allocation range are empty.
+    pub(crate) fn test_of(&self, row: &[u16], empty: usize) -> Option<usize> {
+        for chain in 0..self.chains.len() {
+            if let Some(step) = self.next_of(row, chain) {
+                if is_test(step.claim) && self.allows(row, &step, empty) {
+                    return Some(chain);
+                }
+            }
+        }
+        None
+    }
+
+    /// Makes the next claim of a chain, and answers what was at its slot.
+    pub(crate) fn make(&self, row: &mut [u16], chain: usize, step: &ClaimStep<'_>) -> u16 {
+        let place = number_at(row, chain).saturating_add(1);
+        set_number(row, chain, place);
+        let Some(cell) = step.cell else {
+            return 0;
+        };
+        let before = self.file_number(row, cell);
+        if let Some(left) = step.left {
+            set_number(row, self.chains.len().saturating_add(cell), left);
+        }
+        before
+    }
+
+    /// Goes back by the step that a chain made last, which it answers; what is at its slot stays.
+    pub(crate) fn take_back(&self, row: &mut [u16], chain: usize) -> Option<ClaimStep<'a>> {
+        let place = number_at(row, chain).saturating_sub(1);
+        set_number(row, chain, place);
+        self.next_of(row, chain)
+    }
+
+    /// Puts back what was at the slot of a step.
+    pub(crate) fn put_back(&self, row: &mut [u16], step: &ClaimStep<'_>, before: u16) {
+        if let (Some(cell), Some(_)) = (step.cell, step.left) {
+            set_number(row, self.chains.len().saturating_add(cell), before);
+        }
+    }
+
+    // Whether a claim that is still to be made leaves a file at the slot that the claim at this place may find. The claims
+    // in front are looked at first, since a chain mostly waits for what stands in front of it.
+    fn is_helped(
+        &self,
+        row: &[u16],
+        claims: &[ClaimAt],
+        at: usize,
+        slot: u32,
+        claim: &Claim,
+    ) -> bool {
+        for i in (0..at).rev() {
+            if i < claims.len() && self.helps(row, claims[i], slot, claim) {
+                return true;
+            }
+        }
+        for i in at..claims.len() {
+            if self.helps(row, claims[i], slot, claim) {
+                return true;
+            }
+        }
+        false
+    }
+
+    fn helps(&self, row: &[u16], other: ClaimAt, slot: u32, claim: &Claim) -> bool {
+        match self.left_at(row, other) {
+            Some(other) => !is_no_help(slot, claim, other),
+            None => false,
+        }
+    }
+
+    /// The state behind the next claim of a chain.
+    pub(crate) fn row_after(
+        &self,
+        alloc: Global,
+        row: &[u16],
+        chain: usize,
+    ) -> Result<Vec<u16>, NoMemory> {
+        let mut after = Vec::from_slice(alloc, row)?;
+        if let Some(step) = self.next_of(row, chain) {
+            self.make(&mut after, chain, &step);
+        }
+        Ok(after)
+    }
+
+    /// A claim that waits in vain behind the next claim of a chain, which led from one state to another.
+    pub(crate) fn hopeless_behind(
+        &self,
+        row: &[u16],
+        after: &[u16],
+        chain: usize,
+    ) -> Option<ClaimAt> {
+        let step = self.next_of(row, chain)?;
+        self.hopeless(after, step.cell?)
+    }
+
+    /// A claim of a slot, still to be made, that waits for a file which doesn't come.
+    pub fn hopeless(&self, row: &[u16], cell: usize) -> Option<ClaimAt> {
+        let claims = self.at.get(cell)?;
+        let slot = self.packing.cells.get(cell)?.slot;
+        let found = self.file(row, cell);
+        for i in 0..claims.len() {
+            let Some(claim) = self.left_at(row, claims[i]) else {
+                continue;
+            };
+            if may_find(claim, found) {
+                continue;
+            }
+            if !may_leave(found) || !self.is_helped(row, claims, i, slot, claim) {
+                return Some(claims[i]);
+            }
+        }
+        None
+    }
+}

@@ -1,0 +1,228 @@
+//! Orders of the claims of a slot by itself, in which chains come nearly in turn, as workers begin them: what is at a slot when which of
+//! its claims were made, where the others can be made so. Nothing is promised of it.
+
+use crate::cell::may_find;
+use crate::step::{ClaimStep, MOST_CLAIMS};
+use crate::steps::Steps;
+use fx_base::NoMemory;
+use indexmap::IndexSet;
+use std::alloc::Global;
+
+// What the number of the file is multiplied with where it stands beside the bits of the claims that were made: a moment.
+const FILE: u64 = 281_474_976_710_656;
+
+// How many moments of a slot are looked at.
+const MOST_MOMENTS: usize = 4_096;
+
+// How often a track is widened, and by how much, until the slot has an order by itself; and by how much where it kept chains.
+const WIDENINGS: usize = 16;
+
+const WIDER: usize = 4;
+
+const MUCH_WIDER: usize = 8;
+
+/// The moments of a slot from which its claims can all be made.
+#[derive(Drop)]
+struct Track {
+    // How many chains one may come before another that stands in front of it.
+    near: usize,
+    // None where any moment is as good.
+    moments: Option<IndexSet<u64>>,
+}
+
+/// The tracks of all slots.
+#[derive(Drop)]
+pub struct Tracks {
+    alloc: Global,
+    tracks: Vec<Track>,
+}
+
+/// The claims of a slot, in order of chain.
+#[derive(Drop)]
+struct Slot<'a> {
+    alloc: Global,
+    steps: &'a Steps<'a>,
+    cell: usize,
+    claims: Vec<(usize, ClaimStep<'a>)>,
+    near: usize,
+}
+
+/// The moment of a slot where these claims were made, and where this file is there.
+pub fn moment_of(made: u64, file: u16) -> u64 {
+    made.wrapping_add(u64::from(file).wrapping_mul(FILE))
+}
+
+impl Slot<'_> {
+    // The first chain that has claims which weren't made.
+    fn first(&self, made: u64) -> usize {
+        for (chain, step) in &self.claims {
+            if made & step.bit == 0 {
+                return *chain;
+            }
+        }
+        usize::MAX
+    }
+
+    // The moment behind the claim at a place, if it may be made.
+    fn behind(&self, moment: u64, at: usize) -> Option<u64> {
+        let (chain, step) = self.claims.get(at).copied()?;
+        let (made, file) = (moment % FILE, moment / FILE);
+        let is_first = match at
+            .checked_sub(1)
+            .and_then(|it| self.claims.get(it).copied())
+        {
+            Some((other, before)) => other != chain || made & before.bit != 0,
+            None => true,
+        };
+        let file = u16::try_from(file).unwrap_or(0);
+        let found = self.steps.packing.file_at(self.cell, file as usize);
+        if made & step.bit != 0 || !is_first || !may_find(step.claim, found) {
+            return None;
+        }
+        Some(moment_of(made ^ step.bit, step.left.unwrap_or(file)))
+    }
+
+    // The moments that a claim leads to from one.
+    fn all_behind(&self, moment: u64) -> Result<Vec<u64>, NoMemory> {
+        let mut moments = Vec::new(self.alloc);
+        let far = self.first(moment % FILE).saturating_add(self.near);
+        for (at, (chain, _)) in self.claims.iter().enumerate() {
+            if *chain >= far {
+                break;
+            }
+            if let Some(behind) = self.behind(moment, at) {
+                moments.push(behind)?;
+            }
+        }
+        Ok(moments)
+    }
+
+    // The moments that are reached from the first one; none where they are too many.
+    fn reached(&self, first: u64) -> Result<Option<IndexSet<u64>>, NoMemory> {
+        let mut reached = IndexSet::new(self.alloc);
+        reached.insert(first)?;
+        for at in 0..MOST_MOMENTS {
+            let Some(moment) = reached.get_index(at).copied() else {
+                return Ok(Some(reached));
+            };
+            let behind = self.all_behind(moment)?;
+            for other in &behind {
+                reached.insert(*other)?;
+            }
+        }
+        Ok(None)
+    }
+
+    // Whether a moment is an end, or a claim leads from it to one of some moments.
+    fn leads_on(&self, moment: u64, others: &IndexSet<u64>) -> Result<bool, NoMemory> {
+        if self.first(moment % FILE) == usize::MAX {
+            let file = u16::try_from(moment / FILE).unwrap_or(0);
+            let found = self.steps.packing.file_at(self.cell, file as usize);
+            return Ok(!matches!(found, Some(file) if file.leaves));
+        }
+        let behind = self.all_behind(moment)?;
+        for other in &behind {
+            if others.contains(other) {
+                return Ok(true);
+            }
+        }
+        Ok(false)
+    }
+
+    // Those from which all claims can be made; none where they are too many.
+    fn moments(&self, first: u64) -> Result<Option<IndexSet<u64>>, NoMemory> {
+        let Some(reached) = self.reached(first)? else {
+            return Ok(None);
+        };
+        let mut moments = IndexSet::new(self.alloc);
+        for at in (0..reached.len()).rev() {
+            if let Some(moment) = reached.get_index(at).copied() {
+                if self.leads_on(moment, &moments)? {
+                    moments.insert(moment)?;
+                }
+            }
+        }
+        Ok(Some(moments))
+    }
+}
+
+// The track of a slot, as near as one is from this on. Where the slot has too many claims any order is as good.
+fn track_of(
+    alloc: Global,
+    steps: &Steps<'_>,
+    start: &[u16],
+    cell: usize,
+    near: usize,
+) -> Result<Track, NoMemory> {
+    let none = Track {
+        near: usize::MAX,
+        moments: None,
+    };
+    let claims = steps.claims_at(alloc, cell)?;
+    if claims.len() > MOST_CLAIMS {
+        return Ok(none);
+    }
+    let first = moment_of(0, steps.file_number(start, cell));
+    let mut slot = Slot {
+        alloc,
+        steps,
+        cell,
+        claims,
+        near,
+    };
+    for _ in 0..WIDENINGS {
+        let Some(moments) = slot.moments(first)? else {
+            return Ok(none);
+        };
+        if moments.contains(&first) {
+            return Ok(Track {
+                near: slot.near,
+                moments: Some(moments),
+            });
+        }
+        if slot.near >= steps.chains() {
+            break;
+        }
+        slot.near = slot.near.saturating_mul(WIDER);
+    }
+    Ok(none)
+}
+
+impl Tracks {
+    /// The tracks of all slots, each as near as one is from this on.
+    pub fn new(alloc: Global, steps: &Steps<'_>, near: usize) -> Result<Tracks, NoMemory> {
+        let start = steps.start(alloc)?;
+        let mut tracks = Vec::new(alloc);
+        for cell in 0..steps.packing.cells.len() {
+            tracks.push(track_of(alloc, steps, &start, cell, near)?)?;
+        }
+        Ok(Tracks { alloc, tracks })
+    }
+
+    /// Checks whether no slot has a track.
+    pub fn are_none(&self) -> bool {
+        self.tracks.iter().all(|track| track.moments.is_none())
+    }
+
+    /// Checks whether all claims of a slot can be made from a moment on.
+    pub fn allows(&self, cell: usize, moment: u64) -> bool {
+        match self.tracks.get(cell) {
+            Some(track) => match &track.moments {
+                Some(moments) => moments.contains(&moment),
+                None => true,
+            },
+            None => true,
+        }
+    }
+
+    /// Lets the chains of a slot come less in turn. It answers whether they may now.
+    pub fn widen(&mut self, steps: &Steps<'_>, cell: usize) -> Result<bool, NoMemory> {
+        if cell >= self.tracks.len() || self.tracks[cell].near >= steps.chains() {
+            return Ok(false);
+        }
+        let near = self.tracks[cell].near.saturating_mul(MUCH_WIDER);
+        let start = steps.start(self.alloc)?;
+        self.tracks[cell] = track_of(self.alloc, steps, &start, cell, near)?;
+        Ok(true)
+    }
+}

@@ -1,0 +1,302 @@
+//! A search on its way. Nothing is proved of what it finds.
+
+use crate::node::is_test;
+use crate::plans::Plan;
+use crate::search::{Found, Rows, SearchRoom};
+use crate::state::{SearchState, drawn};
+use crate::step::ClaimStep;
+use crate::steps::Steps;
+use crate::tracks::Tracks;
+use fx_base::NoMemory;
+use indexmap::IndexSet;
+use std::alloc::Global;
+
+// A state on the way from the start to where a search is: the chain of the step that led to it, what was at the slot of that
+// step, the last chain on the way there that did more than test, and how many of the steps from there were tried.
+#[derive(Clone, Copy)]
+struct Stage {
+    by: usize,
+    before: u16,
+    last: usize,
+    tried: usize,
+}
+
+// All steps were tried.
+const ALL: usize = usize::MAX;
+
+/// A search: where it is, and the way there.
+#[derive(Drop)]
+pub(crate) struct Walk<'a> {
+    alloc: Global,
+    steps: &'a Steps<'a>,
+    // Which orders of a slot's claims are tried; none for any.
+    tracks: Option<&'a Tracks>,
+    /// The states that were met, if they are kept.
+    pub rows: Rows,
+    // The states that were met, by what was drawn for their numbers. Where two have one sum the second isn't looked at, and an
+    // answer without it isn't confirmed.
+    met: IndexSet<u64>,
+    here: SearchState<'a>,
+    way: Vec<Stage>,
+    // How long the longest way was from which no step led on, and the slots of the steps that its chains would have made.
+    longest: usize,
+    /// These slots.
+    pub blocked: Vec<usize>,
+    plan: Plan,
+    room: SearchRoom,
+}
+
+impl<'a> Walk<'a> {
+    /// A search at its start.
+    pub(crate) fn new(
+        alloc: Global,
+        steps: &'a Steps<'a>,
+        tracks: Option<&'a Tracks>,
+        plan: Plan,
+        room: SearchRoom,
+    ) -> Result<Walk<'a>, NoMemory> {
+        Ok(Walk {
+            alloc,
+            steps,
+            tracks,
+            rows: IndexSet::new(alloc),
+            met: IndexSet::new(alloc),
+            here: SearchState::new(alloc, steps)?,
+            way: Vec::new(alloc),
+            longest: 0,
+            blocked: Vec::new(alloc),
+            plan,
+            room,
+        })
+    }
+
+    /// Goes on until it is known how the search ends.
+    pub(crate) fn run(&mut self) -> Result<Found, NoMemory> {
+        if self.room.states == 0 {
+            return Ok(Found::Stopped(self.room.doubt));
+        }
+        self.rows
+            .insert(Vec::from_slice(self.alloc, &self.here.row)?)?;
+        self.met.insert(self.here.sum)?;
+        self.way.push(Stage {
+            by: 0,
+            before: 0,
+            last: 0,
+            tried: 0,
+        })?;
+        for _ in 0..usize::MAX {
+            if let Some(found) = self.advance()? {
+                return Ok(found);
+            }
+        }
+        Ok(Found::Stopped(self.room.doubt))
+    }
+
+    // The next step to be tried, with how many were tried then. Where a step may be made that only tests, no other one need
+    // be. A played order mostly goes on with the chain that it was at, and begins the chains in turn.
+    fn choice(&self, stage: &Stage) -> Option<(usize, usize)> {
+        if stage.tried == ALL {
+            return None;
+        }
+        if stage.tried == 0 {
+            if let Some(chain) = self.test() {
+                return Some((chain, ALL));
+            }
+        }
+        let (low, high) = self.window();
+        if self.plan.seed > 0 {
+            return self.choice_drawn(stage, low, high);
+        }
+        if stage.tried == 0 && stage.last < high && self.may_make(stage.last) {
+            return Some((stage.last, 1));
+        }
+        for tried in stage.tried.max(1)..=high {
+            let chain = tried.saturating_sub(1);
+            if chain != stage.last && self.may_make(chain) {
+                return Some((chain, tried.saturating_add(1)));
+            }
+        }
+        None
+    }
+
+    // The same where the first of the chains that may go on is drawn, and the others come behind it, going round.
+    fn choice_drawn(&self, stage: &Stage, low: usize, high: usize) -> Option<(usize, usize)> {
+        let count = high.saturating_sub(low);
+        let first = drawn(self.plan.seed.saturating_add(self.way.len()), 0) >> 33;
+        let first = usize::try_from(first).unwrap_or(0);
+        for tried in stage.tried.max(1)..=count {
+            let behind = first.saturating_add(tried).checked_rem(count).unwrap_or(0);
+            let chain = low.saturating_add(behind);
+            if self.may_make(chain) {
+                return Some((chain, tried.saturating_add(1)));
+            }
+        }
+        None
+    }
+
+    // The first chain that isn't done, and the one behind the last that may go on.
+    fn window(&self) -> (usize, usize) {
+        let chains = self.steps.chains();
+        if self.plan.open >= chains {
+            return (0, chains);
+        }
+        let (mut low, mut open) = (chains, 0usize);
+        for chain in 0..chains {
+            if self.here.next_of(chain).is_some() {
+                low = low.min(chain);
+                open = open.saturating_add(1);
+                if open >= self.plan.open {
+                    return (low, chain.saturating_add(1));
+                }
+            }
+        }
+        (low, chains)
+    }
+
+    // A chain whose next step only tests and may be made. Where orders are left out, it is one of those that may go on.
+    fn test(&self) -> Option<usize> {
+        if self.tracks.is_none() {
+            return self.steps.test_of(&self.here.row, self.here.empty);
+        }
+        let (_, high) = self.window();
+        for chain in 0..high {
+            if let Some(step) = self.here.next_of(chain) {
+                if is_test(step.claim) && self.may_make(chain) {
+                    return Some(chain);
+                }
+            }
+        }
+        None
+    }
+
+    fn may_make(&self, chain: usize) -> bool {
+        match self.here.next_of(chain) {
+            Some(step) => { self.here.allows(&step) && self.keeps_track(&step) }
+            None => false,
+        }
+    }
+
+    // Whether a step leads to a moment of its slot from which the others there are tried.
+    fn keeps_track(&self, step: &ClaimStep<'_>) -> bool {
+        let Some(tracks) = self.tracks else {
+            return true;
+        };
+        match self.here.moment_behind(step) {
+            Some((cell, moment)) => tracks.allows(cell, moment),
+            None => true,
+        }
+    }
+
+    // Notes what keeps the chains that may go on, where no step leads on and the way is the longest. Slots where only the order
+    // of the claims does come first.
+    fn note(&mut self) -> Result<(), NoMemory> {
+        if self.tracks.is_none() || self.way.len() <= self.longest {
+            return Ok(());
+        }
+        self.longest = self.way.len();
+        self.blocked.clear();
+        let (low, high) = self.window();
+        for by_order in [true, false] {
+            for chain in low..high {
+                self.note_chain(chain, by_order)?;
+            }
+            if !self.blocked.is_empty() {
+                break;
+            }
+        }
+        Ok(())
+    }
+
+    // Notes the slot of a chain's next step, if only the order keeps it, or if it waits for a file.
+    fn note_chain(&mut self, chain: usize, by_order: bool) -> Result<(), NoMemory> {
+        let Some(step) = self.here.next_of(chain) else {
+            return Ok(());
+        };
+        let Some(cell) = step.cell else {
+            return Ok(());
+        };
+        let may = self.here.allows(&step);
+        let is_one = if by_order {
+            may && !self.keeps_track(&step)
+        } else {
+            !may
+        };
+        if is_one && !self.blocked.contains(&cell) {
+            self.blocked.push(cell)?;
+        }
+        Ok(())
+    }
+
+    // Makes a step, unless it leads to a state that was met or from which no end is reached. It answers whether there was
+    // room for the state.
+    fn go(&mut self, chain: usize, last: usize) -> Result<bool, NoMemory> {
+        let Some(step) = self.here.next_of(chain) else {
+            return Ok(true);
+        };
+        let before = self.here.make(chain, &step);
+        if self.here.is_dead(&step) || self.met.contains(&self.here.sum) {
+            self.here.take_back(chain, before);
+            return Ok(true);
+        }
+        if self.met.len() >= self.room.states {
+            return Ok(false);
+        }
+        if self.room.keeps {
+            self.rows
+                .insert(Vec::from_slice(self.alloc, &self.here.row)?)?;
+        }
+        self.met.insert(self.here.sum)?;
+        let last = if is_test(step.claim) { last } else { chain };
+        self.way.push(Stage {
+            by: chain,
+            before,
+            last,
+            tried: 0,
+        })?;
+        Ok(true)
+    }
+
+    // Goes back by one step.
+    fn back(&mut self) {
+        if let Some(stage) = self.way.pop() {
+            self.here.take_back(stage.by, stage.before);
+        }
+    }
+
+    // Whether all claims were made, and no file is left that the closes have.
+    fn is_end(&self) -> bool {
+        self.way.len() > self.steps.count() && self.steps.is_staying(&self.here.row)
+    }
+
+    // The steps of the way.
+    fn order(&self) -> Result<Vec<usize>, NoMemory> {
+        let mut order = Vec::new(self.alloc);
+        for i in 1..self.way.len() {
+            order.push(self.way[i].by)?;
+        }
+        Ok(order)
+    }
+
+    // Tries one step, or goes back by one where none is left. It answers how the search ended, if it did.
+    fn advance(&mut self) -> Result<Option<Found>, NoMemory> {
+        let Some(stage) = self.way.last().copied() else {
+            return Ok(Some(Found::NoEnd));
+        };
+        if self.is_end() {
+            return Ok(Some(Found::Order(self.order()?)));
+        }
+        let Some((chain, tried)) = self.choice(&stage) else {
+            self.note()?;
+            self.back();
+            return Ok(None);
+        };
+        if let Some(stage) = self.way.last_mut() {
+            stage.tried = tried;
+        }
+        if self.go(chain, stage.last)? {
+            Ok(None)
+        } else {
+            Ok(Some(Found::Stopped(self.room.doubt)))
+        }
+    }
+}

@@ -1,0 +1,31 @@
+use Rattle.check_texts.proofs.Words.{shown, instruction_of, ring_with_slots, IsLineOf, Stage, after_call, kept_text, stage_of, stages_of}
+use Rattle.check_texts.proofs.Words.{string_bytes}
+use Rattle.check_texts.proofs.Words.{◌++◌, ◌≡◌}
+use Rattle.check_texts.proofs.Calls.{call_may_lead, call_only}
+use Rattle.check_texts.proofs.Growth.{grows_on, stays}
+use Rattle.check_texts.proofs.next.push_call.Goals as goal
+
+pub call-requires-clause-ring : goal.call-requires-clause-ring
+call-requires-clause-ring c = rw (c.in_ok-copy.ensures.same c.args.setting.now.catalogue.now) c.requires.ring
+
+pub returns : goal.returns
+returns c =
+    let cat = c.args.setting.now.catalogue.now in
+    let keeps = c.args.setting.now.keeps in
+    let from = stage_of cat c.args.from.now in
+    let new : Stage = record { ring = ring_with_slots cat c.in_ok-called.called.ring; printed = string_bytes c.in_ok-printed.printed } in
+    let command = instruction_of c.args.command.now in
+    let line = string_bytes c.in_ok-called.called.line in
+    let same = c.in_ok-copy.ensures.same cat in
+    let left : new.ring ≡ after_call from.ring command = rw same at c.in_ok-called.ensures.value in
+    let told : IsLineOf from.ring command line = rw same at c.in_ok-called.ensures.line in
+    let kept : new.printed ≡ kept_text keeps (from.printed ++ line) =
+    rw (c.as_str.ensures.value, c.as_str-2.ensures.value) at c.in_ok-printed.ensures in
+    let (next, shows) = shown cat c.in_ok-called.called.ring in
+    record {
+      grows = grows_on
+          (λ s is. rw is (call_may_lead keeps from new command line c.requires.call left told kept next shows c.args.from.now.few_slots)) stays
+          (c.in_ok-push_new.ensures.grows cat);
+      all = call_only keeps from new command line c.requires.call left told kept (stages_of cat c.push_new.new.rings.items) c.requires.ring
+          (c.in_ok-push_new.ensures.there cat);
+    }

@@ -1,0 +1,275 @@
+-- The rings that commands may come to where memory is found.
+use Rattle.std.specs.Prelude.{◌≡◌, ◌⊎◌, ℕ, ◌+◌, pos, List, [], ◌∷◌, ◌++◌, codes, length, map}
+use Rattle.std.specs.Prelude.{All, Bool, true, false, Option, Some, None, Contains, IsTrue, nat_le}
+use Rattle.std.specs.Prelude.{if◌then◌else◌, string_bytes}
+use Rattle.std.specs.Option.{MatchOption}
+use Rattle.fx_base.specs.Catalogue.{FileEntry}
+use Rattle.fx_base.specs.declared.errno.Errno.{Errno}
+use Rattle.fx_chain.specs.Completed.{Completed, completed_of, negated}
+use Rattle.fx_chain.specs.Faults.{fault_of}
+use Rattle.fx_chain.specs.Operation.{Asked, all_asked}
+use Rattle.fx_chain.specs.declared.completion.Place.{Place}
+use Rattle.fx_chain.specs.declared.fault.CutFault.{CutFault}
+use Rattle.fx_order.specs.declared.slots.Slots.{Slots}
+use Rattle.check_outcomes.specs.Outcomes.{HasEachReport, IsPossible, ring_behind}
+use Rattle.check_outcomes.specs.declared.possible_report.PossibleReport.{PossibleReport}
+use Rattle.check_outcomes.specs.declared.possible_report.PossibleReports.{PossibleReports}
+use Rattle.fx_ring.specs.Registration.{range_refusal, register_refusal, registered, removed_from}
+use Rattle.fx_ring.specs.Registration.{registered_sparse, sparse_refusal, unregister_refusal}
+use Rattle.fx_ring.specs.Registration.{update_refusal, updated}
+use Rattle.fx_ring.specs.Ring.{IsRing, RingContents, RingState, files_of_ring, ring_of}
+use Rattle.fx_ring.specs.Ring.{without_table}
+use Rattle.fx_ring.specs.Submission.{Reported, reported}
+use Rattle.fx_ring.specs.Tags.{tags_given}
+use Rattle.fx_ring.specs.declared.ring.TheConstants.{MOST_SUBMISSIONS}
+use Rattle.fx_language.specs.Instruction.{Instruction, MakesSparse, RegistersList, Unregisters}
+use Rattle.fx_language.specs.Instruction.{SetsRange, UpdatesRing, SubmitsAll, instructions_of}
+use Rattle.fx_order.specs.Slots.{ring_with_slots}
+use Rattle.fx_print.specs.Text.{refused_line, result_line, too_many_line}
+use Rattle.fx_script.specs.Play.{Prints, PrintsClosed, PrintsEnd}
+use Rattle.fx_script.specs.Text.{report_text}
+use Rattle.check_texts.specs.Texts.{FoundMemory, IsReportFound, PrintsAllFound}
+use Rattle.check_texts.specs.declared.asking.Inquiry.{Inquiry}
+use Rattle.check_texts.specs.declared.saying.Said.{Said}
+use Rattle.check_texts.specs.declared.reached.Reached.{Reached}
+use Rattle.check_texts.specs.declared.searched.Searched.{Searched}
+
+-- what a call leaves that may be refused
+abbrev pub unless_refused : Option Errno → RingState → RingState → RingState
+unless_refused (Some errno) old new = old
+unless_refused None old new = new
+
+-- what a call between submissions leaves where it finds memory; a submission is none
+abbrev pub after_call : RingState → Instruction → RingState
+after_call ring (MakesSparse n) =
+    unless_refused (sparse_refusal ring n) ring (registered_sparse ring n)
+after_call ring (RegistersList list tags) =
+    unless_refused (register_refusal ring list (tags_given list tags)) ring
+    (registered ring list (tags_given list tags))
+after_call ring Unregisters = unless_refused (unregister_refusal ring) ring (without_table ring)
+after_call ring (SetsRange off len) =
+    unless_refused (range_refusal ring off len) ring (record ring { range = (off, len) })
+after_call ring (UpdatesRing off list tags) =
+    unless_refused (update_refusal ring off list (tags_given list tags)) ring
+    (updated ring off list (tags_given list tags))
+after_call ring (SubmitsAll asked) = ring
+
+-- the count of accepted submissions behind requests, by their first fault
+abbrev pub count_behind : ℕ → Option CutFault → ℕ
+count_behind count (Some fault) = count
+count_behind count None = if nat_le MOST_SUBMISSIONS count then count else count + 1
+
+-- the count of accepted submissions behind a command
+abbrev pub count_after : ℕ → Instruction → ℕ
+count_after count (SubmitsAll asked) = count_behind count (fault_of asked)
+count_after count _ = count
+
+-- the same behind commands
+abbrev pub count_after_all : ℕ → List Instruction → ℕ
+count_after_all count [] = count
+count_after_all count (command ∷ commands) = count_after_all (count_after count command) commands
+
+-- behind so many accepted submissions the command is none that is accepted
+abbrev pub IsCall : ℕ → Instruction → Type 0
+IsCall count (SubmitsAll asked) = count_behind count (fault_of asked) ≡ count
+IsCall count _ = Unit {0}
+
+-- what a call answers that finds memory: its refusal, if there is one, and else what it may print
+abbrev pub AnswersFound : Option Errno → List ℕ → (List ℕ → Type 0) → List ℕ → Type 0
+AnswersFound (Some errno) word accepted line = line ≡ result_line word (negated errno)
+AnswersFound None word accepted line = accepted line
+
+-- the line of a call between submissions, or of a refused one, where it finds memory; for the files
+-- that it closes there are as many lines
+abbrev pub IsLineOf : RingState → Instruction → List ℕ → Type 0
+IsLineOf ring (MakesSparse n) line =
+    AnswersFound (sparse_refusal ring n) (codes "sparse")
+    (λ line. line ≡ result_line (codes "sparse") (pos 0)) line
+IsLineOf ring (RegistersList list tags) line =
+    AnswersFound (register_refusal ring list (tags_given list tags)) (codes "register")
+    (λ line. line ≡ result_line (codes "register") (pos 0)) line
+IsLineOf ring Unregisters line =
+    AnswersFound (unregister_refusal ring) (codes "unregister")
+    (PrintsClosed ring (files_of_ring ring) (result_line (codes "unregister") (pos 0))) line
+IsLineOf ring (SetsRange off len) line =
+    AnswersFound (range_refusal ring off len) (codes "range")
+    (λ line. line ≡ result_line (codes "range") (pos 0)) line
+IsLineOf ring (UpdatesRing off list tags) line =
+    AnswersFound (update_refusal ring off list (tags_given list tags)) (codes "regupdate")
+    (PrintsClosed ring (removed_from ring.at off list)
+    (result_line (codes "regupdate") (pos (length list)))) line
+IsLineOf ring (SubmitsAll asked) line =
+    MatchOption (fault_of asked) (line ≡ too_many_line) (λ fault. line ≡ refused_line fault)
+
+-- a command leads from one ring to the other, prints this and finds memory
+abbrev pub LeadsRing : RingContents → Instruction → RingContents → List ℕ → Type 0
+LeadsRing old command new line =
+    (own : Option Reported) × Prints old command new line × FoundMemory old command new line own
+
+-- the commands do, one after another
+abbrev pub LeadsAll : RingContents → List Instruction → RingContents → List ℕ → Type 0
+LeadsAll ring [] last text = (ring ≡ last) × (text ≡ [])
+LeadsAll ring (command ∷ commands) last text =
+    (next : RingContents) × (line : List ℕ) × (others : List ℕ)
+    × LeadsRing ring command next line × (text ≡ line ++ others)
+    × LeadsAll next commands last others
+
+-- how far a play has come: its ring, and what was printed, where that is kept
+pub record Stage : Type 0 where
+  pub ring : RingState
+  pub printed : List ℕ
+
+-- what is kept of a text
+abbrev pub kept_text : Bool → List ℕ → List ℕ
+kept_text true text = text
+kept_text false text = []
+
+-- the stage with this ring, behind this text
+abbrev pub stage : Bool → RingContents → List ℕ → Stage
+stage keeps ring text = record { ring = ring_of ring; printed = kept_text keeps text }
+
+-- each ring of the one stage may be led to the other stage by the command
+abbrev pub MayLeadTo : Bool → Stage → Instruction → Stage → Type 0
+MayLeadTo keeps old command new =
+    (ring : RingContents) → ring_of ring ≡ old.ring
+    → (next : RingContents) × (line : List ℕ) × LeadsRing ring command next line
+    × (stage keeps next (old.printed ++ line) ≡ new)
+
+-- each ring of this state may be led there by the commands
+abbrev pub MayLeadAllTo : Bool → RingState → List Instruction → Stage → Type 0
+MayLeadAllTo keeps old commands new =
+    (ring : RingContents) → ring_of ring ≡ old
+    → (last : RingContents) × (text : List ℕ) × LeadsAll ring commands last text
+    × (stage keeps last text ≡ new)
+
+-- wherever a ring of this stage is led by the command, that is in the list
+abbrev pub HasEachNextStage : Bool → Stage → Instruction → List Stage → Type 0
+HasEachNextStage keeps old command stages =
+    (ring next : RingContents) (line : List ℕ) → ring_of ring ≡ old.ring
+    → LeadsRing ring command next line → Contains stages (stage keeps next (old.printed ++ line))
+
+-- the requests of a command, where it is a submission
+abbrev pub asked_in : Instruction → List Asked
+asked_in (SubmitsAll asked) = asked
+asked_in _ = []
+
+-- the reports that a search found at a ring are reports of the submission, and all of them where it
+-- says so
+pub record AreReportsAt (old : RingState) (asked : List Asked) (found : PossibleReports) : Type 0
+  where
+    pub each : All (IsPossible old asked) found.reports.items
+    pub all : IsTrue found.are_all → HasEachReport old asked found.reports.items
+
+-- what is kept of a search at its ring
+abbrev pub IsSearched : List FileEntry → List Asked → Searched → Type 0
+IsSearched catalogue asked searched =
+    AreReportsAt (ring_with_slots catalogue searched.ring) asked searched.found
+
+-- each of the one list is where the command may lead to from one of the other
+abbrev pub AreStagesFrom : Bool → List Stage → Instruction → List Stage → Type 0
+AreStagesFrom keeps old command new = (s : Stage) → Contains new s
+    → (o : Stage) × Contains old o × MayLeadTo keeps o command s
+
+-- wherever a ring of a stage of the one list is led, that is in the other
+abbrev pub HasEachFrom : Bool → List Stage → Instruction → List Stage → Type 0
+HasEachFrom keeps old command new =
+    (o : Stage) → Contains old o → HasEachNextStage keeps o command new
+
+-- wherever the commands lead a ring of this state, that is in the list
+abbrev pub HasEachLast : Bool → RingState → List Instruction → List Stage → Type 0
+HasEachLast keeps old commands stages =
+    (ring last : RingContents) (text : List ℕ) → ring_of ring ≡ old
+    → LeadsAll ring commands last text → Contains stages (stage keeps last text)
+
+-- the stages have what every ring is
+abbrev pub AreRings : List Stage → Type 0
+AreRings stages = (s : Stage) → Contains stages s → IsRing s.ring
+
+-- each ring of this state may print something by these commands and the end of the script
+abbrev pub MayEnd : RingState → List Instruction → Type 0
+MayEnd state commands =
+    (ring : RingContents) → ring_of ring ≡ state
+    → (text : List ℕ) × (reports : List Reported) × PrintsAllFound ring commands text reports
+
+-- the other list has what the one has, and only these besides
+pub record Grows {X : Type 0} (Adds : X → Type 0) (old new : List X) : Type 0 where
+  pub kept : (x : X) → Contains old x → Contains new x
+  pub from : (x : X) → Contains new x → Contains old x ⊎ Adds x
+
+abbrev pub stage_of : List FileEntry → Reached → Stage
+stage_of catalogue reached = record {
+  ring = ring_with_slots catalogue reached.ring;
+  printed = string_bytes reached.printed;
+}
+
+abbrev pub stages_of : List FileEntry → List Reached → List Stage
+stages_of catalogue rings = map (stage_of catalogue) rings
+
+-- where an order leads that leaves these slots, and whose submission prints this
+abbrev pub stage_left : Bool → Stage → Slots → List ℕ → Stage
+stage_left keeps old slots line = record {
+  ring = ring_behind old.ring slots;
+  printed = kept_text keeps (old.printed ++ line);
+}
+
+-- where a report leads
+abbrev pub stage_reported : Bool → Stage → PossibleReport → Stage
+stage_reported keeps old possible =
+    stage_left keeps old possible.slots
+    (report_text old.ring.catalogue (reported possible.report))
+
+-- a play that has come so far, to the end of its script, has this text
+abbrev pub EndsAs : Stage → List ℕ → Type 0
+EndsAs last text =
+    (end : List ℕ) × PrintsEnd last.ring end × (text ≡ last.printed ++ end)
+
+-- it is the text of a play that has come to one of these
+abbrev pub IsTextAt : List Stage → List ℕ → Type 0
+IsTextAt stages text = (s : Stage) × Contains stages s × EndsAs s text
+
+-- whatever text a play has that has come to one of these is in the list
+abbrev pub HasEachText : List Stage → List (List ℕ) → Type 0
+HasEachText stages texts =
+    (s : Stage) (text : List ℕ) → Contains stages s → EndsAs s text → Contains texts text
+
+-- a ring of this state may answer so at the place, in front of these commands
+pub record MaySay (old : RingState) (asked : List Asked) (behind : List Instruction) (place : Place)
+    (c : Completed) : Type 0 where
+  pub there : c.place ≡ place
+  pub says : (ring : RingContents) → ring_of ring ≡ old
+      → (next : RingContents) × (line : List ℕ) × (report : Reported)
+      × Prints ring (SubmitsAll asked) next line × IsReportFound ring asked next line report
+      × Contains report.completions c
+      × ((text : List ℕ) × (reports : List Reported) × PrintsAllFound next behind text reports)
+
+-- whatever a ring of this state may answer at the place is in the list
+abbrev pub HasEachSaid : RingState → List Asked → Place → List Completed → Type 0
+HasEachSaid old asked place said =
+    (ring next : RingContents) (line : List ℕ) (report : Reported) (c : Completed)
+    → ring_of ring ≡ old → Prints ring (SubmitsAll asked) next line
+    → IsReportFound ring asked next line report
+    → Contains report.completions c → c.place ≡ place → Contains said c
+
+-- each of the answers is what a ring of one of the stages may answer
+abbrev pub AreSaidFrom :
+    List Stage → List Asked → List Instruction → Place → List Completed → Type 0
+AreSaidFrom old asked behind place said = (c : Completed) → Contains said c
+    → (o : Stage) × Contains old o × MaySay o.ring asked behind place c
+
+-- whatever a ring of one of the stages may answer is in the list
+abbrev pub HasEachSaidFrom : List Stage → List Asked → Place → List Completed → Type 0
+HasEachSaidFrom old asked place said =
+    (o : Stage) → Contains old o → HasEachSaid o.ring asked place said
+
+-- the commands are those before the asked submission, it, and those behind it; and it is the one of
+-- the place
+pub record IsAskedIn (commands : List Instruction) (place : Place) (asking : Inquiry) : Type 0 where
+  pub place_same : asking.place ≡ place
+  pub split : commands ≡ instructions_of asking.front.now
+      ++ SubmitsAll (all_asked asking.requests.now) ∷ instructions_of asking.behind.now
+  pub number : place.submission ≡ count_after_all 0 (instructions_of asking.front.now) + 1
+  pub counted : count_behind (count_after_all 0 (instructions_of asking.front.now))
+      (fault_of (all_asked asking.requests.now)) ≡ place.submission
+
+abbrev pub said_in : List Said → List Completed
+said_in answers = map (λ said. completed_of said.completion) answers

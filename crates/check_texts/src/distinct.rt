@@ -1,0 +1,84 @@
+//! Lists of rings, each of which stands there once.
+ghost use Rattle.std.specs.Prelude.{◌≡◌, IfOk, IsTrue, List, OnOk, Contains, length};
+ghost use Rattle.fx_base.specs.Catalogue.{FileEntry};
+ghost use Rattle.fx_order.specs.Slots.{ring_with_slots};
+ghost use Rattle.check_texts.specs.Rings.{Grows, stage_of, stages_of};
+
+use crate::reached::Reached;
+use crate::setting::WalkSetting;
+use fx_base::NoMemory;
+use fx_order::RingSlots;
+use std::alloc::Global;
+
+/// The same ring once more.
+pub(crate) fn copy_of(alloc: Global, ring: &RingSlots) -> Result<RingSlots, NoMemory>
+    ensures same { IfOk result (λ copy. (catalogue : List FileEntry)
+        → ring_with_slots catalogue copy ≡ ring_with_slots catalogue ring.now) }
+    ensures size { IfOk result (λ copy.
+        length copy.slots.at.items ≡ length ring.now.slots.at.items) }
+{
+    let slots = ring.slots.copy(alloc)?;
+    Ok(RingSlots {
+        slots,
+        submissions: ring.submissions,
+        registrations: ring.registrations,
+    })
+}
+
+/// Checks whether both rings have the same slots, the same allocation range and the same counts.
+pub(crate) fn are_same(one: &RingSlots, other: &RingSlots) -> bool
+    ensures { IsTrue result → (catalogue : List FileEntry)
+        → ring_with_slots catalogue one.now ≡ ring_with_slots catalogue other.now }
+{
+    if one.submissions != other.submissions || one.registrations != other.registrations {
+        return false;
+    }
+    one.slots.is_same(&other.slots)
+}
+
+// Whether both are the same ring, behind the same text.
+fn are_alike(one: &Reached, other: &Reached) -> bool
+    ensures { IsTrue result → (catalogue : List FileEntry)
+        → stage_of catalogue one.now ≡ stage_of catalogue other.now }
+{
+    if one.printed.as_bytes() == other.printed.as_bytes() {
+        return are_same(&one.ring, &other.ring);
+    }
+    false
+}
+
+// Whether a ring is in a list, behind the same text.
+fn has_ring(rings: &[Reached], one: &Reached) -> bool
+    ensures { IsTrue result → (catalogue : List FileEntry)
+        → Contains (stages_of catalogue rings.now) (stage_of catalogue one.now) }
+{
+    for reached in rings {
+        if are_alike(reached, one) {
+            return true;
+        }
+    }
+    false
+}
+
+/// Puts a ring behind others that haven't got it. Where it is kept what was printed it isn't looked for: two ways that
+/// printed the same have come to one ring.
+///
+/// # Errors
+/// `NoMemory` where the memory of the list is refused.
+pub(crate) fn push_new(
+    setting: &WalkSetting<'_>,
+    rings: &mut Vec<Reached>,
+    reached: Reached,
+) -> Result<(), NoMemory>
+    ensures grows { OnOk result ((catalogue : List FileEntry)
+        → Grows (λ s. s ≡ stage_of catalogue reached) (stages_of catalogue rings.old.items)
+        (stages_of catalogue rings.new.items)) }
+    ensures there { OnOk result ((catalogue : List FileEntry)
+        → Contains (stages_of catalogue rings.new.items) (stage_of catalogue reached)) }
+{
+    if !setting.keeps && has_ring(rings, &reached) {
+        return Ok(());
+    }
+    rings.push(reached)?;
+    Ok(())
+}

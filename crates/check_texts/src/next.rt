@@ -1,0 +1,367 @@
+//! The rings that one command may lead to.
+ghost use Rattle.std.specs.Prelude.{◌≡◌, ◌++◌, ◌<◌, ◌≤◌, All, IfNone, IfOk, IfSome, IsTrue};
+ghost use Rattle.std.specs.Prelude.{Contains, List, None, OnOk, false, length, string_bytes};
+ghost use Rattle.fx_base.specs.Catalogue.{FileEntry};
+ghost use Rattle.fx_chain.specs.Accepted.{IsAccepted};
+ghost use Rattle.fx_chain.specs.Faults.{fault_of};
+ghost use Rattle.fx_chain.specs.Operation.{all_asked};
+ghost use Rattle.fx_language.specs.Instruction.{SubmitsAll, instruction_of};
+ghost use Rattle.fx_order.specs.Slots.{ring_with_slots};
+ghost use Rattle.fx_plain.specs.declared.table.TheConstants.{MOST_SLOTS};
+ghost use Rattle.fx_ring.specs.Ring.{IsRing};
+ghost use Rattle.fx_ring.specs.declared.ring.TheConstants.{MOST_SUBMISSIONS};
+ghost use Rattle.check_texts.specs.Rings.{Grows, HasEachNextStage, IsCall, MayLeadTo, count_behind, kept_text};
+ghost use Rattle.check_texts.specs.Rings.{AreReportsAt, IsSearched, asked_in};
+ghost use Rattle.check_texts.specs.Rings.{stage_left, stage_of, stage_reported, stages_of};
+
+use crate::call::call;
+use crate::distinct::{copy_of, push_new};
+use crate::reached::{Past, Reached};
+use crate::searched::{Searched, Searches, search_at};
+use crate::setting::WalkSetting;
+use check_outcomes::{PossibleReport, PossibleReports, may_leave, may_report};
+use fx_base::NoMemory;
+use fx_chain::{Request, check};
+use fx_language::Command;
+use fx_order::{ChainAccess, RingSlots, Slots};
+use fx_ring::MOST_SUBMISSIONS;
+use fx_script::report_text;
+
+/// Whether requests are accepted behind so many submissions: none of them has a fault, and there is a number for one more.
+pub(crate) fn is_accepted(requests: &[Request], submissions: u32) -> bool
+    ensures accepted { IsTrue result → IsAccepted (all_asked requests.now) }
+    ensures faultless { IsTrue result → fault_of (all_asked requests.now) ≡ None }
+    ensures few { IsTrue result → submissions < MOST_SUBMISSIONS }
+    ensures refused { result ≡ false
+        → count_behind submissions (fault_of (all_asked requests.now)) ≡ submissions }
+{
+    check(requests).is_ok() && submissions < MOST_SUBMISSIONS
+}
+
+/// The requests of a command, if it is a submission that is accepted behind so many.
+pub(crate) fn accepted_in(command: &Command, submissions: u32) -> Option<&[Request]>
+    ensures requests { IfSome result (λ requests.
+        instruction_of command.now ≡ SubmitsAll (all_asked requests.now)) }
+    ensures accepted { IfSome result (λ requests. IsAccepted (all_asked requests.now)) }
+    ensures faultless { IfSome result (λ requests. fault_of (all_asked requests.now) ≡ None) }
+    ensures few { IfSome result (λ _. submissions < MOST_SUBMISSIONS) }
+    ensures none { IfNone result (IsCall submissions (instruction_of command.now)) }
+{
+    match command {
+        Command::Sparse(_) => None,
+        Command::Register(_, _) => None,
+        Command::Unregister => None,
+        Command::Range(_, _) => None,
+        Command::Update(_, _, _) => None,
+        Command::Submit(requests) => {
+            if is_accepted(requests, submissions) {
+                Some(requests.as_slice())
+            } else {
+                None
+            }
+        }
+    }
+}
+
+/// Whether two things hold.
+pub(crate) fn both(one: bool, other: bool) -> bool
+    ensures { IsTrue result → IsTrue one × IsTrue other }
+{
+    one && other
+}
+
+/// A text and what is printed behind it, where that is kept; else nothing.
+///
+/// # Errors
+/// `NoMemory` where the memory of the text is refused.
+pub(crate) fn printed_behind(
+    setting: &WalkSetting<'_>,
+    before: &str,
+    line: &str,
+) -> Result<String, NoMemory>
+    ensures { IfOk result (λ text.
+        string_bytes text ≡ kept_text setting.now.keeps (before.now ++ line.now)) }
+{
+    if !setting.keeps {
+        return Ok(String::new(setting.alloc));
+    }
+    let room = before.len().saturating_add(line.len());
+    let mut text = String::with_capacity(setting.alloc, room)?;
+    text.push_str(before)?;
+    text.push_str(line)?;
+    Ok(text)
+}
+
+// Where an order of a submission has come to.
+#[derive(Clone, Copy)]
+struct OrderEnd<'a> {
+    order: &'a [ChainAccess],
+    slots: &'a Slots,
+    // What the submission prints.
+    line: &'a str,
+}
+
+// Puts the ring that an order leaves behind others.
+fn push_end(
+    setting: &WalkSetting<'_>,
+    pasts: &mut Vec<Past>,
+    rings: &mut Vec<Reached>,
+    from: &Reached,
+    end: OrderEnd<'_>,
+) -> Result<(), NoMemory>
+    requires few { from.now.ring.submissions < MOST_SUBMISSIONS }
+    requires room { length end.slots.now.at.items ≤ MOST_SLOTS }
+    ensures grows { OnOk result ((catalogue : List FileEntry)
+        → Grows (λ s. s ≡ stage_left setting.now.keeps (stage_of catalogue from.now)
+        end.entry.slots.now end.entry.line.now) (stages_of catalogue rings.old.items)
+        (stages_of catalogue rings.new.items)) }
+    ensures there { OnOk result ((catalogue : List FileEntry)
+        → Contains (stages_of catalogue rings.new.items)
+        (stage_left setting.now.keeps (stage_of catalogue from.now) end.entry.slots.now
+        end.entry.line.now)) }
+{
+    let printed = printed_behind(setting, from.printed.as_str(), end.line)?;
+    let order = Vec::from_slice(setting.alloc, end.order)?;
+    let slots = end.slots.copy(setting.alloc)?;
+    let past = pasts.len();
+    pasts.push(Past {
+        submission: from.ring.submissions + 1,
+        size: from.ring.slots.at.len(),
+        order,
+        before: from.past,
+    })?;
+    let ring = RingSlots {
+        slots,
+        submissions: from.ring.submissions + 1,
+        registrations: from.ring.registrations,
+    };
+    push_new(
+        setting,
+        rings,
+        Reached {
+            ring,
+            printed,
+            past: Some(past),
+        },
+    )?;
+    Ok(())
+}
+
+// Puts the rings that an accepted submission may leave of one behind others, where it isn't kept what is printed, and says
+// whether these are all of them.
+fn push_ends(
+    setting: &WalkSetting<'_>,
+    pasts: &mut Vec<Past>,
+    rings: &mut Vec<Reached>,
+    from: &Reached,
+    requests: &[Request],
+) -> Result<bool, NoMemory>
+    requires accepted { IsAccepted (all_asked requests.now) }
+    requires faultless { fault_of (all_asked requests.now) ≡ None }
+    requires few { from.now.ring.submissions < MOST_SUBMISSIONS }
+    requires silent { setting.now.keeps ≡ false }
+    ensures grows { IfOk result (λ _. Grows
+        (MayLeadTo setting.now.keeps (stage_of setting.now.catalogue.now from.now)
+        (SubmitsAll (all_asked requests.now)))
+        (stages_of setting.now.catalogue.now rings.old.items)
+        (stages_of setting.now.catalogue.now rings.new.items)) }
+    ensures all { IfOk result (λ all. IsTrue all → HasEachNextStage setting.now.keeps
+        (stage_of setting.now.catalogue.now from.now) (SubmitsAll (all_asked requests.now))
+        (stages_of setting.now.catalogue.now rings.new.items)) }
+{
+    let found = may_leave(
+        setting.alloc,
+        setting.catalogue,
+        &from.ring.slots,
+        from.ring.submissions,
+        requests,
+        setting.limits,
+    )?;
+    for end in &found.ends {
+        let silent = OrderEnd {
+            order: &end.order,
+            slots: &end.slots,
+            line: "",
+        };
+        push_end(setting, pasts, rings, from, silent)?;
+    }
+    Ok(found.are_all)
+}
+
+// Puts the ring that a report leaves behind others, with its lines.
+fn push_report(
+    setting: &WalkSetting<'_>,
+    pasts: &mut Vec<Past>,
+    rings: &mut Vec<Reached>,
+    from: &Reached,
+    possible: &PossibleReport,
+) -> Result<(), NoMemory>
+    requires few { from.now.ring.submissions < MOST_SUBMISSIONS }
+    requires room { length possible.now.slots.at.items ≤ MOST_SLOTS }
+    requires entries { All (λ file. file.entry < length setting.now.catalogue.now)
+        possible.now.report.closes.files }
+    ensures grows { OnOk result (Grows
+        (λ s. s ≡ stage_reported setting.now.keeps (stage_of setting.now.catalogue.now from.now)
+        possible.now) (stages_of setting.now.catalogue.now rings.old.items)
+        (stages_of setting.now.catalogue.now rings.new.items)) }
+    ensures there { OnOk result (Contains (stages_of setting.now.catalogue.now rings.new.items)
+        (stage_reported setting.now.keeps (stage_of setting.now.catalogue.now from.now)
+        possible.now)) }
+{
+    let line = report_text(setting.alloc, &possible.report, setting.catalogue)?;
+    let end = OrderEnd {
+        order: &possible.order,
+        slots: &possible.slots,
+        line: line.as_str(),
+    };
+    push_end(setting, pasts, rings, from, end)?;
+    Ok(())
+}
+
+// The same of the reports that a search at the ring found.
+fn push_found(
+    setting: &WalkSetting<'_>,
+    pasts: &mut Vec<Past>,
+    rings: &mut Vec<Reached>,
+    from: &Reached,
+    requests: &[Request],
+    found: &PossibleReports,
+) -> Result<bool, NoMemory>
+    requires accepted { IsAccepted (all_asked requests.now) }
+    requires faultless { fault_of (all_asked requests.now) ≡ None }
+    requires few { from.now.ring.submissions < MOST_SUBMISSIONS }
+    requires ring { IsRing (ring_with_slots setting.now.catalogue.now from.now.ring) }
+    requires found { AreReportsAt (ring_with_slots setting.now.catalogue.now from.now.ring)
+        (all_asked requests.now) found.now }
+    ensures grows { IfOk result (λ _. Grows
+        (MayLeadTo setting.now.keeps (stage_of setting.now.catalogue.now from.now)
+        (SubmitsAll (all_asked requests.now)))
+        (stages_of setting.now.catalogue.now rings.old.items)
+        (stages_of setting.now.catalogue.now rings.new.items)) }
+    ensures all { IfOk result (λ all. IsTrue all → HasEachNextStage setting.now.keeps
+        (stage_of setting.now.catalogue.now from.now) (SubmitsAll (all_asked requests.now))
+        (stages_of setting.now.catalogue.now rings.new.items)) }
+{
+    for possible in &found.reports {
+        push_report(setting, pasts, rings, from, possible)?;
+    }
+    Ok(found.are_all)
+}
+
+// The same of the reports of the submission. They are searched for once at each ring.
+fn push_reports(
+    setting: &WalkSetting<'_>,
+    searches: &mut Searches,
+    pasts: &mut Vec<Past>,
+    rings: &mut Vec<Reached>,
+    from: &Reached,
+    requests: &[Request],
+) -> Result<bool, NoMemory>
+    requires accepted { IsAccepted (all_asked requests.now) }
+    requires faultless { fault_of (all_asked requests.now) ≡ None }
+    requires few { from.now.ring.submissions < MOST_SUBMISSIONS }
+    requires ring { IsRing (ring_with_slots setting.now.catalogue.now from.now.ring) }
+    requires known { All (IsSearched setting.now.catalogue.now (all_asked requests.now))
+        searches.old.known.items }
+    ensures grows { IfOk result (λ _. Grows
+        (MayLeadTo setting.now.keeps (stage_of setting.now.catalogue.now from.now)
+        (SubmitsAll (all_asked requests.now)))
+        (stages_of setting.now.catalogue.now rings.old.items)
+        (stages_of setting.now.catalogue.now rings.new.items)) }
+    ensures all { IfOk result (λ all. IsTrue all → HasEachNextStage setting.now.keeps
+        (stage_of setting.now.catalogue.now from.now) (SubmitsAll (all_asked requests.now))
+        (stages_of setting.now.catalogue.now rings.new.items)) }
+    ensures known { IfOk result (λ _. All
+        (IsSearched setting.now.catalogue.now (all_asked requests.now)) searches.new.known.items) }
+{
+    if let Some(searched) = search_at(&searches.known, &from.ring) {
+        return push_found(setting, pasts, rings, from, requests, &searched.found);
+    }
+    let found = may_report(
+        setting.alloc,
+        setting.catalogue,
+        &from.ring.slots,
+        from.ring.submissions,
+        requests,
+        searches.spent.left_of(setting.limits, rings.is_empty()),
+    )?;
+    searches.spent.count_states(found.states);
+    searches.spent.count_reports(&found);
+    let all = push_found(setting, pasts, rings, from, requests, &found)?;
+    let ring = copy_of(setting.alloc, &from.ring)?;
+    searches.known.push(Searched { ring, found })?;
+    Ok(all)
+}
+
+// Puts the ring that a call between submissions leaves of one, or a refused submission, behind others.
+fn push_call(
+    setting: &WalkSetting<'_>,
+    rings: &mut Vec<Reached>,
+    from: &Reached,
+    command: &Command,
+) -> Result<(), NoMemory>
+    requires call { IsCall from.now.ring.submissions (instruction_of command.now) }
+    requires ring { IsRing (ring_with_slots setting.now.catalogue.now from.now.ring) }
+    ensures grows { OnOk result (Grows
+        (MayLeadTo setting.now.keeps (stage_of setting.now.catalogue.now from.now)
+        (instruction_of command.now)) (stages_of setting.now.catalogue.now rings.old.items)
+        (stages_of setting.now.catalogue.now rings.new.items)) }
+    ensures all { OnOk result (HasEachNextStage setting.now.keeps
+        (stage_of setting.now.catalogue.now from.now) (instruction_of command.now)
+        (stages_of setting.now.catalogue.now rings.new.items)) }
+{
+    let copy = copy_of(setting.alloc, &from.ring)?;
+    let called = call(setting, copy, command)?;
+    let printed = printed_behind(setting, from.printed.as_str(), called.line.as_str())?;
+    push_new(
+        setting,
+        rings,
+        Reached {
+            ring: called.ring,
+            printed,
+            past: from.past,
+        },
+    )?;
+    Ok(())
+}
+
+/// Appends the rings that a command may lead to from one, and returns whether these are all of them. Where the limits of the
+/// script are reached, it appends none, unless the list is empty.
+///
+/// # Errors
+/// `NoMemory` if an allocation fails.
+pub(crate) fn push_next(
+    setting: &WalkSetting<'_>,
+    searches: &mut Searches,
+    pasts: &mut Vec<Past>,
+    rings: &mut Vec<Reached>,
+    from: &Reached,
+    command: &Command,
+) -> Result<bool, NoMemory>
+    requires ring { IsRing (ring_with_slots setting.now.catalogue.now from.now.ring) }
+    requires known { All
+        (IsSearched setting.now.catalogue.now (asked_in (instruction_of command.now)))
+        searches.old.known.items }
+    ensures grows { IfOk result (λ _. Grows
+        (MayLeadTo setting.now.keeps (stage_of setting.now.catalogue.now from.now)
+        (instruction_of command.now)) (stages_of setting.now.catalogue.now rings.old.items)
+        (stages_of setting.now.catalogue.now rings.new.items)) }
+    ensures all { IfOk result (λ all. IsTrue all → HasEachNextStage setting.now.keeps
+        (stage_of setting.now.catalogue.now from.now) (instruction_of command.now)
+        (stages_of setting.now.catalogue.now rings.new.items)) }
+    ensures known { IfOk result (λ _. All
+        (IsSearched setting.now.catalogue.now (asked_in (instruction_of command.now)))
+        searches.new.known.items) }
+{
+    if !rings.is_empty() && !searches.spent.has_room(setting.limits, rings.len()) {
+        return Ok(false);
+    }
+    if let Some(requests) = accepted_in(command, from.ring.submissions) {
+        if setting.keeps {
+            return push_reports(setting, searches, pasts, rings, from, requests);
+        }
+        return push_ends(setting, pasts, rings, from, requests);
+    }
+    push_call(setting, rings, from, command)?;
+    Ok(true)
+}

@@ -1,0 +1,125 @@
+//! The rings that commands may lead to, one after another.
+ghost use Rattle.std.specs.Prelude.{◌≡◌, [], ◌∷◌, IfOk, IsTrue, Contains, List};
+ghost use Rattle.fx_base.specs.Catalogue.{FileEntry};
+ghost use Rattle.fx_language.specs.Instruction.{instruction_of, instructions_of};
+ghost use Rattle.fx_ring.specs.Ring.{new_ring};
+ghost use Rattle.check_texts.specs.Rings.{AreStagesFrom, AreRings, HasEachFrom, HasEachLast, MayLeadAllTo};
+ghost use Rattle.check_texts.specs.Rings.{Stage, stages_of};
+
+use crate::next::{both, push_next};
+use crate::reached::{Past, Reached};
+use crate::searched::Searches;
+use crate::setting::WalkSetting;
+use crate::spent::Spent;
+use fx_base::NoMemory;
+use fx_language::Command;
+use fx_order::{RingSlots, Slots};
+use std::alloc::Global;
+
+/// Rings that commands may lead to.
+#[derive(Debug, Drop)]
+pub(crate) struct Rings {
+    pub(crate) rings: Vec<Reached>,
+    /// Whether these are all of them.
+    pub(crate) are_all: bool,
+}
+
+// A ring without a table, with nothing counted, alone.
+fn start(alloc: Global) -> Result<Vec<Reached>, NoMemory>
+    ensures { IfOk result (λ rings. (catalogue : List FileEntry)
+        → stages_of catalogue rings.items
+        ≡ record { ring = new_ring catalogue; printed = [] } ∷ []) }
+{
+    let mut rings = Vec::new(alloc);
+    rings.push(Reached {
+        ring: RingSlots {
+            slots: Slots {
+                range: (0, 0),
+                at: Vec::new(alloc),
+            },
+            submissions: 0,
+            registrations: 0,
+        },
+        printed: String::new(alloc),
+        past: None,
+    })?;
+    Ok(rings)
+}
+
+// Counts the bytes of the rings and orders that are new.
+fn count_new(spent: &mut Spent, rings: &[Reached], pasts: &[Past]) {
+    for reached in rings {
+        spent.count_ring(reached);
+    }
+    for past in pasts {
+        spent.count_order(past.order.len());
+    }
+}
+
+/// The rings that a command may lead to from some.
+///
+/// # Errors
+/// `NoMemory` where memory is refused.
+pub(crate) fn after(
+    setting: &WalkSetting<'_>,
+    spent: &mut Spent,
+    pasts: &mut Vec<Past>,
+    rings: &[Reached],
+    command: &Command,
+) -> Result<Rings, NoMemory>
+    requires { AreRings (stages_of setting.now.catalogue.now rings.now) }
+    ensures each { IfOk result (λ next. AreStagesFrom setting.now.keeps
+        (stages_of setting.now.catalogue.now rings.now) (instruction_of command.now)
+        (stages_of setting.now.catalogue.now next.rings.items)) }
+    ensures all { IfOk result (λ next. IsTrue next.are_all → HasEachFrom setting.now.keeps
+        (stages_of setting.now.catalogue.now rings.now) (instruction_of command.now)
+        (stages_of setting.now.catalogue.now next.rings.items)) }
+{
+    let mut next = Vec::new(setting.alloc);
+    let mut are_all = true;
+    spent.begin_command();
+    let mut searches = Searches::none(setting.alloc, *spent);
+    for reached in rings {
+        let (old_rings, old_pasts) = (next.len(), pasts.len());
+        let all = push_next(setting, &mut searches, pasts, &mut next, reached, command)?;
+        let new_rings = next.as_slice().get(old_rings..).unwrap_or(&[]);
+        let new_pasts = pasts.as_slice().get(old_pasts..).unwrap_or(&[]);
+        count_new(&mut searches.spent, new_rings, new_pasts);
+        are_all = both(are_all, all);
+    }
+    *spent = searches.spent;
+    Ok(Rings {
+        rings: next,
+        are_all,
+    })
+}
+
+/// The rings that commands may lead to, one after another, from a ring without a table.
+///
+/// # Errors
+/// `NoMemory` where memory is refused.
+pub(crate) fn after_all(
+    setting: &WalkSetting<'_>,
+    pasts: &mut Vec<Past>,
+    commands: &[Command],
+) -> Result<Rings, NoMemory>
+    ensures each { IfOk result (λ last. (s : Stage)
+        → Contains (stages_of setting.now.catalogue.now last.rings.items) s
+        → MayLeadAllTo setting.now.keeps (new_ring setting.now.catalogue.now)
+        (instructions_of commands.now) s) }
+    ensures rings { IfOk result (λ last.
+        AreRings (stages_of setting.now.catalogue.now last.rings.items)) }
+    ensures all { IfOk result (λ last. IsTrue last.are_all → HasEachLast setting.now.keeps
+        (new_ring setting.now.catalogue.now) (instructions_of commands.now)
+        (stages_of setting.now.catalogue.now last.rings.items)) }
+{
+    let mut rings = start(setting.alloc)?;
+    let mut are_all = true;
+    let mut spent = Spent::nothing();
+    for command in commands {
+        let next = after(setting, &mut spent, pasts, &rings, command)?;
+        rings = next.rings;
+        are_all = both(are_all, next.are_all);
+    }
+    Ok(Rings { rings, are_all })
+}

@@ -1,0 +1,7 @@
+use Rattle.std.proofs.Common.{◌<◌}
+use Rattle.fx_table.specs.Opening.{size_of}
+use Rattle.fx_table.specs.Pass.{IsIdle}
+use Rattle.example_server.proofs.serve.read.Given as goal
+
+abbrev pub invariant-loop : goal.invariant-loop
+invariant-loop g l = g.T.SharedTable.fits l.table l.pass × IsIdle (g.T.SharedTable.view l.pass)

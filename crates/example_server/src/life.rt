@@ -1,0 +1,86 @@
+//! The life of the table: it is opened, served by four threads, and closed after the last request.
+ghost use Rattle.std.specs.Prelude.{All};
+ghost use Rattle.fx_plain.specs.State.{IsSettled};
+ghost use Rattle.fx_plain.specs.Contents.{state_of};
+ghost use Rattle.fx_table.specs.Pass.{IsIdle};
+
+use crate::desk::Desk;
+use crate::serve::serve;
+use fx_base::{CloseList, NoMemory};
+use fx_lasting::LastingTable;
+use fx_plain::PlainTable;
+use fx_table::SharedTable;
+use std::alloc::Global;
+use std::sync::Wait;
+use std::thread;
+use std::thread::Threads;
+
+/// The number of slots of the table.
+pub const SLOTS: u32 = 4;
+
+// The number of threads that serve, each by a pass that installs files.
+const PASSES: u32 = 4;
+
+// Serves by each pass in a thread of its own, until there are no more requests.
+fn serve_by_threads<T: SharedTable, R: Threads + Wait + Sync>(
+    rt: &R,
+    alloc: Global,
+    desk: &Desk<'_>,
+    table: &T,
+    passes: &mut [T::Pass],
+)
+    requires ready { All (λ p. T.fits table.now p × IsIdle (T.view p)) passes.old }
+    ensures ready { All (λ p. T.fits table.now p × IsIdle (T.view p)) passes.new }
+{
+    thread::for_each_mut(
+        rt,
+        passes,
+        PASSES as usize,
+        &|_, pass: &mut T::Pass|
+            requires { T.fits table.now pass.old × IsIdle (T.view pass.old) }
+            ensures { T.fits table.entry.now pass.new × IsIdle (T.view pass.new) }
+        { serve(rt, alloc, desk, table, pass) },
+    );
+}
+
+// Closes the files that are left, and spends the table.
+fn end(alloc: Global, desk: &Desk<'_>, plain: PlainTable) -> Result<(), NoMemory>
+    requires { IsSettled (state_of plain) }
+{
+    let mut plain = plain;
+    match CloseList::with_room(alloc, plain.full()) {
+        Ok(mut closes) => {
+            plain.empty_into(&mut closes);
+            plain.dismiss();
+            desk.report(&closes);
+            Ok(())
+        }
+        Err(refused) => {
+            plain.abandon();
+            Err(refused)
+        }
+    }
+}
+
+/// Serves until there are no more requests.
+///
+/// # Errors
+/// `NoMemory` if the memory of the table or of its last closes is refused. The files are then dropped without listing
+/// them.
+pub fn serve_all<R: Threads + Wait + Sync>(
+    rt: &R,
+    alloc: Global,
+    desk: &Desk<'_>,
+) -> Result<(), NoMemory> {
+    let plain = PlainTable::sparse(alloc, SLOTS)?;
+    match LastingTable::open(alloc, plain, PASSES, PASSES) {
+        Ok((table, mut passes)) => {
+            serve_by_threads(rt, alloc, desk, &table, passes.as_mut_slice());
+            end(alloc, desk, table.close(passes))
+        }
+        Err((plain, refused)) => {
+            plain.abandon();
+            Err(refused)
+        }
+    }
+}

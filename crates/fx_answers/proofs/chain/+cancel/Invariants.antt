@@ -1,5 +1,0 @@
-use Rattle.fx_order.proofs.Words.{length}
-use Rattle.fx_answers.proofs.chain.+cancel.Given as goal
-
-abbrev pub decreases-cancel : goal.decreases-cancel
-decreases-cancel l = length l.requests.now

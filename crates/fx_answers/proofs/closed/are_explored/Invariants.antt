@@ -1,7 +1,0 @@
-use Rattle.fx_order.proofs.Words.{ℕ, ◌<◌, slice_index_or, Permits, table_of_slots}
-use Rattle.fx_answers.proofs.Words.{Access, IsExploredBy}
-use Rattle.fx_answers.proofs.closed.are_explored.Given as goal
-
-abbrev pub invariant-loop-access : goal.invariant-loop-access
-invariant-loop-access l = (k : ℕ) (d : Access) → k < l.access-index → Permits (table_of_slots l.state.slots) (slice_index_or l.accesses k d)
-    → IsExploredBy l.claimed l.state l.i (slice_index_or l.accesses k d)

@@ -1,6 +1,0 @@
-use Rattle.fx_order.proofs.Words.{◌<◌, ℕ}
-use Rattle.fx_answers.proofs.Words.{IsExploredInTurn}
-use Rattle.fx_answers.proofs.closed.is_state_explored.Given as goal
-
-abbrev pub invariant-loop-i : goal.invariant-loop-i
-invariant-loop-i l = (k : ℕ) → k < l.i → IsExploredInTurn l.claimed l.state k

@@ -1,6 +1,0 @@
-use Rattle.fx_order.proofs.Words.{◌<◌, ℕ}
-use Rattle.fx_answers.proofs.Words.{IsInPart}
-use Rattle.fx_answers.proofs.parts.are_parts.Given as goal
-
-abbrev pub invariant-loop-i : goal.invariant-loop-i
-invariant-loop-i l = (k : ℕ) → k < l.i → IsInPart l.submission l.slots l.numbers k

@@ -1,5 +1,0 @@
-use Rattle.fx_order.proofs.Words.{◌≡◌, ◌<◌, ◌≤◌, ℕ, slice_index_or}
-use Rattle.fx_answers.proofs.parts.belong_to.Given as goal
-
-abbrev pub invariant-loop-slot : goal.invariant-loop-slot
-invariant-loop-slot l = (k : ℕ) → l.from ≤ k → k < l.slot → slice_index_or l.of_slot k 0 ≡ l.part

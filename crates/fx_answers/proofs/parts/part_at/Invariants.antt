@@ -1,5 +1,0 @@
-use Rattle.fx_answers.proofs.Words.{IfSome, IsTurnOf}
-use Rattle.fx_answers.proofs.parts.part_at.Given as goal
-
-abbrev pub invariant-loop-i : goal.invariant-loop-i
-invariant-loop-i l = IfSome l.turn (IsTurnOf l.submission l.numbers l.state)

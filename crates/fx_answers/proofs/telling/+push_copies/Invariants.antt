@@ -1,5 +1,0 @@
-use Rattle.fx_order.proofs.Words.{length}
-use Rattle.fx_answers.proofs.telling.+push_copies.Given as goal
-
-abbrev pub decreases-push_copies : goal.decreases-push_copies
-decreases-push_copies l = length l.more.now

@@ -1,6 +1,0 @@
-use Rattle.fx_answers.proofs.SameAnswers.{completion_same, same_each}
-use Rattle.fx_order.proofs.Words.{sym, ◌∙◌, completed_of}
-use Rattle.fx_answers.proofs.telling.are_same.Goals as goal
-
-pub returns : goal.returns
-returns c = λ is. same_each completed_of completion_same c.args.some.now c.args.others.now (sym c.eq.ensures ∙ is)

@@ -1,6 +1,0 @@
-pub mod Stands
-pub mod Tellings
-pub mod Views
-pub mod Outcomes
-pub mod Listed
-pub mod Reports

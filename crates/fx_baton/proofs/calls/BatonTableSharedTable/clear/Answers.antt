@@ -1,0 +1,22 @@
+use Rattle.fx_baton.proofs.Words.{state_of}
+use Rattle.fx_baton.proofs.calls.BatonTableSharedTable.clear.Goals as goal
+use Rattle.fx_baton.proofs.Calling.{may_lend, slot_inside, clear_called, added}
+use Rattle.fx_table.proofs.Removing.{cleared_so}
+
+pub slot_mut-plain-requires : goal.slot_mut-plain-requires
+slot_mut-plain-requires g c = may_lend c.borrow.ensures
+
+pub entry_at-entry-requires : goal.entry_at-entry-requires
+entry_at-entry-requires g c = slot_inside c.borrow.ensures c.slot_mut-plain.ensures.value c.requires.slot
+
+pub clear-removed-requires : goal.clear-removed-requires
+clear-removed-requires g c = slot_inside c.borrow.ensures c.slot_mut-plain.ensures.value c.requires.slot
+
+pub give_back-requires : goal.give_back-requires
+give_back-requires g c = clear_called c.borrow.ensures c.slot_mut-plain.ensures.value c.requires.idle c.clear-removed.ensures c.is_none.ensures
+
+pub returns-clause-cleared : goal.returns-clause-cleared
+returns-clause-cleared g c =
+    cleared_so _ _ c.args.slot _ 0 _ _
+    (c.retired.ensures ((state_of c.slot_mut-plain.result.now).at c.args.slot) c.clear-removed.ensures.answer c.entry_at-entry.ensures)
+    (added c.borrow.ensures c.slot_mut-plain.ensures.value c.give_back.ensures)

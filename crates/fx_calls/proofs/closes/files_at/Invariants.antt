@@ -1,7 +1,0 @@
-use Rattle.std.proofs.Common.{◌≡◌}
-use Rattle.fx_ring.specs.Ring.{files_in_order}
-use Rattle.fx_order.specs.Slots.{table_of_slots}
-use Rattle.fx_calls.proofs.closes.files_at.Given as goal
-
-abbrev pub invariant-loop-file : goal.invariant-loop-file
-invariant-loop-file l = l.files.items ≡ files_in_order (table_of_slots l.slots).at l.file-index

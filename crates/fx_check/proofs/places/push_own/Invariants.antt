@@ -1,5 +1,0 @@
-use Rattle.fx_check.proofs.Words.{◌≡◌, ◌++◌, None, replicate, place_at}
-use Rattle.fx_check.proofs.places.push_own.Given as goal
-
-abbrev pub invariant-loop-access : goal.invariant-loop-access
-invariant-loop-access l = l.places.items ≡ l.fn.places.items ++ replicate l._access (place_at l.place None)

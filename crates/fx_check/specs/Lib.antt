@@ -1,9 +1,0 @@
-pub mod Kept
-pub mod Met
-pub mod Told
-pub mod Places
-pub mod PlaceLists
-pub mod Ordered
-pub mod Step
-pub mod Answer
-pub mod Judged

@@ -1,7 +1,0 @@
-use Rattle.fx_judge.proofs.Projected.{no_order}
-use Rattle.fx_judge.proofs.refuted.is_refuted_by.Goals as goal
-
-pub returns : goal.returns
-returns c = λ _.
-    no_order c.args.table.now.slots.now c.args.table.now.closes.now c.args.table.now.chains.now c.args.cells.now c.in_ok-strands.strands.items _
-    c.requires.cells c.in_ok-strands.ensures c.deref.ensures.value (c.in_ok-sees_no_end.ensures c.if-not-branch.false)

@@ -1,6 +1,0 @@
-use Rattle.fx_judge.proofs.Words.{◌≡◌, drop, list_any}
-use Rattle.fx_judge.proofs.strands.has_range.Given as goal
-
--- whether there is one is told by the cells that are left
-abbrev pub invariant-loop-cell : goal.invariant-loop-cell
-invariant-loop-cell l = list_any (λ cell. cell.in_range) (drop l.cell-index l.cells) ≡ list_any (λ cell. cell.in_range) l.cells

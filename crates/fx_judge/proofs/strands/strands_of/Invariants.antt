@@ -1,5 +1,0 @@
-use Rattle.fx_judge.proofs.StrandSteps.{SoFar}
-use Rattle.fx_judge.proofs.strands.strands_of.Given as goal
-
-abbrev pub invariant-loop-i : goal.invariant-loop-i
-invariant-loop-i l = SoFar l.cells l.chains l.i l.strands.items

@@ -1,0 +1,3 @@
+pub mod Concluded
+pub mod Found
+pub mod Listings

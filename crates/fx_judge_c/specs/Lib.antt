@@ -1,0 +1,3 @@
+pub mod Listed
+pub mod Outcomes
+pub mod Verdicts

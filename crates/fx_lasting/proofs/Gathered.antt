@@ -1,0 +1,154 @@
+-- Passes as they are dealt out, and all of them in one seat again: what the one history says of each.
+use Rattle.fx_lasting.proofs.Words.{◌≡◌, ◌≢◌, ℕ, ◌+◌, ◌≤◌, List, [], ◌∷◌, sym, refl, ap, ◌∙◌, subst, arith, Option, All, TableId}
+use Rattle.fx_lasting.proofs.Words.{take, drop, map, length, reverse, Closed, Sat, new_log, pass_of, view_of, IsPassOf, IsSeatOf, IsBetweenCalls}
+use Rattle.fx_lasting.proofs.Words.{LastingPass, Log, Start, View, IsNewPass, dealt, numbers_of, block_start, slots_of, some, get_elem?}
+use Rattle.fx_lasting.proofs.Words.{Contains, sum_by, Contents, state_of, IsSettled, contains_head, contains_map, Agrees, LogAgrees, logs_in, Shared}
+use Rattle.fx_lasting.proofs.Words.{opening_of, state_after_all, first_log, Event, Idle, IsAtWork, IsInBlock, IsHistory}
+use Rattle.atomic_table.specs.declared.shared.Seat.{Seat}
+use Rattle.fx_lasting.specs.Cuts.{without_first, first_alone}
+use Rattle.fx_lasting.specs.Tables.{first_passes, as_first}
+use Rattle.std.proofs.lemmas.List.{length-reverse, length-map}
+use Rattle.fx_table.specs.Closing.{ClosesTable, times_drawn}
+use Rattle.fx_table.specs.Numbers.{once}
+use Rattle.fx_table.specs.Opening.{HasSameFiles}
+use Rattle.fx_table.specs.Pass.{PassView, new_pass, new_passes}
+use Rattle.fx_table.proofs.Chains.{in_part}
+use Rattle.fx_table.proofs.Dealing.{first_left, last_left, IsReady, fits}
+use Rattle.fx_table.proofs.Gathering.{logs_are as each_log, sum_gathered, each_seat, only_here}
+use Rattle.fx_lasting.proofs.Words.{lengths, one_if, eqb}
+use Rattle.fx_table.proofs.Members.{contains_tail, contains_none, contains_mapped, contains_reverse, contains_reversed}
+use Rattle.fx_table.proofs.Settling.{IsWhole, closes_table}
+use Rattle.fx_table.proofs.SumLemmas.{found_by, sum_zero, sum_map}
+use Rattle.fx_lasting.proofs.Ending.{settled_end}
+
+-- a pass as other tables' passes are shown when they are new
+abbrev pub shown : LastingPass → PassView
+shown p = record (view_of p) { numbers_left = 0 }
+
+-- it is that, and the files that it can install
+shown_one : {id : TableId} {k : Start} (p : LastingPass) → IsPassOf id k p
+    → view_of p ≡ as_first k.installing (shown p)
+shown_one p fits = λ i. record (view_of p) { numbers_left = numbers_of (fits.seated.at.pass.0 i).installing (view_of p).number }
+
+shown_all : {id : TableId} {k : Start} (ps : List LastingPass) → ((p : LastingPass) → Contains ps p → IsPassOf id k p)
+    → map view_of ps ≡ map (as_first k.installing) (map shown ps)
+shown_all [] each = refl
+shown_all (p ∷ ps) each = λ i. shown_one p (each p (contains_head p ps)) i ∷ shown_all ps (λ q h. each q (contains_tail p ps q h)) i
+
+pub shown_so : (id : TableId) (k : Start) (ps : List LastingPass) → All (IsReady (IsPassOf id k) shown) ps → (n : ℕ) → map shown ps ≡ new_passes n
+    → map view_of ps ≡ first_passes k.installing n
+shown_so id k ps ready n is = shown_all ps (fits (IsPassOf id k) shown ps ready) ∙ ap (map (as_first k.installing)) is
+
+-- The passes that are dealt out
+pub rest_is_dealt : {k : Start} {p : ℕ} → p ≤ k.passes → without_first (dealt k p) ≡ dealt k (p + 1)
+rest_is_dealt {k} {p} l = ap (λ (z : List Log). record (dealt k p) { logs = drop 1 z }) (first_left new_log p k.passes l)
+
+-- the last pass alone
+pub last_is_dealt : {k : Start} {p : ℕ} → p ≡ k.passes → dealt k p ≡ first_alone (dealt k p)
+last_is_dealt {k} {p} e = ap (λ (z : List Log). record (dealt k p) { logs = z }) (last_left new_log p k.passes e)
+
+-- the pass of a seat that has the first of them
+module _ {id : TableId} (k : Start) {p : ℕ} (low : 1 ≤ p) (high : p ≤ k.passes) {n : ℕ} (first : n ≡ block_start (slots_of k) k.passes p)
+    {seat : Seat (Option Closed) View} {x : LastingPass} (new : IsNewPass seat p n x) (table : seat.table_id ≡ id)
+    (is : seat.me ≡ (first_alone (dealt k p), [])) where
+  alone : first_alone (dealt k p) ≡ record (dealt k p) { logs = new_log p ∷ [] }
+  alone = ap (λ (z : List Log). record (dealt k p) { logs = take 1 z }) (first_left new_log p k.passes high)
+
+  me : x.seat.me ≡ (record (dealt k p) { logs = new_log p ∷ [] }, [])
+  me = ap (λ (z : Seat (Option Closed) View). z.me) new.its_seat ∙ (is ∙ ap (λ (v : View). (v, [])) alone)
+
+  legal : IsHistory k []
+  legal = record { leads = (tt, refl); releases = tt }
+
+  at : IsAtWork k p x.seat.me
+  at = rw me record {
+    log = new_log p;
+    pass = (refl, refl);
+    its_number = refl;
+    low = omega (arith, low);
+    high = high;
+    legal = legal;
+    inside = tt;
+  }
+
+  seated : IsSeatOf id k x
+  seated = record {
+    table = ap (λ (z : Seat (Option Closed) View). z.table_id) new.its_seat ∙ table;
+    places = ap (λ (m : Sat). m.1) me;
+    at = subst (λ (q : ℕ). IsAtWork k q x.seat.me) (sym new.its_number) at;
+    change = ap (λ (m : Sat). m.0.change) me;
+    block = subst (λ (z : ℕ × ℕ). IsInBlock k z.0 z.1) (λ i. (sym new.its_number i, (sym first ∙ sym new.its_node) i))
+        (omega arith, omega (arith, low, high));
+  }
+
+  pub is_new_pass : IsPassOf id k x × (shown x ≡ new_pass p)
+  is_new_pass = (
+    record {
+      seated = seated;
+      calm = ap (λ (m : Sat). m.0.glance) me;
+      knows = subst (IsBetweenCalls k.passes x.idle x.guarded x.next_visit) (sym (ap (λ (m : Sat). m.0.work) me)) new.flag;
+      front = rw me record { legal = legal; mine = refl };
+    },
+    ap (λ (m : Sat). record (pass_of m.0) { numbers_left = 0 }) me,
+  )
+
+-- All passes in one seat: what the one history says of each of them
+module _ (id : TableId) (k : Start) where
+  abbrev pub Is : LastingPass → Type 0
+  Is p = IsPassOf id k p
+
+  -- the one log of a pass
+  abbrev pub log_of : LastingPass → Log
+  log_of p = first_log p.seat.me.0.logs
+
+  its_log : (p : LastingPass) → Is p → p.seat.me.0.logs ≡ log_of p ∷ []
+  its_log p fits = let one = fits.seated.at.pass.1 in one ∙ ap (λ (x : Log). x ∷ []) (sym (ap first_log one))
+
+  module _ (ps : List LastingPass) (each : (p : LastingPass) → Contains ps p → Is p) (count : length ps ≡ k.passes)
+      {s : Shared} (r : Agrees k s) (seat : ℕ) {v : View} (at : get_elem? s.views seat ≡ some v) (logs_are : v.logs ≡ logs_in (reverse ps))
+      (idle : v.work ≡ Idle) where
+    these_logs : v.logs ≡ map log_of (reverse ps)
+    these_logs = logs_are ∙ each_log (λ p. p.seat.me.0.logs) log_of (reverse ps) (λ p h. its_log p (each p (contains_reverse ps p h)))
+
+    all_logs : length v.logs ≡ k.passes
+    all_logs = ap (length {A = Log}) these_logs ∙ (length-map (reverse ps) log_of ∙ (length-reverse ps ∙ count))
+
+    whole_here : length v.logs ≡ sum_by lengths s.views
+    whole_here = all_logs ∙ sym r.whole
+
+    pub all_idle : (i : ℕ) (u : View) → get_elem? s.views i ≡ some u → u.work ≡ Idle
+    all_idle = each_seat (λ (u : View). u.logs) s.views seat v at whole_here (λ u. u.work ≡ Idle) idle (λ i u e none. ((r.each_view i u e).empty none).0)
+
+    pub known : (p : LastingPass) → Contains ps p → LogAgrees k r.history s.words r.phase r.debt r.over v.work v.glance (log_of p)
+    known p h = (r.each_view seat v at).logs (log_of p) (rw these_logs (contains_mapped log_of (reverse ps) p (contains_reversed ps p h)))
+
+    sum_of_all : (f : Log → ℕ) → sum_by f v.logs ≡ sum_by (λ p. f (log_of p)) ps
+    sum_of_all f = sum_gathered (λ (p : LastingPass). p.seat.me.0.logs) log_of f ps v.logs these_logs
+
+    sum_here : (f : Log → ℕ) → sum_by f v.logs ≡ sum_by (λ (u : View). sum_by f u.logs) s.views
+    sum_here f = sym (only_here (λ (u : View). u.logs) s.views seat v at whole_here (λ u. sum_by f u.logs) (λ u none. ap (sum_by f) none))
+
+    -- a lasting table has no chains
+    none_drawn : (c : ℕ) → sum_by (times_drawn c) (map view_of ps) ≡ 0
+    none_drawn c = sum_map (times_drawn c) view_of ps ∙ sum_zero (λ (p : LastingPass). times_drawn c (view_of p)) ps (λ p h. refl)
+
+    pub whole : IsWhole (opening_of k) r.history (map view_of ps)
+    whole = record {
+      legal = r.legal;
+      settled = settled_end r all_idle;
+      seen = λ w h. let p = contains_map view_of ps w h in rw p.2 (known p.0 p.1).seen;
+      own = λ w h. let p = contains_map view_of ps w h in rw p.2 (known p.0 p.1).own;
+      authors = λ e h. let known : once k.passes e.pass ≢ 0 =
+          λ none. contains_none e (subst (λ (l : List Event). Contains l e) (r.authors e.pass none) (in_part e.pass r.history e h refl)) in
+          let a = sum_of_all (λ x. one_if (eqb x.number e.pass)) in let b = sum_here (λ x. one_if (eqb x.number e.pass)) in
+          let c = r.passes e.pass in let p = found_by (λ (q : LastingPass). (log_of q).number) e.pass ps (omega (arith, known)) in
+          (view_of p.0, contains_mapped view_of ps p.0 p.1, sym p.2);
+      chains_inside = λ w h c d. let p = contains_map view_of ps w h in
+          absurd (contains_none c (subst (λ (z : PassView). Contains z.drawn c) p.2 d));
+      drawn_once = λ c. omega (arith, none_drawn c);
+      all_drawn = λ ended c low high. absurd (omega arith);
+    }
+
+    pub closes : (left : Contents) → HasSameFiles (state_after_all k r.history) (state_of left) → IsSettled (state_of left)
+        → ClosesTable (opening_of k) (map view_of ps) left
+    closes left = closes_table (opening_of k) r.history (map view_of ps) left whole

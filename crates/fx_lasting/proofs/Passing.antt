@@ -1,0 +1,325 @@
+-- A pass between two calls, and what a call adds to it.
+use Rattle.fx_lasting.proofs.Words.{◌≡◌, ℕ, ◌+◌, ◌-◌, ◌≤◌, ◌<◌, ◌^◌, ◌⊎◌, List, [], sym, refl, ap, ◌∙◌, subst, arith, Bool, true, false, Option, Some, None}
+use Rattle.fx_lasting.proofs.Words.{Start, Sat, Work, Glance, Change, Nothing, Outside, Runs, Stepped, IsAtWork, IsInBlock}
+use Rattle.fx_lasting.proofs.Words.{part_of_pass, TableId, Idle, Counted, Guarded, Retiring, LastingPass, LastingTable, IsSeatOf, IsPassOf, IsPassOfTable, IsBetweenCalls}
+use Rattle.fx_lasting.proofs.Words.{opening_of, view_of, pass_of, pass_in, numbers_of, doing_in, hold_at, retired_at, retiring, IsHistory}
+use Rattle.fx_lasting.proofs.Words.{Action, ◌▷◌, Put, Clear, Take, Release, Close, Look, File, Closed, numbered, name_in, count_in, LetsFileGo}
+use Rattle.std.specs.Prelude.{option_map, Result, Ok, Err, ok_or, is_err, is_some, not, ◌==◌, ◌≢◌}
+use Rattle.std.proofs.lemmas.Bool.{not-false, not-true}
+use Rattle.fx_table.specs.Calls.{Use, no_use, one_number, one_look, Adds, IsNewFile, Placed, Cleared, Taken, ReleasesFile, LookedAfter, LookedUp}
+use Rattle.fx_table.proofs.Calls.{adds_then, adds_nothing}
+use Rattle.fx_lasting.proofs.Words.{TakesAt, LetsMarkGo, Announced, first_visit, hot_in, cond, inl, inr}
+use Rattle.fx_table.specs.Opening.{Opening}
+use Rattle.fx_table.specs.Pass.{PassView, IsIdle, IsFileRemoval}
+use Rattle.fx_table.specs.declared.values.Doing.{Doing}
+use Rattle.fx_table.specs.declared.values.Doing.TheVariants.{Idle as DoesNothing, Holding, Retiring as Retires}
+use Rattle.fx_table.specs.declared.values.Empty.{Empty}
+use Rattle.fx_table.specs.declared.values.Hold.{Hold}
+use Rattle.fx_table.specs.declared.values.LookFault.{LookFault}
+use Rattle.fx_table.specs.declared.values.LookFault.TheVariants.{Spent, Empty as EmptySlot}
+use Rattle.fx_table.specs.declared.values.Retired.{Retired}
+use Rattle.fx_lasting.proofs.Running.{runs_one, runs_then, turns_then, does_then, still_at_work, number_is}
+use Rattle.fx_lasting.proofs.Words.{dite, dec_le, lt-ltb, IsIdleSeatOf}
+
+module _ {id : TableId} {k : Start} {p : LastingPass} (seated : IsSeatOf id k p) where
+  started : p.seat.me.0.start ≡ k
+  started = seated.at.pass.0
+
+  -- the changes that a pass's steps make to its view
+  pub adds_so : {m' : Sat} {xs : List Action} {w : Work} {g : Glance} {c : Change} {n : ℕ} → Runs p.seat.me xs w g c n m' → (used : Use)
+      → Adds (opening_of k) (view_of p) xs (doing_in w) used (pass_of m'.0)
+  adds_so {m'} r used = record {
+    seen = r.seen;
+    front = record { legal = subst (λ (z : Start). IsHistory z (pass_in m').front) started r.legal; mine = refl };
+    own = ap (λ (n : ℕ). part_of_pass n (pass_in m').front) r.number ∙ r.own;
+    now = ap doing_in r.work;
+    number = r.number;
+    chain = refl;
+    drawn = refl;
+    no_chains_left = refl;
+    numbers_left = λ i. numbers_of (r.start i).installing (r.number i);
+    looks_left = refl;
+  }
+
+  -- a pass whose seat has made some steps, and whose fields fit its work
+  pub still_seat : (q : LastingPass) {xs : List Action} {w : Work} {g : Glance} {n : ℕ} → Runs p.seat.me xs w g Outside n q.seat.me
+      → q.number ≡ p.number → q.seat.table_id ≡ p.seat.table_id → q.seat.me.1 ≡ [] → IsInBlock k q.number q.next_node → IsSeatOf id k q
+  still_seat q r same table places block = record {
+    table = table ∙ seated.table;
+    places = places;
+    at = subst (λ (n : ℕ). IsAtWork k n q.seat.me) (sym same) (still_at_work seated.at r);
+    change = r.change;
+    block = block;
+  }
+
+  pub still_pass : (q : LastingPass) {xs : List Action} {w : Work} {n : ℕ} → Runs p.seat.me xs w Nothing Outside n q.seat.me
+      → q.number ≡ p.number → q.seat.table_id ≡ p.seat.table_id → q.seat.me.1 ≡ [] → IsInBlock k q.number q.next_node
+      → IsBetweenCalls k.passes q.idle q.guarded q.next_visit w → IsPassOf id k q
+  still_pass q r same table places block knows = record {
+    seated = still_seat q r same table places block;
+    calm = r.glance;
+    knows = subst (IsBetweenCalls k.passes q.idle q.guarded q.next_visit) (sym r.work) knows;
+    front = (adds_so r no_use).front;
+  }
+
+-- a pass that looks nothing up, outside a change
+pub at_rest : {id : TableId} {k : Start} {p : LastingPass} → IsPassOf id k p → {m' : Sat} {xs : List Action} {w : Work} {n : ℕ}
+    → Runs p.seat.me xs w p.seat.me.0.glance p.seat.me.0.change n m' → Runs p.seat.me xs w Nothing Outside n m'
+at_rest {p = p} fits {m'} {xs} {w} {n} r =
+    subst (λ (z : Glance × Change). Runs p.seat.me xs w z.0 z.1 n m') (λ i. (fits.calm i, fits.seated.change i)) r
+
+-- a pass that has a file to retire, and has visited nobody yet
+abbrev pub IsToRetire : ℕ → ℕ → File → Retired → Work → Type 0
+IsToRetire passes visit f retired w = (w ≡ Retiring f retired.node retired.takes visit 0) × (retired.takes < 2 ^ 31)
+    × ((visit ≡ 1) ⊎ (visit ≡ passes + 1))
+
+-- The work of a pass between two calls, by its activity
+module _ (passes visit : ℕ) (idle guarded : Bool) where
+  work_idle : (w : Work) → IsBetweenCalls passes idle guarded visit w → doing_in w ≡ DoesNothing → w ≡ Idle
+  work_idle Idle knows is = refl
+  work_idle (Counted f n) knows is = absurd (cc is)
+  work_idle (Guarded f n) knows is = absurd (cc is)
+  work_idle (Retiring f n t nx m) knows is = absurd (cc is)
+  work_idle _ knows is = absurd knows
+
+  work_flag : (w : Work) → IsBetweenCalls passes idle guarded visit w → doing_in w ≡ DoesNothing → idle ≡ true
+  work_flag Idle knows is = knows
+  work_flag (Counted f n) knows is = absurd (cc is)
+  work_flag (Guarded f n) knows is = absurd (cc is)
+  work_flag (Retiring f n t nx m) knows is = absurd (cc is)
+  work_flag _ knows is = absurd knows
+
+  module _ (f : File) (hold : Hold) where
+    work_guarded : (w : Work) → IsBetweenCalls passes idle guarded visit w → doing_in w ≡ Holding f hold → guarded ≡ true → w ≡ Guarded f hold.node
+    work_guarded Idle knows is guards = absurd (cc is)
+    work_guarded (Counted g n) knows is guards = let bad : false ≡ true = sym knows.1 ∙ guards in absurd (cc bad)
+    work_guarded (Guarded g n) knows is guards = let same : g ≡ f = cc is in let value : hold_at g n ≡ hold = cc is in
+        λ i. Guarded (same i) (ap (λ (h : Hold). h.node) value i)
+    work_guarded (Retiring g n t nx m) knows is guards = absurd (cc is)
+    work_guarded _ knows is guards = absurd knows
+
+    work_counted : (w : Work) → IsBetweenCalls passes idle guarded visit w → doing_in w ≡ Holding f hold → guarded ≡ false → w ≡ Counted f hold.node
+    work_counted Idle knows is guards = absurd (cc is)
+    work_counted (Counted g n) knows is guards = let same : g ≡ f = cc is in let value : hold_at g n ≡ hold = cc is in
+        λ i. Counted (same i) (ap (λ (h : Hold). h.node) value i)
+    work_counted (Guarded g n) knows is guards = let bad : false ≡ true = sym guards ∙ knows.1 in absurd (cc bad)
+    work_counted (Retiring g n t nx m) knows is guards = absurd (cc is)
+    work_counted _ knows is guards = absurd knows
+
+  work_retiring : (f : File) (retired : Retired) (w : Work) → IsBetweenCalls passes idle guarded visit w → doing_in w ≡ Retires f retired
+      → IsToRetire passes visit f retired w
+  work_retiring f retired Idle knows is = absurd (cc is)
+  work_retiring f retired (Counted g n) knows is = absurd (cc is)
+  work_retiring f retired (Guarded g n) knows is = absurd (cc is)
+  work_retiring f retired (Retiring g n t nx m) knows is = let same : g ≡ f = cc is in let value : retired_at g n t ≡ retired = cc is in (
+    λ i. Retiring (same i) (ap (λ (r : Retired). r.node) value i) (ap (λ (r : Retired). r.takes) value i) (sym knows.1 i) (knows.2 i),
+    subst (λ (z : ℕ). z < 2 ^ 31) (ap (λ (r : Retired). r.takes) value) knows.3,
+    subst (λ (z : ℕ). (z ≡ 1) ⊎ (z ≡ passes + 1)) (sym knows.1) knows.4,
+  )
+  work_retiring f retired _ knows is = absurd knows
+
+module _ {id : TableId} {k : Start} {p : LastingPass} (fits : IsPassOf id k p) where
+  pub its_idle : IsIdle (view_of p) → p.seat.me.0.work ≡ Idle
+  its_idle = work_idle k.passes p.next_visit p.idle p.guarded p.seat.me.0.work fits.knows
+
+  pub its_flag : IsIdle (view_of p) → p.idle ≡ true
+  its_flag = work_flag k.passes p.next_visit p.idle p.guarded p.seat.me.0.work fits.knows
+
+  pub its_guarded : {f : File} {hold : Hold} → (view_of p).doing ≡ Holding f hold → p.guarded ≡ true → p.seat.me.0.work ≡ Guarded f hold.node
+  its_guarded {f} {hold} = work_guarded k.passes p.next_visit p.idle p.guarded f hold p.seat.me.0.work fits.knows
+
+  pub its_counted : {f : File} {hold : Hold} → (view_of p).doing ≡ Holding f hold → p.guarded ≡ false → p.seat.me.0.work ≡ Counted f hold.node
+  its_counted {f} {hold} = work_counted k.passes p.next_visit p.idle p.guarded f hold p.seat.me.0.work fits.knows
+
+  pub its_retiring : {f : File} {retired : Retired} → (view_of p).doing ≡ Retires f retired
+      → IsToRetire k.passes p.next_visit f retired p.seat.me.0.work
+  its_retiring {f} {retired} = work_retiring k.passes p.next_visit p.idle p.guarded f retired p.seat.me.0.work fits.knows
+
+-- a step between a begin and an end, if there are such
+pub goes_around : {m m' m'' m₃ : Sat} {action : Action} {w w' : Work} {g : Glance} {c c' : Change} → Runs m [] w g c 1 m'
+    → Stepped m' ([] ▷ action) w' m'.0.glance c' m'' → Runs m'' [] m''.0.work m''.0.glance Outside 1 m₃ → Runs m ([] ▷ action) w' g Outside 3 m₃
+goes_around {m' = m'} {m'' = m''} {action = action} {w' = w'} {c' = c'} began s ended = turns_then
+    (runs_then began (subst (λ (z : Glance). Runs m' ([] ▷ action) w' z c' 1 m'') began.glance (runs_one s))) ended
+
+-- the same, up to the step
+pub goes_in : {m m' m'' : Sat} {action : Action} {w w' : Work} {g : Glance} {c c' : Change} → Runs m [] w g c 1 m'
+    → Stepped m' ([] ▷ action) w' m'.0.glance c' m'' → Runs m ([] ▷ action) w' g c' 2 m''
+goes_in {m' = m'} {m'' = m''} {action = action} {w' = w'} {c' = c'} began s =
+    runs_then began (subst (λ (z : Glance). Runs m' ([] ▷ action) w' z c' 1 m'') began.glance (runs_one s))
+
+-- The results of calls that empty or replace a slot
+module _ (k : Start) (v : PassView) (slot found : ℕ) (w : PassView) where
+  abbrev o : Opening
+  o = opening_of k
+
+  abbrev value_of : Option File → Option Retired
+  value_of file = option_map (λ (f : File). retired_at f (name_in found - 1) (count_in found)) file
+
+  is_removal : (f : File) → IsFileRemoval o f (retired_at f (name_in found - 1) (count_in found))
+  is_removal f = record { entry = refl; same = λ e. absurd (cc e) }
+
+  pub cleared_so : (file : Option File) (removed : Option Retired) → removed ≡ value_of file
+      → Adds o v ([] ▷ Clear slot file) (doing_in (retiring k found file)) no_use w → Cleared o v slot removed w
+  cleared_so None removed is adds = rw is adds
+  cleared_so (Some f) removed is adds = rw is (f, is_removal f, adds)
+
+  pub taken_so : (file : Option File) (removed : Option Retired) → removed ≡ value_of file → (result : Result Retired Empty) (empty : Empty)
+      → result ≡ ok_or removed empty → Adds o v ([] ▷ Take slot file) (doing_in (retiring k found file)) no_use w → Taken o v slot result w
+  taken_so None removed is result empty answer adds = rw (answer, is) adds
+  taken_so (Some f) removed is result empty answer adds = rw (answer, is) (f, is_removal f, adds)
+
+  pub placed_so : (file : Option File) (removed : Option Retired) → removed ≡ value_of file → (n : ℕ) (its : Closed)
+      → Adds o v ([] ▷ Put slot (numbered n its) file) (doing_in (retiring k found file)) one_number w → Placed o v slot its removed w
+  placed_so None removed is n its adds = rw is (numbered n its, record { identity = refl; same = λ e. absurd (cc e) }, adds)
+  placed_so (Some f) removed is n its adds =
+      rw is (numbered n its, record { identity = refl; same = λ e. absurd (cc e) }, (f, is_removal f, adds))
+
+-- the release of a file
+pub released_so : {id : TableId} {k : Start} {p : LastingPass} (fits : IsPassOf id k p) (m' : Sat) (f : File) (n : ℕ) (r : Option Closed)
+    → LetsFileGo p.seat.me f n r m' → ReleasesFile (opening_of k) (view_of p) f r (pass_of m'.0)
+released_so fits m' f n None goes = adds_so fits.seated goes no_use
+released_so fits m' f n (Some file) goes = (goes.0, adds_so fits.seated goes.1 no_use)
+
+-- it is one run of steps
+pub lets_run : (m m' : Sat) (f : File) (n : ℕ) (r : Option Closed) → LetsFileGo m f n r m'
+    → (xs : List Action) × Runs m xs Idle m.0.glance m.0.change n m'
+lets_run m m' f n None goes = ([] ▷ Release f, goes)
+lets_run m m' f n (Some file) goes = ([] ▷ Release f ▷ Close f, goes.1)
+
+-- the changes of a seat's steps, outside a change
+pub at_ease : {id : TableId} {k : Start} {p : LastingPass} → IsSeatOf id k p → {m' : Sat} {xs : List Action} {w : Work} {g : Glance} {n : ℕ}
+    → Runs p.seat.me xs w g p.seat.me.0.change n m' → Runs p.seat.me xs w g Outside n m'
+at_ease {p = p} seated {m'} {xs} {w} {g} {n} r = subst (λ (z : Change). Runs p.seat.me xs w g z n m') seated.change r
+
+-- A look-up
+module _ {id : TableId} {k : Start} {p : LastingPass} (seated : IsSeatOf id k p) (slot : ℕ) (m' : Sat) where
+  -- a pass that took what the slot names
+  pub looked_so : (r : Result Hold LookFault) → TakesAt slot p.seat.me r m'
+      → LookedAfter (opening_of k) (view_of p) [] slot r (pass_of m'.0)
+  looked_so (Ok hold) t = (
+    t.0,
+    record { entry = ap (λ (h : Hold). h.entry) t.1; same = λ e. absurd (cc e) },
+    subst (λ (h : Hold). Adds (opening_of k) (view_of p) ([] ▷ Look slot (Some t.0)) (Holding t.0 h) one_look (pass_of m'.0)) (sym t.1)
+        (adds_so seated t.2 one_look),
+  )
+  looked_so (Err Spent) t = absurd t
+  looked_so (Err EmptySlot) t = adds_so seated t one_look
+
+  -- it is one run of steps, and the pass knows how it ended
+  pub took_run : (r : Result Hold LookFault) → TakesAt slot p.seat.me r m' → (idle : Bool) → is_err r ≡ idle → (passes visit : ℕ)
+      → (xs : List Action) × (w : Work) × Runs p.seat.me xs w Nothing p.seat.me.0.change 2 m' × IsBetweenCalls passes idle false visit w
+  took_run (Ok hold) t idle is passes visit = ([] ▷ Look slot (Some t.0), Counted t.0 hold.node, t.2, (sym is, refl))
+  took_run (Err Spent) t idle is passes visit = absurd t
+  took_run (Err EmptySlot) t idle is passes visit = ([] ▷ Look slot None, Idle, t, sym is)
+
+  pub never_spent : (r : Result Hold LookFault) → TakesAt slot p.seat.me r m' → r ≢ Err Spent
+  never_spent (Ok hold) t is = cc is
+  never_spent (Err Spent) t is = t
+  never_spent (Err EmptySlot) t is = cc is
+
+-- what a pass adds that did something before its look-up
+pub after_then : (k : Start) (u v w : PassView) (xs : List Action) (slot : ℕ) (r : Result Hold LookFault) → r ≢ Err Spent
+    → Adds (opening_of k) u xs DoesNothing no_use v → LookedAfter (opening_of k) v [] slot r w → LookedAfter (opening_of k) u xs slot r w
+after_then k u v w xs slot (Ok hold) never before looked = (
+  looked.0,
+  looked.1,
+  adds_then (opening_of k) u v w xs ([] ▷ Look slot (Some looked.0)) DoesNothing (Holding looked.0 hold) no_use one_look before looked.2,
+)
+after_then k u v w xs slot (Err Spent) never before looked = absurd (never refl)
+after_then k u v w xs slot (Err EmptySlot) never before looked =
+    adds_then (opening_of k) u v w xs ([] ▷ Look slot None) DoesNothing DoesNothing no_use one_look before looked
+
+pub up_then : (k : Start) (u v w : PassView) (slot : ℕ) (r : Result Hold LookFault) (freed : Option Closed) → r ≢ Err Spent
+    → Adds (opening_of k) u [] DoesNothing no_use v → LookedUp (opening_of k) v slot r freed w → LookedUp (opening_of k) u slot r freed w
+up_then k u v w slot r None never before looked = after_then k u v w [] slot r never before looked
+up_then k u v w slot (Ok hold) (Some file) never before looked = (
+  looked.0,
+  looked.1,
+  (
+    looked.2.0,
+    looked.2.1,
+    adds_then (opening_of k) u v w [] ([] ▷ Close looked.0 ▷ Look slot (Some looked.2.0)) DoesNothing (Holding looked.2.0 hold) no_use one_look before
+        looked.2.2,
+  ),
+)
+up_then k u v w slot (Err Spent) (Some file) never before looked = absurd (never refl)
+up_then k u v w slot (Err EmptySlot) (Some file) never before looked = (
+  looked.0,
+  looked.1,
+  adds_then (opening_of k) u v w [] ([] ▷ Close looked.0 ▷ Look slot None) DoesNothing DoesNothing no_use one_look before looked.2,
+)
+
+-- a look-up after a withdrawal
+pub marks_then : {id : TableId} {k : Start} {p : LastingPass} (seated : IsSeatOf id k p) {m' : Sat} (w : PassView) (slot : ℕ) {n : ℕ}
+    {g : Glance} (freed : Option Closed) (r : Result Hold LookFault) → r ≢ Err Spent
+    → Runs p.seat.me [] (Announced n) g p.seat.me.0.change 2 m' → (m'' : Sat) → LetsMarkGo m' 3 freed m''
+    → LookedAfter (opening_of k) (pass_of m''.0) [] slot r w → LookedUp (opening_of k) (view_of p) slot r freed w
+marks_then {k = k} {p = p} seated w slot None r never before m'' lets looked =
+    after_then k (view_of p) (pass_of m''.0) w [] slot r never (adds_so seated (does_then before lets) no_use) looked
+marks_then {k = k} {p = p} seated w slot (Some file) r never before m'' lets looked = (
+  lets.0,
+  lets.1,
+  after_then k (view_of p) (pass_of m''.0) w ([] ▷ Close lets.0) slot r never (adds_so seated (does_then before lets.2) no_use) looked,
+)
+
+pub marks_run : (m m' : Sat) (n : ℕ) (freed : Option Closed) → LetsMarkGo m n freed m'
+    → (xs : List Action) × Runs m xs Idle m.0.glance m.0.change n m'
+marks_run m m' n None lets = ([], lets)
+marks_run m m' n (Some file) lets = ([] ▷ Close lets.0, lets.2)
+
+-- a removal, and a pass that knows of it
+pub knows_removed : (k : Start) (found : ℕ) (file : Option File) (removed : Option Retired) (idle guarded : Bool) (visit : ℕ)
+    → removed ≡ option_map (λ (f : File). retired_at f (name_in found - 1) (count_in found)) file → is_some removed ≡ not idle
+    → visit ≡ first_visit k.passes found → IsBetweenCalls k.passes idle guarded visit (retiring k found file)
+knows_removed k found None removed idle guarded visit is says first = not-false idle (sym says ∙ ap is_some is)
+knows_removed k found (Some f) removed idle guarded visit is says first = (
+  not-true idle (sym says ∙ ap is_some is),
+  first,
+  refl,
+  omega arith,
+  visits_first (hot_in found == 1),
+)
+  where
+    visits_first : (b : Bool) → (cond b 1 (k.passes + 1) ≡ 1) ⊎ (cond b 1 (k.passes + 1) ≡ k.passes + 1)
+    visits_first true = inl refl
+    visits_first false = inr refl
+
+-- a pass that was idle, once a slot's old file is with it
+pub at_ease_looking : {id : TableId} {k : Start} {p : LastingPass} → IsPassOf id k p → {m' : Sat} {xs : List Action} {j : Start} (found : ℕ)
+    (file : Option File) {n : ℕ} → Runs p.seat.me xs (retiring j found file) p.seat.me.0.glance Outside n m' → j ≡ k
+    → Runs p.seat.me xs (retiring k found file) Nothing Outside n m'
+at_ease_looking {p = p} fits {m'} {xs} found file {n = n} r same =
+    subst (λ (z : Start × Glance). Runs p.seat.me xs (retiring z.0 found file) z.1 Outside n m') (λ i. (same i, fits.calm i)) r
+
+-- the first visit of a retirement, as the table counts its passes
+pub first_by : (t : LastingTable) (found : ℕ) → first_visit t.passes found ≡ first_visit t.table.shared.key.passes found
+first_by t found = ap (λ (n : ℕ). first_visit n found) t.key.0
+
+-- a pass that can install a file is one of those that install
+pub may_install : {id : TableId} {k : Start} {p : LastingPass} → IsSeatOf id k p → 0 < (view_of p).numbers_left → p.number ≤ k.installing
+may_install {k = k} {p = p} seated some_left = dite (dec_le p.number k.installing) (λ few. few)
+    (λ many. let none_left : numbers_of k.installing p.number ≡ 0 = ap (λ (b : Bool). cond b 0 64) (lt-ltb k.installing p.number (omega (arith, many))) in
+    let same : (view_of p).numbers_left ≡ numbers_of k.installing p.number = λ i. numbers_of (seated.at.pass.0 i).installing (number_is seated.at i) in
+    absurd (omega (arith, some_left, same, none_left)))
+
+-- the seat of an idle pass
+pub idle_seat : (t : LastingTable) {p : LastingPass} → IsPassOfTable t p → IsIdle (view_of p) → IsIdleSeatOf t p.seat
+idle_seat t fits idle = record {
+  table = fits.seated.table;
+  places = fits.seated.places;
+  start = fits.seated.at.pass.0;
+  work = its_idle fits idle;
+  glance = fits.calm;
+  change = fits.seated.change;
+}
+
+-- an idle pass has added nothing yet
+pub nothing_yet : {id : TableId} {k : Start} {p : LastingPass} → IsPassOf id k p → IsIdle (view_of p)
+    → Adds (opening_of k) (view_of p) [] DoesNothing no_use (view_of p)
+nothing_yet {k = k} {p = p} fits idle = subst (λ (d : Doing). Adds (opening_of k) (view_of p) [] d no_use (view_of p)) idle
+    (adds_nothing (opening_of k) (view_of p) fits.front)
+
+-- a new file, as a lasting table has it
+pub new_file_so : (k : Start) {v u : PassView} {file back : Closed} {new : File} → IsNewFile (opening_of k) v back new → back ≡ file
+    → IsNewFile (opening_of k) u file new
+new_file_so k its same = record { identity = its.identity ∙ same; same = λ e. absurd (cc e) }

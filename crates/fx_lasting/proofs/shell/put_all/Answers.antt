@@ -1,0 +1,34 @@
+use Rattle.fx_lasting.proofs.Words.{◌≡◌, ◌<◌, ◌+◌, ℕ, length, List, [], ◌∷◌, ◌++◌, refl, sym, ap, ◌∙◌, arith, length-append, Option, None, Closed}
+use Rattle.fx_lasting.proofs.Words.{state_of, file_in_place, get_or_append_left, get_or_push}
+use Rattle.fx_lasting.proofs.HomeComing.{file_put, last_back}
+use Rattle.fx_lasting.proofs.shell.put_all.Goals as goal
+
+-- the content of the last place
+module _ (all xs ys : List (Option Closed)) (x : Option Closed) (split : xs ≡ ys ++ x ∷ [])
+    (same : (k : ℕ) → k < length xs → file_in_place xs k ≡ file_in_place all k) where
+  one_less : length xs ≡ length ys + 1
+  one_less = ap length split ∙ length-append ys (x ∷ [])
+
+  last_is : file_in_place all (length ys) ≡ x
+  last_is = sym (same (length ys) (let a = one_less in omega arith))
+      ∙ (ap (λ (l : List (Option Closed)). file_in_place l (length ys)) split ∙ get_or_push ys x None (length ys) refl)
+
+  same_before : (k : ℕ) → k < length ys → file_in_place ys k ≡ file_in_place all k
+  same_before k l = sym (get_or_append_left ys (x ∷ []) None k l) ∙ (ap (λ (z : List (Option Closed)). file_in_place z k) (sym split)
+      ∙ same k (let a = one_less in omega arith))
+
+pub loop-file-preserved-in-Some-file : goal.loop-file-preserved-in-Some-file
+loop-file-preserved-in-Some-file c =
+    let all = c.args.places.items in
+    let xs = c.loop-file.places.items in
+    let now = c.pop.new.self.items in
+    let split = c.in-Some.ensures.items in
+    let i = c.loop-file.invariant in
+    let slot_is : c.len-slot.result ≡ length now = omega (arith, c.len-slot.ensures, c.pop.new.self.ok.0) in
+    let file_is = last_is all xs now c.in-Some.file split i.items ∙ c.in-Some-file.is in
+    record {
+      part = last_back (state_of c.args.plain.now) (file_in_place all) (rw (file_is, ← slot_is) (file_put i.part.settled c.put_back.ensures.state))
+          (rw (one_less all xs now c.in-Some.file split i.items) at i.part);
+      prepared = c.put_back.ensures.prepared;
+      items = same_before all xs now c.in-Some.file split i.items;
+    }

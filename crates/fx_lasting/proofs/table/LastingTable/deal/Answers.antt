@@ -1,0 +1,44 @@
+use Rattle.fx_lasting.proofs.Words.{◌≡◌, ◌≤◌, [], ◌∙◌, ap, arith, Sat, View}
+use Rattle.fx_lasting.specs.Cuts.{without_first, first_alone}
+use Rattle.fx_table.proofs.Dealing.{one_dealt, all_dealt}
+use Rattle.fx_lasting.proofs.Calling.{first_of}
+use Rattle.fx_lasting.proofs.Gathered.{rest_is_dealt, last_is_dealt, is_new_pass, shown_so}
+use Rattle.fx_lasting.proofs.Seats.{splits_keep}
+use Rattle.fx_lasting.proofs.table.LastingTable.deal.Goals as goal
+
+pub split_seat-one-requires : goal.split_seat-one-requires
+split_seat-one-requires c = let i = c.loop-number.invariant in (
+  i.table,
+  omega (arith, c.args.self.now.words),
+  splits_keep _ _ c.loop-number.seat.me.0 (ap (λ (m : Sat). m.0.work) i.me) (ap (λ (m : Sat). m.0.glance) i.me) (ap (λ (m : Sat). m.0.change) i.me),
+)
+
+pub loop-number-preserved : goal.loop-number-preserved
+loop-number-preserved c =
+    let t = c.args.self.now in
+    let s = c.split_seat-one.ensures in
+    let i = c.loop-number.invariant in
+    let k = t.table.shared.key in
+    let test = c.loop-number-test.true in
+    let high : c.loop-number.number ≤ k.passes = omega (arith, t.key.0, test) in
+    let new = is_new_pass k i.before.low high (first_of t c.loop-number.number) c.new_pass.ensures (s.3 ∙ i.table)
+    (s.4 ∙ ap (λ (m : Sat). (first_alone m.0, [])) i.me) in
+    record {
+      before = one_dealt i.before c.push_reserved.ensures.items new test;
+      table = s.0 ∙ i.table;
+      me = s.2 ∙ (ap (λ (m : Sat). (without_first m.0, m.1)) i.me ∙ ap (λ (v : View). (v, [])) (rest_is_dealt high));
+      room = let a = i.room in let b = c.push_reserved.ensures.capacity in omega arith;
+    }
+
+pub returns : goal.returns
+returns c =
+    let t = c.args.self.now in
+    let i = c.loop-number.invariant in
+    let k = t.table.shared.key in
+    let all = t.key.0 in
+    let last : c.loop-number.number ≡ t.passes = omega (arith, c.loop-number-test.false, i.before.high) in
+    let high : c.loop-number.number ≤ k.passes = omega (arith, last, all) in
+    let new = is_new_pass k i.before.low high (first_of t c.loop-number.number) c.new_pass-2.ensures i.table
+    (i.me ∙ ap (λ (v : View). (v, [])) (last_is_dealt (last ∙ all))) in
+    let done = all_dealt i.before c.push_reserved-2.ensures.items new last in
+    record { ready = done.0; count = done.1; new = shown_so t.table.shared.table_id k _ done.0 _ done.2 }

@@ -1,0 +1,15 @@
+use Rattle.fx_lasting.proofs.Words.{◌≡◌, ◌≤◌, ◌-◌, vec_capacity, [], dealt, IsPassOf}
+use Rattle.fx_table.proofs.Dealing.{AreDealt}
+use Rattle.fx_lasting.proofs.Gathered.{shown}
+use Rattle.fx_lasting.proofs.table.LastingTable.deal.Given as goal
+
+abbrev pub invariant-loop-number : goal.invariant-loop-number
+invariant-loop-number l = record {
+  before : AreDealt (IsPassOf l.self.table.shared.table_id l.self.table.shared.key) shown l.number l.self.passes l.list.items;
+  table : l.seat.table_id ≡ l.self.table.shared.table_id;
+  me : l.seat.me ≡ (dealt l.self.table.shared.key l.number, []);
+  room : l.self.passes ≤ vec_capacity l.list;
+}
+
+abbrev pub decreases-loop-number : goal.decreases-loop-number
+decreases-loop-number l = l.self.passes - l.number

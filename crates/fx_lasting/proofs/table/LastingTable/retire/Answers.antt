@@ -1,0 +1,112 @@
+use Rattle.fx_lasting.proofs.Words.{◌≡◌, ◌≢◌, ℕ, ◌+◌, ◌-◌, ◌*◌, ◌≤◌, refl, ◌∙◌, subst, arith, sym, inl, inr, ⊎_elim, [], Some, File, Start}
+use Rattle.fx_lasting.proofs.Words.{IsAtWork, Runs, Retiring, Sat, state_after_all, pass_in, TakesOut, HasPlace, At, Retires}
+use Rattle.fx_table.specs.Calls.{no_use}
+use Rattle.fx_lasting.proofs.Calling.{node_inside, node_word}
+use Rattle.fx_lasting.proofs.Retiring.{retires_keep}
+use Rattle.fx_lasting.proofs.Running.{still_at_work, does_then, runs_goes, runs_one, its_inside, out_place, out_and_home}
+use Rattle.fx_lasting.proofs.Passing.{adds_so, at_rest, still_pass, its_retiring}
+use Rattle.fx_lasting.proofs.table.LastingTable.retire.Goals.{After-mark_all-marks}
+use Rattle.fx_lasting.proofs.table.LastingTable.retire.Goals as goal
+
+pub mark_all-marks-requires-clause-retiring : goal.mark_all-marks-requires-clause-retiring
+mark_all-marks-requires-clause-retiring c = let r = c.requires.removed in (r.0, c.args.retired.takes, (its_retiring c.requires.fits r.1).0)
+
+pub mark_all-marks-requires-clause-first : goal.mark_all-marks-requires-clause-first
+mark_all-marks-requires-clause-first c = let r = c.requires.removed in let t = c.args.self.now in
+    ⊎_elim (λ (e : c.args.pass.now.next_visit ≡ 1). inl e)
+    (λ (e : c.args.pass.now.next_visit ≡ t.table.shared.key.passes + 1). inr (omega (arith, e, t.key.0))) (its_retiring c.requires.fits r.1).2
+
+pub retire_amount-amount-requires : goal.retire_amount-amount-requires
+retire_amount-amount-requires c = let r = c.requires.removed in
+    omega (arith, (its_retiring c.requires.fits r.1).1, c.mark_all-marks.ensures.few, c.args.self.now.bounds.1)
+
+-- the pass has visited all others
+module _ (c : After-mark_all-marks) where
+  abbrev file : File
+  file = c.requires.removed.0
+
+  abbrev k : Start
+  k = c.args.self.now.table.shared.key
+
+  works : c.args.pass.now.seat.me.0.work ≡ Retiring file c.args.retired.node c.args.retired.takes c.args.pass.now.next_visit 0
+  works = (its_retiring c.requires.fits c.requires.removed.1).0
+
+  abbrev next : ℕ
+  next = (c.mark_all-marks.ensures.marked file c.args.retired.takes works).0
+
+  all : (p : ℕ) → next ≤ p → p ≤ c.args.self.now.passes → p ≡ c.args.pass.now.number
+  all = (c.mark_all-marks.ensures.marked file c.args.retired.takes works).1
+
+  visited : Runs c.args.pass.now.seat.me [] (Retiring file c.args.retired.node c.args.retired.takes next c.mark_all-marks.result)
+      c.args.pass.now.seat.me.0.glance c.args.pass.now.seat.me.0.change (2 * (c.args.self.now.passes - 1)) c.mark_all-marks.new.seat.me
+  visited = (c.mark_all-marks.ensures.marked file c.args.retired.takes works).2
+
+  at : IsAtWork k c.args.pass.now.number c.mark_all-marks.new.seat.me
+  at = still_at_work c.requires.fits.seated.at visited
+
+pub fetch_sub-found-requires : goal.fetch_sub-found-requires
+fetch_sub-found-requires c =
+    let a = (goal.at.fetch_sub-found-requires c).After-mark_all-marks in
+    let t = c.args.self.now in
+    let r = c.requires.removed in (
+      c.mark_all-marks.ensures.table ∙ c.requires.fits.seated.table,
+      node_inside t (its_inside (at a) (visited a).work) c.node_place-place.ensures,
+      retires_keep _ _ _ _ c.args.retired.node c.args.retired.takes (next a) c.mark_all-marks.result _ (file a) c.mark_all-marks.new.seat.me _
+          (at a).pass (visited a).work (λ p low high. all a p low (omega (arith, high, t.key.0)) ∙ sym (at a).its_number)
+          (node_word t c.args.retired.node c.node_place-place.ensures) c.retire_amount-amount.ensures,
+    )
+
+pub returns-then-found-amount : goal.returns-then-found-amount
+returns-then-found-amount c =
+    let a = (goal.at.returns-then-found-amount c).After-mark_all-marks in
+    let t = c.args.self.now in
+    let fits = c.requires.fits in
+    let s = fits.seated in
+    let more : c.fetch_sub-found.result ≢ c.retire_amount-amount.result + 1 = c.if-found-amount.true in
+    let went = c.fetch_sub-found.ensures.2.waits (file a) c.args.retired.node c.args.retired.takes (next a) c.mark_all-marks.result (visited a).work more in
+    let run = at_rest fits (does_then (visited a) (runs_goes went.0)) in
+    let removed = subst (λ (z : Start). (state_after_all z (pass_in c.fetch_sub-found.new.seat.me).front).removed (file a).number ≡ Some (file a))
+    (at a).pass.0 went.1 in
+    record {
+      fits = still_pass s _ run refl (c.fetch_sub-found.ensures.0 ∙ c.mark_all-marks.ensures.table)
+          (went.0.carried ∙ (c.mark_all-marks.ensures.places ∙ s.places)) s.block refl;
+      retired = (file a, c.requires.removed.1, (removed, adds_so s run no_use));
+      steps = let few = run.steps in omega (arith, few, t.bounds.0);
+    }
+
+-- nobody has to let the file go any more
+out : (a : After-mark_all-marks) {st : At} {m' : Sat} {found : ℕ} → Retires st a.mark_all-marks.new.seat.me found m' → found ≡ st.first + 1
+    → TakesOut a.mark_all-marks.new.seat.me [] (file a) a.args.retired.node m'
+out a did is = did.closes (file a) a.args.retired.node a.args.retired.takes (next a) a.mark_all-marks.result (visited a).work is
+
+place : (a : After-mark_all-marks) {m' : Sat} → TakesOut a.mark_all-marks.new.seat.me [] (file a) a.args.retired.node m'
+    → HasPlace a.args.retired.node (Some (file a).identity) m'
+place a went = out_place (a.mark_all-marks.ensures.places ∙ a.requires.fits.seated.places) went
+
+pub take_out-requires-clause-at : goal.take_out-requires-clause-at
+take_out-requires-clause-at c =
+    let a = (goal.at.take_out-requires-clause-at c).After-mark_all-marks in
+    let is : c.fetch_sub-found.result ≡ c.retire_amount-amount.result + 1 = omega (arith, c.if-found-amount.false) in
+    (c.args.pass.now.number, still_at_work (at a) (runs_one (out a c.fetch_sub-found.ensures.2 is).stepped))
+
+pub take_out-requires-clause-place : goal.take_out-requires-clause-place
+take_out-requires-clause-place c =
+    let a = (goal.at.take_out-requires-clause-place c).After-mark_all-marks in
+    let is : c.fetch_sub-found.result ≡ c.retire_amount-amount.result + 1 = omega (arith, c.if-found-amount.false) in
+    ((file a).identity, place a (out a c.fetch_sub-found.ensures.2 is))
+
+pub returns : goal.returns
+returns c =
+    let a = (goal.at.returns c).After-mark_all-marks in
+    let t = c.args.self.now in
+    let is : c.fetch_sub-found.result ≡ c.retire_amount-amount.result + 1 = omega (arith, c.if-found-amount.false) in
+    let fits = c.requires.fits in
+    let s = fits.seated in
+    let went = out a c.fetch_sub-found.ensures.2 is in
+    let run = at_rest fits (does_then (visited a) (out_and_home went c.take_out.ensures.rests)) in
+    record {
+      fits = still_pass s _ run refl (c.take_out.ensures.table ∙ (c.fetch_sub-found.ensures.0 ∙ c.mark_all-marks.ensures.table)) c.take_out.ensures.empty
+          s.block refl;
+      retired = (file a, c.requires.removed.1, (c.take_out.ensures.file (file a).identity (place a went), adds_so s run no_use));
+      steps = let few = run.steps in omega (arith, few, t.bounds.0);
+    }

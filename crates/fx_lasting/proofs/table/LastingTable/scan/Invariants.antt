@@ -1,0 +1,9 @@
+use Rattle.fx_lasting.proofs.Words.{◌≡◌, ℕ, ◌+◌, ◌*◌, ◌≤◌}
+use Rattle.fx_lasting.specs.Tries.{StillPlaces}
+use Rattle.fx_lasting.proofs.table.LastingTable.scan.Given as goal
+
+abbrev pub invariant-loop-slot : goal.invariant-loop-slot
+invariant-loop-slot l = record {
+  table : l.seat.table_id ≡ l.initial.seat.table_id;
+  still : (most : ℕ) × (most + 4 * l.self.range_start ≤ 4 * l.slot) × StillPlaces l.node most l.initial.seat.me l.seat.me;
+}

@@ -1,0 +1,11 @@
+use Rattle.fx_lasting.proofs.Words.{◌≡◌}
+use Rattle.fx_lasting.proofs.Sought.{Sought}
+use Rattle.fx_lasting.proofs.table.LastingTable.seek.Given as goal
+
+-- some node is free that wasn't read yet
+abbrev pub invariant-loop : goal.invariant-loop
+invariant-loop l = record {
+  table : l.seat.table_id ≡ l.initial.seat.table_id;
+  places : l.seat.me.1 ≡ l.initial.seat.me.1;
+  sought : Sought l.self.table.shared.key l.number l.len l.start l.counter l.node l.initial.seat.me l.seat.me;
+}

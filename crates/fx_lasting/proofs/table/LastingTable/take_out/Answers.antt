@@ -1,0 +1,22 @@
+use Rattle.fx_lasting.proofs.Words.{sym, ap, ◌∙◌, ◌∷◌, Some, None, rest, Sat}
+use Rattle.fx_lasting.proofs.Births.{rests_keep}
+use Rattle.fx_lasting.proofs.Calling.{node_inside, node_word, place_inside}
+use Rattle.fx_lasting.proofs.table.LastingTable.take_out.Goals as goal
+
+pub exchange-requires : goal.exchange-requires
+exchange-requires c = let h = c.requires.place.1 in
+    (c.requires.table, (Some c.requires.place.0, h.place ∙ λ i. (c.args.node, Some c.requires.place.0) ∷ sym (ap rest h.place) i))
+
+pub store-requires : goal.store-requires
+store-requires c =
+    let t = c.args.self.now in
+    let n = c.args.node in
+    let at = c.requires.at.1 in
+    let h = c.requires.place.1 in
+    let me = c.exchange.ensures.3 in
+    let view = ap (λ (z : Sat). z.0) me in (
+      c.exchange.ensures.0 ∙ c.requires.table,
+      node_inside t (place_inside at h) c.node_place.ensures,
+      rests_keep t.table.shared.key _ _ _ n c.exchange.new.seat.me at.log (rw view at.pass) (rw view h.work)
+          (ap (λ (z : Sat). z.1) me ∙ λ i. (n, None) ∷ ap rest h.place i) (node_word t c.args.node c.node_place.ensures),
+    )

@@ -1,0 +1,26 @@
+use Rattle.fx_lasting.proofs.Words.{◌≢◌, rules}
+use Rattle.fx_lasting.proofs.Calling.{hold_inside, hold_word}
+use Rattle.fx_lasting.proofs.HoldWords.{withdraws_keep}
+use Rattle.fx_lasting.proofs.Running.{still_at_work, runs_goes, mark_then}
+use Rattle.fx_lasting.specs.Parts.{announced}
+use Rattle.fx_lasting.proofs.table.LastingTable.withdraw.Goals as goal
+
+pub swap-found-requires : goal.swap-found-requires
+swap-found-requires c =
+    let t = c.args.self.now in
+    let at = c.requires.at in (
+      c.requires.table,
+      hold_inside t at.high c.hold_place-place.ensures,
+      withdraws_keep _ _ _ _ c.args.node c.args.seat.now.me _ at.pass c.requires.announced (hold_word t at.its_number c.hold_place-place.ensures),
+    )
+
+pub let_go-requires-clause-at : goal.let_go-requires-clause-at
+let_go-requires-clause-at c =
+    let marked : c.swap-found.result ≢ announced c.args.node = search rules in
+    (c.args.number, still_at_work c.requires.at (runs_goes (c.swap-found.ensures.2.marked c.args.node c.requires.announced marked)))
+
+pub returns-clause-withdraws : goal.returns-clause-withdraws
+returns-clause-withdraws c =
+    let marked : c.swap-found.result ≢ announced c.args.node = search rules in
+    let goes = c.swap-found.ensures.2.marked c.args.node c.requires.announced marked in
+    mark_then _ _ _ (runs_goes goes) (c.let_go.ensures.owed goes.stepped.work)

@@ -1,0 +1,46 @@
+-- The short runs of steps that calls are made of: what they return, and the pass after them.
+use Rattle.std.specs.Prelude.{◌≡◌, ℕ, List, [], Option, Some, None, Result, Ok, Err}
+use Rattle.fx_base.specs.Identity.{Identity}
+use Rattle.fx_plain.specs.History.{◌▷◌}
+use Rattle.fx_plain.specs.declared.event.File.{File}
+use Rattle.fx_plain.specs.declared.event.Action.{Action}
+use Rattle.fx_plain.specs.declared.event.Action.TheVariants.{Look, Release, Close}
+use Rattle.fx_table.specs.declared.values.Hold.{Hold}
+use Rattle.fx_table.specs.declared.values.LookFault.{LookFault}
+use Rattle.fx_table.specs.declared.values.LookFault.TheVariants.{Spent, Empty}
+use Rattle.fx_lasting.specs.Passes.{Sat}
+use Rattle.fx_lasting.specs.Runs.{Runs}
+use Rattle.fx_lasting.specs.Tables.{hold_at}
+use Rattle.fx_lasting.specs.declared.view.Glance.TheVariants.{None as Nothing, Cold}
+use Rattle.fx_lasting.specs.declared.view.Work.{Work}
+use Rattle.fx_lasting.specs.declared.view.Work.TheVariants.{Idle, Announced, Counted, Guarded}
+
+-- some steps in a row, in which the pass neither goes on in its look-up nor begins or ends a change
+abbrev pub Does : Sat → List Action → Work → ℕ → Sat → Type 0
+Does m actions w most m' = Runs m actions w m.0.glance m.0.change most m'
+
+-- a pass that dropped a mark: it is idle, and got the file if that is closed now
+abbrev pub LetsMarkGo : Sat → ℕ → Option Identity → Sat → Type 0
+LetsMarkGo m most None m' = Does m [] Idle most m'
+LetsMarkGo m most (Some file) m' =
+    (f : File) × (file ≡ f.identity) × Does m ([] ▷ Close f) Idle most m'
+
+-- a pass that released the file: it is idle, and got the file if that is closed now
+abbrev pub LetsFileGo : Sat → File → ℕ → Option Identity → Sat → Type 0
+LetsFileGo m f most None m' = Does m ([] ▷ Release f) Idle most m'
+LetsFileGo m f most (Some file) m' =
+    (file ≡ f.identity) × Does m ([] ▷ Release f ▷ Close f) Idle most m'
+
+-- a pass that announced the node of a hot slot and looked again: it holds the file, whose entry it
+-- has, or it has to withdraw
+abbrev pub Guards : ℕ → ℕ → Sat → Option ℕ → Sat → Type 0
+Guards slot node m (Some entry) m' = (f : File) × (entry ≡ f.identity.entry)
+    × Runs m ([] ▷ Look slot (Some f)) (Guarded f node) Nothing m.0.change 2 m'
+Guards slot node m None m' = Runs m [] (Announced node) (Cold slot) m.0.change 2 m'
+
+-- a pass that took what the slot names: it holds that file, or the slot is empty
+abbrev pub TakesAt : ℕ → Sat → Result Hold LookFault → Sat → Type 0
+TakesAt slot m (Ok hold) m' = (f : File) × (hold ≡ hold_at f hold.node)
+    × Runs m ([] ▷ Look slot (Some f)) (Counted f hold.node) Nothing m.0.change 2 m'
+TakesAt slot m (Err Spent) m' = ⊥
+TakesAt slot m (Err Empty) m' = Runs m ([] ▷ Look slot None) Idle Nothing m.0.change 2 m'

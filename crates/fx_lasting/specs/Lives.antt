@@ -1,0 +1,63 @@
+-- Passes as they are handed out and gathered.
+use Rattle.std.specs.Prelude.{◌≡◌, ℕ, ◌+◌, ◌-◌, true, List, [], flat_map, Option}
+use Rattle.atomic_table.specs.declared.shared.Seat.{Seat}
+use mathlib.Core.Option.{some}
+use lib.ListN.{get_elem?}
+use Rattle.fx_base.specs.Identity.{Identity}
+use Rattle.fx_plain.specs.Contents.{Contents, state_of}
+use Rattle.fx_plain.specs.State.{IsSettled}
+use Rattle.fx_table.specs.Opening.{HasSameFiles}
+use Rattle.fx_lasting.specs.Agrees.{Agrees}
+use Rattle.fx_lasting.specs.Cuts.{new_logs, first_view}
+use Rattle.fx_lasting.specs.Passes.{Shared, state_after_all}
+use Rattle.fx_lasting.specs.declared.pass.LastingPass.{LastingPass}
+use Rattle.fx_lasting.specs.declared.table.LastingTable.{LastingTable}
+use Rattle.fx_lasting.specs.declared.view.Change.TheVariants.{Outside}
+use Rattle.fx_lasting.specs.declared.view.Glance.TheVariants.{None as Nothing}
+use Rattle.fx_lasting.specs.declared.view.Log.{Log}
+use Rattle.fx_lasting.specs.declared.view.Start.{Start}
+use Rattle.fx_lasting.specs.declared.view.View.{View}
+use Rattle.fx_lasting.specs.declared.view.Work.TheVariants.{Idle}
+
+-- the view of a seat that has the new passes from p to the last
+abbrev pub dealt : Start → ℕ → View
+dealt k p = record (first_view k) { logs = new_logs p ((k.passes + 1) - p) }
+
+-- the passes of these seats, in their order
+abbrev pub logs_in : List LastingPass → List Log
+logs_in ps = flat_map (λ p. p.seat.me.0.logs) ps
+
+-- the pass has this seat and number, begins its searches at this node, and has made no step
+pub record IsNewPass (seat : Seat (Option Identity) View) (number node : ℕ)
+    (p : LastingPass) : Type 0 where
+  pub its_seat : p.seat ≡ seat
+  pub its_number : p.number ≡ number
+  pub its_node : p.next_node ≡ node
+  pub flag : p.idle ≡ true
+
+-- the seat of a table that was just opened
+pub record HasAllPasses (t : LastingTable) (seat : Seat (Option Identity) View) : Type 0 where
+  pub table : seat.table_id ≡ t.table.shared.table_id
+  pub me : seat.me ≡ (first_view t.table.shared.key, [])
+
+-- a seat of the table whose passes are idle
+pub record IsIdleSeatOf (t : LastingTable) (seat : Seat (Option Identity) View) : Type 0 where
+  pub table : seat.table_id ≡ t.table.shared.table_id
+  pub places : seat.me.1 ≡ []
+  pub start : seat.me.0.start ≡ t.table.shared.key
+  pub work : seat.me.0.work ≡ Idle
+  pub glance : seat.me.0.glance ≡ Nothing
+  pub change : seat.me.0.change ≡ Outside
+
+-- in every last state all passes are idle
+abbrev pub AllAreIdle : Start → ℕ → View → Type 0
+AllAreIdle k id v = (s : Shared) → Agrees k s → get_elem? s.views id ≡ some v
+    → (seat : ℕ) (u : View) → get_elem? s.views seat ≡ some u → u.work ≡ Idle
+
+-- the files of the table are those of some last state
+pub record Leaves (k : Start) (id : ℕ) (v : View) (left : Contents) : Type 0 where
+  pub last : Shared
+  pub rule : Agrees k last
+  pub view : get_elem? last.views id ≡ some v
+  pub files : HasSameFiles (state_after_all k rule.history) (state_of left)
+  pub settled : IsSettled (state_of left)

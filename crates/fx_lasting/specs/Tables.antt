@@ -1,0 +1,112 @@
+-- A lasting table and its passes, as their callers see them.
+use Rattle.std.specs.Prelude.{◌≡◌, ℕ, ◌+◌, ◌<◌, ◌^◌, ◌⊎◌, nat_lt, if◌then◌else◌, Bool, true}
+use Rattle.std.specs.Prelude.{false, List, [], map}
+use Rattle.atomic_table.specs.Seated.{TableId}
+use Rattle.fx_plain.specs.History.{part_of_pass}
+use Rattle.fx_plain.specs.declared.event.File.{File}
+use Rattle.fx_table.specs.Opening.{Opening, lasting_opening}
+use Rattle.fx_table.specs.Pass.{PassView, IsFront, new_passes}
+use Rattle.fx_table.specs.declared.limits.TheConstants.{CHAIN_NUMBERS, PASS_LOOKS}
+use Rattle.fx_table.specs.declared.values.Doing.{Doing}
+use Rattle.fx_table.specs.declared.values.Doing.TheVariants.{Idle as DoesNothing, Holding}
+use Rattle.fx_table.specs.declared.values.Doing.TheVariants.{Retiring as Retires}
+use Rattle.fx_table.specs.declared.values.Hold.{Hold}
+use Rattle.fx_table.specs.declared.values.Retired.{Retired}
+use Rattle.fx_lasting.specs.AtWork.{IsAtWork}
+use Rattle.fx_lasting.specs.Passes.{first_log, IsInBlock}
+use Rattle.fx_lasting.specs.declared.view.Change.TheVariants.{Outside}
+use Rattle.fx_lasting.specs.declared.view.Glance.TheVariants.{None as Nothing}
+use Rattle.fx_lasting.specs.declared.view.Start.{Start}
+use Rattle.fx_lasting.specs.declared.view.View.{View}
+use Rattle.fx_lasting.specs.declared.view.Work.{Work}
+use Rattle.fx_lasting.specs.declared.view.Work.TheVariants.{Idle, Counted, Guarded, Retiring}
+use Rattle.fx_lasting.specs.declared.pass.LastingPass.{LastingPass}
+use Rattle.fx_lasting.specs.declared.table.LastingTable.{LastingTable}
+
+-- the values that calls return for the file of a node
+abbrev pub hold_at : File → ℕ → Hold
+hold_at f node = record { node = node; entry = f.identity.entry }
+
+abbrev pub retired_at : File → ℕ → ℕ → Retired
+retired_at f node takes = record { node = node; entry = f.identity.entry; takes = takes }
+
+-- the activity of a pass with this work, as the contract of all shared tables shows it
+abbrev pub doing_in : Work → Doing
+doing_in (Counted f node) = Holding f (hold_at f node)
+doing_in (Guarded f node) = Holding f (hold_at f node)
+doing_in (Retiring f node takes next marks) = Retires f (retired_at f node takes)
+doing_in _ = DoesNothing
+
+-- the files that a pass can install, if those from 1 to `installing` install: none, or always as
+-- many as before
+abbrev pub numbers_of : ℕ → ℕ → ℕ
+numbers_of installing number = if nat_lt installing number then 0 else CHAIN_NUMBERS
+
+-- a new pass of a lasting table
+abbrev pub as_first : ℕ → PassView → PassView
+as_first installing v = record v { numbers_left = numbers_of installing v.number }
+
+-- the passes of a table that was just opened
+abbrev pub first_passes : ℕ → ℕ → List PassView
+first_passes installing passes = map (as_first installing) (new_passes passes)
+
+-- the pass of a seat, as that contract shows it
+abbrev pub pass_of : View → PassView
+pass_of v = let x = first_log v.logs in record {
+  number = x.number;
+  front = x.front;
+  own = part_of_pass x.number x.front;
+  chain = 0;
+  drawn = [];
+  no_chains_left = false;
+  numbers_left = numbers_of v.start.installing x.number;
+  looks_left = PASS_LOOKS;
+  doing = doing_in v.work;
+}
+
+abbrev pub opening_of : Start → Opening
+opening_of k = lasting_opening k.plain.value k.passes
+
+abbrev pub view_of : LastingPass → PassView
+view_of p = pass_of p.seat.me.0
+
+-- the number of atomic steps that the pass has made
+abbrev pub steps_taken : LastingPass → ℕ
+steps_taken p = (first_log p.seat.me.0.logs).steps
+
+-- between two calls a pass is idle, holds a file by a take or by its hold word, or has one to
+-- retire and has visited no hold word yet; its fields say which
+abbrev pub IsBetweenCalls : ℕ → Bool → Bool → ℕ → Work → Type 0
+IsBetweenCalls passes idle guarded visit Idle = idle ≡ true
+IsBetweenCalls passes idle guarded visit (Counted f node) = (idle ≡ false) × (guarded ≡ false)
+IsBetweenCalls passes idle guarded visit (Guarded f node) = (idle ≡ false) × (guarded ≡ true)
+IsBetweenCalls passes idle guarded visit (Retiring f node takes next marks) =
+    (idle ≡ false) × (visit ≡ next) × (marks ≡ 0) × (takes < 2 ^ 31)
+    × ((next ≡ 1) ⊎ (next ≡ passes + 1))
+IsBetweenCalls passes idle guarded visit _ = ⊥
+
+-- a seat of the table, with one pass that is in no change and has no place
+pub record IsSeatOf (id : TableId) (k : Start) (p : LastingPass) : Type 0 where
+  pub table : p.seat.table_id ≡ id
+  pub places : p.seat.me.1 ≡ []
+  pub at : IsAtWork k p.number p.seat.me
+  pub change : p.seat.me.0.change ≡ Outside
+  pub block : IsInBlock k p.number p.next_node
+
+-- a pass of a table with this start
+pub record IsPassOf (id : TableId) (k : Start) (p : LastingPass) : Type 0 where
+  pub seated : IsSeatOf id k p
+  pub calm : p.seat.me.0.glance ≡ Nothing
+  pub knows : IsBetweenCalls k.passes p.idle p.guarded p.next_visit p.seat.me.0.work
+  pub front : IsFront (opening_of k) (pass_of p.seat.me.0)
+
+-- the opening of the table
+abbrev pub opening_of_table : LastingTable → Opening
+opening_of_table t = opening_of t.table.shared.key
+
+-- the pass is one of the table
+abbrev pub IsPassOfTable : LastingTable → LastingPass → Type 0
+IsPassOfTable t p = IsPassOf t.table.shared.table_id t.table.shared.key p
+
+abbrev pub IsSeatOfTable : LastingTable → LastingPass → Type 0
+IsSeatOfTable t p = IsSeatOf t.table.shared.table_id t.table.shared.key p

@@ -1,0 +1,42 @@
+-- A pass that searches the allocation range for an empty slot.
+use Rattle.std.specs.Prelude.{◌≡◌, ℕ, ◌<◌, Bool, true, false, [], ◌∷◌, Some}
+use Rattle.fx_base.specs.Identity.{Identity}
+use Rattle.fx_plain.specs.History.{◌▷◌}
+use Rattle.fx_plain.specs.Table.{numbered}
+use Rattle.fx_plain.specs.declared.event.File.{File}
+use Rattle.fx_plain.specs.declared.event.Action.TheVariants.{Allocate, Full}
+use Rattle.fx_table.specs.Calls.{Adds, IsNewFile, no_use, one_number}
+use Rattle.fx_table.specs.Opening.{Opening, size_of}
+use Rattle.fx_table.specs.Pass.{PassView}
+use Rattle.fx_table.specs.declared.values.Doing.TheVariants.{Idle as DoesNothing}
+use Rattle.fx_lasting.specs.Ends.{Does}
+use Rattle.fx_lasting.specs.Passes.{Sat}
+use Rattle.fx_lasting.specs.declared.tried.TriedPut.{TriedPut}
+use Rattle.fx_lasting.specs.declared.tried.TriedPut.TheVariants.{At, Full as AllFull, Again}
+use Rattle.fx_lasting.specs.declared.view.Work.TheVariants.{Idle, Placing}
+
+-- the seat's pass has the place of the node, with the file that it is about to install
+pub record IsPlacing (node : ℕ) (file : Identity) (m : Sat) : Type 0 where
+  pub work : m.0.work ≡ Placing node
+  pub place : m.1 ≡ (node, Some file) ∷ []
+
+-- the file is at the slot, which was empty before
+abbrev pub HasAllocated : Identity → ℕ → ℕ → Sat → Sat → Type 0
+HasAllocated file slot most m m' =
+    (number : ℕ) × Does m ([] ▷ Allocate slot (numbered number file)) Idle most m' × (m'.1 ≡ [])
+
+-- the file is still to be installed
+abbrev pub StillPlaces : ℕ → ℕ → Sat → Sat → Type 0
+StillPlaces node most m m' = Does m [] (Placing node) most m' × (m'.1 ≡ m.1)
+
+-- a try at one slot
+abbrev pub Tries : ℕ → Identity → ℕ → Sat → Bool → Sat → Type 0
+Tries node file slot m true m' = HasAllocated file slot 4 m m'
+Tries node file slot m false m' = StillPlaces node 4 m m'
+
+-- the result of one try over the range
+abbrev pub TriedSo : Opening → PassView → Identity → TriedPut → PassView → Type 0
+TriedSo o v file (At slot) w = (slot < size_of o) × ((new : File) × IsNewFile o v file new
+    × Adds o v ([] ▷ Allocate slot new) DoesNothing one_number w)
+TriedSo o v file (AllFull back) w = (back ≡ file) × Adds o v ([] ▷ Full) DoesNothing no_use w
+TriedSo o v file (Again back) w = (back ≡ file) × Adds o v [] DoesNothing no_use w

@@ -1,0 +1,250 @@
+//! The calls of a pass that never wait, allocate or retry: each makes at most as many atomic steps as its clause says.
+ghost use Rattle.std.specs.Prelude.{◌≡◌, ◌≢◌, ◌+◌, ◌*◌, ◌-◌, ◌<◌, ◌≤◌, Option, option_map, Err};
+ghost use Rattle.fx_plain.specs.declared.event.File.{File};
+ghost use Rattle.fx_table.specs.Calls.{Looked, LookedUp, Released, Placed, Cleared, Taken, HasRetired};
+ghost use Rattle.fx_table.specs.Opening.{size_of};
+ghost use Rattle.fx_table.specs.Pass.{IsIdle, IsHoldOf, IsRetiredOf};
+ghost use Rattle.fx_table.specs.declared.values.LookFault.TheVariants.{Spent};
+ghost use Rattle.fx_words.specs.Words.{name_in};
+ghost use Rattle.fx_lasting.specs.Layout.{block_for};
+ghost use Rattle.fx_lasting.specs.Parts.{count_in};
+ghost use Rattle.fx_lasting.specs.Tables.{view_of, steps_taken, retired_at, opening_of_table, IsPassOfTable, IsSeatOfTable};
+ghost use Rattle.fx_lasting.specs.Tells.{Found, first_visit};
+ghost use Rattle.fx_lasting.specs.declared.view.Glance.TheVariants.{Hot, Cold};
+ghost use Rattle.fx_lasting.specs.declared.view.Work.TheVariants.{Idle};
+
+use crate::kinds::{Clearing, Glancing, Installing, Retire, TakingOut};
+use crate::layout::{node_place, slot_place};
+use crate::parts::{count_of, is_hot, retire_amount};
+use crate::pass::LastingPass;
+use crate::table::LastingTable;
+use fx_base::OpenFile;
+use fx_table::{Empty, Hold, LookFault, LookUp, Retired};
+use fx_words::{entry_of, node_of, slot_word};
+
+impl LastingTable {
+    /// Looks up a slot below `size`, for an idle pass (`is_idle`), in at most eight atomic steps. The file there has one
+    /// more hold until the pass releases it (io_uring_enter(2), "IOSQE_FIXED_FILE"). The file that the look-up first saw
+    /// may be removed before it is held. The look-up then looks again, and returns the removed file as `freed`, to be
+    /// closed, if it was its last user.
+    ///
+    /// # Errors
+    /// In `found`: `Empty` if the slot has no file.
+    pub fn look_up(&self, pass: &mut LastingPass, slot: u32) -> LookUp
+        requires fits { IsPassOfTable self.now pass.old }
+        requires idle { IsIdle (view_of pass.old) }
+        requires slot { slot < size_of (opening_of_table self.now) }
+        ensures fits { IsPassOfTable self.now pass.new }
+        ensures looked { LookedUp (opening_of_table self.now) (view_of pass.old) slot result.found
+            result.freed (view_of pass.new) }
+        ensures never_spent { result.found ≢ Err Spent }
+        ensures steps { steps_taken pass.new ≤ steps_taken pass.old + 8 }
+    {
+        let shared = &self.table.shared;
+        let word = shared.load::<Glancing>(&mut pass.seat, slot_place(slot));
+        let Some(node) = node_of(word) else {
+            return LookUp {
+                found: Err(LookFault::Empty),
+                freed: None,
+            };
+        };
+        if is_hot(word) {
+            return self.look_hot(pass, slot, node);
+        }
+        let found = self.look_cold(pass, slot);
+        LookUp { found, freed: None }
+    }
+
+    // Looks up a slot that named the node and was hot, in at most seven steps.
+    fn look_hot(&self, pass: &mut LastingPass, slot: u32, node: u32) -> LookUp
+        requires seated { IsSeatOfTable self.now pass.old }
+        requires idle { pass.old.seat.me.0.work ≡ Idle }
+        requires hot { pass.old.seat.me.0.glance ≡ Hot slot node }
+        requires slot { slot < self.now.size }
+        ensures fits { IsPassOfTable self.now pass.new }
+        ensures looked { LookedUp (opening_of_table self.now) (view_of pass.old) slot result.found
+            result.freed (view_of pass.new) }
+        ensures never_spent { result.found ≢ Err Spent }
+        ensures steps { steps_taken pass.new ≤ steps_taken pass.old + 7 }
+    {
+        match self.guard(&mut pass.seat, pass.number, slot, node) {
+            Some(entry) => {
+                pass.idle = false;
+                pass.guarded = true;
+                LookUp {
+                    found: Ok(Hold { node, entry }),
+                    freed: None,
+                }
+            }
+            None => {
+                let freed = self.withdraw(&mut pass.seat, pass.number, node);
+                let found = self.look_cold(pass, slot);
+                LookUp { found, freed }
+            }
+        }
+    }
+
+    // Takes what the slot names, in at most two steps.
+    fn look_cold(&self, pass: &mut LastingPass, slot: u32) -> Result<Hold, LookFault>
+        requires seated { IsSeatOfTable self.now pass.old }
+        requires idle { pass.old.seat.me.0.work ≡ Idle }
+        requires cold { pass.old.seat.me.0.glance ≡ Cold slot }
+        requires slot { slot < self.now.size }
+        ensures fits { IsPassOfTable self.now pass.new }
+        ensures looked { Looked (opening_of_table self.now) (view_of pass.old) slot result
+            (view_of pass.new) }
+        ensures never_spent { result ≢ Err Spent }
+        ensures steps { steps_taken pass.new ≤ steps_taken pass.old + 2 }
+    {
+        let found = self.take_at(&mut pass.seat, slot);
+        pass.idle = found.is_err();
+        pass.guarded = false;
+        found
+    }
+
+    /// Releases the file that the pass looked up, by the `Hold` that it got, in at most three atomic steps. Returns the
+    /// file, to be closed, if it was retired and nobody else uses it. Afterwards the pass is idle.
+    pub fn release(&self, pass: &mut LastingPass, hold: Hold) -> Option<OpenFile>
+        requires fits { IsPassOfTable self.now pass.old }
+        requires held { IsHoldOf (view_of pass.old) hold }
+        ensures fits { IsPassOfTable self.now pass.new }
+        ensures released { Released (opening_of_table self.now) (view_of pass.old) hold result
+            (view_of pass.new) }
+        ensures steps { steps_taken pass.new ≤ steps_taken pass.old + 3 }
+    {
+        let Hold { node, entry: _ } = hold;
+        pass.idle = true;
+        if pass.guarded {
+            return self.step_down(&mut pass.seat, pass.number, node);
+        }
+        self.let_go(&mut pass.seat, node)
+    }
+
+    /// Installs a file at a slot below `size`, under a number that no file has had, for an idle pass (`is_idle`) that
+    /// installs files (`numbers_left`). It makes at most four atomic steps more than the pass's block has nodes. Returns
+    /// the file that it replaced, to be retired, or `None` (io_uring_prep_openat(3), `io_uring_prep_openat_direct`).
+    pub fn put(&self, pass: &mut LastingPass, slot: u32, file: OpenFile) -> Option<Retired>
+        requires fits { IsPassOfTable self.now pass.old }
+        requires idle { IsIdle (view_of pass.old) }
+        requires slot { slot < size_of (opening_of_table self.now) }
+        requires numbers { 0 < (view_of pass.old).numbers_left }
+        ensures fits { IsPassOfTable self.now pass.new }
+        ensures placed { Placed (opening_of_table self.now) (view_of pass.old) slot file result
+            (view_of pass.new) }
+        ensures steps { let block = block_for self.now.size self.now.passes in
+            steps_taken pass.new ≤ steps_taken pass.old + (block + 4) }
+    {
+        let node = self.seek(&mut pass.seat, pass.number, pass.next_node);
+        let word = slot_word(node, file.entry());
+        self.put_in(&mut pass.seat, node, file);
+        let began = self.begin(&mut pass.seat, slot);
+        let shared = &self.table.shared;
+        let found = shared.swap::<Installing>(&mut pass.seat, slot_place(slot), word);
+        let replaced = removed_in(found);
+        let delta = if replaced.is_none() { 1 } else { 0 };
+        self.end(&mut pass.seat, began, delta);
+        pass.next_node = node;
+        pass.next_visit = self.first_visit(found);
+        pass.idle = replaced.is_none();
+        replaced
+    }
+
+    /// Empties a slot below `size` for an update, for an idle pass (`is_idle`), in at most three atomic steps. Returns
+    /// the file that was there, to be retired, or `None` (io_uring_register(2), "IORING_REGISTER_FILES_UPDATE", an
+    /// entry of -1).
+    pub fn clear(&self, pass: &mut LastingPass, slot: u32) -> Option<Retired>
+        requires fits { IsPassOfTable self.now pass.old }
+        requires idle { IsIdle (view_of pass.old) }
+        requires slot { slot < size_of (opening_of_table self.now) }
+        ensures fits { IsPassOfTable self.now pass.new }
+        ensures cleared { Cleared (opening_of_table self.now) (view_of pass.old) slot result
+            (view_of pass.new) }
+        ensures steps { steps_taken pass.new ≤ steps_taken pass.old + 3 }
+    {
+        let began = self.begin(&mut pass.seat, slot);
+        let shared = &self.table.shared;
+        let found = shared.swap::<Clearing>(&mut pass.seat, slot_place(slot), 0);
+        let removed = removed_in(found);
+        let delta = if removed.is_none() { 0 } else { -1 };
+        self.end(&mut pass.seat, began, delta);
+        pass.next_visit = self.first_visit(found);
+        pass.idle = removed.is_none();
+        removed
+    }
+
+    /// Empties a slot below `size` for a close, for an idle pass (`is_idle`), in at most three atomic steps. Returns
+    /// the file that was there, to be retired (io_uring_prep_close(3), `io_uring_prep_close_direct`).
+    ///
+    /// # Errors
+    /// `Empty` if the slot has no file.
+    pub fn take(&self, pass: &mut LastingPass, slot: u32) -> Result<Retired, Empty>
+        requires fits { IsPassOfTable self.now pass.old }
+        requires idle { IsIdle (view_of pass.old) }
+        requires slot { slot < size_of (opening_of_table self.now) }
+        ensures fits { IsPassOfTable self.now pass.new }
+        ensures taken { Taken (opening_of_table self.now) (view_of pass.old) slot result
+            (view_of pass.new) }
+        ensures steps { steps_taken pass.new ≤ steps_taken pass.old + 3 }
+    {
+        let began = self.begin(&mut pass.seat, slot);
+        let shared = &self.table.shared;
+        let found = shared.swap::<TakingOut>(&mut pass.seat, slot_place(slot), 0);
+        let removed = removed_in(found);
+        let delta = if removed.is_none() { 0 } else { -1 };
+        self.end(&mut pass.seat, began, delta);
+        pass.next_visit = self.first_visit(found);
+        pass.idle = removed.is_none();
+        removed.ok_or(Empty)
+    }
+
+    /// Retires the file that the pass removed, by the `Retired` that it got, in at most twice as many atomic steps as the
+    /// table has passes. Returns the file, to be closed, if nobody uses it now. Otherwise its last release returns it, or
+    /// a look-up that first saw it and came too late (`LookUp::freed`). Afterwards the pass is idle.
+    pub fn retire(&self, pass: &mut LastingPass, retired: Retired) -> Option<OpenFile>
+        requires fits { IsPassOfTable self.now pass.old }
+        requires removed { IsRetiredOf (view_of pass.old) retired }
+        ensures fits { IsPassOfTable self.now pass.new }
+        ensures retired { HasRetired (opening_of_table self.now) (view_of pass.old) retired result
+            (view_of pass.new) }
+        ensures steps { steps_taken pass.new ≤ steps_taken pass.old + 2 * self.now.passes }
+    {
+        let Retired {
+            node,
+            entry: _,
+            takes,
+        } = retired;
+        let marks = self.mark_all(&mut pass.seat, pass.number, node, pass.next_visit);
+        let place = node_place(self.size, self.passes, node);
+        let amount = retire_amount(takes, marks);
+        let shared = &self.table.shared;
+        let found = shared.fetch_sub::<Retire>(&mut pass.seat, place, amount);
+        pass.idle = true;
+        if found != amount + 1 {
+            return None;
+        }
+        Some(self.take_out(&mut pass.seat, node))
+    }
+
+    // Returns the first hold word that the retirement of a removed file visits, from the word that named the file: a file
+    // of a slot that wasn't hot is held by takes alone.
+    fn first_visit(&self, word: u64) -> u32
+        ensures { result ≡ first_visit self.now.passes word }
+    {
+        if is_hot(word) { 1 } else { self.passes + 1 }
+    }
+}
+
+// Returns the file that a slot's word names, to be retired, or `None`.
+fn removed_in(word: u64) -> Option<Retired>
+    ensures { (file : Option File) → Found word file
+        → result ≡ option_map (λ f. retired_at f (name_in word - 1) (count_in word)) file }
+{
+    match node_of(word) {
+        None => None,
+        Some(node) => Some(Retired {
+            node,
+            entry: entry_of(word),
+            takes: count_of(word),
+        }),
+    }
+}

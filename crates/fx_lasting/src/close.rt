@@ -1,0 +1,126 @@
+//! Closing a table, or letting it go.
+ghost use Rattle.std.specs.Prelude.{◌≡◌, ◌<◌, ◌++◌, length, map, reverse, slice_set, All, None};
+ghost use Rattle.std.specs.Mem.Slots.{slots_items, slots_len, IsFull};
+ghost use mathlib.Core.Option.{some};
+ghost use lib.ListN.{get_elem?};
+ghost use Rattle.fx_table.specs.Closing.{ClosesTable};
+ghost use Rattle.fx_table.specs.Pass.{IsIdle};
+ghost use Rattle.fx_lasting.specs.Lives.{IsIdleSeatOf, logs_in, AllAreIdle, Leaves};
+ghost use Rattle.fx_lasting.specs.Tables.{view_of, opening_of_table, IsPassOfTable};
+
+use crate::kinds::Gather;
+use crate::layout::{nodes_for, slot_place};
+use crate::pass::LastingPass;
+use crate::table::LastingTable;
+use crate::view::View;
+use atomic_table::{Closed, Seat};
+use fx_base::OpenFile;
+use fx_plain::PlainTable;
+use fx_words::node_of;
+use std::alloc::Global;
+
+impl LastingTable {
+    /// Turns the table back into a table of one thread, after all its passes have come back, idle (`is_idle`). Requires as
+    /// many passes as `open` returned, in any order. It can't run out of memory.
+    pub fn close(self, mut passes: Vec<LastingPass>) -> PlainTable
+        requires all { length passes.items ≡ (opening_of_table self).passes }
+        requires ready { All (λ p. IsPassOfTable self p × IsIdle (view_of p)) passes.items }
+        ensures { ClosesTable (opening_of_table self) (map view_of passes.items) result }
+    {
+        let Some(first) = passes.pop() else {
+            unreachable!()
+        };
+        let seat = self.gather(first.into_seat(), passes);
+        self.finish(seat)
+    }
+
+    // Joins all passes in one seat.
+    fn gather(
+        &self,
+        mut seat: Seat<Option<OpenFile>, View>,
+        mut passes: Vec<LastingPass>,
+    ) -> Seat<Option<OpenFile>, View>
+        requires seat { IsIdleSeatOf self.now seat }
+        requires passes { All (λ p. IsIdleSeatOf self.now p.seat) passes.items }
+        ensures seat { IsIdleSeatOf self.now result }
+        ensures logs { result.me.0.logs ≡ seat.me.0.logs ++ logs_in (reverse passes.items) }
+    {
+        while let Some(pass) = passes.pop() {
+            let other = pass.into_seat();
+            self.table.shared.join_seat::<Gather>(&mut seat, other);
+        }
+        passes.destroy_empty();
+        seat
+    }
+
+    // Takes the files out of their places and into the table of one thread, when all passes are in one seat.
+    fn finish(self, seat: Seat<Option<OpenFile>, View>) -> PlainTable
+        requires fits { seat.table_id ≡ self.table.shared.table_id }
+        requires idle { AllAreIdle self.table.shared.key seat.id seat.me.0 }
+        ensures { Leaves self.table.shared.key seat.id seat.me.0 result }
+    {
+        let LastingTable {
+            table,
+            mut shell,
+            passes,
+            installing,
+            size,
+            range_start: _,
+            range_len: _,
+        } = self;
+        let nodes = nodes_for(size, passes, installing);
+        let mut closed = table.close_with(seat);
+        for slot in 0..size {
+            if let Some(node) = node_of(closed.word(slot_place(slot))) {
+                if let Some(file) = take_home(&mut closed, node as usize) {
+                    shell.put_back(slot, file);
+                }
+            }
+        }
+        for place in 0..nodes as usize {
+            let home = closed.take(place);
+            let None = home else { unreachable!() };
+        }
+        closed.free();
+        shell
+    }
+
+    /// Consumes the table without closing it, and lets its memory go. The passes need not have come back; each of them is
+    /// consumed by [`LastingPass::abandon`]. The files of the table go without a close.
+    pub fn abandon(self) {
+        let LastingTable {
+            table,
+            shell,
+            passes: _,
+            installing: _,
+            size: _,
+            range_start: _,
+            range_len: _,
+        } = self;
+        let count = table.slot_count();
+        let mut closed = table.close();
+        for place in 0..count {
+            if let Some(file) = closed.take(place) {
+                file.discard();
+            }
+        }
+        closed.free();
+        shell.abandon();
+    }
+}
+
+// Takes the content of a place, and leaves the place empty.
+fn take_home(closed: &mut Closed<Option<OpenFile>, Global>, place: usize) -> Option<OpenFile>
+    requires inside { place < slots_len closed.old.slots }
+    requires full { IsFull closed.old.slots }
+    ensures value { get_elem? (slots_items closed.old.slots) place ≡ some result }
+    ensures items { slots_items closed.new.slots
+        ≡ slice_set (slots_items closed.old.slots) place None }
+    ensures count { slots_len closed.new.slots ≡ slots_len closed.old.slots }
+    ensures full { IsFull closed.new.slots }
+    ensures words { closed.new.words ≡ closed.old.words }
+{
+    let home = closed.take(place);
+    closed.slots.put(place, None);
+    home
+}

@@ -1,0 +1,84 @@
+//! The places of a table's words. The control word, each slot's word and each pass's hold word have a cache line of their
+//! own; the nodes' words follow them, side by side (this project's own).
+ghost use Rattle.std.specs.Prelude.{◌≡◌, ◌<◌, ◌≤◌};
+ghost use Rattle.fx_plain.specs.declared.table.TheConstants.{MOST_SLOTS};
+ghost use Rattle.fx_lasting.specs.Layout.{control_place, slot_place, hold_place, node_place, words_for, block_for, block_start, nodes_for};
+
+/// The greatest number of passes of a table.
+pub const MOST_PASSES: u32 = 1024;
+
+/// The greatest number of passes of a table that install files.
+pub const MOST_INSTALLING: u32 = 64;
+
+// The greatest number of nodes of a table, those of MOST_SLOTS slots and of MOST_INSTALLING blocks.
+pub(crate) const MOST_NODES: u32 = 164_096;
+
+// The place of the control word.
+pub(crate) const CONTROL: usize = 0;
+
+// Returns the place of a slot's word.
+pub(crate) fn slot_place(slot: u32) -> usize
+    requires { slot < MOST_SLOTS }
+    ensures { result ≡ slot_place slot }
+{
+    8 + 8 * slot as usize
+}
+
+// Returns the place of a pass's hold word.
+pub(crate) fn hold_place(size: u32, pass: u32) -> usize
+    requires size { size ≤ MOST_SLOTS }
+    requires pass { pass ≤ MOST_PASSES }
+    ensures { result ≡ hold_place size pass }
+{
+    (8 * size + 8 * pass) as usize
+}
+
+// Returns the place of a node's word.
+pub(crate) fn node_place(size: u32, passes: u32, node: u32) -> usize
+    requires size { size ≤ MOST_SLOTS }
+    requires passes { passes ≤ MOST_PASSES }
+    requires node { node < MOST_NODES }
+    ensures { result ≡ node_place size passes node }
+{
+    (8 + 8 * size + 8 * passes + node) as usize
+}
+
+// Returns the number of words of a table with `nodes` nodes.
+pub(crate) fn words_for(size: u32, passes: u32, nodes: u32) -> usize
+    requires size { size ≤ MOST_SLOTS }
+    requires passes { passes ≤ MOST_PASSES }
+    requires nodes { nodes ≤ MOST_NODES }
+    ensures { result ≡ words_for size passes nodes }
+{
+    (8 + 8 * size + 8 * passes + nodes) as usize
+}
+
+// Returns the number of nodes in a pass's block.
+pub(crate) fn block_for(size: u32, passes: u32) -> u32
+    requires size { size ≤ MOST_SLOTS }
+    requires passes { passes ≤ MOST_PASSES }
+    ensures { result ≡ block_for size passes }
+{
+    2 * (size + passes)
+}
+
+// Returns the first node of a pass's block.
+pub(crate) fn block_start(size: u32, passes: u32, pass: u32) -> u32
+    requires size { size ≤ MOST_SLOTS }
+    requires passes { passes ≤ MOST_PASSES }
+    requires pass { (1 ≤ pass) × (pass ≤ passes) }
+    ensures { result ≡ block_start size passes pass }
+{
+    size + (pass - 1) * block_for(size, passes)
+}
+
+// Returns the number of nodes of a table in which `installing` passes install.
+pub(crate) fn nodes_for(size: u32, passes: u32, installing: u32) -> u32
+    requires size { size ≤ MOST_SLOTS }
+    requires passes { passes ≤ MOST_PASSES }
+    requires installing { installing ≤ MOST_INSTALLING }
+    ensures nodes { result ≡ nodes_for size passes installing }
+    ensures few { result ≤ MOST_NODES }
+{
+    size + installing * block_for(size, passes)
+}

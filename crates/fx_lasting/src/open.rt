@@ -1,0 +1,235 @@
+//! Opening a table.
+ghost use Rattle.std.specs.Prelude.{◌≡◌, ◌+◌, ◌*◌, ◌<◌, ◌≤◌, [], length, map, slice_set, All, IfOk, IfErr, OnOk, OnErr, vec_len, vec_capacity};
+ghost use Rattle.fx_plain.specs.State.{IsSettled};
+ghost use Rattle.fx_plain.specs.Contents.{state_of, IsPrepared};
+ghost use Rattle.fx_plain.specs.declared.table.TheConstants.{MOST_SLOTS};
+ghost use Rattle.fx_table.specs.Opening.{IsGivenBack, lasting_opening};
+ghost use Rattle.fx_table.specs.Pass.{IsIdle};
+ghost use Rattle.fx_words.specs.Words.{slot_word_of};
+ghost use Rattle.fx_lasting.specs.Control.{full_in};
+ghost use Rattle.fx_lasting.specs.Firsts.{first_at, AreFirstWords, AreFirstHomes};
+ghost use Rattle.fx_lasting.specs.Layout.{slot_place, node_place, block_start};
+ghost use Rattle.fx_lasting.specs.Lives.{HasAllPasses, IsNewPass};
+ghost use Rattle.fx_lasting.specs.Parts.{born};
+ghost use Rattle.fx_lasting.specs.Shells.{IsShellOf};
+ghost use Rattle.fx_lasting.specs.Tables.{view_of, opening_of_table, first_passes, IsPassOfTable};
+ghost use Rattle.fx_lasting.specs.declared.layout.TheConstants.{MOST_NODES, MOST_PASSES, MOST_INSTALLING};
+
+use crate::kinds::Deal;
+use crate::layout::{
+    CONTROL, MOST_INSTALLING, MOST_PASSES, block_start, node_place, nodes_for, slot_place,
+    words_for,
+};
+use crate::parts::BORN;
+use crate::pass::LastingPass;
+use crate::shell::{make_room, put_all};
+use crate::table::LastingTable;
+use crate::view::{Start, View};
+use atomic_table::{Refused, Seat, Table};
+use fx_base::{NoMemory, OpenFile};
+use fx_plain::PlainTable;
+use fx_words::{control_word, slot_word};
+use std::alloc::Global;
+use std::snapshot::Snapshot;
+
+impl LastingTable {
+    /// Shares a settled table (`PlainTable::is_settled`) between `passes` passes, 1 to [`MOST_PASSES`]. The first
+    /// `installing` of them install files, 1 to [`MOST_INSTALLING`]. The passes are idle, and numbered from 1 in the order
+    /// of the list. The file at slot `s` gets node `s`. All memory is allocated here.
+    ///
+    /// # Errors
+    /// `NoMemory` if an allocation fails. The table comes back settled, with its files, size and range.
+    pub fn open(
+        alloc: Global,
+        plain: PlainTable,
+        passes: u32,
+        installing: u32,
+    ) -> Result<(LastingTable, Vec<LastingPass>), (PlainTable, NoMemory)>
+        requires settled { IsSettled (state_of plain) }
+        requires passes { (1 ≤ passes) × (passes ≤ MOST_PASSES) }
+        requires installing { (1 ≤ installing) × (installing ≤ MOST_INSTALLING) }
+        requires of_all { installing ≤ passes }
+        ensures opened { IfOk result (λ (t, _).
+            opening_of_table t ≡ lasting_opening plain passes) }
+        ensures ready { IfOk result (λ (t, list).
+            All (λ p. IsPassOfTable t p × IsIdle (view_of p)) list.items) }
+        ensures count { IfOk result (λ (_, list). length list.items ≡ passes) }
+        ensures new { IfOk result (λ (_, list).
+            map view_of list.items ≡ first_passes installing passes) }
+        ensures refused { IfErr result (λ (back, _). IsGivenBack plain back) }
+    {
+        let Ok(mut list) = Vec::with_capacity(alloc, passes as usize) else {
+            return Err((plain, NoMemory));
+        };
+        match LastingTable::start(alloc, plain, passes, installing) {
+            Ok((table, seat)) => {
+                table.deal(seat, &mut list);
+                Ok((table, list))
+            }
+            Err(refused) => {
+                list.destroy_empty();
+                Err(refused)
+            }
+        }
+    }
+
+    // Creates the shared table, and a seat with all passes.
+    fn start(
+        alloc: Global,
+        mut plain: PlainTable,
+        passes: u32,
+        installing: u32,
+    ) -> Result<(LastingTable, Seat<Option<OpenFile>, View>), (PlainTable, NoMemory)>
+        requires settled { IsSettled (state_of plain) }
+        requires passes { (1 ≤ passes) × (passes ≤ MOST_PASSES) }
+        requires installing { (1 ≤ installing) × (installing ≤ MOST_INSTALLING) }
+        requires of_all { installing ≤ passes }
+        ensures opened { IfOk result (λ (t, _).
+            opening_of_table t ≡ lasting_opening plain passes) }
+        ensures installing { IfOk result (λ (t, _). t.table.shared.key.installing ≡ installing) }
+        ensures seat { IfOk result (λ (t, seat). HasAllPasses t seat) }
+        ensures refused { IfErr result (λ (back, _). IsGivenBack plain back) }
+    {
+        let key = Start {
+            plain: Snapshot::of(&plain),
+            passes,
+            installing,
+        };
+        let size = plain.size();
+        let (range_start, range_len) = plain.range();
+        let nodes = nodes_for(size, passes, installing);
+        let Ok(words) = first_words(alloc, &plain, passes, nodes) else {
+            return Err((plain, NoMemory));
+        };
+        let Ok(homes) = first_homes(alloc, &mut plain, nodes) else {
+            return Err((plain, NoMemory));
+        };
+        match Table::new(alloc, words.as_slice(), homes, &key) {
+            Ok((table, seat)) => Ok((
+                LastingTable {
+                    table,
+                    shell: plain,
+                    passes,
+                    installing,
+                    size,
+                    range_start,
+                    range_len,
+                },
+                seat,
+            )),
+            Err(Refused { slots }) => {
+                put_all(&mut plain, slots);
+                Err((plain, NoMemory))
+            }
+        }
+    }
+
+    // Hands each pass a seat of its own.
+    fn deal(&self, mut seat: Seat<Option<OpenFile>, View>, list: &mut Vec<LastingPass>)
+        requires seat { HasAllPasses self.now seat }
+        requires list { (list.old.items ≡ []) × (self.now.passes ≤ vec_capacity list.old) }
+        ensures ready { All (λ p. IsPassOfTable self.now p × IsIdle (view_of p)) list.new.items }
+        ensures count { length list.new.items ≡ self.now.passes }
+        ensures new { map view_of list.new.items
+            ≡ first_passes self.now.table.shared.key.installing self.now.passes }
+    {
+        let mut number = 1;
+        while number < self.passes {
+            let one = self.table.shared.split_seat::<Deal>(&mut seat);
+            list.push_reserved(self.new_pass(one, number));
+            number += 1;
+        }
+        list.push_reserved(self.new_pass(seat, number));
+    }
+
+    // Creates the pass of a seat that has made no step.
+    fn new_pass(&self, seat: Seat<Option<OpenFile>, View>, number: u32) -> LastingPass
+        requires { (1 ≤ number) × (number ≤ self.now.passes) }
+        ensures { let node = block_start self.now.size self.now.passes number in
+            IsNewPass seat number node result }
+    {
+        LastingPass::new(seat, number, block_start(self.size, self.passes, number))
+    }
+}
+
+// Returns the number of slots of the allocation range that have a file.
+fn full_in_range(plain: &PlainTable, size: u32) -> u32
+    requires { size ≡ (state_of plain.now).size }
+    ensures full { let st = state_of plain.now in
+        result ≡ full_in (first_at st) st.range.0 st.range.1 }
+    ensures few { result ≤ (state_of plain.now).range.1 }
+{
+    let (start, len) = plain.range();
+    if len == size {
+        return plain.full();
+    }
+    let mut full = 0;
+    for slot in start..start + len {
+        if plain.entry_at(slot).is_some() {
+            full += 1;
+        }
+    }
+    full
+}
+
+// Writes the words of a slot with a file, and of its node, which has the slot's number.
+fn write_slot(words: &mut Vec<u64>, size: u32, passes: u32, slot: u32, entry: u8)
+    requires size { size ≤ MOST_SLOTS }
+    requires passes { passes ≤ MOST_PASSES }
+    requires slot { slot < size }
+    requires inside { node_place size passes slot < vec_len words.old }
+    ensures entry { entry < 256 }
+    ensures words { words.new.items ≡ slice_set (slice_set words.old.items
+        (slot_place slot) (slot_word_of slot entry)) (node_place size passes slot) born }
+{
+    words[slot_place(slot)] = slot_word(slot, entry);
+    words[node_place(size, passes, slot)] = BORN;
+}
+
+// Creates the words of a shared table with the files of this table.
+fn first_words(
+    alloc: Global,
+    plain: &PlainTable,
+    passes: u32,
+    nodes: u32,
+) -> Result<Vec<u64>, NoMemory>
+    requires passes { passes ≤ MOST_PASSES }
+    requires nodes { (nodes ≤ MOST_NODES) × ((state_of plain.now).size ≤ nodes) }
+    ensures { IfOk result (λ words. AreFirstWords (state_of plain.now) passes nodes words.items) }
+{
+    let size = plain.size();
+    let mut words = vec![in alloc; 0; words_for(size, passes, nodes)]?;
+    words[CONTROL] = control_word(full_in_range(plain, size));
+    for slot in 0..size {
+        if let Some(entry) = plain.entry_at(slot) {
+            write_slot(&mut words, size, passes, slot, entry);
+        }
+    }
+    Ok(words)
+}
+
+// Creates the places of a shared table, and moves the files of this table into them.
+fn first_homes(
+    alloc: Global,
+    plain: &mut PlainTable,
+    nodes: u32,
+) -> Result<Vec<Option<OpenFile>>, NoMemory>
+    requires settled { IsSettled (state_of plain.old) }
+    requires nodes { (state_of plain.old).size ≤ nodes }
+    ensures homes { IfOk result (λ homes. AreFirstHomes (state_of plain.old) nodes homes.items) }
+    ensures shell { OnOk result (IsShellOf (state_of plain.old) (state_of plain.new)) }
+    ensures prepared { OnOk result (IsPrepared plain.new) }
+    ensures err { OnErr result (plain.new ≡ plain.old) }
+{
+    let count = nodes as usize;
+    let mut homes = Vec::with_capacity(alloc, count)?;
+    let Ok(()) = make_room(plain) else {
+        homes.destroy_empty();
+        return Err(NoMemory);
+    };
+    plain.take_files(&mut homes);
+    for _ in homes.len()..count {
+        homes.push_reserved(None);
+    }
+    Ok(homes)
+}

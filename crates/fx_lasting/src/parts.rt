@@ -1,0 +1,68 @@
+//! The parts of words that `fx_words` doesn't have: a slot's heat and takes, and what a retirement subtracts.
+ghost use Rattle.std.specs.Prelude.{◌≡◌, ◌+◌, ◌≤◌, ◌^◌, ◌↔◌, IsTrue};
+ghost use Rattle.fx_words.specs.Words.{name_in, bias};
+ghost use Rattle.fx_lasting.specs.Parts.{hot_bit, count_in, hot_in, IsHot, announced, mark, retire_amount_of, born, cold_takes};
+
+// The bit of a slot's word that says that its file is looked up by hold words.
+pub(crate) const HOT: u64 = 1 << 31;
+
+// The word of a node before anybody has let its file go.
+pub(crate) const BORN: u64 = (1 << 32) + 1;
+
+// Returns the number of takes from which on a slot becomes hot, in a table with this number of passes.
+pub(crate) fn cold_takes(passes: u32) -> u32
+    ensures { result ≡ cold_takes passes }
+{
+    if passes == 1 { 1 << 30 } else { 16 }
+}
+
+// Returns the number of takes in a slot's word.
+pub(crate) fn count_of(word: u64) -> u32
+    ensures { result ≡ count_in word }
+{
+    (word % (1 << 31)) as u32
+}
+
+// Checks whether a slot's word is hot.
+pub(crate) fn is_hot(word: u64) -> bool
+    ensures { IsTrue result ↔ IsHot word }
+{
+    word / (1 << 31) % 2 == 1
+}
+
+// Checks whether a slot's word is hot and names the node.
+pub(crate) fn is_hot_at(word: u64, node: u32) -> bool
+    ensures { IsTrue result ↔ ((name_in word ≡ node + 1) × IsHot word) }
+{
+    word / (1 << 40) == u64::from(node) + 1 && is_hot(word)
+}
+
+// Returns the hold word of a pass that announces the node.
+pub(crate) fn announced(node: u32) -> u64
+    ensures { result ≡ announced node }
+{
+    u64::from(node) + 1
+}
+
+// Returns that word once a retirement has marked it.
+pub(crate) fn marked(node: u32) -> u64
+    ensures { result ≡ announced node + mark }
+{
+    u64::from(node) + 1 + (1 << 32)
+}
+
+// Returns the amount that the retirement of a file with these takes and marks subtracts from its node's word.
+pub(crate) fn retire_amount(takes: u32, marks: u32) -> u64
+    requires { takes + marks ≤ 2 ^ 32 }
+    ensures { result ≡ retire_amount_of takes marks }
+{
+    (1 << 32) - (u64::from(takes) + u64::from(marks))
+}
+
+// Checks whether the control word says that all `len` slots of the range are full: no pass is in a change, and `len` full
+// slots are counted.
+pub(crate) fn says_full(word: u64, len: u32) -> bool
+    ensures { IsTrue result ↔ (word ≡ bias + len) }
+{
+    word == 65_536 + u64::from(len)
+}

@@ -1,0 +1,73 @@
+//! The passes of the table.
+ghost use Rattle.std.specs.Prelude.{◌≡◌};
+ghost use Rattle.fx_lasting.specs.Lives.{IsNewPass};
+
+use crate::view::View;
+use atomic_table::Seat;
+use fx_base::OpenFile;
+
+/// A pass of a [`crate::LastingTable`]. It must be consumed: the compiler rejects a program that drops one without
+/// [`crate::LastingTable::close`] or [`LastingPass::abandon`]. Two neighbouring passes of a list are 128 bytes apart, so
+/// that threads that use them share no cache line.
+pub struct LastingPass {
+    pub(crate) seat: Seat<Option<OpenFile>, View>,
+    // The number of the pass, from 1.
+    pub(crate) number: u32,
+    // The node of its block where its next search begins.
+    pub(crate) next_node: u32,
+    // The first hold word that its next retirement visits, if it has a file to retire.
+    pub(crate) next_visit: u32,
+    pub(crate) idle: bool,
+    // The flag that it holds its file by its hold word, if it holds one.
+    pub(crate) guarded: bool,
+    pub(crate) spacing: Spacing,
+}
+
+// The distance between a pass and the next one: the fields before it take 16 bytes.
+#[derive(Drop)]
+pub(crate) struct Spacing {
+    unused: [u64; 14],
+}
+
+impl LastingPass {
+    // Creates the pass of a seat that has made no step.
+    pub(crate) fn new(
+        seat: Seat<Option<OpenFile>, View>,
+        number: u32,
+        next_node: u32,
+    ) -> LastingPass
+        ensures { IsNewPass seat number next_node result }
+    {
+        LastingPass {
+            seat,
+            number,
+            next_node,
+            next_visit: 0,
+            idle: true,
+            guarded: false,
+            spacing: Spacing { unused: [0; 14] },
+        }
+    }
+
+    // Returns the seat of the pass.
+    pub(crate) fn into_seat(self) -> Seat<Option<OpenFile>, View>
+        ensures { result ≡ self.seat }
+    {
+        let LastingPass {
+            seat,
+            number: _,
+            next_node: _,
+            next_visit: _,
+            idle: _,
+            guarded: _,
+            spacing: _,
+        } = self;
+        seat
+    }
+
+    /// Consumes the pass of a table that is abandoned, or is to be ([`crate::LastingTable::abandon`]). A file that it holds
+    /// or has to retire stays in the table's places, and is never returned.
+    pub fn abandon(self) {
+        let _seat = self.into_seat();
+    }
+}

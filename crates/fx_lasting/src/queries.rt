@@ -1,0 +1,88 @@
+//! Queries of a table and its passes.
+ghost use Rattle.std.specs.Prelude.{◌≡◌, ◌<◌, ◌≤◌, ◌↔◌, IsTrue};
+ghost use Rattle.fx_plain.specs.declared.table.TheConstants.{MOST_SLOTS};
+ghost use Rattle.fx_table.specs.Opening.{size_of, range_of};
+ghost use Rattle.fx_table.specs.Pass.{IsIdle};
+ghost use Rattle.fx_lasting.specs.Passes.{nodes_of};
+ghost use Rattle.fx_lasting.specs.Tables.{view_of, opening_of_table, IsPassOfTable};
+
+use crate::layout::nodes_for;
+use crate::pass::LastingPass;
+use crate::table::LastingTable;
+use fx_table::{CHAIN_NUMBERS, PASS_LOOKS};
+
+impl LastingTable {
+    /// Returns the number of slots, at most [`fx_plain::MOST_SLOTS`].
+    pub fn size(&self) -> u32
+        ensures value { result ≡ size_of (opening_of_table self.now) }
+        ensures few { result ≤ MOST_SLOTS }
+    {
+        self.size
+    }
+
+    /// Returns the allocation range: the first slot and the number of slots.
+    pub fn range(&self) -> (u32, u32)
+        ensures { result ≡ range_of (opening_of_table self.now) }
+    {
+        (self.range_start, self.range_len)
+    }
+
+    /// Returns the number of passes that the table was opened for.
+    pub fn passes(&self) -> u32
+        ensures { result ≡ (opening_of_table self.now).passes }
+    {
+        self.passes
+    }
+
+    /// Returns the number of passes that install files: those numbered from 1 to this number.
+    pub fn installing(&self) -> u32
+        ensures { result ≡ self.now.table.shared.key.installing }
+    {
+        self.installing
+    }
+
+    /// Returns the number of nodes of the table. The node of each `Hold` and `Retired` is below it.
+    pub fn nodes(&self) -> u32
+        ensures { result ≡ nodes_of self.now.table.shared.key }
+    {
+        nodes_for(self.size, self.passes, self.installing)
+    }
+
+    /// Checks whether the pass installs files: it is one of the first `installing` passes.
+    pub fn installs(&self, pass: &LastingPass) -> bool
+        requires { IsPassOfTable self.now pass.now }
+        ensures { IsTrue result ↔ (0 < (view_of pass.now).numbers_left) }
+    {
+        self.numbers_left(pass) > 0
+    }
+
+    /// Checks whether the pass holds no file and has none to retire.
+    pub fn is_idle(&self, pass: &LastingPass) -> bool
+        requires { IsPassOfTable self.now pass.now }
+        ensures { IsTrue result ↔ IsIdle (view_of pass.now) }
+    {
+        pass.idle
+    }
+
+    /// Returns the number of look-ups that the pass has left, always [`fx_table::PASS_LOOKS`].
+    pub fn looks_left(&self, pass: &LastingPass) -> u32
+        requires { IsPassOfTable self.now pass.now }
+        ensures { result ≡ (view_of pass.now).looks_left }
+    {
+        let _pass = pass;
+        PASS_LOOKS
+    }
+
+    /// Returns the number of files that the pass can install: 0 if it installs none, and otherwise always
+    /// [`fx_table::CHAIN_NUMBERS`].
+    pub fn numbers_left(&self, pass: &LastingPass) -> u32
+        requires { IsPassOfTable self.now pass.now }
+        ensures { result ≡ (view_of pass.now).numbers_left }
+    {
+        if self.installing < pass.number {
+            0
+        } else {
+            CHAIN_NUMBERS
+        }
+    }
+}

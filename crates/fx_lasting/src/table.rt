@@ -1,0 +1,45 @@
+//! The table.
+ghost use Rattle.std.specs.Prelude.{◌≡◌, ◌≤◌, ◌+◌};
+ghost use Rattle.fx_plain.specs.Contents.{state_of, IsPrepared};
+ghost use Rattle.fx_plain.specs.declared.table.TheConstants.{MOST_SLOTS};
+ghost use Rattle.fx_lasting.specs.declared.layout.TheConstants.{MOST_PASSES, MOST_INSTALLING};
+ghost use Rattle.fx_lasting.specs.Layout.{words_for};
+ghost use Rattle.fx_lasting.specs.Passes.{slots_of, range_of, nodes_of};
+ghost use Rattle.fx_lasting.specs.Shells.{IsShellOf};
+
+use crate::kinds::OneHistory;
+use crate::view::{Start, View};
+use atomic_table::Table;
+use fx_base::OpenFile;
+use fx_plain::PlainTable;
+use std::alloc::Global;
+
+/// A file table that threads share without a lock, and that never has to be closed: look-ups and installations have no
+/// limit. A file that is looked up seldom is counted at its slot; one that is looked up often is announced in a word of
+/// the pass's own, so that passes that read one slot don't disturb each other. Of all calls only `put_any` may wait. It
+/// must be consumed: the compiler rejects a program that drops one without [`LastingTable::close`] or
+/// [`LastingTable::abandon`] (this project's own).
+pub struct LastingTable {
+    pub(crate) table: Table<Option<OpenFile>, View, Start, OneHistory, Global>,
+    // The table that was opened, without its files. They go back into it at the close, which therefore allocates
+    // nothing.
+    pub(crate) shell: PlainTable,
+    pub(crate) passes: u32,
+    pub(crate) installing: u32,
+    pub(crate) size: u32,
+    pub(crate) range_start: u32,
+    pub(crate) range_len: u32,
+    pub ghost words: { table.shared.table_id.words
+        ≡ words_for size passes (nodes_of table.shared.key) },
+    pub ghost homes: { table.shared.table_id.slots ≡ nodes_of table.shared.key },
+    pub ghost key: { (passes ≡ table.shared.key.passes)
+        × (installing ≡ table.shared.key.installing) },
+    pub ghost same_size: { size ≡ slots_of table.shared.key },
+    pub ghost same_range: { (range_start, range_len) ≡ range_of table.shared.key },
+    pub ghost few_slots: { size ≤ MOST_SLOTS },
+    pub ghost range_inside: { range_start + range_len ≤ size },
+    pub ghost emptied: { IsShellOf (state_of table.shared.key.plain.value) (state_of shell) },
+    pub ghost room: { IsPrepared shell },
+    pub ghost bounds: { (1 ≤ passes) × (passes ≤ MOST_PASSES) × (1 ≤ installing)
+        × (installing ≤ MOST_INSTALLING) × (installing ≤ passes) },
+}

@@ -1,5 +1,0 @@
-use Rattle.fx_lines.proofs.CompletionCounts.{each_request}
-use Rattle.fx_lines.proofs.laws.reports_have_each_request.Goals as goal
-
-pub returns : goal.returns
-returns c = each_request

@@ -1,6 +1,0 @@
-pub mod Reads
-pub mod Lines
-pub mod ClosedView
-pub mod Front
-pub mod LinesView
-pub mod Laws

@@ -1,9 +1,0 @@
-use Rattle.fx_order.proofs.Words.{ℕ, ◌<◌, Contains}
-use Rattle.fx_outcomes.proofs.Words.{Allocates, FindsFull}
-use Rattle.fx_outcomes.proofs.choice.open_any_choices.Given as goal
-
-abbrev pub invariant-loop-slot : goal.invariant-loop-slot
-invariant-loop-slot l = record {
-  full : Contains l.choices.items FindsFull;
-  each : (k : ℕ) → k < l.slot → Contains l.choices.items (Allocates k l.file);
-}

@@ -1,0 +1,169 @@
+-- The calls of a worker: the events that each adds to its pass.
+use Rattle.std.specs.Prelude.{◌≡◌, ℕ, ◌≤◌, ◌<◌, true, [], Option, Some, None, option_map, is_some}
+use Rattle.std.specs.Prelude.{Result, Ok, Err}
+use Rattle.std.specs.Arc.{arc_value}
+use Rattle.fx_base.specs.Identity.{Identity}
+use Rattle.fx_plain.specs.History.{◌▷◌}
+use Rattle.fx_plain.specs.declared.event.File.{File}
+use Rattle.fx_plain.specs.declared.event.Action.TheVariants.{Allocate, Full}
+use Rattle.fx_table.specs.Calls.{LookedUp, Released, Placed, Taken, HasRetired, Adds, IsNewFile}
+use Rattle.fx_table.specs.Calls.{no_use, one_number}
+use Rattle.fx_table.specs.Opening.{Opening, size_of}
+use Rattle.fx_table.specs.Pass.{PassView, IsIdle, IsHoldOf}
+use Rattle.fx_table.specs.declared.values.Empty.{Empty as NoFile}
+use Rattle.fx_table.specs.declared.values.Doing.TheVariants.{Idle as DoesNothing}
+use Rattle.fx_table.specs.declared.values.Hold.{Hold}
+use Rattle.fx_table.specs.declared.values.LookFault.{LookFault as TableFault}
+use Rattle.fx_table.specs.declared.values.LookFault.TheVariants as fault
+use Rattle.fx_table.specs.declared.values.Retired.{Retired}
+use Rattle.fx_lasting.specs.Passes.{nodes_of}
+use Rattle.fx_lasting.specs.Tables.{view_of, opening_of_table, IsPassOfTable}
+use Rattle.fx_lasting.specs.declared.table.LastingTable.{LastingTable}
+use Rattle.fx_server.specs.Files.{file_with}
+use Rattle.fx_server.specs.declared.answers.LookAnswer.{LookAnswer}
+use Rattle.fx_server.specs.declared.answers.LookRefusal.{LookRefusal}
+use Rattle.fx_server.specs.declared.answers.LookRefusal.TheVariants.{Empty, NoSlot, Busy}
+use Rattle.fx_server.specs.declared.answers.NotHolding.{NotHolding}
+use Rattle.fx_server.specs.declared.answers.PutAny.{PutAny}
+use Rattle.fx_server.specs.declared.answers.PutAny.TheVariants as any
+use Rattle.fx_server.specs.declared.answers.PutFault.{PutFault}
+use Rattle.fx_server.specs.declared.answers.PutFault.TheVariants as put
+use Rattle.fx_server.specs.declared.answers.Removal.{Removal}
+use Rattle.fx_server.specs.declared.answers.Removal.TheVariants.{Nothing, InUse, Closed}
+use Rattle.fx_server.specs.declared.answers.TakeFault.{TakeFault}
+use Rattle.fx_server.specs.declared.answers.TakeFault.TheVariants as take
+use Rattle.fx_server.specs.declared.worker.Held.{Held}
+use Rattle.fx_server.specs.declared.worker.TableWorker.{TableWorker}
+
+abbrev pub its_table : TableWorker → LastingTable
+its_table w = (arc_value w.shared).table
+
+abbrev pub its_opening : TableWorker → Opening
+its_opening w = opening_of_table (its_table w)
+
+abbrev pub its_pass : TableWorker → PassView
+its_pass w = view_of w.pass
+
+-- the hold with the worker's fields
+abbrev pub hold_in : Held → Hold
+hold_in held = record { node = held.node; entry = held.entry }
+
+-- the pass does what the worker's field says
+abbrev pub DoesAsHeld : PassView → Option Held → Type 0
+DoesAsHeld v None = IsIdle v
+DoesAsHeld v (Some held) = IsHoldOf v (hold_in held)
+
+-- between two calls: the pass is one of the table, and is idle or holds by the worker's hold
+pub record IsGood (w : TableWorker) : Type 0 where
+  pub fits : IsPassOfTable (its_table w) w.pass
+  pub does : DoesAsHeld (its_pass w) w.held
+
+-- the tag of a file that came out
+abbrev pub tag_in : Option Identity → Option ℕ
+tag_in out = option_map (λ (f : Identity). f.tag) out
+
+-- a look-up of a worker that holds nothing, at a slot of the table
+pub record LooksAt (w : TableWorker) (slot : ℕ) (found : Result Hold TableFault) (freed : Option ℕ)
+    (w' : TableWorker) : Type 0 where
+  pub out : Option Identity
+  pub tag : freed ≡ tag_in out
+  pub looked : LookedUp (its_opening w) (its_pass w) slot found out (its_pass w')
+
+-- the worker is unchanged, since it holds a file
+abbrev pub IsBusy : TableWorker → TableWorker → Type 0
+IsBusy w w' = (is_some w.held ≡ true) × (w' ≡ w)
+
+-- the worker is unchanged, since the table has no such slot
+abbrev pub HasNoSlot : TableWorker → ℕ → TableWorker → Type 0
+HasNoSlot w slot w' = (size_of (its_opening w) ≤ slot) × (w' ≡ w)
+
+-- the worker is unchanged, since it doesn't install files
+abbrev pub HasNoBlock : TableWorker → TableWorker → Type 0
+HasNoBlock w w' = ((its_pass w).numbers_left ≡ 0) × (w' ≡ w)
+
+-- the hold that a look-up returned is noted, and its node is returned
+abbrev pub Notes : Result Hold TableFault → Result ℕ LookRefusal → Option Held → Type 0
+Notes (Ok hold) result held =
+    (result ≡ Ok hold.node) × (held ≡ Some (record { node = hold.node; entry = hold.entry }))
+Notes (Err _) result held = (result ≡ Err Empty) × (held ≡ None)
+
+-- a look-up: the node that is returned is that of the hold that the worker has now
+abbrev pub Finds : TableWorker → ℕ → Result ℕ LookRefusal → Option ℕ → TableWorker → Type 0
+Finds w slot (Ok node) freed w' = (held : Held) × (held.node ≡ node) × (w'.held ≡ Some held)
+    × LooksAt w slot (Ok (hold_in held)) freed w'
+Finds w slot (Err Empty) freed w' =
+    (w'.held ≡ None) × LooksAt w slot (Err fault.Empty) freed w'
+Finds w slot (Err NoSlot) freed w' = (freed ≡ None) × HasNoSlot w slot w'
+Finds w slot (Err Busy) freed w' = (freed ≡ None) × IsBusy w w'
+
+abbrev pub LooksUp : TableWorker → ℕ → LookAnswer → TableWorker → Type 0
+LooksUp w slot look w' = Finds w slot look.found look.freed w'
+
+-- the node of the next file is chosen; the pass stays as it is
+abbrev pub Chooses : TableWorker → Result ℕ PutFault → TableWorker → Type 0
+Chooses w (Ok node) w' = (w'.held ≡ None) × (node < nodes_of (its_table w).table.shared.key)
+    × (its_pass w' ≡ its_pass w)
+Chooses w (Err put.Busy) w' = IsBusy w w'
+Chooses w (Err put.NoSlot) w' = ⊥
+Chooses w (Err put.NoBlock) w' = HasNoBlock w w'
+
+-- a release: the tag that is returned is that of the file, if it came out
+abbrev pub ReleasesHeld : TableWorker → Result (Option ℕ) NotHolding → TableWorker → Type 0
+ReleasesHeld w (Ok tag) w' = (held : Held) × (out : Option Identity) × (w.held ≡ Some held)
+    × (w'.held ≡ None) × (tag ≡ tag_in out)
+    × Released (its_opening w) (its_pass w) (hold_in held) out (its_pass w')
+ReleasesHeld w (Err _) w' = (w.held ≡ None) × (w' ≡ w)
+
+-- a removed file is retired: it is still used, or it is closed and its tag is returned
+abbrev pub RetiresAs : Opening → PassView → Retired → Removal → PassView → Type 0
+RetiresAs o v retired Nothing v' = ⊥
+RetiresAs o v retired InUse v' = HasRetired o v retired None v'
+RetiresAs o v retired (Closed tag) v' =
+    (file : Identity) × (file.tag ≡ tag) × HasRetired o v retired (Some file) v'
+
+-- what a call removed is retired in it
+abbrev pub RetiresAny : Opening → PassView → Option Retired → Removal → PassView → Type 0
+RetiresAny o v None removal v' = (removal ≡ Nothing) × (v' ≡ v)
+RetiresAny o v (Some retired) removal v' = RetiresAs o v retired removal v'
+
+-- a file with this tag is put at a slot, and what was there is retired
+pub record PutsAt (w : TableWorker) (slot tag : ℕ) (removal : Removal) (w' : TableWorker)
+    : Type 0 where
+  pub retired : Option Retired
+  pub between : PassView
+  pub placed : Placed (its_opening w) (its_pass w) slot (file_with tag) retired between
+  pub retires : RetiresAny (its_opening w) between retired removal (its_pass w')
+
+abbrev pub Puts : TableWorker → ℕ → ℕ → Result Removal PutFault → TableWorker → Type 0
+Puts w slot tag (Ok removal) w' = PutsAt w slot tag removal w'
+Puts w slot tag (Err put.Busy) w' = IsBusy w w'
+Puts w slot tag (Err put.NoSlot) w' = HasNoSlot w slot w'
+Puts w slot tag (Err put.NoBlock) w' = HasNoBlock w w'
+
+-- one round of an installation: the file is at the slot, or every slot had a file at one step, or
+-- nothing was done
+abbrev pub PutsAny : TableWorker → ℕ → PutAny → TableWorker → Type 0
+PutsAny w tag (any.At slot) w' = (slot < size_of (its_opening w)) × ((new : File)
+    × IsNewFile (its_opening w) (its_pass w) (file_with tag) new
+    × Adds (its_opening w) (its_pass w) ([] ▷ Allocate slot new) DoesNothing one_number
+    (its_pass w'))
+PutsAny w tag any.Full w' =
+    Adds (its_opening w) (its_pass w) ([] ▷ Full) DoesNothing no_use (its_pass w')
+PutsAny w tag any.Again w' = Adds (its_opening w) (its_pass w) [] DoesNothing no_use (its_pass w')
+PutsAny w tag any.Busy w' = IsBusy w w'
+PutsAny w tag any.NoBlock w' = HasNoBlock w w'
+
+-- the file of a slot is taken out and retired
+pub record TakesFrom (w : TableWorker) (slot : ℕ) (removal : Removal) (w' : TableWorker)
+    : Type 0 where
+  pub retired : Retired
+  pub between : PassView
+  pub taken : Taken (its_opening w) (its_pass w) slot (Ok retired) between
+  pub retires : RetiresAs (its_opening w) between retired removal (its_pass w')
+
+abbrev pub RemovesFrom : TableWorker → ℕ → Result Removal TakeFault → TableWorker → Type 0
+RemovesFrom w slot (Ok removal) w' = TakesFrom w slot removal w'
+RemovesFrom w slot (Err take.Empty) w' =
+    (empty : NoFile) × Taken (its_opening w) (its_pass w) slot (Err empty) (its_pass w')
+RemovesFrom w slot (Err take.NoSlot) w' = HasNoSlot w slot w'
+RemovesFrom w slot (Err take.Busy) w' = IsBusy w w'

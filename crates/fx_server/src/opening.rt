@@ -1,0 +1,129 @@
+//! Opening a table with its workers.
+ghost use Rattle.std.specs.Prelude.{◌≡◌, ◌<◌, All, IfOk, length};
+ghost use Rattle.std.specs.Arc.{arc_value};
+ghost use Rattle.fx_table.specs.Pass.{IsIdle};
+ghost use Rattle.fx_lasting.specs.Tables.{view_of, IsPassOfTable};
+ghost use Rattle.fx_server.specs.Workers.{IsGood};
+
+use crate::shared::{Shared, one_file};
+use crate::worker::TableWorker;
+use fx_base::NoMemory;
+use fx_lasting::{LastingPass, LastingTable, MOST_INSTALLING, MOST_PASSES};
+use fx_plain::{MOST_SLOTS, PlainTable};
+use std::alloc::{AllocError, Global};
+use std::sync::Arc;
+
+/// The reason why a table is not opened.
+#[derive(Clone, Copy)]
+pub enum OpenFault {
+    /// A number is out of its range.
+    OutOfRange,
+    /// An allocation failed.
+    NoMemory,
+}
+
+/// Opens a table of 1 to 256 empty slots, and returns its workers, 1 to 1,024, of which the first `installing`, 1 to 64, install files.
+///
+/// # Errors
+/// `OutOfRange` if a number is out of its range, `NoMemory` if an allocation fails.
+pub fn open(
+    alloc: Global,
+    slots: u32,
+    workers: u32,
+    installing: u32,
+) -> Result<Vec<TableWorker>, OpenFault>
+    ensures good { IfOk result (λ list. All IsGood list.items) }
+    ensures count { IfOk result (λ list. length list.items ≡ workers) }
+{
+    if slots < 1 || slots > MOST_SLOTS || workers < 1 || workers > MOST_PASSES {
+        return Err(OpenFault::OutOfRange);
+    }
+    if installing < 1 || installing > MOST_INSTALLING || installing > workers {
+        return Err(OpenFault::OutOfRange);
+    }
+    let Ok(catalogue) = one_file(alloc) else {
+        return Err(OpenFault::NoMemory);
+    };
+    let Ok(plain) = PlainTable::sparse(alloc, slots) else {
+        return Err(OpenFault::NoMemory);
+    };
+    match LastingTable::open(alloc, plain, workers, installing) {
+        Ok((table, passes)) => share(alloc, Shared { table, catalogue }, passes),
+        Err((plain, NoMemory)) => {
+            plain.abandon();
+            Err(OpenFault::NoMemory)
+        }
+    }
+}
+
+// Hands each pass to a worker.
+fn share(
+    alloc: Global,
+    shared: Shared,
+    passes: Vec<LastingPass>,
+) -> Result<Vec<TableWorker>, OpenFault>
+    requires ready { All (λ p. IsPassOfTable shared.table p × IsIdle (view_of p)) passes.items }
+    ensures good { IfOk result (λ list. All IsGood list.items) }
+    ensures count { IfOk result (λ list. length list.items ≡ length passes.items) }
+{
+    let Ok(shared) = Arc::new(alloc, shared) else {
+        spend(passes);
+        return Err(OpenFault::NoMemory);
+    };
+    let Ok(workers) = Vec::with_capacity(alloc, passes.len()) else {
+        spend(passes);
+        return Err(OpenFault::NoMemory);
+    };
+    deal(shared, passes, workers)
+}
+
+// Turns the passes into workers, in their order.
+fn deal(
+    shared: Arc<Shared, Global>,
+    mut passes: Vec<LastingPass>,
+    mut workers: Vec<TableWorker>,
+) -> Result<Vec<TableWorker>, OpenFault>
+    requires ready { All (λ p. IsPassOfTable (arc_value shared).table p × IsIdle (view_of p)) passes.items }
+    requires none { length workers.items ≡ 0 }
+    ensures good { IfOk result (λ list. All IsGood list.items) }
+    ensures count { IfOk result (λ list. length list.items ≡ length passes.items) }
+{
+    while let Some(pass) = passes.pop() {
+        let Ok(worker) = begin(&shared, pass) else {
+            spend(passes);
+            return Err(OpenFault::NoMemory);
+        };
+        let Ok(()) = workers.push(worker) else {
+            spend(passes);
+            return Err(OpenFault::NoMemory);
+        };
+    }
+    passes.destroy_empty();
+    workers.reverse();
+    Ok(workers)
+}
+
+// Returns a worker that holds nothing.
+fn begin(shared: &Arc<Shared, Global>, pass: LastingPass) -> Result<TableWorker, AllocError>
+    requires fits { IsPassOfTable (arc_value shared.now).table pass }
+    requires idle { IsIdle (view_of pass) }
+    ensures { IfOk result (λ worker. IsGood worker) }
+{
+    let Ok(shared) = Arc::try_clone(shared) else {
+        pass.abandon();
+        return Err(AllocError);
+    };
+    Ok(TableWorker {
+        shared,
+        pass,
+        held: None,
+    })
+}
+
+// Consumes the passes of a table that is not opened after all.
+fn spend(mut passes: Vec<LastingPass>) {
+    while let Some(pass) = passes.pop() {
+        pass.abandon();
+    }
+    passes.destroy_empty();
+}

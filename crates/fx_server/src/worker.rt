@@ -1,0 +1,241 @@
+//! A pass together with its table.
+ghost use Rattle.std.specs.Prelude.{◌≡◌, None, Err, option_map};
+ghost use Rattle.fx_table.specs.Pass.{IsRetiredOf};
+ghost use Rattle.fx_lasting.specs.Tables.{view_of, opening_of_table, IsPassOfTable};
+ghost use Rattle.fx_lasting.specs.Passes.{nodes_of};
+ghost use Rattle.fx_server.specs.Workers.{Chooses, IsGood, LooksUp, Notes, ReleasesHeld, Puts, PutsAny};
+ghost use Rattle.fx_server.specs.Workers.{RemovesFrom, RetiresAs, its_table};
+
+use crate::answers::{LookAnswer, LookRefusal, NotHolding, PutAny, PutFault, Removal, TakeFault};
+use crate::shared::Shared;
+use fx_base::OpenFile;
+use fx_lasting::{LastingPass, LastingTable, TriedPut};
+use fx_table::{Empty, Hold, LookFault as Fault, LookUp, Retired};
+use std::alloc::Global;
+use std::sync::Arc;
+
+/// The hold of a worker: the fields of a `Hold`.
+#[derive(Clone, Copy)]
+pub struct Held {
+    /// The node of the file.
+    pub node: u32,
+    /// The entry of the file.
+    pub entry: u8,
+}
+
+/// A pass with its table. It holds at most one file at a time.
+pub struct TableWorker {
+    pub shared: Arc<Shared, Global>,
+    pub pass: LastingPass,
+    pub held: Option<Held>,
+}
+
+impl Drop for TableWorker {
+    fn drop(self) {
+        let TableWorker {
+            shared,
+            pass,
+            held: _,
+        } = self;
+        pass.abandon();
+        drop(shared);
+    }
+}
+
+impl TableWorker {
+    /// LooksUp a slot up. The worker holds the file there until `release`.
+    pub fn look(&mut self, slot: u32) -> LookAnswer
+        requires good { IsGood self.old }
+        ensures good { IsGood self.new }
+        ensures table { self.new.shared ≡ self.old.shared }
+        ensures looked { LooksUp self.old slot result self.new }
+    {
+        let table = &self.shared.table;
+        if self.held.is_some() {
+            return refused(LookRefusal::Busy);
+        }
+        if slot >= table.size() {
+            return refused(LookRefusal::NoSlot);
+        }
+        let LookUp { found, freed } = table.look_up(&mut self.pass, slot);
+        let freed = tag_of(freed);
+        let found = note(&mut self.held, found);
+        LookAnswer { found, freed }
+    }
+
+    /// ReleasesHeld the file that the worker holds. Returns its tag, if it was removed and nobody uses it any more.
+    ///
+    /// # Errors
+    /// `NotHolding` if the worker holds no file.
+    pub fn release(&mut self) -> Result<Option<u64>, NotHolding>
+        requires good { IsGood self.old }
+        ensures good { IsGood self.new }
+        ensures table { self.new.shared ≡ self.old.shared }
+        ensures released { ReleasesHeld self.old result self.new }
+    {
+        let Some(Held { node, entry }) = self.held.take() else {
+            return Err(NotHolding);
+        };
+        let hold = Hold { node, entry };
+        let out = self.shared.table.release(&mut self.pass, hold);
+        Ok(tag_of(out))
+    }
+
+    /// Returns the number of nodes of the table. Each node is below it.
+    pub fn nodes(&self) -> u32
+        ensures { result ≡ nodes_of (its_table self.now).table.shared.key }
+    {
+        self.shared.table.nodes()
+    }
+
+    /// Chooses the node of the worker's next file, which the next `put`, or the next `put_any` that installs one, uses. It is free
+    /// until then.
+    ///
+    /// # Errors
+    /// `Busy`, `NoBlock`, in this order.
+    pub fn next_node(&mut self) -> Result<u32, PutFault>
+        requires good { IsGood self.old }
+        ensures good { IsGood self.new }
+        ensures table { self.new.shared ≡ self.old.shared }
+        ensures chosen { Chooses self.old result self.new }
+    {
+        if self.held.is_some() {
+            return Err(PutFault::Busy);
+        }
+        let table = &self.shared.table;
+        if !table.installs(&self.pass) {
+            return Err(PutFault::NoBlock);
+        }
+        Ok(table.next_node(&mut self.pass))
+    }
+
+    /// Installs a file with this tag at a slot. Returns what was there.
+    ///
+    /// # Errors
+    /// `Busy`, `NoSlot`, `NoBlock`, in this order.
+    pub fn put(&mut self, slot: u32, tag: u64) -> Result<Removal, PutFault>
+        requires good { IsGood self.old }
+        ensures good { IsGood self.new }
+        ensures table { self.new.shared ≡ self.old.shared }
+        ensures placed { Puts self.old slot tag result self.new }
+    {
+        if self.held.is_some() {
+            return Err(PutFault::Busy);
+        }
+        let shared: &Shared = &self.shared;
+        let table = &shared.table;
+        if slot >= table.size() {
+            return Err(PutFault::NoSlot);
+        }
+        if !table.installs(&self.pass) {
+            return Err(PutFault::NoBlock);
+        }
+        let file = shared.file(tag);
+        match table.put(&mut self.pass, slot, file) {
+            None => Ok(Removal::Nothing),
+            Some(retired) => Ok(retire(table, &mut self.pass, retired)),
+        }
+    }
+
+    /// Makes one round to install a file with this tag at a free slot.
+    pub fn put_any(&mut self, tag: u64) -> PutAny
+        requires good { IsGood self.old }
+        ensures good { IsGood self.new }
+        ensures table { self.new.shared ≡ self.old.shared }
+        ensures allocated { PutsAny self.old tag result self.new }
+    {
+        if self.held.is_some() {
+            return PutAny::Busy;
+        }
+        let shared: &Shared = &self.shared;
+        let table = &shared.table;
+        if !table.installs(&self.pass) {
+            return PutAny::NoBlock;
+        }
+        let file = shared.file(tag);
+        match table.try_put_any(&mut self.pass, file) {
+            TriedPut::At(slot) => PutAny::At(slot),
+            TriedPut::Full(file) => {
+                file.discard();
+                PutAny::Full
+            }
+            TriedPut::Again(file) => {
+                file.discard();
+                PutAny::Again
+            }
+        }
+    }
+
+    /// Empties a slot. Returns what was there, which is not `Nothing`.
+    ///
+    /// # Errors
+    /// `Busy`, `NoSlot`, or `Empty` if the slot has no file.
+    pub fn take(&mut self, slot: u32) -> Result<Removal, TakeFault>
+        requires good { IsGood self.old }
+        ensures good { IsGood self.new }
+        ensures table { self.new.shared ≡ self.old.shared }
+        ensures removed { RemovesFrom self.old slot result self.new }
+    {
+        if self.held.is_some() {
+            return Err(TakeFault::Busy);
+        }
+        let table = &self.shared.table;
+        if slot >= table.size() {
+            return Err(TakeFault::NoSlot);
+        }
+        match table.take(&mut self.pass, slot) {
+            Ok(retired) => Ok(retire(table, &mut self.pass, retired)),
+            Err(Empty) => Err(TakeFault::Empty),
+        }
+    }
+}
+
+// Notes the hold that a look-up returned, if it found a file, and returns its node.
+fn note(held: &mut Option<Held>, found: Result<Hold, Fault>) -> Result<u32, LookRefusal>
+    ensures { Notes found result held.new }
+{
+    match found {
+        Ok(hold) => {
+            let Hold { node, entry } = hold;
+            *held = Some(Held { node, entry });
+            Ok(node)
+        }
+        Err(_) => {
+            *held = None;
+            Err(LookRefusal::Empty)
+        }
+    }
+}
+
+// Returns the result of a look-up that was refused.
+fn refused(fault: LookRefusal) -> LookAnswer
+    ensures { (result.found ≡ Err fault) × (result.freed ≡ None) }
+{
+    LookAnswer {
+        found: Err(fault),
+        freed: None,
+    }
+}
+
+// Consumes a file that came out, and returns its tag.
+fn tag_of(out: Option<OpenFile>) -> Option<u64>
+    ensures { result ≡ option_map (λ file. file.tag) out }
+{
+    let file = out?;
+    let tag = file.tag();
+    file.discard();
+    Some(tag)
+}
+
+// RetiresAs a file that the pass removed.
+fn retire(table: &LastingTable, pass: &mut LastingPass, retired: Retired) -> Removal
+    requires fits { IsPassOfTable table.now pass.old }
+    requires removed { IsRetiredOf (view_of pass.old) retired }
+    ensures fits { IsPassOfTable table.now pass.new }
+    ensures retired { RetiresAs (opening_of_table table.now) (view_of pass.old) retired result (view_of pass.new) }
+{
+    match tag_of(table.retire(pass, retired)) {
+        Some(tag) => Removal::Closed(tag),
+        None => Removal::InUse,
+    }
+}

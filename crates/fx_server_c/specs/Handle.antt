@@ -1,0 +1,14 @@
+-- The memory that a handle owns: the same as a box of its worker.
+use base.Fml.{Fml}
+use base.Stored.{Coded}
+use denote.RawPtr.{Ptr}
+use Rattle.std.specs.Box.Ownership.{box_owns}
+use Rattle.std.specs.Global.{Global}
+use Rattle.std_heap.specs.contracts.GlobalAllocator.TheImpl.{ghosts}
+use Rattle.fx_server.specs.contracts.worker.TableWorker.{the_row}
+
+abbrev pub handle_owns : Global → Ptr → the_row.Denot → Fml
+handle_owns alloc = box_owns (ghosts.dealloc_token alloc) the_row
+
+abbrev pub worker_coded : Coded the_row.Denot
+worker_coded = the_row.coded

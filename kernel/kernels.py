@@ -1,0 +1,112 @@
+"""Plays scripts on a kernel (kernel/play.c) and compares the texts with the rules, for kernel/conform.
+
+A text is right if fixcheck calls it legal. If fixcheck refuses it, the differences of docs/LINUX.md may explain it: kernel/rules.py
+changes the model by them, and model/orders.py searches for an order in which the changed model prints the text. If fixcheck is
+undecided, model/orders.py decides."""
+import functools
+import os
+import re
+from typing import NamedTuple
+
+from model import REGISTRATIONS, SUBMISSIONS, Script, play
+from orders import TooManyOrders, ending_of
+from programs import LEGAL, NOT_LEGAL, UNDECIDED, run, verdict
+from repository import BUILD, ROOT, read, write
+from rules import Linux
+
+PLAYER = os.path.join(BUILD, "play-on-kernel")
+FIXCHECK = os.path.join(ROOT, "bin/fixcheck")
+# the player's exit status if a line has no system call, and that of kernel/play-on-kernel if there is no io_uring
+CANT_SAY, NO_KERNEL = 78, 77
+# the limit of states for most texts, and for those that need more
+STATES, MOST_STATES = 1_000, 1_000_000
+AGREES, LEFT_OUT, UNSAID = "agrees", "left out", "unsaid"
+
+
+def listed():
+    """Returns the names of the differences, which are the first cells of docs/LINUX.md's first table, and the version of the kernel
+    that has them, such as 6.18."""
+    table = read("docs/LINUX.md").split("\n## ")[1]
+    names = frozenset(re.findall(r"^\| `([a-z_]+)` \|", table, re.MULTILINE))
+    return names, re.search(r"^Found on kernel (\d+\.\d+)", table, re.MULTILINE)[1]
+
+
+def large_differences():
+    """Yields the scripts of two differences that are too large to be kept as files."""
+    yield "too_many_submissions", b"submit\n" * (SUBMISSIONS + 1)
+    yield "too_many_registrations", b"register -1\nunregister\n" * (REGISTRATIONS + 1)
+
+
+def built_player():
+    """Builds the player of this machine's kernel. Returns the exit status and the line that says what is missing."""
+    status, text, message = run([f"{ROOT}/kernel/play-on-kernel", "--build"])
+    return status, (text + message).strip().removeprefix("kernel: skipped: ")
+
+
+def verdict_of(fixcheck, text, written):
+    """Returns LEGAL, NOT_LEGAL or UNDECIDED, and what fixcheck prints."""
+    for states in (STATES, MOST_STATES):
+        status, said, complaint = verdict(fixcheck, text, written, "--states", str(states))
+        if complaint or status not in (LEGAL, NOT_LEGAL, UNDECIDED):
+            raise RuntimeError(f"fixcheck ended with status {status}: {said}{complaint}")
+        if status != UNDECIDED:
+            break
+    return status, "".join(f"{it}\n" for it in said)
+
+
+class Found(NamedTuple):
+    """A player's text of a script. `standing` is AGREES, LEFT_OUT, UNSAID, the names of the differences that explain the text, or None
+    if nothing does. Then come the text, what the player printed on standard error, and what fixcheck prints of the text."""
+
+    standing: object
+    written: str
+    complaint: str = ""
+    said: str = ""
+
+
+def ending_by_linux(text, written, shown):
+    """Returns the model, changed by the differences `shown`, after a play that prints the text in some order, or None."""
+    return ending_of(Script(text), written, functools.partial(Linux, shown=shown))
+
+
+def found(status, said, text, written, shown):
+    """Compares a text with the rules, given the exit status of fixcheck and what it printed."""
+    if status == LEGAL:
+        return Found(AGREES, written)
+    # a text that the unchanged model prints is legal: then fixcheck must not refuse it
+    legal = None if status == NOT_LEGAL else AGREES
+    if written == play(text)[0]:
+        return Found(legal, written, said=said)
+    try:
+        ending = ending_by_linux(text, written, shown)
+    except TooManyOrders:
+        return Found(LEFT_OUT, written, said=said)
+    return Found(ending and (ending.met or legal), written, said=said)
+
+
+def found_of_kernel(player, fixcheck, text, shown, seconds=120):
+    """Plays a script for at most `seconds`, and compares its text with the rules and the differences `shown`."""
+    fault = play(text)[2]
+    status, written, complaint = run([player], text, seconds)
+    if status == CANT_SAY:
+        return Found(UNSAID, written, complaint)
+    if fault:
+        return Found(AGREES if status == 3 and f"line {fault.line}:" in complaint else None, written, complaint)
+    if status:
+        return Found(None, written, f"{complaint}status {status}")
+    return found(*verdict_of(fixcheck, text, written), text, written, shown)._replace(complaint=complaint)
+
+
+def text_of_kernel(player, text, nth, seconds=120):
+    """Returns the text of the nth play of a script, or None if it failed. In every second play each request is started by a thread of
+    the kernel, so that chains run beside each other."""
+    status, written, complaint = run([player, *(["--async"] if nth % 2 else [])], text, seconds)
+    return None if status or complaint else written
+
+
+def keep(name, text, written):
+    """Keeps a failed script and its text. Returns their paths, which are relative below this folder."""
+    paths = [os.path.join(BUILD, f"{os.path.basename(name)}.{ending}") for ending in ("script", "text")]
+    for path, content in zip(paths, (text, written)):
+        write(path, content)
+    return [os.path.relpath(it, ROOT) if it.startswith(ROOT) else it for it in paths]

@@ -1,0 +1,421 @@
+/* The step table of the lasting table, by docs/INTERNALS.md: the atomic steps of each call.
+ *
+ * It was written from the page and from no code. A step is one atomic step on a word, with what its pass does at once afterwards. Beside
+ * the words it keeps the model of the table: which file is at a slot, which is removed, who holds what. Each event must be legal in
+ * the model at its step. A clear has the steps of a take. */
+#include <stddef.h>
+#include <string.h>
+
+#include "lasting_table.h"
+
+const struct family *family;
+enum wrong wrong;
+int block;
+const char *fault;
+
+void want(bool holds, const char *otherwise) {
+    if (!holds && fault == NULL) {
+        fault = otherwise;
+    }
+}
+
+/* Events */
+
+static void hold_file(struct state *s, struct pass *it) {
+    want(s->file[it->node] == AT_SLOT && s->named[it->slot] == it->node + 1, "a look-up returns a file that isn't at the slot");
+    it->holds = it->node + 1;
+}
+
+static void close_file(struct state *s, int node) {
+    want(s->file[node] == REMOVED, "a file is closed that wasn't removed");
+    for (int who = 0; who < family->passes; who++) {
+        want(s->pass[who].holds != node + 1, "a file is closed while a pass holds it");
+    }
+    want(s->place[node] == OPEN_FILE, "a file is closed that isn't in its place");
+    s->file[node] = NO_FILE;
+    s->place[node] = WITH_PASS;
+}
+
+static void install(struct state *s, const struct pass *it) {
+    s->named[it->slot] = it->node + 1;
+    s->takes[it->slot] = s->hot[it->slot] = 0;
+    s->file[it->node] = AT_SLOT;
+    s->place[it->node] = OPEN_FILE;
+}
+
+static bool has_full_range(const struct state *s) {
+    for (int slot = 0; slot < family->slots; slot++) {
+        if (family->in_range && s->named[slot] == 0) {
+            return false;
+        }
+    }
+    return true;
+}
+
+/* Calls */
+
+/* Begins a call of the pass, or ends one (`call` 0). What it holds stays. */
+static void begin_call(struct pass *it, int call, enum step step) {
+    struct pass next = {.step = step, .call = call, .slot = it->slot, .node = it->node, .holds = it->holds};
+    if (call == 0) {
+        next.slot = next.node = 0;
+    }
+    *it = next;
+}
+
+static void hold_until_release(struct pass *it, enum step step) {
+    begin_call(it, RELEASE, step);
+    it->slot = it->node = 0;
+}
+
+/* Drops a take or a mark from a node's word. If the word was 2, the file is closed. */
+static void drop(struct state *s, struct pass *it, enum step rest, enum step otherwise) {
+    int last = wrong == FREE_WORD_OF_A_CLOSED_FILE ? LAST - 1 : wrong == CLOSED_ONE_TOO_EARLY ? LAST + 1
+        : wrong == CLOSED_ONE_TOO_LATE ? LAST - 1 : LAST;
+    int found = s->word[it->node];
+    want(found > 0, "a node word falls below 0");
+    s->word[it->node] = found - 1;
+    if (found == last) {
+        close_file(s, it->node);
+        it->step = rest;
+    } else if (otherwise == IDLE) {
+        begin_call(it, 0, IDLE);
+    } else {
+        it->step = otherwise;
+    }
+}
+
+static void rest(struct state *s, const struct pass *it) {
+    want(s->place[it->node] == WITH_PASS, "a place is returned that no pass has");
+    s->place[it->node] = NOTHING;
+    s->word[it->node] = FREE;
+}
+
+/* A look-up */
+
+static void glance(struct state *s, struct pass *it) {
+    if (s->named[it->slot] == 0) {
+        begin_call(it, 0, IDLE);
+    } else if (s->hot[it->slot]) {
+        it->node = s->named[it->slot] - 1;
+        it->step = wrong == ANNOUNCED_AFTER_THE_SECOND_LOOK ? CONFIRM : ANNOUNCE;
+    } else {
+        it->step = TAKE;
+    }
+}
+
+static void announce(struct state *s, struct pass *it, int who) {
+    s->hold[who] = it->node + 1;
+    if (wrong == NO_SECOND_LOOK) {
+        hold_file(s, it);
+    }
+    if (it->holds) {
+        hold_until_release(it, GUARDED);
+    } else {
+        it->step = CONFIRM;
+    }
+}
+
+static void confirm(struct state *s, struct pass *it, int who) {
+    bool names = s->named[it->slot] == it->node + 1 && (s->hot[it->slot] || wrong == HOT_NOT_ASKED_AT_THE_SECOND_LOOK);
+    bool is_announced = wrong != ANNOUNCED_AFTER_THE_SECOND_LOOK;
+    if (!names) {
+        it->step = is_announced ? WITHDRAW : TAKE;
+        return;
+    }
+    hold_file(s, it);
+    if (is_announced) {
+        want(s->hold[who] == it->node + 1, "a confirmed hold is marked");
+        hold_until_release(it, GUARDED);
+    } else {
+        it->step = ANNOUNCE;
+    }
+}
+
+/* Empties the hold word of the pass, and returns whether it was marked. */
+static bool empty_hold(struct state *s, const struct pass *it, int who, enum wrong by_a_store) {
+    int found = wrong == by_a_store ? it->node + 1 : s->hold[who];
+    s->hold[who] = 0;
+    want((found & ~MARK) == it->node + 1, "a hold word names another node");
+    return found & MARK;
+}
+
+static void take(struct state *s, struct pass *it) {
+    bool heats = s->takes[it->slot] >= family->cold_takes && wrong != SLOT_NEVER_HEATED;
+    s->takes[it->slot]++;
+    if (s->named[it->slot] != 0) {
+        it->node = s->named[it->slot] - 1;
+        hold_file(s, it);
+    }
+    if (heats) {
+        it->step = HEAT;
+    } else if (it->holds) {
+        hold_until_release(it, COUNTED);
+    } else {
+        begin_call(it, 0, IDLE);
+    }
+}
+
+static void heat(struct state *s, struct pass *it) {
+    s->hot[it->slot] = 1;
+    if (it->holds) {
+        hold_until_release(it, COUNTED);
+    } else {
+        begin_call(it, 0, IDLE);
+    }
+}
+
+/* A removal, and the retirement of what it removed */
+
+static void visit_from(struct pass *it, int who, int next) {
+    int end = wrong == LAST_PASS_NOT_VISITED ? family->passes - 1 : family->passes;
+    it->next = next + (next == who);
+    it->step = VISIT;
+    if (it->next >= end) {
+        it->next = 0;
+        it->step = it->call == RETIREMENT ? RETIRE : SWAP;
+    }
+}
+
+/* A swap, with the report of its change, is over: its pass retires what it found. */
+static void retire_found(struct pass *it, int who) {
+    struct pass found = *it;
+    if (found.takes == UINT8_MAX) {
+        begin_call(it, 0, IDLE);
+        return;
+    }
+    begin_call(it, RETIREMENT, VISIT);
+    it->slot = 0;
+    it->takes = found.takes;
+    it->marks = found.marks;
+    visit_from(it, who, found.was_hot && wrong != NO_VISITS && wrong != SCAN_BEFORE_THE_SWAP ? 0 : family->passes);
+}
+
+static void swap(struct state *s, struct pass *it, int who) {
+    int found = s->named[it->slot], takes = s->takes[it->slot], was_hot = s->hot[it->slot];
+    if (it->call == PUT) {
+        install(s, it);
+    } else {
+        s->named[it->slot] = s->takes[it->slot] = s->hot[it->slot] = 0;
+    }
+    if (found) {
+        s->file[found - 1] = REMOVED;
+        it->node = found - 1;
+    }
+    it->delta = (it->call == PUT) - (found != 0);
+    it->takes = found ? takes : UINT8_MAX;
+    it->was_hot = was_hot;
+    it->step = END;
+    if (!family->in_range) {
+        retire_found(it, who);
+    }
+}
+
+/* A mark is an exchange: only a pass that still announces the node gets it. */
+static void mark_hold(struct state *s, struct pass *it, int who) {
+    bool marks = s->hold[it->next] == it->node + 1 || wrong == MARK_BY_A_STORE;
+    if (marks) {
+        s->hold[it->next] = (it->node + 1) | MARK;
+    }
+    it->marks += marks || wrong == FAILED_MARKS_COUNTED;
+    visit_from(it, who, it->next + 1);
+}
+
+static void visit(struct state *s, struct pass *it, int who) {
+    if (s->hold[it->next] == it->node + 1) {
+        it->step = MARK_HOLD;
+    } else {
+        visit_from(it, who, it->next + 1);
+    }
+}
+
+static void retire(struct state *s, struct pass *it) {
+    int closed = wrong == FREE_WORD_OF_A_CLOSED_FILE ? FREE : CLOSED;
+    int amount = BORN - closed - it->marks - (wrong == TAKES_LEFT_OUT_OF_A_RETIREMENT ? 0 : it->takes);
+    want(s->word[it->node] >= amount, "a node word falls below 0");
+    s->word[it->node] -= amount;
+    if (s->word[it->node] != closed) {
+        begin_call(it, 0, IDLE);
+        return;
+    }
+    close_file(s, it->node);
+    if (wrong == REST_BEFORE_THE_FILE_IS_OUT) {
+        s->word[it->node] = FREE;
+    }
+    it->step = REST;
+}
+
+/* An installation */
+
+static void seek(struct state *s, struct pass *it, int who) {
+    int node = (wrong == BIRTH_IN_ANOTHER_BLOCK ? 0 : who) * block + it->nth;
+    if (s->word[node] == FREE) {
+        it->node = node;
+        it->nth = it->tried = it->steps = 0;
+        it->step = BIRTH;
+        return;
+    }
+    it->step = SEEK;
+    it->nth = (it->nth + 1) % block;
+    want(++it->tried < block, "no node of a block is free");
+}
+
+static void birth(struct state *s, struct pass *it) {
+    want(s->file[it->node] == NO_FILE && s->place[it->node] == NOTHING, "a pass gets the place of a node that isn't free");
+    s->word[it->node] = BORN;
+    s->file[it->node] = PLACED;
+    s->place[it->node] = WITH_PASS;
+    it->step = it->call == PUT_ANY ? PEEK : family->in_range ? BEGIN : SWAP;
+}
+
+/* An allocation: it asks whether the range is full, then goes over the range, and asks again. */
+
+static void ask(struct state *s, struct pass *it, bool has_place) {
+    bool is_full = s->full == (family->in_range ? family->slots : 0)
+        && (s->changes == 0 || wrong == FULL_WHILE_A_CHANGE_IS_IN_FLIGHT);
+    bool is_changed = false;
+    for (int who = 0; who < family->passes; who++) {
+        is_changed |= is_in_change(&s->pass[who]);
+    }
+    want(!is_full || has_full_range(s), "an allocation returns that the range is full, and a slot is empty");
+    want(is_full || is_changed || !has_full_range(s), "the range is full, nobody changes it, and an allocation doesn't return so");
+    if (is_full && has_place) {
+        it->step = REST_UNUSED;
+    } else if (is_full) {
+        begin_call(it, 0, IDLE);
+    } else {
+        it->step = has_place ? PEEK : SEEK;
+    }
+    it->slot = 0;
+}
+
+static void peek_next(struct pass *it) {
+    it->slot = (it->slot + 1) % family->slots;
+    it->step = it->slot == 0 ? ASK : PEEK;
+}
+
+static void peek(struct state *s, struct pass *it) {
+    if (s->named[it->slot]) {
+        peek_next(it);
+        return;
+    }
+    it->takes = s->takes[it->slot];
+    it->was_hot = s->hot[it->slot];
+    it->step = wrong == EXCHANGE_OUTSIDE_A_CHANGE ? EXCHANGE : BEGIN;
+}
+
+static void exchange(struct state *s, struct pass *it) {
+    it->delta = s->named[it->slot] == 0 && s->takes[it->slot] == it->takes && s->hot[it->slot] == it->was_hot;
+    it->takes = it->was_hot = 0;
+    if (it->delta) {
+        install(s, it);
+    }
+    it->step = END_EXCHANGE;
+}
+
+static void end_exchange(struct state *s, struct pass *it) {
+    s->changes -= wrong != EXCHANGE_OUTSIDE_A_CHANGE;
+    s->full += it->delta;
+    if (it->delta) {
+        begin_call(it, 0, IDLE);
+    } else {
+        peek_next(it);
+    }
+}
+
+/* Steps */
+
+bool is_in_change(const struct pass *it) {
+    bool is_exchange = it->step == EXCHANGE || it->step == END_EXCHANGE;
+    return it->step == END || (it->step == SWAP && family->in_range) || (is_exchange && wrong != EXCHANGE_OUTSIDE_A_CHANGE);
+}
+
+/* The first step of a call on a slot; a search may begin at each node of the pass's block. */
+static bool begin_nth(struct state *s, struct pass *it, int who, int nth) {
+    int calls = family->calls[who];
+    if ((calls & LOOK) && nth < family->slots) {
+        it->slot = nth;
+        begin_call(it, LOOK, IDLE);
+        glance(s, it);
+        return true;
+    }
+    nth -= calls & LOOK ? family->slots : 0;
+    if ((calls & REMOVE) && nth < family->slots) {
+        it->slot = nth;
+        begin_call(it, REMOVE, family->in_range ? BEGIN : SWAP);
+        if (wrong == SCAN_BEFORE_THE_SWAP && s->named[nth] && s->hot[nth]) {
+            it->node = s->named[nth] - 1;
+            visit_from(it, who, 0);
+        }
+        return true;
+    }
+    nth -= calls & REMOVE ? family->slots : 0;
+    if ((calls & PUT) && nth < family->slots * block) {
+        it->slot = nth % family->slots;
+        begin_call(it, PUT, SEEK);
+        it->nth = nth / family->slots;
+        seek(s, it, who);
+        return true;
+    }
+    nth -= calls & PUT ? family->slots * block : 0;
+    if ((calls & PUT_ANY) && nth < block) {
+        begin_call(it, PUT_ANY, ASK);
+        it->nth = nth;
+        ask(s, it, false);
+        return true;
+    }
+    return false;
+}
+
+bool take_step(struct state *s, int who, int nth) {
+    struct pass *it = &s->pass[who];
+    if (it->step == IDLE) {
+        return begin_nth(s, it, who, nth);
+    }
+    if (nth > 0) {
+        return false;
+    }
+    if (it->step == GUARDED || it->step == COUNTED) {
+        it->node = it->holds - 1;
+    }
+    it->steps += it->call != PUT_ANY;
+    switch ((enum step)it->step) {
+    case IDLE: break;
+    case ANNOUNCE: announce(s, it, who); break;
+    case CONFIRM: confirm(s, it, who); break;
+    case WITHDRAW: it->step = empty_hold(s, it, who, WITHDRAWAL_BY_A_STORE) ? DROP_OWED : TAKE; break;
+    case DROP_OWED: drop(s, it, REST_OF_LOOK, TAKE); break;
+    case REST_OF_LOOK: rest(s, it); it->step = TAKE; break;
+    case TAKE: take(s, it); break;
+    case HEAT: heat(s, it); break;
+    case GUARDED:
+        if (empty_hold(s, it, who, RELEASE_BY_A_STORE)) {
+            it->step = DROP_YIELDED;
+        } else {
+            it->holds = 0;
+            begin_call(it, 0, IDLE);
+        }
+        break;
+    case COUNTED:
+    case DROP_YIELDED: it->holds = 0; drop(s, it, REST, IDLE); break;
+    case REST:
+    case REST_UNUSED:
+        s->file[it->node] = NO_FILE;
+        rest(s, it);
+        begin_call(it, 0, IDLE);
+        break;
+    case SEEK: seek(s, it, who); break;
+    case BIRTH: birth(s, it); break;
+    case BEGIN: s->changes++; it->step = it->call == PUT_ANY ? EXCHANGE : SWAP; break;
+    case SWAP: swap(s, it, who); break;
+    case END: s->changes--; s->full += (int8_t)it->delta; retire_found(it, who); break;
+    case VISIT: visit(s, it, who); break;
+    case MARK_HOLD: mark_hold(s, it, who); break;
+    case RETIRE: retire(s, it); break;
+    case PEEK: peek(s, it); break;
+    case EXCHANGE: exchange(s, it); break;
+    case END_EXCHANGE: end_exchange(s, it); break;
+    case ASK: ask(s, it, true); break;
+    }
+    return true;
+}

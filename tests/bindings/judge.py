@@ -1,0 +1,69 @@
+"""judge.py ROOT: yachtjudge over all examples: their texts are legal, with one result changed they aren't, lists of texts are those that
+are kept beside the questions, and faults those beside the scripts that have them."""
+import re
+import sys
+from pathlib import Path
+
+import yachtjudge
+
+root = Path(sys.argv[1])
+looked = wrong = 0
+
+
+def want(holds, what):
+    global looked, wrong
+    looked += 1
+    if not holds:
+        wrong += 1
+        print(f"judge.py: {what}")
+
+
+def is_other(lines, number):
+    """Returns the lines with another result in one line, or None if it has none."""
+    match = re.match(rb"(\d+\.\d+\.\d+ |[a-z]+ )(-?\d+)(.*)", lines[number], re.S)
+    return match and [*lines[:number], match[1] + b"77" + match[3], *lines[number + 1 :]]
+
+
+def one(path):
+    script, text = path.read_bytes(), path.with_suffix(".text").read_bytes()
+    verdict = yachtjudge.judge(script, text)
+    want(verdict and verdict.word == "legal", f"{path.name} isn't legal")
+    lines = text.splitlines(keepends=True)
+    for number in range(len(lines)):
+        if other := is_other(lines, number):
+            verdict = yachtjudge.judge(script, b"".join(other))
+            want(verdict.word == "not legal" and not verdict, f"{path.name} is {verdict.word} with another line {number + 1}")
+            want(verdict.at <= sum(map(len, lines[:number])), f"{path.name} breaks behind line {number + 1}")
+
+
+examples = sorted((root / "examples").glob("*.script"))
+for it in examples:
+    one(it)
+want(len(examples) >= 33, "there are fewer than 33 examples")
+
+for it in sorted((root / "examples/questions").glob("*.script")):
+    found, shown = yachtjudge.outcomes(it.read_bytes()), it.with_suffix(".texts").read_text()
+    blocks = re.split(r"^text \d+\n", shown, flags=re.M)[1:]
+    kept = {"".join(f"{line[4:]}\n" for line in block.splitlines() if line.startswith("    ")) for block in blocks}
+    want({text.decode() for text in found} == kept and len(found) == len(kept), f"{it.name} has other texts than those that are kept")
+    want(found.are_all, f"{it.name}: there may be more texts")
+
+for fault in sorted((root / "examples/faults").glob("*.fault")):
+    it, match = fault.with_suffix(".script"), re.search(r"line (\d+).*?: ([a-z-]+)", fault.read_text())
+    try:
+        yachtjudge.judge(it.read_bytes(), b"")
+        want(False, f"{it.name} is a script")
+    except yachtjudge.BadScript as bad:
+        want(bad.fault and str(bad) == f"line {bad.line}: {bad.fault}", f"{it.name} has no fault")
+        want((bad.line, bad.fault) == (int(match[1]), match[2]), f"{it.name}: line {bad.line}: {bad.fault}")
+    try:
+        yachtjudge.outcomes(it.read_bytes())
+        want(False, f"{it.name} has texts")
+    except yachtjudge.BadScript as bad:
+        want(bad.line >= 0, f"{it.name} has no line")
+
+# text and bytes alike, undecided within no states, empty input
+want(yachtjudge.judge("", "").word == "legal", "nothing isn't legal for nothing")
+want(yachtjudge.judge("sparse 1\n", "sparse 0\n") == yachtjudge.judge(b"sparse 1\n", b"sparse 0\n"), "text differs from bytes")
+print(f"judge.py: {looked} looked at, {wrong} wrong")
+sys.exit(wrong != 0)
