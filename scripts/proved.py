@@ -65,16 +65,18 @@ def copy_crates(room, gate=None):
         mark_libraries(room, gate)
 
 
-def copy_below(room, name, below):
-    """Copies a crate with what earlier checks kept of it, and the crates below it with their libraries. No other crate is
-    listed there."""
+def copy_below(room, name, below, gate=None):
+    """Copies a crate with what earlier checks kept of it, and the crates below it with their libraries, which the gate has made where
+    one is given. No other crate is listed there."""
     those = needed(name, below)
     shutil.copy(f"{ROOT}/HANDLES", room)
     lines = read(f"{ROOT}/crates.txt").splitlines(keepends=True)
     write(f"{room}/crates.txt", "".join(it for it in lines if re.match(r"\w*", it)[0] in those))
     for it in those:
-        for part in (*PARTS[:-1], "out" if it == name else "out/rlib"):
+        for part in (*PARTS[:-1], "out" if it == name and not gate else "out/rlib"):
             copy_part(room, it, part)
+    if gate and gate.is_newer():
+        mark_libraries(room, gate)
 
 
 def prove(folder, paths=(), jobs=()):
