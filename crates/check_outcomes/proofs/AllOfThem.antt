@@ -1,11 +1,11 @@
 -- States that were looked through are all of a submission.
 use Rattle.fx_order.proofs.Words.{◌≡◌, refl, ℕ, ◌+◌, ◌-◌, ◌<◌, List, [], length, map, sym, ap, ◌∙◌, arith, slice_index_or, All, Bool}
 use Rattle.fx_order.proofs.Words.{IsTrue, Completed, length-map, Asked, runs_of, first_member, table_of_slots, All-contains}
-use Rattle.fx_order.proofs.Words.{AllByRecursion, false, false≢true, Chain, members_of, ⊎_elim}
+use Rattle.fx_order.proofs.Words.{AllByRecursion, true, false, false≢true, Chain, members_of, ⊎_elim}
 use Rattle.check_outcomes.proofs.Words.{Slots, contains_map, Rest, settled_at, Parts, StaysIn, AreAtStart, AreAllBy, IsAtStartBy}
 use Rattle.check_outcomes.proofs.Words.{IsStateExploredBy, said_by, states_of, told_by, told_states, AreToldAtStart, AreToldClosed, is_state_idle, parts_by_numbers}
-use Rattle.check_outcomes.proofs.Words.{rules_in, runs_in, view_in, Claimed, PlayState, IsTurnOf, is_idle_at, PlayedSubmission, cases_Bool, AreParts, AreClosed}
-use Rattle.check_outcomes.proofs.Words.{ArePartsIn}
+use Rattle.check_outcomes.proofs.Words.{rules_in, runs_in, view_in, Claimed, PlayState, has_none, is_idle_at, PlayedSubmission, cases_Bool, AreParts, AreClosed}
+use Rattle.check_outcomes.proofs.Words.{ArePartsIn, HasReadsAloneIn, IsTurnOfPart, IsTurnOfReader}
 use Rattle.check_outcomes.specs.declared.parts.PartNumbers.{PartNumbers}
 use Rattle.check_outcomes.proofs.Idle.{are_idle, none_for, none_left, over_idle}
 use Rattle.check_outcomes.proofs.Lists.{each_run, inside_at}
@@ -14,11 +14,18 @@ use Rattle.check_outcomes.proofs.Viewing.{less_one}
 pub as_many : (asked : List Asked) (chains : List Chain) → map (members_of asked) chains ≡ runs_of asked → length (runs_of asked) ≡ length chains
 as_many asked chains whole = ap length (sym whole) ∙ length-map chains (members_of asked)
 
--- the part of a chain that isn't idle is one behind which no chain has its turn
+-- behind the part of a chain that isn't idle no chain has its turn
 pub is_turn : (submission : PlayedSubmission) (numbers : PartNumbers) (state : PlayState) {i : ℕ} → i < length (runs_in submission)
-    → is_idle_at submission state i ≡ false → IsTurnOf submission numbers state (slice_index_or numbers.of_chain.items i 0)
+    → is_idle_at submission state i ≡ false → IsTurnOfPart submission numbers state (slice_index_or numbers.of_chain.items i 0)
 is_turn submission numbers state {i} within awake later less turn =
-    false≢true (sym awake ∙ turn (i + 1) (omega arith) (omega arith) (rw (less_one i, less_one later) less))
+    false≢true (sym awake ∙ turn.part (i + 1) (omega arith) (omega arith) (rw (less_one i, less_one later) less))
+
+-- nor, where nothing but reads is left of the part, behind that chain
+pub is_reader : (submission : PlayedSubmission) (numbers : PartNumbers) (state : PlayState) {part i : ℕ} → HasReadsAloneIn submission numbers state part
+    → slice_index_or numbers.of_chain.items i 0 ≡ part → is_idle_at submission state i ≡ false → IsTurnOfReader submission numbers state part i
+is_reader submission numbers state {part} {i} alone own awake later its less turn =
+    false≢true (sym awake ∙ turn.reader (rw (less_one later, its) alone) (i + 1) (omega arith) (omega arith)
+    (rw (less_one i, less_one later) (own ∙ sym its)))
 
 abbrev parts_by : Claimed → Parts
 parts_by claimed = parts_by_numbers claimed.found.now.numbers
@@ -47,9 +54,15 @@ module _ {claimed : Claimed} (many : length (runs_in claimed.submission.now) ≡
       let explored = All-contains (IsStateExploredBy claimed) claimed.found.now.states.items here each inside (chain - 1) (omega arith) in
       let rest : Rest = (view_in sub here).rests (chain - 1 + 1) in
       rw (is, number) (λ turn a next may. ⊎_elim (λ asleep. absurd (rw (none_left sub rest tells asleep) at next))
-      (λ awake. (explored (λ other from to less. let its = (view_in sub here).rests other in
-      over_idle sub its (none_for its (turn other from to less))) awake a next may).told tells)
+      (λ awake. (explored (record {
+        part = λ other from to less. idles here other (turn.part other from to less);
+        reader = λ alone other from less same. idles here other (turn.reader alone other from less same);
+      }) awake a next may).told tells)
       (cases_Bool (idle_by claimed rest)))
+    where
+      idles : (here : PlayState) (other : ℕ) → has_none ((view_in claimed.submission.now here).rests other) ≡ true
+          → idle_by claimed ((view_in claimed.submission.now here).rests other) ≡ true
+      idles here other none = let its = (view_in claimed.submission.now here).rests other in over_idle claimed.submission.now its (none_for its none)
 
 -- the chains stay in their parts
 parts_in : (claimed : Claimed) (slots : Slots) → length (runs_in claimed.submission.now) ≡ length claimed.submission.now.chains.now

@@ -86,7 +86,15 @@ module _ (size : ℕ) (range : ℕ × ℕ) where
       → Leaves (table (left_by a at)) accesses end → Leaves (table at) (a ∷ accesses) end
   in_front {at} a may leaves = record { permitted = (may, rw (behind a at) leaves.permitted); left = rw (behind a at) leaves.left }
 
-  -- the first two of them, the other way round
+  -- the first two of them, the other way round, where both look at slots
+  pub looks_swapped : {at : ℕ → Option Identity} (one other : ℕ) (found there : Option Identity) {accesses : List Access} {end : Table}
+      → Leaves (table at) (Looks one found ∷ Looks other there ∷ accesses) end → Leaves (table at) (Looks other there ∷ Looks one found ∷ accesses) end
+  looks_swapped one other found there leaves =
+      let first = first_of leaves in
+      let second = first_of first.1 in
+      in_front (Looks other there) second.0 (in_front (Looks one found) first.0 second.1)
+
+  -- and where they share no slot
   pub swapped : {at : ℕ → Option Identity} (a b : Access) {accesses : List Access} {end : Table} → AreApart a b
       → Leaves (table at) (a ∷ b ∷ accesses) end → Leaves (table at) (b ∷ a ∷ accesses) end
   swapped {at} a b {accesses} {end} apart leaves =

@@ -7,7 +7,7 @@ use Rattle.check_outcomes.proofs.ChoiceWords.{AreAtStart}
 use Rattle.check_outcomes.proofs.ChoiceWords.{HasEnd, IsListed, StateView, EachOutcomeIsListed, told_from}
 use Rattle.check_outcomes.proofs.Requests.{are_right}
 use Rattle.check_outcomes.proofs.ChainAccesses.{settles}
-use Rattle.check_outcomes.proofs.PartByPart.{order_by_part}
+use Rattle.check_outcomes.proofs.TurnByTurn.{order_in_turn}
 use Rattle.fx_order.proofs.ChainFront.{both_parts}
 use Rattle.check_outcomes.proofs.Playing.{OfChain, Comes, both_said, runs_on}
 
@@ -70,7 +70,7 @@ pub all_said : (idle : Rest → Bool) (says : Completed → Type 0) (old : RingS
     → IsOneOrder old requests report left → AllByRecursion says report.completions × HasEnd old requests idle states left
 all_said idle says old requests states all report left memory any =
     let runs = runs_of requests in
-    let one = order_by_part all.parts old requests report left all.apart any in
+    let one = order_in_turn all.parts old requests report left all.apart any in
     let f = find old.catalogue old.size report.submission one.order all.first.rests (λ q told. AllByRecursion says told)
     (λ chain left. AreAtStart (rules_of old.catalogue old.size) says report.submission chain left all.first) (λ chain run left start. start)
     1 runs report.completions memory one.is.done (rw one.is.submission all.begins.chains) in

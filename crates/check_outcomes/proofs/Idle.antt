@@ -1,11 +1,8 @@
 -- A chain that is idle has nothing but reads left, which nobody asks for.
 use Rattle.fx_order.proofs.Words.{◌≡◌, inl, inr, ◌==◌, ◌&&◌, not, Bool, true, false, if◌then◌else◌, List, [], ◌∷◌, length, refl, sym, ap, ◌∙◌, arith}
 use Rattle.fx_order.proofs.Words.{Some, false≢true, Asked, Place, asked_of, Request, all_asked, ℕ, ◌⊎◌, ⊎_elim, nil_from_length, eq-eqb}
-use Rattle.check_outcomes.proofs.Words.{list_all, has_none, is_read, Rest, said_by, asks_from, rest_for, is_state_idle, Claimed, PlayedSubmission, and_from}
+use Rattle.check_outcomes.proofs.Words.{list_all, are_reads, has_none, is_read, Rest, said_by, asks_from, rest_for, is_state_idle, Claimed, PlayedSubmission, and_from}
 use Rattle.check_outcomes.proofs.Words.{and_parts, cases_eq, eqb-true, le-leb, ne_eqb, AreIdle, IsLeft}
-
-abbrev pub are_reads : List Asked → Bool
-are_reads requests = list_all (λ request. is_read request.operation) requests
 
 pub over_idle : (submission : PlayedSubmission) (rest : Rest) → rest.requests ≡ [] → is_state_idle submission rest ≡ true
 over_idle submission rest none = rw none

@@ -2,8 +2,7 @@
 use Rattle.fx_order.proofs.Words.{◌≡◌, ℕ, true, List, [], ◌∷◌, refl, arith, false≢true, Option, Some, None, All, All-nil, All-cons}
 use Rattle.fx_order.proofs.Words.{All-append, FileEntry, Completed, Operation, Reads, Asked, Place, ECANCELED, refusal, AllByRecursion, next_member}
 use Rattle.fx_order.proofs.Words.{canceled, severs, IsRequestDone, IsChainDone, either_way}
-use Rattle.check_outcomes.proofs.ChoiceWords.{Access, Looks, Identity, and_parts, IsLeft, is_read, rest_at, reads}
-use Rattle.std.specs.List.{list_all}
+use Rattle.check_outcomes.proofs.ChoiceWords.{Access, Looks, Identity, and_parts, IsLeft, are_reads, is_read, rest_at, reads}
 
 abbrev pub IsLook : Access → Type 0
 IsLook a = (slot : ℕ) × (found : Option Identity) × (a ≡ Looks slot found)
@@ -40,7 +39,7 @@ module _ (catalogue : List FileEntry) (size : ℕ) where
   read_done own c operation isnt = absurd (false≢true isnt)
 
   pub reads_done : (P : Completed → Type 0) {made : ℕ} (place : Place) (requests : List Asked) (accesses : List Access) (cs : List Completed)
-      → HoldsOf P made place requests → list_all (λ request. is_read request.operation) requests ≡ true
+      → HoldsOf P made place requests → are_reads requests ≡ true
       → IsChainDone catalogue size place requests accesses cs → All IsLook accesses × AllByRecursion P cs
   reads_done P place [] accesses cs so all x = (rw x.0 (All-nil IsLook), rw x.1 tt)
   reads_done P {made} place (request ∷ requests) accesses cs so all (own, others, c, rest, are, whole, done, on) =

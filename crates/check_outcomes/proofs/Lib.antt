@@ -2,13 +2,13 @@ pub mod ChoiceWords
 pub mod ChainAccesses
 pub mod Requests
 pub mod Commuting
-pub mod ByPart
-pub mod Turns
-pub mod Orders
 pub mod Idling
+pub mod InTurn
+pub mod Orders
+pub mod TurnOfFirst
 pub mod Playing
 pub mod Staying
-pub mod PartByPart
+pub mod TurnByTurn
 pub mod First
 pub mod Choices
 pub mod Words

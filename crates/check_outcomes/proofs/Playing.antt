@@ -3,11 +3,11 @@ use Rattle.fx_order.proofs.Words.{◌≡◌, arith, ◌⊎◌, Bool, inl, inr, �
 use Rattle.fx_order.proofs.Words.{All-tail, true, false, false≢true, Completed, Table, table_after, AllByRecursion, Contains, ⊎_elim, table_with}
 use Rattle.fx_order.proofs.Words.{accesses_of, accesses_of_chain}
 use Rattle.check_outcomes.proofs.ChoiceWords.{Access, ChainAccess, cases_Bool, IsNext, Rest, rules_of, step, Parts, AreClosed, IsOver, StateView}
-use Rattle.check_outcomes.proofs.ChoiceWords.{AreIdle}
-use Rattle.check_outcomes.proofs.ByPart.{IsByPart}
+use Rattle.check_outcomes.proofs.ChoiceWords.{AreIdle, are_reads}
+use Rattle.check_outcomes.proofs.InTurn.{IsInTurn}
 use Rattle.check_outcomes.proofs.Idling.{IsLook, reads_done}
 use Rattle.check_outcomes.proofs.Orders.{OrderGoesOn, first_within, its_first, past_first}
-use Rattle.check_outcomes.proofs.Turns.{has_turn}
+use Rattle.check_outcomes.proofs.TurnOfFirst.{has_turn}
 use Rattle.check_outcomes.proofs.Requests.{are_right}
 use Rattle.check_outcomes.proofs.ChainAccesses.{Goes, ends, steps, told_first}
 
@@ -34,6 +34,18 @@ module _ (catalogue : List FileEntry) (size : ℕ) where
       let (none, nothing) = ends catalogue size (rules_of catalogue size) (are_right catalogue size) rest.requests of.memory of.ready of.rest_is in
       (none, of.whole ∙ (rw nothing (append-nil told)))
 
+  -- where nothing but reads is left of it, each of its accesses looks at a slot
+  pub as_reader : {rest : Rest} {told final : List Completed} {accesses : List Access} → are_reads rest.requests ≡ true
+      → OfChain rest told final accesses → All IsLook accesses
+  as_reader {rest} {accesses = accesses} are of =
+      let all = (reads_done catalogue size (λ _. Unit {0}) {made = 0} rest.place rest.requests (of.rest_is.front ++ accesses) of.later (λ _ _. tt) are
+      of.rest_is.done).0 in
+      behind of.rest_is.front accesses all
+    where
+      behind : (front l : List Access) → All IsLook (front ++ l) → All IsLook l
+      behind [] l all = all
+      behind (x ∷ front) l all = behind front l (All-tail IsLook x (front ++ l) all)
+
 -- an idle chain is left alone: what it told and may tell is said, and its accesses look at slots
 pub record OfIdle (says : Completed → Type 0) (idle : Rest → Bool) (rest : Rest) (final : List Completed) (accesses : List Access) : Type 0 where
   pub is_idle : idle rest ≡ true
@@ -53,19 +65,25 @@ module _ (catalogue : List FileEntry) (size : ℕ) (says : Completed → Type 0)
       → OfIdle says idle rest final accesses
   as_idle is (inl of) = of
   as_idle {rest} {final} {accesses} is (inr (told, said, of)) =
-      let (looks, later) = reads_done catalogue size says rest.place rest.requests (of.rest_is.front ++ accesses) of.later
-      (λ c. idling.said rest c is) (idling.reads rest is) of.rest_is.done in
-      record { is_idle = is; looks = behind of.rest_is.front accesses looks; said = rw of.whole (both_said says told of.later said later) }
-    where
-      behind : (front l : List Access) → All IsLook (front ++ l) → All IsLook l
-      behind [] l all = all
-      behind (x ∷ front) l all = behind front l (All-tail IsLook x (front ++ l) all)
+      let later = (reads_done catalogue size says rest.place rest.requests (of.rest_is.front ++ accesses) of.later
+      (λ c. idling.said rest c is) (idling.reads rest is) of.rest_is.done).1 in
+      record {
+        is_idle = is;
+        looks = as_reader catalogue size (idling.reads rest is) of;
+        said = rw of.whole (both_said says told of.later said later);
+      }
 
   -- and one that isn't
   as_chain : {rest : Rest} {final : List Completed} {accesses : List Access} → idle rest ≡ false → Plays rest final accesses
       → IsSaid rest final accesses
   as_chain isnt (inl of) = absurd (false≢true (sym isnt ∙ of.is_idle))
   as_chain isnt (inr of) = of
+
+  -- where nothing but reads is left of it, each of its accesses looks at a slot
+  reading : {rest : Rest} {final : List Completed} {accesses : List Access} → are_reads rest.requests ≡ true → Plays rest final accesses
+      → All IsLook accesses
+  reading are (inl of) = of.looks
+  reading are (inr (told, said, of)) = as_reader catalogue size are of
 
   -- without an access that is left it is idle, and all that it tells is said
   ended : {rest : Rest} {final : List Completed} → Plays rest final [] → (idle rest ≡ true) × AllByRecursion says final
@@ -108,7 +126,7 @@ module _ (catalogue : List FileEntry) (size : ℕ) (says : Completed → Type 0)
       pub table_is : state.table ≡ table
 
     pub runs_on : {states : List StateView} (parts : Parts) → AreClosed catalogue size idle parts says chains states → (order : List ChainAccess)
-        → IsByPart parts.of_chain order → {state : StateView} → Contains states state → Comes state order
+        → IsInTurn parts.of_chain order → {state : StateView} → Contains states state → Comes state order
         → (end : StateView) × Contains states end × Ended (table_after state.table (accesses_of order)) end
     runs_on parts closed [] by {state} there comes = (
       state,
@@ -126,7 +144,8 @@ module _ (catalogue : List FileEntry) (size : ℕ) (says : Completed → Type 0)
         (λ awake.
         let (next, on) = next_one awake comes in
         let (low, high) = first_within chains comes in
-        let turn = has_turn idle parts state.rests chains x order (λ chain low high none. (ended (rw none at (comes.each chain low high))).0) by in
+        let turn = has_turn idle parts state x order comes.within (λ chain low high none. (ended (rw none at (comes.each chain low high))).0)
+        (λ chain low high are. reading are (comes.each chain low high)) by in
         let to = closed state there x.chain low high turn awake x.access next comes.permitted.0 in
         let goes = past_first chains comes (Each to.next) to.leads.table (rw to.leads.own (inr (on to.said)))
         (λ chain low apart still. rw (to.leads.others chain low apart) still) in

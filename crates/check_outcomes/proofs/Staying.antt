@@ -1,14 +1,15 @@
 -- The accesses of a chain that is in a part come to slots of that part.
 use Rattle.fx_order.proofs.Words.{◌≡◌, ℕ, zero, suc, ◌+◌, ◌<◌, ◌≤◌, ℤ, pos, negsuc, List, [], ◌∷◌, length, arith, All, All-nil}
-use Rattle.fx_order.proofs.Words.{⊎_elim, All-cons, All-head, All-tail, All-append, has_name, FileEntry, Completed, Operation, Opens, Reads, Closes}
+use Rattle.fx_order.proofs.Words.{⊎_elim, All-cons, All-append, has_name, FileEntry, Completed, Operation, Opens, Reads, Closes}
 use Rattle.fx_order.proofs.Words.{Updates, Asked, Place, Target, Slot, Any, Table, next_member, severs, first_member, IsOpenDone, IsEntryDone}
 use Rattle.fx_order.proofs.Words.{AreEntriesDone, IsRequestDone, IsChainDone, AreChainsDone, accesses_of_chain, Errno, refusal}
 use Rattle.fx_order.proofs.Words.{either_case}
-use Rattle.check_outcomes.proofs.ChoiceWords.{Access, ChainAccess, AreParts, Parts, StaysIn, of_chain, own_first, allocates, closes, puts, reads}
+use Rattle.check_outcomes.proofs.ChoiceWords.{Access, ChainAccess, AreParts, Parts, StaysIn, allocates, closes, puts, reads}
 use Rattle.check_outcomes.proofs.ChoiceWords.{updates}
 use Rattle.check_outcomes.proofs.ChoiceWords.{cases_eq}
 use Rattle.check_outcomes.proofs.Commuting.{ComesTo}
-use Rattle.check_outcomes.proofs.ByPart.{IsInPart}
+use Rattle.check_outcomes.proofs.InTurn.{IsInPart}
+use Rattle.check_outcomes.proofs.Orders.{of_each}
 
 module _ (catalogue : List FileEntry) (table : Table) (of_slot : ℕ → ℕ) (part : ℕ) where
   -- an access comes to slots of the part alone
@@ -76,19 +77,8 @@ module _ (catalogue : List FileEntry) (table : Table) (parts : Parts) where
       (λ same. rw same (chain catalogue table parts.of_slot (parts.of_chain first) (first_member submission first) run _ done.0 are.0 done.3))
       (λ other. each_chain submission (first + 1) runs order done.1 done.4 are.1 q (omega arith) (omega arith)) (cases_eq q first)
 
-  -- what holds of each chain's accesses holds of the order's
-  of_each : {chains : ℕ} (order : List ChainAccess) → All (λ x. (1 ≤ x.chain) × (x.chain ≤ chains)) order
-      → ((q : ℕ) → 1 ≤ q → q ≤ chains → All (Keeps q) (accesses_of_chain q order)) → All (λ x. Keeps x.chain x.access) order
-  of_each [] within each = All-nil (λ (x : ChainAccess). Keeps x.chain x.access)
-  of_each {chains} (x ∷ order) within each =
-      let (low, high) = within 0 x (omega arith) in
-      All-cons (λ (y : ChainAccess). Keeps y.chain y.access) x order
-      (All-head (Keeps x.chain) x.access _ (rw (own_first x order) at (each x.chain low high)))
-      (of_each order (λ k d lt. within (suc k) d (omega arith)) (λ q low high. ⊎_elim
-      (λ mine. All-tail (Keeps q) x.access _ (rw mine.1 at (each q low high))) (λ other. rw other.1 at (each q low high)) (of_chain x order q)))
-
   pub all_in_part : (submission : ℕ) (runs : List (List Asked)) (order : List ChainAccess) (completions : List Completed)
       → All (λ x. (1 ≤ x.chain) × (x.chain ≤ length runs)) order → AreChainsDone catalogue table.size submission 1 runs order completions
       → AreParts table parts 1 runs → All (IsInPart parts.of_chain table.size table.range parts.of_slot) order
   all_in_part submission runs order completions within done are =
-      of_each order within (λ q low high. each_chain submission 1 runs order completions done are q low (omega arith))
+      of_each Keeps order within (λ q low high. each_chain submission 1 runs order completions done are q low (omega arith))

@@ -3,11 +3,11 @@ use Rattle.fx_order.proofs.Words.{◌≡◌, ℕ, ◌≤◌, List, [], ◌∷◌
 use Rattle.fx_order.proofs.Words.{Table, table_after, removed_in, Closed, accesses_of, IsPermutation, Contains, true, IsPermutation-trans}
 use Rattle.fx_order.proofs.Words.{IsPermutation-sym}
 use Rattle.check_outcomes.proofs.Words.{ChainAccess, Access, rules_of, IsOver, has_none, Parts, AreToldClosed, LeadsOn, ToldState}
-use Rattle.check_outcomes.proofs.Playing.{OfChain, steps_on, told_whole}
+use Rattle.check_outcomes.proofs.Playing.{OfChain, as_reader, steps_on, told_whole}
 use Rattle.std.proofs.lemmas.List.Sorted.{IsPermutation-append_left}
-use Rattle.check_outcomes.proofs.ByPart.{IsByPart}
+use Rattle.check_outcomes.proofs.InTurn.{IsInTurn}
 use Rattle.check_outcomes.proofs.Orders.{OrderGoesOn, first_within, its_first, past_first}
-use Rattle.check_outcomes.proofs.Turns.{has_turn}
+use Rattle.check_outcomes.proofs.TurnOfFirst.{has_turn}
 
 module _ (catalogue : List FileEntry) (size chains : ℕ) (finals : ℕ → List Completed) (files : List Closed) where
   -- how each chain goes on from a state
@@ -43,7 +43,7 @@ module _ (catalogue : List FileEntry) (size chains : ℕ) (finals : ℕ → List
   over_at here chain of none = ap (λ (l : List Asked). length l == 0) (told_whole catalogue size _ _ _ (rw none at of)).0
 
   pub runs_on : (states : List ToldState) (parts : Parts) → AreToldClosed catalogue size parts chains states → (order : List ChainAccess)
-      → IsByPart parts.of_chain order → {here : ToldState} → Contains states here → Comes here order
+      → IsInTurn parts.of_chain order → {here : ToldState} → Contains states here → Comes here order
       → (end : ToldState) × Contains states end × Ended (table_after here.state.table (accesses_of order)) end
   runs_on states parts closed [] by {here} there comes = (
     here,
@@ -58,6 +58,7 @@ module _ (catalogue : List FileEntry) (size chains : ℕ) (finals : ℕ → List
   runs_on states parts closed (x ∷ order) by {here} there comes =
       let (low, high) = first_within chains comes.goes in
       let next = (steps_on catalogue size _ _ _ x.access _ (its_first chains comes.goes)).0 in
-      let turn = has_turn has_none parts here.state.rests chains x order (λ chain from to. over_at here chain (comes.goes.each chain from to)) by in
+      let turn = has_turn has_none parts here.state x order comes.goes.within (λ chain from to. over_at here chain (comes.goes.each chain from to))
+      (λ chain from to are. as_reader catalogue size are (comes.goes.each chain from to)) by in
       let (on, inside, leads) = closed here there x.chain low high turn x.access next comes.goes.permitted.0 in
       rw (← leads.leads.table, table_after) (runs_on states parts closed order by.1 inside (past comes leads))

@@ -1,10 +1,10 @@
 -- What the states of the program say, chain by chain.
-use Rattle.fx_order.proofs.Words.{◌≡◌, ℕ, ◌+◌, ◌-◌, List, [], ◌++◌, length, map, sym, ◌∙◌, arith, slice_index_or, All, length-map, Bool}
+use Rattle.fx_order.proofs.Words.{◌≡◌, ℕ, ◌+◌, ◌-◌, List, [], ◌∷◌, ◌++◌, length, map, refl, sym, ap, ◌∙◌, arith, slice_index_or, All, length-map, Bool}
 use Rattle.fx_order.proofs.Words.{false, not, ◌&&◌, Contains, IsTrue, Vec, Completed, Asked, Place, table_of_slots, first_member, Request, Completion}
 use Rattle.fx_order.proofs.Words.{all_asked, all_completed, asked_of, completed_of, drop, get_or_from_slice_get, AllByRecursion, recursion_from_All}
 use Rattle.fx_order.proofs.Words.{Some, slice_get, slice_get_within, All-map}
 use Rattle.check_outcomes.proofs.Words.{Access, list_all, Rules, settled_at, Settles, asks_from, moved, rest_for, rest_in, LeadsOn, answers_of}
-use Rattle.check_outcomes.proofs.Words.{IsStepTo}
+use Rattle.check_outcomes.proofs.Words.{IsStepTo, are_reads, has_reads_at}
 use Rattle.check_outcomes.proofs.Words.{is_idle_at, not_begun, rules_in, runs_in, told_state_of, view_in, IsExploredBy, said_by, states_of, told_by}
 use Rattle.check_outcomes.proofs.Words.{told_states, PlayedSubmission, Claimed, Progress, PlayState, is_read, IsToldOn, run_at, view_of_state, get_or-set_other}
 use Rattle.check_outcomes.proofs.Words.{get_or-set_same}
@@ -40,6 +40,18 @@ pub idle_some_here : (submission : PlayedSubmission) (state : PlayState) (i : �
 idle_some_here submission state i own left {progress} run is behind some silent are ask =
     rw (less_one i, is, ← run, ← behind, are, all_reads left, ask)
     (idle_some submission (all_asked left) _ progress.made (λ none. some (omega (arith, length-map left asked_of))) silent)
+
+requests_for : (place : Place) (requests : List Asked) (made : ℕ) → (rest_for place requests made).requests ≡ requests
+requests_for place [] made = refl
+requests_for place (request ∷ requests) made = refl
+
+-- whether nothing but reads is left of a chain, by the members that are left
+pub reads_here : (submission : PlayedSubmission) (state : PlayState) (i : ℕ) (own left : List Request) {progress : Progress} {reads : Bool}
+    → all_asked own ≡ slice_index_or (runs_in submission) i [] → slice_index_or state.chains.items i not_begun ≡ progress
+    → all_asked left ≡ drop progress.done (all_asked own) → reads ≡ list_all (λ request. is_read (asked_of request).operation) left
+    → reads ≡ has_reads_at submission state i
+reads_here submission state i own left {progress} run is behind are =
+    are ∙ (all_reads left ∙ (rw (less_one i, is, ← run, ← behind) (ap are_reads (sym (requests_for _ (all_asked left) progress.made)))))
 
 -- a chain that stands where its requests settle
 pub at_start_by : {rules : Rules} (P : Completed → Type 0) {place : Place} {run : List Asked} {before : List Completion} (after : List Completion)

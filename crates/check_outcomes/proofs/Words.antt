@@ -7,8 +7,8 @@ pub use Rattle.check_outcomes.specs.Outcomes.{ring_behind}
 pub use Rattle.check_outcomes.specs.Reports.{AreToldAtStart, AreToldClosed, EachReportIsListed, HasReport, LeadsOn, ToldState}
 pub use Rattle.check_outcomes.specs.Stands.{Settles, StepsChain, asks_from, moved, rest_for, rest_in}
 pub use Rattle.check_outcomes.specs.Tellings.{IsToldOn, all_told, answers_of}
-pub use Rattle.check_outcomes.specs.Views.{ArePartsIn, IsInPart, IsOverIn, IsStepTo, IsTurnOf, is_state_idle, is_idle_at, not_begun, parts_by_numbers, rules_in}
-pub use Rattle.check_outcomes.specs.Views.{run_at}
+pub use Rattle.check_outcomes.specs.Views.{ArePartsIn, IsInPart, IsOverIn, IsStepTo, is_state_idle, is_idle_at, not_begun, parts_by_numbers, rules_in}
+pub use Rattle.check_outcomes.specs.Views.{HasReadsAloneIn, IsTurnAt, IsTurnOfPart, IsTurnOfReader, Waits, has_reads_at, run_at}
 pub use Rattle.check_outcomes.specs.Views.{runs_in, told_state_of, view_in, view_of_state}
 pub use Rattle.check_outcomes.specs.declared.chain.Progress.{Progress}
 pub use Rattle.check_outcomes.specs.declared.closed.Claimed.{Claimed}
@@ -23,7 +23,7 @@ pub use Rattle.fx_order.specs.declared.access.Access.{Access}
 pub use Rattle.fx_order.specs.declared.access.ChainAccess.{ChainAccess}
 pub use Rattle.fx_order.specs.declared.slots.Slots.{Slots}
 pub use Rattle.check_outcomes.proofs.First.{all_said, find, told_same}
-pub use Rattle.check_outcomes.specs.Idle.{AreIdle, IsLeft, has_none, is_read}
+pub use Rattle.check_outcomes.specs.Idle.{AreIdle, IsLeft, are_reads, has_none, is_read}
 pub use Rattle.check_outcomes.specs.Nodes.{AreAllStates, AreAtStart, AreClosed, HasEnd, IsOver, StateView, ring_at, told_from}
 pub use Rattle.check_outcomes.specs.Parts.{AreParts, Parts, StaysIn}
 pub use Rattle.check_outcomes.specs.Rests.{HasMemory, Rest, Rules, rules_of, settled_at}

@@ -1,14 +1,17 @@
 -- Chains of which no access matters any more.
-use Rattle.std.specs.Prelude.{◌≡◌, ◌+◌, ◌<◌, ◌≤◌, ◌==◌, Bool, true, false, [], length}
+use Rattle.std.specs.Prelude.{◌≡◌, ◌+◌, ◌<◌, ◌≤◌, ◌==◌, Bool, true, false, List, [], length}
 use Rattle.std.specs.List.{list_all}
 use Rattle.fx_chain.specs.Completed.{Completed}
-use Rattle.fx_chain.specs.Operation.{Operation, Reads}
+use Rattle.fx_chain.specs.Operation.{Asked, Operation, Reads}
 use Rattle.fx_chain.specs.declared.completion.Place.{Place}
 use Rattle.check_outcomes.specs.Rests.{Rest}
 
 abbrev pub is_read : Operation → Bool
 is_read (Reads slot off len) = true
 is_read operation = false
+
+abbrev pub are_reads : List Asked → Bool
+are_reads requests = list_all (λ request. is_read request.operation) requests
 
 -- the place is one of the requests that are left
 pub record IsLeft (rest : Rest) (place : Place) : Type 0 where
@@ -26,5 +29,5 @@ has_none rest = length rest.requests == 0
 pub record AreIdle (says : Completed → Type 0) (idle : Rest → Bool) : Type 0 where
   pub over : (rest : Rest) → rest.requests ≡ [] → idle rest ≡ true
   pub reads : (rest : Rest) → idle rest ≡ true
-      → list_all (λ request. is_read request.operation) rest.requests ≡ true
+      → are_reads rest.requests ≡ true
   pub said : (rest : Rest) (c : Completed) → idle rest ≡ true → IsLeft rest c.place → says c

@@ -13,7 +13,7 @@ use Rattle.fx_ring.specs.Submission.{Reported}
 use Rattle.fx_order.specs.Access.{Table, Permits, table_with}
 use Rattle.fx_order.specs.declared.access.Access.{Access}
 use Rattle.fx_order.specs.Order.{IsOneOrder, table_of}
-use Rattle.check_outcomes.specs.Idle.{AreIdle}
+use Rattle.check_outcomes.specs.Idle.{AreIdle, are_reads}
 use Rattle.check_outcomes.specs.Parts.{AreParts, Parts}
 use Rattle.check_outcomes.specs.Rests.{HasMemory, IsNext, Rest, Rules, rules_of, settled_at, step}
 
@@ -51,14 +51,24 @@ abbrev pub IsOver : (Rest → Bool) → ℕ → StateView → Type 0
 IsOver idle chains state =
     (chain : ℕ) → 1 ≤ chain → chain ≤ chains → idle (state.rests chain) ≡ true
 
--- each chain of a part before this chain's is idle
-abbrev pub HasTurn : (Rest → Bool) → Parts → ℕ → StateView → ℕ → Type 0
-HasTurn idle parts chains state chain =
-    (other : ℕ) → 1 ≤ other → other ≤ chains → parts.of_chain other < parts.of_chain chain
-    → idle (state.rests other) ≡ true
+-- nothing but reads is left of each chain of this part
+abbrev pub HasReadsAlone : Parts → ℕ → StateView → ℕ → Type 0
+HasReadsAlone parts chains state part =
+    (chain : ℕ) → 1 ≤ chain → chain ≤ chains → parts.of_chain chain ≡ part
+    → are_reads (state.rests chain).requests ≡ true
 
--- the list has each state that an access leads to from one of its states, part by part, but for
--- accesses of idle chains, and what is answered on the way is said
+-- each chain of a part before this chain's is idle, and where nothing but reads is left of its
+-- part, so is each chain of the part before this one
+pub record HasTurn (idle : Rest → Bool) (parts : Parts) (chains : ℕ) (state : StateView)
+    (chain : ℕ) : Type 0 where
+  pub part : (other : ℕ) → 1 ≤ other → other ≤ chains
+      → parts.of_chain other < parts.of_chain chain → idle (state.rests other) ≡ true
+  pub reader : HasReadsAlone parts chains state (parts.of_chain chain) → (other : ℕ)
+      → 1 ≤ other → other < chain → parts.of_chain other ≡ parts.of_chain chain
+      → idle (state.rests other) ≡ true
+
+-- the list has each state to which an access leads from one of its states, of a chain that has its
+-- turn and isn't idle, and what is answered on the way is said
 abbrev pub AreClosed : List FileEntry → ℕ → (Rest → Bool) → Parts → (Completed → Type 0) → ℕ
     → List StateView → Type 0
 AreClosed catalogue size idle parts says chains states =
@@ -83,7 +93,7 @@ pub record IsFirst (says : Completed → Type 0) (old : RingState) (requests : L
   pub chains : AreAtStart (rules_of old.catalogue old.size) says (old.submissions + 1) 1
       (runs_of requests) state
 
--- the list has the first state, and each one that is reached from it part by part, and what is
+-- the list has the first state, and each one that is reached from it turn by turn, and what is
 -- answered on the way is said
 pub record AreAllStates (idle : Rest → Bool) (says : Completed → Type 0) (old : RingState)
     (requests : List Asked) (states : List StateView) : Type 0 where

@@ -34,7 +34,7 @@ pub record LeadsOn (rules : Rules) (here : ToldState) (chain : ℕ) (a : Access)
   pub others : (other : ℕ) → 1 ≤ other → (other ≡ chain → ⊥) → next.told other ≡ here.told other
   pub removed : IsPermutation (here.removed ++ option_to_list (removed_by a)) next.removed
 
--- the list has each one that an access leads to from one of it, part by part
+-- the list has each one to which an access leads from one of it, of a chain that has its turn
 abbrev pub AreToldClosed : List FileEntry → ℕ → Parts → ℕ → List ToldState → Type 0
 AreToldClosed catalogue size parts chains states =
     (here : ToldState) → Contains states here → (chain : ℕ) → 1 ≤ chain → chain ≤ chains
@@ -61,7 +61,7 @@ pub record IsToldFirst (old : RingState) (requests : List Asked) (here : ToldSta
   pub chains : AreToldAtStart (rules_of old.catalogue old.size) (old.submissions + 1) 1
       (runs_of requests) here
 
--- the list has the first one, and each one that is reached from it part by part
+-- the list has the first one, and each one that is reached from it turn by turn
 pub record AreAllTold (old : RingState) (requests : List Asked) (states : List ToldState)
     : Type 0 where
   pub parts : Parts

@@ -1,7 +1,6 @@
 -- What the states of the program say of a submission.
 use Rattle.std.specs.Prelude.{◌≡◌, ℕ, ◌+◌, ◌-◌, ◌<◌, ◌==◌, ◌&&◌, not, Bool, true, false, List, []}
-use Rattle.std.specs.Prelude.{length, map, slice_index_or, All, if◌then◌else◌}
-use Rattle.std.specs.List.{list_all}
+use Rattle.std.specs.Prelude.{length, map, slice_index_or, All, IfSome, if◌then◌else◌}
 use Rattle.fx_chain.specs.Completed.{Completed}
 use Rattle.fx_chain.specs.Explains.{first_member}
 use Rattle.fx_chain.specs.Operation.{Asked, all_asked}
@@ -11,8 +10,8 @@ use Rattle.fx_order.specs.declared.access.Access.{Access}
 use Rattle.check_outcomes.specs.Rests.{Rest, Rules, rules_of, step}
 use Rattle.fx_order.specs.declared.slots.Slots.{Slots}
 use Rattle.check_outcomes.specs.Parts.{Parts, StaysIn}
-use Rattle.check_outcomes.specs.Idle.{is_read}
-use Rattle.check_outcomes.specs.Nodes.{HasTurn, IsOver, StateView, LeadsByAccess}
+use Rattle.check_outcomes.specs.Idle.{are_reads}
+use Rattle.check_outcomes.specs.Nodes.{HasReadsAlone, HasTurn, IsOver, StateView, LeadsByAccess}
 use Rattle.check_outcomes.specs.Reports.{ToldState}
 use Rattle.check_outcomes.specs.Stands.{asks_from, rest_in}
 use Rattle.check_outcomes.specs.Tellings.{answers_of}
@@ -20,6 +19,7 @@ use Rattle.check_outcomes.specs.declared.chain.Progress.{Progress}
 use Rattle.check_outcomes.specs.declared.parts.PartNumbers.{PartNumbers}
 use Rattle.check_outcomes.specs.declared.state.PlayState.{PlayState}
 use Rattle.check_outcomes.specs.declared.submission.PlayedSubmission.{PlayedSubmission}
+use Rattle.check_outcomes.specs.declared.turns.ChainTurn.{ChainTurn}
 
 -- the run of a chain, by the chain's number from 1
 abbrev pub run_at : List (List Asked) → ℕ → List Asked
@@ -85,14 +85,23 @@ abbrev pub is_state_idle : PlayedSubmission → Rest → Bool
 is_state_idle submission rest =
     if length rest.requests == 0 then true
     else (if submission.tells then false
-    else (list_all (λ request. is_read request.operation) rest.requests
-    && not (asks_from submission.asked rest.place)))
+    else (are_reads rest.requests && not (asks_from submission.asked rest.place)))
 
 -- whether a chain is, by its number from 0
 abbrev pub is_idle_at : PlayedSubmission → PlayState → ℕ → Bool
 is_idle_at submission state i = is_state_idle submission ((view_in submission state).rests (i + 1))
 
--- each chain of a part before this chain's is idle, by the chain's number from 0
+-- whether nothing but reads is left of a chain, by its number from 0
+abbrev pub has_reads_at : PlayedSubmission → PlayState → ℕ → Bool
+has_reads_at submission state i = are_reads ((view_in submission state).rests (i + 1)).requests
+
+-- nothing but reads is left of each chain of a part
+abbrev pub HasReadsAloneIn : PlayedSubmission → PartNumbers → PlayState → ℕ → Type 0
+HasReadsAloneIn submission numbers state part =
+    HasReadsAlone (parts_by_numbers numbers) (length (runs_in submission))
+    (view_in submission state) part
+
+-- a chain has its turn, by its number from 0
 abbrev pub HasTurnIn : PlayedSubmission → PartNumbers → PlayState → ℕ → Type 0
 HasTurnIn submission numbers state i =
     HasTurn (is_state_idle submission) (parts_by_numbers numbers) (length (runs_in submission))
@@ -103,8 +112,25 @@ abbrev pub IsOverIn : PlayedSubmission → PlayState → Type 0
 IsOverIn submission state =
     IsOver (is_state_idle submission) (length (runs_in submission)) (view_in submission state)
 
--- no chain of a part behind this one has its turn
-abbrev pub IsTurnOf : PlayedSubmission → PartNumbers → PlayState → ℕ → Type 0
-IsTurnOf submission numbers state part =
+-- no chain of a later part has its turn
+abbrev pub IsTurnOfPart : PlayedSubmission → PartNumbers → PlayState → ℕ → Type 0
+IsTurnOfPart submission numbers state part =
     (i : ℕ) → part < slice_index_or numbers.of_chain.items i 0
     → HasTurnIn submission numbers state i → ⊥
+
+-- no later chain of the part than the reader has its turn
+abbrev pub IsTurnOfReader : PlayedSubmission → PartNumbers → PlayState → ℕ → ℕ → Type 0
+IsTurnOfReader submission numbers state part reader =
+    (i : ℕ) → slice_index_or numbers.of_chain.items i 0 ≡ part → reader < i
+    → HasTurnIn submission numbers state i → ⊥
+
+-- no chain of a later part has its turn, and none of the part after its reader
+pub record IsTurnAt (submission : PlayedSubmission) (numbers : PartNumbers) (state : PlayState)
+    (turn : ChainTurn) : Type 0 where
+  pub part : IsTurnOfPart submission numbers state turn.part
+  pub reader : IfSome turn.reader (IsTurnOfReader submission numbers state turn.part)
+
+-- a chain has no turn in a state whose turn this is
+abbrev pub Waits : PartNumbers → ChainTurn → ℕ → Type 0
+Waits numbers turn i = (submission : PlayedSubmission) (state : PlayState)
+    → IsTurnAt submission numbers state turn → HasTurnIn submission numbers state i → ⊥

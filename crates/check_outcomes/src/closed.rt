@@ -8,15 +8,16 @@ ghost use Rattle.check_outcomes.specs.Outcomes.{answered};
 ghost use Rattle.check_outcomes.specs.Listed.{AreAllBy, AreAtStartBy, IsAtStartBy, says};
 ghost use Rattle.check_outcomes.specs.Listed.{IsChainExploredBy, IsExploredBy, IsExploredInTurn, IsStateExploredBy};
 ghost use Rattle.check_outcomes.specs.Tellings.{answers_of};
-ghost use Rattle.check_outcomes.specs.Views.{IsTurnOf};
+ghost use Rattle.check_outcomes.specs.Views.{IsTurnAt};
 
 use crate::chain::{Progress, chain_accesses, settle};
 use crate::found::FoundStates;
 use crate::outcome::PossibleAnswer;
-use crate::parts::{are_parts, part_at, waits};
+use crate::parts::are_parts;
 use crate::state::{PlayState, next_state};
 use crate::submission::PlayedSubmission;
 use crate::telling::are_same as are_same_answers;
+use crate::turns::{ChainTurn, turn_at, waits};
 use fx_base::NoMemory;
 use fx_chain::{Completion, Place};
 use fx_order::{Access, Slots};
@@ -120,15 +121,15 @@ fn is_chain_explored(claimed: &Claimed<'_>, state: &PlayState, i: usize) -> Resu
     are_explored(claimed, state, i, &accesses)
 }
 
-// Whether each access is explored that a chain may make next, if it isn't idle, nor of a part behind the one whose turn it is.
+// Checks whether each access that a chain may make next is explored, unless it is idle or has to wait for its turn.
 fn is_explored_in_turn(
     claimed: &Claimed<'_>,
     state: &PlayState,
-    turn: Option<usize>,
+    turn: Option<ChainTurn>,
     i: usize,
 ) -> Result<bool, NoMemory>
     requires inside { i < length claimed.now.submission.now.chains.now }
-    requires turn { IfSome turn (IsTurnOf claimed.now.submission.now claimed.now.found.now.numbers
+    requires turn { IfSome turn (IsTurnAt claimed.now.submission.now claimed.now.found.now.numbers
         state.now) }
     ensures { IfOk result (λ yes. IsTrue yes → IsExploredInTurn claimed.now state.now i) }
 {
@@ -138,11 +139,11 @@ fn is_explored_in_turn(
     is_chain_explored(claimed, state, i)
 }
 
-// Whether each access that may be made in a state, in the part whose turn it is, is explored.
+// Checks whether each access is explored that a chain whose turn it is may make in a state.
 fn is_state_explored(claimed: &Claimed<'_>, state: &PlayState) -> Result<bool, NoMemory>
     ensures { IfOk result (λ yes. IsTrue yes → IsStateExploredBy claimed.now state.now) }
 {
-    let turn = part_at(claimed.submission, &claimed.found.numbers, state);
+    let turn = turn_at(claimed.submission, &claimed.found.numbers, state);
     for i in 0..claimed.submission.chains.len() {
         if !is_explored_in_turn(claimed, state, turn, i)? {
             return Ok(false);

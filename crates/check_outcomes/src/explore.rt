@@ -4,10 +4,11 @@
 use crate::chain::{Progress, chain_accesses, settle};
 use crate::closed::is_among;
 use crate::found::{FoundStates, FoundStep, key_of};
-use crate::parts::{part_at, part_numbers, waits};
+use crate::parts::part_numbers;
 use crate::state::{PlayState, next_state};
 use crate::submission::PlayedSubmission;
 use crate::telling::{WayReport, push_copies};
+use crate::turns::{ChainTurn, turn_at, waits};
 use check_search::Limits;
 use fx_base::NoMemory;
 use fx_chain::{Completion, Op, Place, Request};
@@ -175,11 +176,11 @@ impl Search {
         Ok(true)
     }
 
-    // Whether a chain is idle in a state, or of a part behind the one whose turn it is.
+    // Checks whether a chain is idle in a state, or has to wait for its turn.
     fn is_left_alone(
         &self,
         submission: &PlayedSubmission<'_>,
-        turn: Option<usize>,
+        turn: Option<ChainTurn>,
         state: usize,
         chain: usize,
     ) -> bool {
@@ -191,8 +192,8 @@ impl Search {
             || here.is_idle(submission, chain)
     }
 
-    // Follows each chain of the part whose turn it is in a state. Whether there was room for the states.
-    fn follow_part(
+    // Follows each chain whose turn it is in a state. Returns whether there was room for the states.
+    fn follow_turn(
         &mut self,
         submission: &PlayedSubmission<'_>,
         state: usize,
@@ -200,7 +201,7 @@ impl Search {
         let Some(here) = self.found.states.get(state) else {
             return Ok(true);
         };
-        let turn = part_at(submission, &self.found.numbers, here);
+        let turn = turn_at(submission, &self.found.numbers, here);
         for chain in 0..submission.chains.len() {
             if !self.is_left_alone(submission, turn, state, chain)
                 && !self.follow(submission, state, chain)?
@@ -217,7 +218,7 @@ impl Search {
             let Some(state) = self.open.pop() else {
                 return Ok(true);
             };
-            if !self.follow_part(submission, state)? {
+            if !self.follow_turn(submission, state)? {
                 return Ok(false);
             }
         }

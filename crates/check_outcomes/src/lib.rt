@@ -20,6 +20,7 @@ mod setting;
 mod state;
 mod submission;
 mod telling;
+mod turns;
 
 pub use answering::{answer, count};
 pub use choice::next_accesses;

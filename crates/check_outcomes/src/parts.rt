@@ -1,12 +1,11 @@
 //! The parts of a submission: chains that may come to one slot are in one part. The parts are played one after another, so that
 //! the states of one aren't met again beside each state of another.
-ghost use Rattle.std.specs.Prelude.{◌≡◌, ◌⊎◌, ◌<◌, ◌≤◌, ℕ, All, IfSome, IsTrue, Some, length, slice_index_or};
+ghost use Rattle.std.specs.Prelude.{◌≡◌, ◌<◌, ◌≤◌, ℕ, All, IsTrue, length, slice_index_or};
 ghost use Rattle.fx_chain.specs.Operation.{asked_of, operation_of};
 ghost use Rattle.fx_order.specs.Slots.{table_of_slots};
 ghost use Rattle.check_outcomes.specs.Parts.{MayComeTo, StaysIn};
-ghost use Rattle.check_outcomes.specs.Views.{ArePartsIn, IsInPart, IsTurnOf, parts_by_numbers};
+ghost use Rattle.check_outcomes.specs.Views.{ArePartsIn, IsInPart, parts_by_numbers};
 
-use crate::state::PlayState;
 use crate::submission::PlayedSubmission;
 use fx_base::NoMemory;
 use fx_chain::{Op, Request, Target};
@@ -118,70 +117,20 @@ pub(crate) fn are_parts(
     true
 }
 
-// The part of a chain where it is earlier than another one, and else that one.
-fn earlier(turn: Option<usize>, numbers: &PartNumbers, i: usize) -> Option<usize>
-    ensures { (result ≡ turn) ⊎ (result ≡ Some (slice_index_or numbers.now.of_chain.items i 0)) }
-{
-    let Some(own) = numbers.of_chain.get(i) else {
-        return turn;
-    };
-    match turn {
-        Some(part) if part <= *own => turn,
-        _ => Some(*own),
-    }
-}
-
-// The part whose turn it is, where one more chain is looked at.
-fn turn_with(
-    submission: &PlayedSubmission<'_>,
-    numbers: &PartNumbers,
-    state: &PlayState,
-    turn: Option<usize>,
-    i: usize,
-) -> Option<usize>
-    requires inside { i < length submission.now.chains.now }
-    requires turn { IfSome turn (IsTurnOf submission.now numbers.now state.now) }
-    ensures { IfSome result (IsTurnOf submission.now numbers.now state.now) }
-{
-    if state.is_idle(submission, i) {
-        return turn;
-    }
-    earlier(turn, numbers, i)
-}
-
-/// The part whose turn it is in a state: the first one with a chain that isn't idle, if there is one.
-pub(crate) fn part_at(
-    submission: &PlayedSubmission<'_>,
-    numbers: &PartNumbers,
-    state: &PlayState,
-) -> Option<usize>
-    ensures { IfSome result (IsTurnOf submission.now numbers.now state.now) }
-{
-    let mut turn: Option<usize> = None;
-    for i in 0..submission.chains.len() {
-        turn = turn_with(submission, numbers, state, turn, i);
-    }
-    turn
-}
-
-/// Whether a chain is of a part behind the one whose turn it is.
-pub(crate) fn waits(numbers: &PartNumbers, turn: Option<usize>, i: usize) -> bool
-    ensures { IsTrue result → (part : ℕ) × (turn ≡ Some part)
-        × (part < slice_index_or numbers.now.of_chain.items i 0) }
-{
-    match turn {
-        Some(part) => match numbers.of_chain.get(i) {
-            Some(own) => part < *own,
-            None => false,
-        },
-        None => false,
-    }
-}
-
 // The part of a slot that no request was seen to come to.
 const NO_PART: usize = usize::MAX;
 
 impl PartNumbers {
+    /// Returns the part of a chain, by its number from 0.
+    pub(crate) fn part_of(&self, i: usize) -> usize
+        ensures { result ≡ slice_index_or self.now.of_chain.items i 0 }
+    {
+        match self.of_chain.get(i) {
+            Some(part) => *part,
+            None => 0,
+        }
+    }
+
     // Makes one part of two.
     fn join(&mut self, part: usize, other: usize) {
         for number in &mut self.of_chain {

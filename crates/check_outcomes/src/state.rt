@@ -8,7 +8,7 @@ ghost use Rattle.fx_order.specs.Access.{Permits, table_with};
 ghost use Rattle.fx_order.specs.Slots.{table_of_slots};
 ghost use Rattle.check_outcomes.specs.Idle.{is_read};
 ghost use Rattle.check_outcomes.specs.Tellings.{IsToldOn, answers_of};
-ghost use Rattle.check_outcomes.specs.Views.{IsOverIn, IsStepTo, is_idle_at, not_begun};
+ghost use Rattle.check_outcomes.specs.Views.{IsOverIn, IsStepTo, has_reads_at, is_idle_at, not_begun};
 
 use crate::chain::{Progress, left, step};
 use crate::submission::PlayedSubmission;
@@ -84,6 +84,14 @@ impl PlayState {
             return false;
         }
         are_reads(left) && !submission.asks_behind(i, progress.done)
+    }
+
+    /// Checks whether nothing but reads is left of a chain, by its number from 0.
+    pub(crate) fn has_reads_left(&self, submission: &PlayedSubmission<'_>, i: usize) -> bool
+        requires { i < length submission.now.chains.now }
+        ensures { result ≡ has_reads_at submission.now self.now i }
+    {
+        are_reads(left(submission.members(i), self.progress(i).done))
     }
 
     /// Whether each chain is idle.

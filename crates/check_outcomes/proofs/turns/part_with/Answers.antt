@@ -1,6 +1,6 @@
 use Rattle.fx_order.proofs.Words.{◌∙◌, sym, arith, all_asked, ⊎_elim}
 use Rattle.check_outcomes.proofs.AllOfThem.{as_many, is_turn}
-use Rattle.check_outcomes.proofs.parts.turn_with.Goals as goal
+use Rattle.check_outcomes.proofs.turns.part_with.Goals as goal
 
 pub returns : goal.returns
 returns c =

@@ -1,9 +1,10 @@
--- Each order of a submission comes to what one comes to that is made part by part.
+-- Each order of a submission has the results of one that is made in turn.
 use Rattle.fx_order.proofs.Words.{◌≡◌, ℕ, ◌+◌, ◌≤◌, List, [], ◌∷◌, refl, sym, ◌∙◌, IsPermutation-trans, Completed, Asked, FileEntry, RingState}
-use Rattle.fx_order.proofs.Words.{Reported, runs_of, length, accesses_of_chain, AreChainsDone, IsOneOrder, IsOrderOf, ring_left}
+use Rattle.fx_order.proofs.Words.{Reported, runs_of, length, ap, accesses_of, accesses_of_chain, AreChainsDone, IsOneOrder, IsOrderOf, ring_left}
 use Rattle.fx_order.proofs.Words.{table_of}
 use Rattle.check_outcomes.proofs.ChoiceWords.{ChainAccess, AreParts, Parts}
-use Rattle.check_outcomes.proofs.ByPart.{IsByPart, all_by_part, is_by_part, leaves_by_part, part_by_part, same_chain, same_removed}
+use Rattle.check_outcomes.proofs.InTurn.{IsInTurn, in_turn}
+use Rattle.std.proofs.lemmas.List.Sorted.{All-permutation}
 use Rattle.check_outcomes.proofs.Staying.{all_in_part}
 
 -- each chain makes the same accesses
@@ -14,29 +15,30 @@ same_done catalogue size submission first [] order other completions same done =
 same_done catalogue size submission first (run ∷ runs) order other completions same done =
     (done.0, done.1, done.2, rw (same first) at done.3, same_done catalogue size submission (first + 1) runs order other done.1 same done.4)
 
-pub record HasOrderByPart (parts : Parts) (old : RingState) (requests : List Asked) (report : Reported) (left : RingState) : Type 0 where
+pub record HasOrderInTurn (parts : Parts) (old : RingState) (requests : List Asked) (report : Reported) (left : RingState) : Type 0 where
   pub order : List ChainAccess
   pub is : IsOrderOf order old requests report
   pub after : left ≡ ring_left order old
-  pub by : IsByPart parts.of_chain order
+  pub by : IsInTurn parts.of_chain order
 
-pub order_by_part : (parts : Parts) (old : RingState) (requests : List Asked) (report : Reported) (left : RingState)
-    → AreParts (table_of old) parts 1 (runs_of requests) → IsOneOrder old requests report left → HasOrderByPart parts old requests report left
-order_by_part parts old requests report left are one =
+pub order_in_turn : (parts : Parts) (old : RingState) (requests : List Asked) (report : Reported) (left : RingState)
+    → AreParts (table_of old) parts 1 (runs_of requests) → IsOneOrder old requests report left → HasOrderInTurn parts old requests report left
+order_in_turn parts old requests report left are one =
     let order = one.order in
     let is = one.is in
-    let part = parts.of_chain in
     let runs = runs_of requests in
     let within = all_in_part old.catalogue (table_of old) parts report.submission runs order report.completions is.chains is.done are in
-    let leaves = (leaves_by_part part old.size old.range parts.of_slot order old.at _ within (record { permitted = is.permitted; left = refl })).1 in
+    let turns = in_turn parts.of_chain old.size old.range parts.of_slot order in
+    let leaves = turns.is.leaves old.at _ within (record { permitted = is.permitted; left = refl }) in
     record {
-      order = part_by_part part order;
+      order = turns.order;
       is = record {
         permitted = leaves.permitted;
-        chains = all_by_part part (λ x. (1 ≤ x.chain) × (x.chain ≤ length runs)) order is.chains;
-        done = same_done old.catalogue old.size report.submission 1 runs order _ report.completions (λ chain. same_chain part chain order) is.done;
+        chains = All-permutation (λ x. (1 ≤ x.chain) × (x.chain ≤ length runs)) order turns.order turns.is.all is.chains;
+        done = same_done old.catalogue old.size report.submission 1 runs order turns.order report.completions
+            (λ chain. ap accesses_of (turns.is.own chain)) is.done;
         closed = record {
-          same_files = IsPermutation-trans _ _ _ (same_removed part order) is.closed.same_files;
+          same_files = IsPermutation-trans _ _ _ turns.is.removed_same is.closed.same_files;
           in_order = is.closed.in_order;
         };
         submission = is.submission;
@@ -45,5 +47,5 @@ order_by_part parts old requests report left are one =
         at = (sym leaves.left i).at;
         submissions = old.submissions + 1;
       });
-      by = is_by_part part order;
+      by = turns.by;
     }
