@@ -1,4 +1,6 @@
 //! The calls of a pass that never wait, allocate or retry: each makes at most as many atomic steps as its clause says.
+//! A look-up and a release are inlined into their caller, except for a withdrawal and for taking a file out. These hints
+//! change no proof.
 ghost use Rattle.std.specs.Prelude.{◌≡◌, ◌≢◌, ◌+◌, ◌*◌, ◌-◌, ◌<◌, ◌≤◌, Option, option_map, Err};
 ghost use Rattle.fx_plain.specs.declared.event.File.{File};
 ghost use Rattle.fx_table.specs.Calls.{Looked, LookedUp, Released, Placed, Cleared, Taken, HasRetired};
@@ -30,6 +32,7 @@ impl LastingTable {
     ///
     /// # Errors
     /// In `found`: `Empty` if the slot has no file.
+    #[inline(always)]
     pub fn look_up(&self, pass: &mut LastingPass, slot: u32) -> LookUp
         requires fits { IsPassOfTable self.now pass.old }
         requires idle { IsIdle (view_of pass.old) }
@@ -56,6 +59,7 @@ impl LastingTable {
     }
 
     // Looks up a slot that named the node and was hot, in at most seven steps.
+    #[inline(always)]
     fn look_hot(&self, pass: &mut LastingPass, slot: u32, node: u32) -> LookUp
         requires seated { IsSeatOfTable self.now pass.old }
         requires idle { pass.old.seat.me.0.work ≡ Idle }
@@ -85,6 +89,7 @@ impl LastingTable {
     }
 
     // Takes what the slot names, in at most two steps.
+    #[inline(always)]
     fn look_cold(&self, pass: &mut LastingPass, slot: u32) -> Result<Hold, LookFault>
         requires seated { IsSeatOfTable self.now pass.old }
         requires idle { pass.old.seat.me.0.work ≡ Idle }
@@ -104,6 +109,7 @@ impl LastingTable {
 
     /// Releases the file that the pass looked up, by the `Hold` that it got, in at most three atomic steps. Returns the
     /// file, to be closed, if it was retired and nobody else uses it. Afterwards the pass is idle.
+    #[inline(always)]
     pub fn release(&self, pass: &mut LastingPass, hold: Hold) -> Option<OpenFile>
         requires fits { IsPassOfTable self.now pass.old }
         requires held { IsHoldOf (view_of pass.old) hold }

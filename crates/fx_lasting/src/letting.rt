@@ -17,6 +17,7 @@ use fx_base::OpenFile;
 impl LastingTable {
     // Subtracts the mark that the pass owes, or the hold that it releases, from the node's word, in at most two steps.
     // Returns the file if it was retired and nobody else has still to let it go.
+    #[inline(always)]
     pub(crate) fn let_go(
         &self,
         seat: &mut Seat<Option<OpenFile>, View>,
@@ -43,6 +44,7 @@ impl LastingTable {
 
     // Withdraws the pass's announcement of the node, in at most three steps. Returns the file if it was retired and
     // nobody else has still to let it go.
+    #[inline(never)]
     pub(crate) fn withdraw(
         &self,
         seat: &mut Seat<Option<OpenFile>, View>,
@@ -67,6 +69,7 @@ impl LastingTable {
 
     // Releases the file of the node, which the pass holds by its hold word, in at most three steps. Returns the file if
     // it was retired and nobody else has still to let it go.
+    #[inline(always)]
     pub(crate) fn step_down(
         &self,
         seat: &mut Seat<Option<OpenFile>, View>,

@@ -20,6 +20,7 @@ use fx_words::{entry_of, node_of};
 impl LastingTable {
     // Announces the node of a hot slot and looks at the slot again, in two steps. Returns the file's entry if the slot
     // still has the file; the pass holds it then. Otherwise the announcement is to be withdrawn.
+    #[inline(always)]
     pub(crate) fn guard(
         &self,
         seat: &mut Seat<Option<OpenFile>, View>,
@@ -49,6 +50,7 @@ impl LastingTable {
 
     // Adds a take to the slot's word, and makes the slot hot if it had its takes, in at most two steps. Returns the hold
     // of the file there.
+    #[inline(always)]
     pub(crate) fn take_at(
         &self,
         seat: &mut Seat<Option<OpenFile>, View>,

@@ -54,10 +54,12 @@ impl SharedTable for LastingTable {
         self.numbers_left(pass)
     }
 
+    #[inline(always)]
     fn look_up(&self, _rt: &impl Wait, pass: &mut LastingPass, slot: u32) -> LookUp {
         self.look_up(pass, slot)
     }
 
+    #[inline(always)]
     fn release(&self, _rt: &impl Wait, pass: &mut LastingPass, hold: Hold) -> Option<OpenFile> {
         self.release(pass, hold)
     }
