@@ -6,8 +6,8 @@
 //!
 //! The arguments below name what they rest on. Clauses of the core's worker (`fx_server::TableWorker`): `looked` (the look-up found a file
 //! of the slot, and the worker holds it), `released`, `placed`, `allocated` and `removed` (which file is returned to be closed, by its
-//! tag), `chosen`. Laws of every history (`fx_plain::laws`): `no_close_while_held`, `closed_at_most_once`. And a part of the table's
-//! rule (`fx_lasting`, `Agrees`) that no clause says: a node is that of one file until the file is closed, and a chosen node is of none.
+//! tag), `chosen`. Laws of every history (`fx_plain::laws`): `no_close_while_held`, `closed_at_most_once`. A law of every state of the
+//! table (`fx_lasting::laws`): `nodes_are_of_one_file`. And a fact that no clause says: the next installation uses the chosen node.
 mod core;
 #[cfg(yachtbanyan_stand_in)]
 mod stand_in;
@@ -50,7 +50,8 @@ pub(crate) struct Values<T> {
 }
 
 // SAFETY: threads get references to values (`T: Sync`), and any of them may get a value to drop it (`T: Send`). `by_node` is written
-// by the thread that installs the node's file before it does, and read by those that hold that file (`looked`, `Agrees`).
+// by the thread that installs the node's file before it does, and read by those that hold that file (`looked`,
+// `nodes_are_of_one_file`).
 unsafe impl<T: Send + Sync> Send for Values<T> {}
 // SAFETY: as above.
 unsafe impl<T: Send + Sync> Sync for Values<T> {}
@@ -204,7 +205,8 @@ impl<T> Access<T> {
         let answer = unsafe { core::yacht_core_look(looker.seat.0.as_ptr(), slot, &mut freed) };
         let found = if answer >= 0 {
             looker.busy.store(true, Ordering::Relaxed);
-            // The address was written before the file was installed (`chosen`, `Agrees`), and stays while the file is held.
+            // The address was written before the file was installed (`chosen`), and stays while the file is
+            // held (`nodes_are_of_one_file`).
             let value = self.values.by_node[answer as usize].load(Ordering::Relaxed);
             Ok(Held {
                 value,
@@ -229,7 +231,7 @@ impl<T> Access<T> {
         let address = Box::into_raw(value);
         // SAFETY: the handle is this worker's, and it installs.
         let node = unsafe { core::yacht_core_next(self.installer()) };
-        // No file has this node until the installation, so nobody reads the place (`Agrees`).
+        // No file has this node until the installation, so nobody reads the place (`nodes_are_of_one_file`).
         self.by_node(node).store(address, Ordering::Relaxed);
         address as usize as u64
     }

@@ -34,3 +34,4 @@ pub mod Taking
 pub mod Retiring
 pub mod Visiting
 pub mod WordBounds
+pub mod Holds

@@ -8,7 +8,7 @@ use Rattle.fx_lasting.proofs.Counts.{tally_few, few_cold}
 use Rattle.fx_lasting.proofs.Keeping.{word_at, slot_word}
 
 module _ (k : Start) (s : Shared) (r : Agrees k s) where
-  few_takes : (slot : ℕ) → slot < slots_of k → count_in (slot_word_in s slot) ≤ cold_takes k.passes + k.passes
+  pub few_takes : (slot : ℕ) → slot < slots_of k → count_in (slot_word_in s slot) ≤ cold_takes k.passes + k.passes
   few_takes slot inside = let a = (r.each_slot slot inside).takes in let b = tally_few (r.over slot) k.passes in omega arith
 
   abbrev Node : ℕ → Phase → Type 0

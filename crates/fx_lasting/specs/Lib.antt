@@ -10,6 +10,7 @@ pub mod Agrees
 pub mod Cuts
 pub mod Laws
 pub mod Bounds
+pub mod Holds
 pub mod Opens
 pub mod AtWork
 pub mod Ends

@@ -2,6 +2,7 @@
 //! other passes are.
 ghost use Rattle.std.specs.Prelude.{◌≡◌, ℕ};
 ghost use Rattle.fx_lasting.specs.Bounds.{WordsAreBounded};
+ghost use Rattle.fx_lasting.specs.Holds.{NodesAreOfOneFile};
 ghost use Rattle.fx_lasting.specs.Layout.{PlacesAreInside, PlacesAreApart};
 ghost use Rattle.fx_lasting.specs.Opens.{OpeningKeeps};
 ghost use Rattle.fx_lasting.specs.declared.layout.TheConstants.{MOST_PASSES, MOST_INSTALLING};
@@ -158,6 +159,13 @@ pub fn exchange_keeps_rule()
 /// lower half of the control word is between 64,512 and 66,816.
 pub fn words_are_bounded()
     ensures { WordsAreBounded }
+{}
+
+/// While the rule holds, a node is that of one file as long as the file is held: holds of one node are of one file, which
+/// is the file of the slot whose word names the node. A node whose word is 0, as that which a search finds, is that of no
+/// file which is held.
+pub fn nodes_are_of_one_file()
+    ensures { NodesAreOfOneFile }
 {}
 
 /// Each word of a table of `size` slots, with `passes` passes and `nodes` nodes, has its place inside the table's memory.

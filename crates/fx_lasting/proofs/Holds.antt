@@ -1,0 +1,55 @@
+-- A node is that of one file while the file is held.
+use Rattle.fx_lasting.proofs.Words.{◌≡◌, ◌≢◌, ℕ, ◌+◌, Option, Some, None, ap, subst, arith, File, sum_by, get_elem?, Agrees, Names, IsSeated}
+use Rattle.fx_lasting.proofs.Words.{NodeAgrees, WorkAgrees, HoldsAt, slots_of, word_of, state_after_all, taken_of, owed, count_in, name_in}
+use Rattle.fx_lasting.proofs.Words.{Phase, Shared, Start, Work, Counted, Guarded, seated, leaving, retired, file_in}
+use Rattle.fx_table.specs.declared.values.Doing.TheVariants.{Holding}
+use Rattle.fx_table.specs.declared.values.Hold.{Hold}
+use Rattle.fx_lasting.specs.Bounds.{slot_word_in, node_word_in}
+use Rattle.fx_lasting.specs.Holds.{IsHeldBy, HoldsNameFiles}
+use Rattle.fx_lasting.specs.Tables.{doing_in}
+use Rattle.fx_lasting.proofs.Counts.{few_cold}
+use Rattle.fx_lasting.proofs.Keeping.{word_at, slot_word}
+use Rattle.fx_lasting.proofs.WordBounds.{few_takes}
+
+module _ (k : Start) (s : Shared) (r : Agrees k s) where
+  -- the file of a hold is open, on the hold's node
+  is_open : {f : File} {hold : Hold} (seat : ℕ) (d : Work) → doing_in d ≡ Holding f hold → WorkAgrees k r.phase seat d
+      → HoldsAt k r.phase f hold.node
+  is_open {f} {hold} seat (Counted g n) e w = let same : g ≡ f = cc e in let its : n ≡ hold.node = cc e in
+      subst (λ (n : ℕ). HoldsAt k r.phase f n) its (subst (λ (g : File). HoldsAt k r.phase g n) same w)
+  is_open {f} {hold} seat (Guarded g n) e w = let same : g ≡ f = cc e in let its : n ≡ hold.node = cc e in
+      subst (λ (n : ℕ). HoldsAt k r.phase f n) its (subst (λ (g : File). HoldsAt k r.phase g n) same w)
+  is_open seat _ e w = absurd (cc e)
+
+  holds_at : {f : File} {hold : Hold} → IsHeldBy s f hold → HoldsAt k r.phase f hold.node
+  holds_at (seat, v, there, holds) = is_open seat v.work holds (r.each_view seat v there).work
+
+  one_file : (f g : File) (x y : Hold) → IsHeldBy s f x → IsHeldBy s g y → x.node ≡ y.node → f ≡ g
+  one_file f g x y a b same = let here = (holds_at a).1 in let also = (holds_at b).1 in
+      let e : file_in (r.phase x.node) ≡ file_in (r.phase y.node) = ap (λ n. file_in (r.phase n)) same in cc (here, also, e)
+
+  of_slot : (f g : File) (hold : Hold) (slot : ℕ) (file : Option File) → IsHeldBy s f hold → Names r.node_of (slot_word_in s slot) file
+      → IsSeated k r.node_of r.phase slot file → name_in (slot_word_in s slot) ≡ hold.node + 1 → file ≡ Some g → f ≡ g
+  of_slot f g hold slot None held names seat is e = absurd (cc e)
+  of_slot f g hold slot (Some h) held names seat is e = let a = names.0 in let node : r.node_of h.number ≡ hold.node = omega arith in
+      let here = (holds_at held).1 in let there : r.phase hold.node ≡ seated slot h = rw node at seat.1 in
+      let both : file_in (seated slot h) ≡ Some f = rw there at here in cc (both, e)
+
+  abbrev Node : ℕ → Phase → Type 0
+  Node n = NodeAgrees (state_after_all k r.history).at (slots_of k) (λ i. count_in (slot_word s.words i)) r.node_of r.next_number n
+      (word_at s.words (word_of k n)) (sum_by (taken_of n) s.views) (owed r.debt k.passes n) (get_elem? s.homes n)
+
+  of_phase : (n : ℕ) (f : File) (ph : Phase) → file_in ph ≡ Some f → Node n ph → node_word_in k s n ≢ 0
+  of_phase n f (seated slot g) e o = let a = o.counts in let b = few_takes k s r slot o.inside in
+      let c = few_cold k.passes in let p = r.shape.passes in λ zero. omega arith
+  of_phase n f (leaving seat takes next marks g) e o = let a = o.counts in let b = o.few_takes in let c = o.few_marks in
+      let d = o.few_visits in λ zero. omega arith
+  of_phase n f (retired g) e o = let a = o.counts in λ zero. omega arith
+  of_phase n f _ e o = absurd (cc e)
+
+  pub nodes_are_of_one_file : HoldsNameFiles k s r
+  nodes_are_of_one_file = record {
+    one = one_file;
+    there = λ f g hold slot held inside is at. let a = r.each_slot slot inside in of_slot f g hold slot _ held a.names a.seat is at;
+    none = λ f hold held. let its = holds_at held in of_phase hold.node f _ its.1 (r.each_node hold.node its.0);
+  }
