@@ -43,7 +43,7 @@ impl Drop for TableWorker {
 }
 
 impl TableWorker {
-    /// LooksUp a slot up. The worker holds the file there until `release`.
+    /// Looks a slot up. The worker holds the file there until `release`.
     pub fn look(&mut self, slot: u32) -> LookAnswer
         requires good { IsGood self.old }
         ensures good { IsGood self.new }
@@ -63,7 +63,7 @@ impl TableWorker {
         LookAnswer { found, freed }
     }
 
-    /// ReleasesHeld the file that the worker holds. Returns its tag, if it was removed and nobody uses it any more.
+    /// Releases the file that the worker holds. Returns its tag, if it was removed and nobody uses it any more.
     ///
     /// # Errors
     /// `NotHolding` if the worker holds no file.
@@ -227,7 +227,7 @@ fn tag_of(out: Option<OpenFile>) -> Option<u64>
     Some(tag)
 }
 
-// RetiresAs a file that the pass removed.
+// Retires a file that the pass removed.
 fn retire(table: &LastingTable, pass: &mut LastingPass, retired: Retired) -> Removal
     requires fits { IsPassOfTable table.now pass.old }
     requires removed { IsRetiredOf (view_of pass.old) retired }
