@@ -130,7 +130,8 @@ impl<T> Drop for Values<T> {
     }
 }
 
-/// A seat for one guard. It is busy from the look-up to the release.
+/// A seat for one guard. It is busy from the look-up to the release. The seats of two threads share no cache line.
+#[repr(align(128))]
 struct Looker {
     seat: Seat,
     busy: AtomicBool,

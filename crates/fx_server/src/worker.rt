@@ -23,11 +23,12 @@ pub struct Held {
     pub entry: u8,
 }
 
-/// A pass with its table. It holds at most one file at a time.
+/// A pass with its table. It holds at most one file at a time. The pass is last, so that the workers of two threads share no
+/// cache line (`LastingPass`).
 pub struct TableWorker {
     pub shared: Arc<Shared, Global>,
-    pub pass: LastingPass,
     pub held: Option<Held>,
+    pub pass: LastingPass,
 }
 
 impl Drop for TableWorker {
