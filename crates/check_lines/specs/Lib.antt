@@ -5,3 +5,4 @@ pub mod Front
 pub mod LinesView
 pub mod Laws
 pub mod InRange
+pub mod Calls

@@ -1,8 +1,9 @@
 //! Parses the printed lines of a submission's report: each printed report is parsed, and each parsed report was printed so. Makes
-//! calls between two submissions on slots whose files are known: the errors that a call returns, the files that it leaves at the
-//! slots, and the files that it closes.
+//! calls between two submissions on slots whose files are known: what a call prints, the files that it leaves at the slots, and the
+//! files that it closes.
 #![tactic(auto)]
 
+mod call_answer;
 mod call_closes;
 mod call_list;
 mod call_refusal;
@@ -13,6 +14,7 @@ pub mod laws;
 mod number;
 mod report_lines;
 
+pub use call_answer::{CallAnswer, call, copy_of};
 pub use call_closes::{close_in_order, files_at};
 pub use call_list::{apply_list, empty_slots};
 pub use call_refusal::{

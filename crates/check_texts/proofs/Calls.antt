@@ -17,7 +17,7 @@ use Rattle.fx_chain.specs.Completed.{negated}
 use Rattle.check_lines.specs.Lines.{IsResultInRange}
 use Rattle.check_lines.proofs.ResultLines.{one_result}
 use Rattle.check_lines.proofs.Calls.{Call, Tells, not_refused, one_line}
-use Rattle.check_texts.specs.Rings.{AnswersFound}
+use Rattle.check_lines.specs.Calls.{AnswersFound}
 use Rattle.check_texts.specs.Texts.{HasFound}
 use Rattle.std.specs.List.{AllByRecursion}
 use Rattle.fx_chain.proofs.Counted.{passed}

@@ -12,6 +12,7 @@ pub use Rattle.check_lines.proofs.Calls.{call_of}
 pub use Rattle.check_lines.proofs.Entries.{AreOf, all_closed, all_of_ring, few_of_ring}
 pub use Rattle.check_lines.proofs.FromHere.{from_here}
 pub use Rattle.check_lines.proofs.Shown.{shown}
+pub use Rattle.check_lines.specs.Calls.{IsLineOf, after_call, unless_refused}
 pub use Rattle.fx_chain.specs.Answers.{is_bad_entry}
 pub use Rattle.fx_chain.specs.Completed.{Completed, completed_of}
 pub use Rattle.fx_chain.specs.Faults.{fault_of}
@@ -33,10 +34,10 @@ pub use Rattle.fx_ring.specs.Tags.{are_bad_tags, tags_given}
 pub use Rattle.fx_ring.specs.declared.ring.TheConstants.{MOST_REGISTRATIONS, MOST_SUBMISSIONS}
 pub use Rattle.fx_script.specs.Play.{CallAnswers, IsCallRefused, Prints, PrintsReport}
 pub use Rattle.fx_table.proofs.Members.{contains_map, contains_mapped, contains_none}
-pub use Rattle.check_texts.specs.Rings.{AreStagesFrom, EndsAs, Grows, HasEachFrom, HasEachLast, HasEachNextStage, HasEachSaidFrom, IsLineOf, IsTextAt, LeadsRing}
-pub use Rattle.check_texts.specs.Rings.{LeadsAll, MayEnd, MayLeadAllTo, MayLeadTo, MaySay, Stage, after_call, count_after, count_after_all}
+pub use Rattle.check_texts.specs.Rings.{AreStagesFrom, EndsAs, Grows, HasEachFrom, HasEachLast, HasEachNextStage, HasEachSaidFrom, IsTextAt, LeadsRing}
+pub use Rattle.check_texts.specs.Rings.{LeadsAll, MayEnd, MayLeadAllTo, MayLeadTo, MaySay, Stage, count_after, count_after_all}
 pub use Rattle.check_texts.specs.Rings.{count_behind}
-pub use Rattle.check_texts.specs.Rings.{kept_text, said_in, stage, stage_left, stage_of, stage_reported, stages_of, unless_refused, AreSaidFrom}
+pub use Rattle.check_texts.specs.Rings.{kept_text, said_in, stage, stage_left, stage_of, stage_reported, stages_of, AreSaidFrom}
 pub use Rattle.check_texts.specs.Rings.{IsCall}
 pub use Rattle.check_texts.specs.Rings.{IsAskedIn, AreReportsAt, IsSearched, asked_in}
 pub use Rattle.check_texts.specs.Texts.{FoundMemory, IsReportFound, IsTextFound, MayAnswerIn, PrintsAllFound}

@@ -1,11 +1,9 @@
 -- The rings that commands may come to where memory is found.
-use Rattle.std.specs.Prelude.{◌≡◌, ◌⊎◌, ℕ, ◌+◌, pos, List, [], ◌∷◌, ◌++◌, codes, length, map}
+use Rattle.std.specs.Prelude.{◌≡◌, ◌⊎◌, ℕ, ◌+◌, List, [], ◌∷◌, ◌++◌, map}
 use Rattle.std.specs.Prelude.{All, Bool, true, false, Option, Some, None, Contains, IsTrue, nat_le}
 use Rattle.std.specs.Prelude.{if◌then◌else◌, string_bytes}
-use Rattle.std.specs.Option.{MatchOption}
 use Rattle.fx_base.specs.Catalogue.{FileEntry}
-use Rattle.fx_base.specs.declared.errno.Errno.{Errno}
-use Rattle.fx_chain.specs.Completed.{Completed, completed_of, negated}
+use Rattle.fx_chain.specs.Completed.{Completed, completed_of}
 use Rattle.fx_chain.specs.Faults.{fault_of}
 use Rattle.fx_chain.specs.Operation.{Asked, all_asked}
 use Rattle.fx_chain.specs.declared.completion.Place.{Place}
@@ -14,45 +12,18 @@ use Rattle.fx_order.specs.declared.slots.Slots.{Slots}
 use Rattle.check_outcomes.specs.Outcomes.{HasEachReport, IsPossible, ring_behind}
 use Rattle.check_outcomes.specs.declared.possible_report.PossibleReport.{PossibleReport}
 use Rattle.check_outcomes.specs.declared.possible_report.PossibleReports.{PossibleReports}
-use Rattle.fx_ring.specs.Registration.{range_refusal, register_refusal, registered, removed_from}
-use Rattle.fx_ring.specs.Registration.{registered_sparse, sparse_refusal, unregister_refusal}
-use Rattle.fx_ring.specs.Registration.{update_refusal, updated}
-use Rattle.fx_ring.specs.Ring.{IsRing, RingContents, RingState, files_of_ring, ring_of}
-use Rattle.fx_ring.specs.Ring.{without_table}
+use Rattle.fx_ring.specs.Ring.{IsRing, RingContents, RingState, ring_of}
 use Rattle.fx_ring.specs.Submission.{Reported, reported}
-use Rattle.fx_ring.specs.Tags.{tags_given}
 use Rattle.fx_ring.specs.declared.ring.TheConstants.{MOST_SUBMISSIONS}
-use Rattle.fx_language.specs.Instruction.{Instruction, MakesSparse, RegistersList, Unregisters}
-use Rattle.fx_language.specs.Instruction.{SetsRange, UpdatesRing, SubmitsAll, instructions_of}
+use Rattle.fx_language.specs.Instruction.{Instruction, SubmitsAll, instructions_of}
 use Rattle.fx_order.specs.Slots.{ring_with_slots}
-use Rattle.fx_print.specs.Text.{refused_line, result_line, too_many_line}
-use Rattle.fx_script.specs.Play.{Prints, PrintsClosed, PrintsEnd}
+use Rattle.fx_script.specs.Play.{Prints, PrintsEnd}
 use Rattle.fx_script.specs.Text.{report_text}
 use Rattle.check_texts.specs.Texts.{FoundMemory, IsReportFound, PrintsAllFound}
 use Rattle.check_texts.specs.declared.asking.Inquiry.{Inquiry}
 use Rattle.check_texts.specs.declared.saying.Said.{Said}
 use Rattle.check_texts.specs.declared.reached.Reached.{Reached}
 use Rattle.check_texts.specs.declared.searched.Searched.{Searched}
-
--- what a call leaves that may be refused
-abbrev pub unless_refused : Option Errno → RingState → RingState → RingState
-unless_refused (Some errno) old new = old
-unless_refused None old new = new
-
--- what a call between submissions leaves where it finds memory; a submission is none
-abbrev pub after_call : RingState → Instruction → RingState
-after_call ring (MakesSparse n) =
-    unless_refused (sparse_refusal ring n) ring (registered_sparse ring n)
-after_call ring (RegistersList list tags) =
-    unless_refused (register_refusal ring list (tags_given list tags)) ring
-    (registered ring list (tags_given list tags))
-after_call ring Unregisters = unless_refused (unregister_refusal ring) ring (without_table ring)
-after_call ring (SetsRange off len) =
-    unless_refused (range_refusal ring off len) ring (record ring { range = (off, len) })
-after_call ring (UpdatesRing off list tags) =
-    unless_refused (update_refusal ring off list (tags_given list tags)) ring
-    (updated ring off list (tags_given list tags))
-after_call ring (SubmitsAll asked) = ring
 
 -- the count of accepted submissions behind requests, by their first fault
 abbrev pub count_behind : ℕ → Option CutFault → ℕ
@@ -73,33 +44,6 @@ count_after_all count (command ∷ commands) = count_after_all (count_after coun
 abbrev pub IsCall : ℕ → Instruction → Type 0
 IsCall count (SubmitsAll asked) = count_behind count (fault_of asked) ≡ count
 IsCall count _ = Unit {0}
-
--- what a call answers that finds memory: its refusal, if there is one, and else what it may print
-abbrev pub AnswersFound : Option Errno → List ℕ → (List ℕ → Type 0) → List ℕ → Type 0
-AnswersFound (Some errno) word accepted line = line ≡ result_line word (negated errno)
-AnswersFound None word accepted line = accepted line
-
--- the line of a call between submissions, or of a refused one, where it finds memory; for the files
--- that it closes there are as many lines
-abbrev pub IsLineOf : RingState → Instruction → List ℕ → Type 0
-IsLineOf ring (MakesSparse n) line =
-    AnswersFound (sparse_refusal ring n) (codes "sparse")
-    (λ line. line ≡ result_line (codes "sparse") (pos 0)) line
-IsLineOf ring (RegistersList list tags) line =
-    AnswersFound (register_refusal ring list (tags_given list tags)) (codes "register")
-    (λ line. line ≡ result_line (codes "register") (pos 0)) line
-IsLineOf ring Unregisters line =
-    AnswersFound (unregister_refusal ring) (codes "unregister")
-    (PrintsClosed ring (files_of_ring ring) (result_line (codes "unregister") (pos 0))) line
-IsLineOf ring (SetsRange off len) line =
-    AnswersFound (range_refusal ring off len) (codes "range")
-    (λ line. line ≡ result_line (codes "range") (pos 0)) line
-IsLineOf ring (UpdatesRing off list tags) line =
-    AnswersFound (update_refusal ring off list (tags_given list tags)) (codes "regupdate")
-    (PrintsClosed ring (removed_from ring.at off list)
-    (result_line (codes "regupdate") (pos (length list)))) line
-IsLineOf ring (SubmitsAll asked) line =
-    MatchOption (fault_of asked) (line ≡ too_many_line) (λ fault. line ≡ refused_line fault)
 
 -- a command leads from one ring to the other, prints this and finds memory
 abbrev pub LeadsRing : RingContents → Instruction → RingContents → List ℕ → Type 0

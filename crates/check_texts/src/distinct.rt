@@ -1,5 +1,5 @@
 //! Lists of rings, each of which stands there once.
-ghost use Rattle.std.specs.Prelude.{◌≡◌, IfOk, IsTrue, List, OnOk, Contains, length};
+ghost use Rattle.std.specs.Prelude.{◌≡◌, IsTrue, List, OnOk, Contains};
 ghost use Rattle.fx_base.specs.Catalogue.{FileEntry};
 ghost use Rattle.fx_order.specs.Slots.{ring_with_slots};
 ghost use Rattle.check_texts.specs.Rings.{Grows, stage_of, stages_of};
@@ -8,22 +8,6 @@ use crate::reached::Reached;
 use crate::setting::WalkSetting;
 use fx_base::NoMemory;
 use fx_order::RingSlots;
-use std::alloc::Global;
-
-/// The same ring once more.
-pub(crate) fn copy_of(alloc: Global, ring: &RingSlots) -> Result<RingSlots, NoMemory>
-    ensures same { IfOk result (λ copy. (catalogue : List FileEntry)
-        → ring_with_slots catalogue copy ≡ ring_with_slots catalogue ring.now) }
-    ensures size { IfOk result (λ copy.
-        length copy.slots.at.items ≡ length ring.now.slots.at.items) }
-{
-    let slots = ring.slots.copy(alloc)?;
-    Ok(RingSlots {
-        slots,
-        submissions: ring.submissions,
-        registrations: ring.registrations,
-    })
-}
 
 /// Checks whether both rings have the same slots, the same allocation range and the same counts.
 pub(crate) fn are_same(one: &RingSlots, other: &RingSlots) -> bool

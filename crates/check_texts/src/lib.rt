@@ -2,7 +2,6 @@
 #![tactic(auto)]
 
 mod asking;
-mod call;
 mod distinct;
 mod going_on;
 mod laws;

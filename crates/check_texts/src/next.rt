@@ -14,11 +14,11 @@ ghost use Rattle.check_texts.specs.Rings.{Grows, HasEachNextStage, IsCall, MayLe
 ghost use Rattle.check_texts.specs.Rings.{AreReportsAt, IsSearched, asked_in};
 ghost use Rattle.check_texts.specs.Rings.{stage_left, stage_of, stage_reported, stages_of};
 
-use crate::call::call;
-use crate::distinct::{copy_of, push_new};
+use crate::distinct::push_new;
 use crate::reached::{Past, Reached};
 use crate::searched::{Searched, Searches, search_at};
 use crate::setting::WalkSetting;
+use check_lines::{call, copy_of};
 use check_outcomes::{PossibleReport, PossibleReports, may_leave, may_report};
 use fx_base::NoMemory;
 use fx_chain::{Request, check};
@@ -310,8 +310,7 @@ fn push_call(
         (stage_of setting.now.catalogue.now from.now) (instruction_of command.now)
         (stages_of setting.now.catalogue.now rings.new.items)) }
 {
-    let copy = copy_of(setting.alloc, &from.ring)?;
-    let called = call(setting, copy, command)?;
+    let called = call(setting.alloc, setting.catalogue, &from.ring, command)?;
     let printed = printed_behind(setting, from.printed.as_str(), called.line.as_str())?;
     push_new(
         setting,

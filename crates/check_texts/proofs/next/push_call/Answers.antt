@@ -5,9 +5,6 @@ use Rattle.check_texts.proofs.Calls.{call_may_lead, call_only}
 use Rattle.check_texts.proofs.Growth.{grows_on, stays}
 use Rattle.check_texts.proofs.next.push_call.Goals as goal
 
-pub call-requires-clause-ring : goal.call-requires-clause-ring
-call-requires-clause-ring c = rw (c.in_ok-copy.ensures.same c.args.setting.now.catalogue.now) c.requires.ring
-
 pub returns : goal.returns
 returns c =
     let cat = c.args.setting.now.catalogue.now in
@@ -16,9 +13,8 @@ returns c =
     let new : Stage = record { ring = ring_with_slots cat c.in_ok-called.called.ring; printed = string_bytes c.in_ok-printed.printed } in
     let command = instruction_of c.args.command.now in
     let line = string_bytes c.in_ok-called.called.line in
-    let same = c.in_ok-copy.ensures.same cat in
-    let left : new.ring ≡ after_call from.ring command = rw same at c.in_ok-called.ensures.value in
-    let told : IsLineOf from.ring command line = rw same at c.in_ok-called.ensures.line in
+    let left : new.ring ≡ after_call from.ring command = c.in_ok-called.ensures.value in
+    let told : IsLineOf from.ring command line = c.in_ok-called.ensures.line in
     let kept : new.printed ≡ kept_text keeps (from.printed ++ line) =
     rw (c.as_str.ensures.value, c.as_str-2.ensures.value) at c.in_ok-printed.ensures in
     let (next, shows) = shown cat c.in_ok-called.called.ring in
