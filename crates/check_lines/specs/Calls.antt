@@ -1,15 +1,18 @@
 -- The calls between submissions, and refused submissions, where they find memory (this project's
 -- own).
-use Rattle.std.specs.Prelude.{◌≡◌, ℕ, pos, List, codes, length, Option, Some, None}
+use Rattle.std.specs.Prelude.{◌≡◌, ℕ, ◌+◌, pos, nat_le, List, codes, length, Option, Some, None}
+use Rattle.std.specs.Prelude.{if◌then◌else◌}
 use Rattle.std.specs.Option.{MatchOption}
 use Rattle.fx_base.specs.declared.errno.Errno.{Errno}
 use Rattle.fx_chain.specs.Completed.{negated}
 use Rattle.fx_chain.specs.Faults.{fault_of}
+use Rattle.fx_chain.specs.declared.fault.CutFault.{CutFault}
 use Rattle.fx_ring.specs.Registration.{range_refusal, register_refusal, registered, removed_from}
 use Rattle.fx_ring.specs.Registration.{registered_sparse, sparse_refusal, unregister_refusal}
 use Rattle.fx_ring.specs.Registration.{update_refusal, updated}
 use Rattle.fx_ring.specs.Ring.{RingState, files_of_ring, without_table}
 use Rattle.fx_ring.specs.Tags.{tags_given}
+use Rattle.fx_ring.specs.declared.ring.TheConstants.{MOST_SUBMISSIONS}
 use Rattle.fx_language.specs.Instruction.{Instruction, MakesSparse, RegistersList, Unregisters}
 use Rattle.fx_language.specs.Instruction.{SetsRange, UpdatesRing, SubmitsAll}
 use Rattle.fx_print.specs.Text.{refused_line, result_line, too_many_line}
@@ -61,3 +64,13 @@ IsLineOf ring (UpdatesRing off list tags) line =
     (result_line (codes "regupdate") (pos (length list)))) line
 IsLineOf ring (SubmitsAll asked) line =
     MatchOption (fault_of asked) (line ≡ too_many_line) (λ fault. line ≡ refused_line fault)
+
+-- the count of accepted submissions behind requests, by their first fault
+abbrev pub count_behind : ℕ → Option CutFault → ℕ
+count_behind count (Some fault) = count
+count_behind count None = if nat_le MOST_SUBMISSIONS count then count else count + 1
+
+-- behind so many accepted submissions the command is none that is accepted
+abbrev pub IsCall : ℕ → Instruction → Type 0
+IsCall count (SubmitsAll asked) = count_behind count (fault_of asked) ≡ count
+IsCall count _ = Unit {0}

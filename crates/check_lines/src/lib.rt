@@ -3,6 +3,7 @@
 //! files that it closes.
 #![tactic(auto)]
 
+mod accepted;
 mod call_answer;
 mod call_closes;
 mod call_list;
@@ -14,6 +15,7 @@ pub mod laws;
 mod number;
 mod report_lines;
 
+pub use accepted::{accepted_in, is_accepted};
 pub use call_answer::{CallAnswer, call, copy_of};
 pub use call_closes::{close_in_order, files_at};
 pub use call_list::{apply_list, empty_slots};

@@ -12,7 +12,7 @@ pub use Rattle.check_lines.proofs.Calls.{call_of}
 pub use Rattle.check_lines.proofs.Entries.{AreOf, all_closed, all_of_ring, few_of_ring}
 pub use Rattle.check_lines.proofs.FromHere.{from_here}
 pub use Rattle.check_lines.proofs.Shown.{shown}
-pub use Rattle.check_lines.specs.Calls.{IsLineOf, after_call, unless_refused}
+pub use Rattle.check_lines.specs.Calls.{IsCall, IsLineOf, after_call, count_behind, unless_refused}
 pub use Rattle.fx_chain.specs.Answers.{is_bad_entry}
 pub use Rattle.fx_chain.specs.Completed.{Completed, completed_of}
 pub use Rattle.fx_chain.specs.Faults.{fault_of}
@@ -36,9 +36,7 @@ pub use Rattle.fx_script.specs.Play.{CallAnswers, IsCallRefused, Prints, PrintsR
 pub use Rattle.fx_table.proofs.Members.{contains_map, contains_mapped, contains_none}
 pub use Rattle.check_texts.specs.Rings.{AreStagesFrom, EndsAs, Grows, HasEachFrom, HasEachLast, HasEachNextStage, HasEachSaidFrom, IsTextAt, LeadsRing}
 pub use Rattle.check_texts.specs.Rings.{LeadsAll, MayEnd, MayLeadAllTo, MayLeadTo, MaySay, Stage, count_after, count_after_all}
-pub use Rattle.check_texts.specs.Rings.{count_behind}
 pub use Rattle.check_texts.specs.Rings.{kept_text, said_in, stage, stage_left, stage_of, stage_reported, stages_of, AreSaidFrom}
-pub use Rattle.check_texts.specs.Rings.{IsCall}
 pub use Rattle.check_texts.specs.Rings.{IsAskedIn, AreReportsAt, IsSearched, asked_in}
 pub use Rattle.check_texts.specs.Texts.{FoundMemory, IsReportFound, IsTextFound, MayAnswerIn, PrintsAllFound}
 pub use Rattle.check_texts.specs.declared.reached.Reached.{Reached}

@@ -1,34 +1,27 @@
 -- The rings that commands may come to where memory is found.
 use Rattle.std.specs.Prelude.{◌≡◌, ◌⊎◌, ℕ, ◌+◌, List, [], ◌∷◌, ◌++◌, map}
-use Rattle.std.specs.Prelude.{All, Bool, true, false, Option, Some, None, Contains, IsTrue, nat_le}
-use Rattle.std.specs.Prelude.{if◌then◌else◌, string_bytes}
+use Rattle.std.specs.Prelude.{All, Bool, true, false, Option, Some, None, Contains, IsTrue, string_bytes}
 use Rattle.fx_base.specs.Catalogue.{FileEntry}
 use Rattle.fx_chain.specs.Completed.{Completed, completed_of}
 use Rattle.fx_chain.specs.Faults.{fault_of}
 use Rattle.fx_chain.specs.Operation.{Asked, all_asked}
 use Rattle.fx_chain.specs.declared.completion.Place.{Place}
-use Rattle.fx_chain.specs.declared.fault.CutFault.{CutFault}
 use Rattle.fx_order.specs.declared.slots.Slots.{Slots}
 use Rattle.check_outcomes.specs.Outcomes.{HasEachReport, IsPossible, ring_behind}
 use Rattle.check_outcomes.specs.declared.possible_report.PossibleReport.{PossibleReport}
 use Rattle.check_outcomes.specs.declared.possible_report.PossibleReports.{PossibleReports}
 use Rattle.fx_ring.specs.Ring.{IsRing, RingContents, RingState, ring_of}
 use Rattle.fx_ring.specs.Submission.{Reported, reported}
-use Rattle.fx_ring.specs.declared.ring.TheConstants.{MOST_SUBMISSIONS}
 use Rattle.fx_language.specs.Instruction.{Instruction, SubmitsAll, instructions_of}
 use Rattle.fx_order.specs.Slots.{ring_with_slots}
 use Rattle.fx_script.specs.Play.{Prints, PrintsEnd}
 use Rattle.fx_script.specs.Text.{report_text}
+use Rattle.check_lines.specs.Calls.{count_behind}
 use Rattle.check_texts.specs.Texts.{FoundMemory, IsReportFound, PrintsAllFound}
 use Rattle.check_texts.specs.declared.asking.Inquiry.{Inquiry}
 use Rattle.check_texts.specs.declared.saying.Said.{Said}
 use Rattle.check_texts.specs.declared.reached.Reached.{Reached}
 use Rattle.check_texts.specs.declared.searched.Searched.{Searched}
-
--- the count of accepted submissions behind requests, by their first fault
-abbrev pub count_behind : ℕ → Option CutFault → ℕ
-count_behind count (Some fault) = count
-count_behind count None = if nat_le MOST_SUBMISSIONS count then count else count + 1
 
 -- the count of accepted submissions behind a command
 abbrev pub count_after : ℕ → Instruction → ℕ
@@ -39,11 +32,6 @@ count_after count _ = count
 abbrev pub count_after_all : ℕ → List Instruction → ℕ
 count_after_all count [] = count
 count_after_all count (command ∷ commands) = count_after_all (count_after count command) commands
-
--- behind so many accepted submissions the command is none that is accepted
-abbrev pub IsCall : ℕ → Instruction → Type 0
-IsCall count (SubmitsAll asked) = count_behind count (fault_of asked) ≡ count
-IsCall count _ = Unit {0}
 
 -- a command leads from one ring to the other, prints this and finds memory
 abbrev pub LeadsRing : RingContents → Instruction → RingContents → List ℕ → Type 0

@@ -1,5 +1,5 @@
 //! The rings that one command may lead to.
-ghost use Rattle.std.specs.Prelude.{◌≡◌, ◌++◌, ◌<◌, ◌≤◌, All, IfNone, IfOk, IfSome, IsTrue};
+ghost use Rattle.std.specs.Prelude.{◌≡◌, ◌++◌, ◌<◌, ◌≤◌, All, IfOk, IsTrue};
 ghost use Rattle.std.specs.Prelude.{Contains, List, None, OnOk, false, length, string_bytes};
 ghost use Rattle.fx_base.specs.Catalogue.{FileEntry};
 ghost use Rattle.fx_chain.specs.Accepted.{IsAccepted};
@@ -10,7 +10,8 @@ ghost use Rattle.fx_order.specs.Slots.{ring_with_slots};
 ghost use Rattle.fx_plain.specs.declared.table.TheConstants.{MOST_SLOTS};
 ghost use Rattle.fx_ring.specs.Ring.{IsRing};
 ghost use Rattle.fx_ring.specs.declared.ring.TheConstants.{MOST_SUBMISSIONS};
-ghost use Rattle.check_texts.specs.Rings.{Grows, HasEachNextStage, IsCall, MayLeadTo, count_behind, kept_text};
+ghost use Rattle.check_lines.specs.Calls.{IsCall};
+ghost use Rattle.check_texts.specs.Rings.{Grows, HasEachNextStage, MayLeadTo, kept_text};
 ghost use Rattle.check_texts.specs.Rings.{AreReportsAt, IsSearched, asked_in};
 ghost use Rattle.check_texts.specs.Rings.{stage_left, stage_of, stage_reported, stages_of};
 
@@ -18,50 +19,13 @@ use crate::distinct::push_new;
 use crate::reached::{Past, Reached};
 use crate::searched::{Searched, Searches, search_at};
 use crate::setting::WalkSetting;
-use check_lines::{call, copy_of};
+use check_lines::{accepted_in, call, copy_of};
 use check_outcomes::{PossibleReport, PossibleReports, may_leave, may_report};
 use fx_base::NoMemory;
-use fx_chain::{Request, check};
+use fx_chain::Request;
 use fx_language::Command;
 use fx_order::{ChainAccess, RingSlots, Slots};
-use fx_ring::MOST_SUBMISSIONS;
 use fx_script::report_text;
-
-/// Whether requests are accepted behind so many submissions: none of them has a fault, and there is a number for one more.
-pub(crate) fn is_accepted(requests: &[Request], submissions: u32) -> bool
-    ensures accepted { IsTrue result → IsAccepted (all_asked requests.now) }
-    ensures faultless { IsTrue result → fault_of (all_asked requests.now) ≡ None }
-    ensures few { IsTrue result → submissions < MOST_SUBMISSIONS }
-    ensures refused { result ≡ false
-        → count_behind submissions (fault_of (all_asked requests.now)) ≡ submissions }
-{
-    check(requests).is_ok() && submissions < MOST_SUBMISSIONS
-}
-
-/// The requests of a command, if it is a submission that is accepted behind so many.
-pub(crate) fn accepted_in(command: &Command, submissions: u32) -> Option<&[Request]>
-    ensures requests { IfSome result (λ requests.
-        instruction_of command.now ≡ SubmitsAll (all_asked requests.now)) }
-    ensures accepted { IfSome result (λ requests. IsAccepted (all_asked requests.now)) }
-    ensures faultless { IfSome result (λ requests. fault_of (all_asked requests.now) ≡ None) }
-    ensures few { IfSome result (λ _. submissions < MOST_SUBMISSIONS) }
-    ensures none { IfNone result (IsCall submissions (instruction_of command.now)) }
-{
-    match command {
-        Command::Sparse(_) => None,
-        Command::Register(_, _) => None,
-        Command::Unregister => None,
-        Command::Range(_, _) => None,
-        Command::Update(_, _, _) => None,
-        Command::Submit(requests) => {
-            if is_accepted(requests, submissions) {
-                Some(requests.as_slice())
-            } else {
-                None
-            }
-        }
-    }
-}
 
 /// Whether two things hold.
 pub(crate) fn both(one: bool, other: bool) -> bool

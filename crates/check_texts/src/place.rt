@@ -4,7 +4,7 @@ ghost use Rattle.fx_language.specs.Instruction.{instructions_of};
 ghost use Rattle.check_texts.specs.Rings.{IsAskedIn, count_after_all};
 
 use crate::asking::Inquiry;
-use crate::next::accepted_in;
+use check_lines::accepted_in;
 use fx_chain::Place;
 use fx_language::Command;
 

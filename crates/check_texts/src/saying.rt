@@ -12,9 +12,10 @@ ghost use Rattle.check_texts.specs.Rings.{MayEnd, MaySay, said_in, stages_of};
 
 use crate::asking::Inquiry;
 use crate::going_on::goes_on;
-use crate::next::{both, is_accepted};
+use crate::next::both;
 use crate::reached::{Past, Reached};
 use crate::setting::WalkSetting;
+use check_lines::is_accepted;
 use check_outcomes::{PossibleAnswer, RequestQuestion, may_answer};
 use fx_base::NoMemory;
 use fx_chain::Completion;

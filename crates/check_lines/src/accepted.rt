@@ -1,0 +1,48 @@
+//! Which submissions are accepted.
+ghost use Rattle.std.specs.Prelude.{◌≡◌, ◌<◌, IfNone, IfSome, IsTrue, None, false};
+ghost use Rattle.fx_chain.specs.Accepted.{IsAccepted};
+ghost use Rattle.fx_chain.specs.Faults.{fault_of};
+ghost use Rattle.fx_chain.specs.Operation.{all_asked};
+ghost use Rattle.fx_language.specs.Instruction.{SubmitsAll, instruction_of};
+ghost use Rattle.fx_ring.specs.declared.ring.TheConstants.{MOST_SUBMISSIONS};
+ghost use Rattle.check_lines.specs.Calls.{IsCall, count_behind};
+
+use fx_chain::{Request, check};
+use fx_language::Command;
+use fx_ring::MOST_SUBMISSIONS;
+
+/// Checks whether requests are accepted behind so many submissions: none of them has a fault, and there is a number for one more.
+pub fn is_accepted(requests: &[Request], submissions: u32) -> bool
+    ensures accepted { IsTrue result → IsAccepted (all_asked requests.now) }
+    ensures faultless { IsTrue result → fault_of (all_asked requests.now) ≡ None }
+    ensures few { IsTrue result → submissions < MOST_SUBMISSIONS }
+    ensures refused { result ≡ false
+        → count_behind submissions (fault_of (all_asked requests.now)) ≡ submissions }
+{
+    check(requests).is_ok() && submissions < MOST_SUBMISSIONS
+}
+
+/// Returns the requests of a command if it is a submission that is accepted behind so many.
+pub fn accepted_in(command: &Command, submissions: u32) -> Option<&[Request]>
+    ensures requests { IfSome result (λ requests.
+        instruction_of command.now ≡ SubmitsAll (all_asked requests.now)) }
+    ensures accepted { IfSome result (λ requests. IsAccepted (all_asked requests.now)) }
+    ensures faultless { IfSome result (λ requests. fault_of (all_asked requests.now) ≡ None) }
+    ensures few { IfSome result (λ _. submissions < MOST_SUBMISSIONS) }
+    ensures none { IfNone result (IsCall submissions (instruction_of command.now)) }
+{
+    match command {
+        Command::Sparse(_) => None,
+        Command::Register(_, _) => None,
+        Command::Unregister => None,
+        Command::Range(_, _) => None,
+        Command::Update(_, _, _) => None,
+        Command::Submit(requests) => {
+            if is_accepted(requests, submissions) {
+                Some(requests.as_slice())
+            } else {
+                None
+            }
+        }
+    }
+}
