@@ -17,9 +17,7 @@ pub mod Plays
 pub mod Listed
 pub mod Lists
 pub mod Merged
-pub mod Registrations
 pub mod Calls
-pub mod OneAnswer
 pub mod Submissions
 pub mod InRange
 pub mod Installations

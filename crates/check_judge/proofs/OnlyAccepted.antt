@@ -1,6 +1,6 @@
 -- An accepted submission: a text goes on with its lines in one way alone.
-use Rattle.check_judge.proofs.Words.{◌≡◌, ℕ, List, ◌++◌, length, sym, ap, subst, ◌∙◌, Some, None, Result, Ok, Err, lt-leb, FileEntry, all_completed}
-use Rattle.check_judge.proofs.Words.{Asked, RingContents, RingState, ring_of, Reported, MOST_SUBMISSIONS, IsOneOrder, SubmitsAll, report_text, Lines}
+use Rattle.check_judge.proofs.Words.{◌≡◌, ℕ, List, ◌++◌, length, sym, ap, subst, ◌∙◌, Some, None, Result, Ok, Err, FileEntry, all_completed}
+use Rattle.check_judge.proofs.Words.{Asked, RingContents, RingState, ring_of, Reported, IsOneOrder, SubmitsAll, report_text, Lines}
 use Rattle.check_judge.proofs.Words.{ReadsReport, lines_of, lines_text, lines_in, ReportLines, told_report, RingSlots, Told, BeginsWith, ContinuesText}
 use Rattle.check_judge.proofs.Words.{LeadsNowhere, LeadsTo, AreApart, HasLines, TellsKnown, Fault, printed_lines, ring_with_slots, IsReportBefore}
 use Rattle.check_judge.proofs.Words.{TellsCloses}
@@ -8,7 +8,7 @@ use Rattle.check_judge.proofs.Words.{each_report_leads_to_one_ring, one_at, IsRe
 use Rattle.fx_order.proofs.Ordered.{each_history_is_an_order}
 use Rattle.check_lines.proofs.CompletionCounts.{each_request}
 use Rattle.check_judge.proofs.OrderFiles.{IsCounted, are_from, may_close_all}
-use Rattle.check_judge.proofs.OneAnswer.{submitted}
+use Rattle.check_judge.proofs.Submissions.{counted_prints}
 use Rattle.check_judge.proofs.OneText.{rest_behind}
 use Rattle.check_judge.proofs.ReportInRange.{report_in_range}
 
@@ -26,7 +26,7 @@ module _ {catalogue : List FileEntry} {old : RingSlots} {asked : List Asked} (s 
   played : (next : RingContents) (others : List ℕ) → ContinuesText before (SubmitsAll asked) text next others → Played next others
   played next others g =
       let (report, history, printed) =
-      (submitted asked s.accepted (lt-leb MOST_SUBMISSIONS old.submissions s.few) g.ring next g.line g.same).0 g.prints in
+      (counted_prints s g.ring next g.line g.same).0 g.prints in
       let order : IsOneOrder before asked report (ring_of next) =
       subst (λ (r : RingState). IsOneOrder r asked report (ring_of next)) g.same (each_history_is_an_order g.ring next asked report history) in
       record {

@@ -5,11 +5,12 @@ use Rattle.check_judge.proofs.Words.{ring_of}
 use Rattle.check_judge.proofs.Words.{Reported, MOST_SUBMISSIONS, SubmitsAll, report_text, Closed, named_close_of, lines_in, ReportLines, lines_of}
 use Rattle.check_judge.proofs.Words.{lines_text}
 use Rattle.check_judge.proofs.Words.{named_closes, CameBy, told_report, RingSlots, Told, IsRingKept, BeginsWith, MayPrintBy, AreAccessPlaces, AreChainsDone}
-use Rattle.check_judge.proofs.Words.{Order}
+use Rattle.check_judge.proofs.Words.{Order, Bool, MatchBool, MatchOption, Option, Prints, PrintsReport, RingContents, false, nat_le, refused_line}
+use Rattle.check_judge.proofs.Words.{too_many_line, ◌↔◌}
+use Rattle.fx_chain.specs.declared.fault.CutFault.{CutFault}
 use Rattle.check_judge.proofs.Words.{ring_with_slots, printed_lines, IsOrderOf, ring_left, HasLines}
 use Rattle.fx_order.proofs.Histories.{each_order_is_a_history}
 use Rattle.std.proofs.lemmas.Simd.{map-map}
-use Rattle.check_judge.proofs.OneAnswer.{submitted}
 use Rattle.check_judge.proofs.OrderFiles.{IsCounted, left_in_range}
 
 -- the lines of what is told are those that were read
@@ -29,6 +30,17 @@ told_lines catalogue lines files closed tags number room =
 pub tags_again : {files others : List Closed} → files ≡ others
     → map (λ file. file.tag) (filter (λ file. not (file.tag == 0)) files) ≡ map (λ completion. completion.user_data) (tags_of others)
 tags_again same = rw (same, map-map)
+
+-- a submission that is counted prints a report
+pub counted_prints : {catalogue : List FileEntry} {old : RingSlots} {asked : List Asked} → IsCounted catalogue old asked
+    → (ring next : RingContents) (line : List ℕ) → ring_of ring ≡ ring_with_slots catalogue old
+    → Prints ring (SubmitsAll asked) next line ↔ PrintsReport ring asked next line
+counted_prints {catalogue} {old} {asked} s ring next line same =
+    let room : nat_le MOST_SUBMISSIONS ring.submissions ≡ false =
+    ap (λ (r : RingState). nat_le MOST_SUBMISSIONS r.submissions) same ∙ lt-leb MOST_SUBMISSIONS old.submissions s.few in
+    subst (λ (z : Option CutFault × Bool). Prints ring (SubmitsAll asked) next line ↔ MatchOption z.0
+    (MatchBool z.1 ((ring_of next ≡ ring_of ring) × (line ≡ too_many_line)) (PrintsReport ring asked next line))
+    (λ fault. (ring_of next ≡ ring_of ring) × (line ≡ refused_line fault))) (λ t. (s.accepted t, room t)) ((λ p. p), (λ p. p))
 
 module _ {catalogue : List FileEntry} {old : RingSlots} {asked : List Asked} (s : IsCounted catalogue old asked) (new : RingSlots) (told : Told) where
   abbrev before : RingState
@@ -81,7 +93,7 @@ module _ {catalogue : List FileEntry} {old : RingSlots} {asked : List Asked} (s 
         let next = history.0 in (
           next,
           history.1,
-          (submitted asked s.accepted (lt-leb MOST_SUBMISSIONS old.submissions s.few) ring next (take count text) same).1
+          (counted_prints s ring next (take count text) same).1
               (report, history.2, printed),
           (
             asked,

@@ -5,6 +5,7 @@
 mod answer;
 mod blame;
 mod brought;
+mod call;
 mod chain_claims;
 mod closed_files;
 mod full;
@@ -17,7 +18,6 @@ mod part;
 mod places;
 mod play;
 mod refuted;
-mod registration;
 mod request_claims;
 mod stop;
 mod strands;

@@ -11,14 +11,11 @@ ghost use Rattle.fx_language.specs.Script.{AreFiles};
 ghost use Rattle.fx_order.specs.Slots.{ring_with_slots};
 
 use crate::answer::CommandVerdict;
+use crate::call::play_call;
 use crate::judgement::{Break, Fault, Judgement};
 use crate::kept::is_kept;
-use crate::met::{Met, meet};
-use crate::registration::{
-    Tagged, play_range, play_register, play_sparse, play_unregister, play_update,
-};
 use crate::submission::play_submission;
-use check_lines::{close_in_order, files_at};
+use check_lines::{accepted_in, close_in_order, files_at};
 use check_search::Limits;
 use fx_base::{Catalogue, NoMemory};
 use fx_language::{Command, Script};
@@ -56,35 +53,10 @@ fn play_command(
         (instruction_of command.now) text.now answer ring.new) }
     ensures kept { OnOk result (IsRingKept catalogue.now ring.new) }
 {
-    let met = match command {
-        Command::Sparse(n) => play_sparse(alloc, catalogue, ring, *n, text)?,
-        Command::Register(list, None) => {
-            play_register(alloc, catalogue, ring, &Tagged { list, tags: None }, text)?
-        }
-        Command::Register(list, Some(tags)) => {
-            let tags = Some(tags.as_slice());
-            play_register(alloc, catalogue, ring, &Tagged { list, tags }, text)?
-        }
-        Command::Unregister => play_unregister(alloc, catalogue, ring, text)?,
-        Command::Range(off, len) => play_range(alloc, catalogue, ring, (*off, *len), text)?,
-        Command::Update(off, list, None) => {
-            play_update(
-                alloc,
-                catalogue,
-                ring,
-                *off,
-                &Tagged { list, tags: None },
-                text,
-            )?
-        }
-        Command::Update(off, list, Some(tags)) => {
-            let tags = Some(tags.as_slice());
-            play_update(alloc, catalogue, ring, *off, &Tagged { list, tags }, text)?
-        }
-        Command::Submit(requests) => {
-            return play_submission(alloc, catalogue, ring, requests, text, limits);
-        }
-    };
+    if let Some(requests) = accepted_in(command, ring.submissions) {
+        return play_submission(alloc, catalogue, ring, requests, text, limits);
+    }
+    let met = play_call(alloc, catalogue, ring, command, text)?;
     Ok(CommandVerdict::of(met))
 }
 

@@ -1,4 +1,4 @@
-//! Plays submissions against a text.
+//! Plays accepted submissions against a text.
 ghost use Rattle.std.specs.Prelude.{◌≡◌, ◌<◌, ◌≤◌, All, IfOk, List, OnOk, length};
 ghost use Rattle.fx_base.specs.Catalogue.{FileEntry};
 ghost use Rattle.fx_plain.specs.declared.table.TheConstants.{MOST_SLOTS};
@@ -21,17 +21,14 @@ use crate::closed_files::{files_told, tags_told, wrong_order, wrong_tag};
 use crate::judgement::Fault;
 use crate::judging::judge_submission;
 use crate::known::unknown_file;
-use crate::met::meet;
 use crate::places::{Answered, places_of};
 use crate::told::Told;
 use crate::verdict::Verdict;
 use check_lines::{ReportLines, read_report};
 use check_search::Limits;
 use fx_base::{Catalogue, NoMemory};
-use fx_chain::{Request, check, cut};
+use fx_chain::{Request, cut};
 use fx_order::{ChainAccess, Order, RingSlots};
-use fx_ring::MOST_SUBMISSIONS;
-use fx_script::{refused_line, too_many_line};
 use std::alloc::Global;
 
 // What lines tell of a submission, or else which line can't be.
@@ -136,8 +133,12 @@ fn order_of(
     })
 }
 
-// A submission of which no request has a fault, and which is counted.
-fn play_accepted(
+/// Plays a submission that is accepted, if an order of its requests gives the report that the text begins with. The limits hold for
+/// the states of each part that has slots of its own.
+///
+/// # Errors
+/// `NoMemory` if an allocation fails.
+pub(crate) fn play_submission(
     alloc: Global,
     catalogue: &Catalogue,
     ring: &mut RingSlots,
@@ -170,31 +171,4 @@ fn play_accepted(
         Verdict::NotLegal(reason) => Ok(CommandVerdict::Broken(Fault::Order(number, reason))),
         Verdict::Undecided(doubt) => Ok(CommandVerdict::Undecided(doubt)),
     }
-}
-
-/// Plays a submission: refused, or accepted if an order of its requests gives the report that the text begins with. The limits hold
-/// for the states of each part that has slots of its own.
-///
-/// # Errors
-/// `NoMemory` if an allocation fails.
-pub(crate) fn play_submission(
-    alloc: Global,
-    catalogue: &Catalogue,
-    ring: &mut RingSlots,
-    requests: &[Request],
-    text: &[u8],
-    limits: Limits,
-) -> Result<CommandVerdict, NoMemory>
-    requires { IsRingKept catalogue.now ring.old }
-    ensures answer { IfOk result (λ answer. IsCommandVerdict catalogue.now ring.old
-        (SubmitsAll (all_asked requests.now)) text.now answer ring.new) }
-    ensures kept { OnOk result (IsRingKept catalogue.now ring.new) }
-{
-    if let Err(fault) = check(requests) {
-        return Ok(CommandVerdict::of(meet(text, refused_line(alloc, fault)?)));
-    }
-    if ring.submissions >= MOST_SUBMISSIONS {
-        return Ok(CommandVerdict::of(meet(text, too_many_line(alloc)?)));
-    }
-    play_accepted(alloc, catalogue, ring, requests, text, limits)
 }

@@ -20,5 +20,8 @@ pub mod Entries
 pub mod ClosesInOrder
 pub mod FilesThere
 pub mod Calls
+pub mod Refusals
+pub mod CallAnswers
+pub mod CallRings
 pub mod ListWorked
 pub mod FromHere

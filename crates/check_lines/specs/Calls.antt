@@ -65,6 +65,22 @@ IsLineOf ring (UpdatesRing off list tags) line =
 IsLineOf ring (SubmitsAll asked) line =
     MatchOption (fault_of asked) (line ≡ too_many_line) (λ fault. line ≡ refused_line fault)
 
+-- the word of a call that isn't refused
+abbrev pub word_unless : Option Errno → List ℕ → Option (List ℕ)
+word_unless (Some errno) word = None
+word_unless None word = Some word
+
+-- the word of a call that may find no memory; it then prints the word and -12, and leaves its ring
+abbrev pub memory_word : RingState → Instruction → Option (List ℕ)
+memory_word ring (MakesSparse n) = word_unless (sparse_refusal ring n) (codes "sparse")
+memory_word ring (RegistersList list tags) =
+    word_unless (register_refusal ring list (tags_given list tags)) (codes "register")
+memory_word ring Unregisters = word_unless (unregister_refusal ring) (codes "unregister")
+memory_word ring (SetsRange off len) = None
+memory_word ring (UpdatesRing off list tags) =
+    word_unless (update_refusal ring off list (tags_given list tags)) (codes "regupdate")
+memory_word ring (SubmitsAll asked) = None
+
 -- the count of accepted submissions behind requests, by their first fault
 abbrev pub count_behind : ℕ → Option CutFault → ℕ
 count_behind count (Some fault) = count

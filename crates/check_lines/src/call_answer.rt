@@ -9,11 +9,12 @@ ghost use Rattle.fx_chain.specs.Faults.{fault_of};
 ghost use Rattle.fx_chain.specs.Operation.{all_asked};
 ghost use Rattle.fx_language.specs.Instruction.{MakesSparse, RegistersList, SetsRange};
 ghost use Rattle.fx_language.specs.Instruction.{Unregisters, UpdatesRing, instruction_of};
-ghost use Rattle.fx_order.specs.Slots.{ring_with_slots};
+ghost use Rattle.fx_order.specs.Slots.{ring_with_slots, table_of_slots};
 ghost use Rattle.fx_plain.specs.declared.table.TheConstants.{MOST_SLOTS};
 ghost use Rattle.fx_print.specs.Text.{closes_text, refused_line, result_line, too_many_line};
 ghost use Rattle.fx_ring.specs.Ring.{HasClosed, IsRing};
 ghost use Rattle.check_lines.specs.Calls.{IsLineOf, after_call};
+ghost use Rattle.check_lines.specs.InRange.{AreInRange};
 
 use crate::call_closes::{close_in_order, files_at};
 use crate::call_list::{apply_list, empty_slots};
@@ -86,6 +87,8 @@ fn sparse(
     ensures line { IfOk result (λ called. IsLineOf (ring_with_slots catalogue.now ring.now)
         (MakesSparse n) (string_bytes called.line)) }
     ensures few { IfOk result (λ called. length called.ring.slots.at.items ≤ MOST_SLOTS) }
+    ensures in_range { IfOk result (λ called. AreInRange (table_of_slots ring.now.slots).at
+        → AreInRange (table_of_slots called.ring.slots).at) }
 {
     if let Some(errno) = sparse_refusal(catalogue, ring, n) {
         return refused(alloc, ring, "sparse", errno);
@@ -116,6 +119,8 @@ fn register(
         (RegistersList list.now (option_map (λ given. given.now) tags.entry))
         (string_bytes called.line)) }
     ensures few { IfOk result (λ called. length called.ring.slots.at.items ≤ MOST_SLOTS) }
+    ensures in_range { IfOk result (λ called. AreInRange (table_of_slots ring.now.slots).at
+        → AreInRange (table_of_slots called.ring.slots).at) }
 {
     if let Some(errno) = register_refusal(catalogue, ring, list, tags) {
         return refused(alloc, ring, "register", errno);
@@ -145,6 +150,8 @@ fn unregister(
     ensures line { IfOk result (λ called. IsLineOf (ring_with_slots catalogue.now ring.now)
         Unregisters (string_bytes called.line)) }
     ensures few { IfOk result (λ called. length called.ring.slots.at.items ≤ MOST_SLOTS) }
+    ensures in_range { IfOk result (λ called. AreInRange (table_of_slots ring.now.slots).at
+        → AreInRange (table_of_slots called.ring.slots).at) }
 {
     if let Some(errno) = unregister_refusal(catalogue, ring) {
         return refused(alloc, ring, "unregister", errno);
@@ -177,14 +184,16 @@ fn set_range(
     ensures line { IfOk result (λ called. IsLineOf (ring_with_slots catalogue.now ring.now)
         (SetsRange range.0 range.1) (string_bytes called.line)) }
     ensures few { IfOk result (λ called. length called.ring.slots.at.items ≤ MOST_SLOTS) }
+    ensures in_range { IfOk result (λ called. AreInRange (table_of_slots ring.now.slots).at
+        → AreInRange (table_of_slots called.ring.slots).at) }
 {
     if let Some(errno) = range_refusal(catalogue, ring, range.0, range.1) {
         return refused(alloc, ring, "range", errno);
     }
-    let mut ring = copy_of(alloc, ring)?;
-    ring.slots.range = range;
+    let mut left = copy_of(alloc, ring)?;
+    left.slots.range = range;
     let line = result_line(alloc, "range", 0)?;
-    Ok(CallAnswer { ring, line })
+    Ok(CallAnswer { ring: left, line })
 }
 
 // The line of an update by so many numbers, and those of the files that it closes.
@@ -223,6 +232,8 @@ fn update(
         (UpdatesRing off list.now (option_map (λ given. given.now) tags.entry))
         (string_bytes called.line)) }
     ensures few { IfOk result (λ called. length called.ring.slots.at.items ≤ MOST_SLOTS) }
+    ensures in_range { IfOk result (λ called. AreInRange (table_of_slots ring.now.slots).at
+        → AreInRange (table_of_slots called.ring.slots).at) }
 {
     if let Some(errno) = update_refusal(catalogue, ring, off, list, tags) {
         return refused(alloc, ring, "regupdate", errno);
@@ -268,6 +279,8 @@ pub fn call(
     ensures line { IfOk result (λ called. IsLineOf (ring_with_slots catalogue.now ring.now)
         (instruction_of command.now) (string_bytes called.line)) }
     ensures few { IfOk result (λ called. length called.ring.slots.at.items ≤ MOST_SLOTS) }
+    ensures in_range { IfOk result (λ called. AreInRange (table_of_slots ring.now.slots).at
+        → AreInRange (table_of_slots called.ring.slots).at) }
 {
     match command {
         Command::Sparse(n) => sparse(alloc, catalogue, ring, *n),

@@ -19,7 +19,7 @@ use std::alloc::Global;
 ///
 /// # Errors
 /// `NoMemory` if an allocation fails.
-pub fn empty_slots(alloc: Global, n: u32) -> Result<Slots, NoMemory>
+pub(crate) fn empty_slots(alloc: Global, n: u32) -> Result<Slots, NoMemory>
     ensures { IfOk result (λ slots. table_of_slots slots
         ≡ record { size = n; range = (0, n); at = λ _. None }) }
 {
@@ -58,7 +58,7 @@ fn apply_number(slots: &mut Slots, mark: Mark, tag: u64, slot: u32, number: i32)
 ///
 /// # Errors
 /// `NoMemory` if an allocation fails.
-pub fn apply_list(
+pub(crate) fn apply_list(
     alloc: Global,
     slots: &mut Slots,
     k: u32,

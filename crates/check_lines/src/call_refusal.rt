@@ -1,5 +1,5 @@
 //! The errors of calls between submissions. If several apply, the first that the manual's order gives is returned.
-ghost use Rattle.std.specs.Prelude.{◌≡◌, ◌+◌, ◌<◌, ◌≤◌, IfNone, false, length};
+ghost use Rattle.std.specs.Prelude.{◌≡◌, ◌+◌, ◌<◌, ◌≤◌, IfNone, false, length, option_map};
 ghost use Rattle.std.specs.List.{list_any};
 ghost use Rattle.fx_base.specs.declared.catalogue.TheConstants.{MOST_ENTRIES};
 ghost use Rattle.fx_chain.specs.Answers.{is_bad_entry};
@@ -7,16 +7,19 @@ ghost use Rattle.fx_order.specs.Slots.{ring_with_slots};
 ghost use Rattle.fx_ring.specs.declared.ring.TheConstants.{MOST_REGISTRATIONS};
 ghost use Rattle.fx_ring.specs.Registration.{is_bad_file, range_refusal, register_refusal, sparse_refusal, unregister_refusal, update_refusal};
 ghost use Rattle.fx_ring.specs.Tags.{tags_for};
+ghost use Rattle.fx_language.specs.Instruction.{instruction_of};
 ghost use Rattle.fx_plain.specs.declared.table.TheConstants.{MOST_SLOTS};
+ghost use Rattle.check_lines.specs.Calls.{memory_word};
 
 use fx_base::{Catalogue, Errno};
 use fx_chain::has_bad_entry;
+use fx_language::Command;
 use fx_order::RingSlots;
 use fx_plain::MOST_SLOTS;
 use fx_ring::{MOST_REGISTRATIONS, are_bad_tags, has_bad_file};
 
 /// Returns the error with which a table of `n` empty slots is refused, or `None` if only a failed allocation could refuse it.
-pub fn sparse_refusal(catalogue: &Catalogue, ring: &RingSlots, n: u32) -> Option<Errno>
+pub(crate) fn sparse_refusal(catalogue: &Catalogue, ring: &RingSlots, n: u32) -> Option<Errno>
     ensures value { result ≡ sparse_refusal (ring_with_slots catalogue.now ring.now) n }
     ensures few { IfNone result (n ≤ MOST_SLOTS) }
 {
@@ -34,7 +37,7 @@ pub fn sparse_refusal(catalogue: &Catalogue, ring: &RingSlots, n: u32) -> Option
 
 /// Returns the error with which a list and its optional tags are refused as a table, or `None` if only a failed allocation could
 /// refuse them.
-pub fn register_refusal(
+pub(crate) fn register_refusal(
     catalogue: &Catalogue,
     ring: &RingSlots,
     list: &[i32],
@@ -67,7 +70,7 @@ pub fn register_refusal(
 }
 
 /// Returns the error with which unregistering is refused, or `None` if only a failed allocation could refuse it.
-pub fn unregister_refusal(catalogue: &Catalogue, ring: &RingSlots) -> Option<Errno>
+pub(crate) fn unregister_refusal(catalogue: &Catalogue, ring: &RingSlots) -> Option<Errno>
     ensures { result ≡ unregister_refusal (ring_with_slots catalogue.now ring.now) }
 {
     if ring.slots.at.is_empty() {
@@ -77,7 +80,12 @@ pub fn unregister_refusal(catalogue: &Catalogue, ring: &RingSlots) -> Option<Err
 }
 
 /// Returns the error with which an allocation range of `len` slots from `off` on is refused, or `None` if it is set.
-pub fn range_refusal(catalogue: &Catalogue, ring: &RingSlots, off: u32, len: u32) -> Option<Errno>
+pub(crate) fn range_refusal(
+    catalogue: &Catalogue,
+    ring: &RingSlots,
+    off: u32,
+    len: u32,
+) -> Option<Errno>
     requires { length ring.now.slots.at.items ≤ MOST_SLOTS }
     ensures { result ≡ range_refusal (ring_with_slots catalogue.now ring.now) off len }
 {
@@ -89,7 +97,7 @@ pub fn range_refusal(catalogue: &Catalogue, ring: &RingSlots, off: u32, len: u32
 
 /// Returns the error with which an update of the slots from `off` on is refused, or `None` if only a failed allocation could refuse
 /// it. Tags are optional.
-pub fn update_refusal(
+pub(crate) fn update_refusal(
     catalogue: &Catalogue,
     ring: &RingSlots,
     off: u32,
@@ -121,4 +129,46 @@ pub fn update_refusal(
         return Some(Errno::EAGAIN);
     }
     None
+}
+
+/// Returns the word of a call that may find no memory, or `None` if the call is refused or allocates nothing.
+pub fn memory_word(
+    catalogue: &Catalogue,
+    ring: &RingSlots,
+    command: &Command,
+) -> Option<&'static str>
+    ensures { option_map (λ word. word.now) result
+        ≡ memory_word (ring_with_slots catalogue.now ring.now) (instruction_of command.now) }
+{
+    let (refusal, word) = match command {
+        Command::Sparse(n) => (sparse_refusal(catalogue, ring, *n), "sparse"),
+        Command::Register(list, None) => (
+            register_refusal(catalogue, ring, list, None),
+            "register",
+        ),
+        Command::Register(list, Some(tags)) => {
+            let tags = Some(tags.as_slice());
+            (register_refusal(catalogue, ring, list, tags), "register")
+        }
+        Command::Unregister => (unregister_refusal(catalogue, ring), "unregister"),
+        Command::Update(off, list, None) => {
+            (
+                update_refusal(catalogue, ring, *off, list, None),
+                "regupdate",
+            )
+        }
+        Command::Update(off, list, Some(tags)) => {
+            let tags = Some(tags.as_slice());
+            (
+                update_refusal(catalogue, ring, *off, list, tags),
+                "regupdate",
+            )
+        }
+        Command::Range(_, _) => return None,
+        Command::Submit(_) => return None,
+    };
+    match refusal {
+        Some(_) => None,
+        None => Some(word),
+    }
 }

@@ -18,10 +18,7 @@ mod report_lines;
 pub use accepted::{accepted_in, is_accepted};
 pub use call_answer::{CallAnswer, call, copy_of};
 pub use call_closes::{close_in_order, files_at};
-pub use call_list::{apply_list, empty_slots};
-pub use call_refusal::{
-    range_refusal, register_refusal, sparse_refusal, unregister_refusal, update_refusal,
-};
+pub use call_refusal::memory_word;
 pub use closed_line::ClosedLine;
 pub use cut::rest_behind;
 pub use report_lines::{ReportLines, read_report};

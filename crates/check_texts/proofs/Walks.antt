@@ -1,5 +1,5 @@
 -- Commands that lead on, one behind others, and how many submissions a ring has counted behind them.
-use Rattle.check_texts.proofs.Words.{call_of, from_here, fault_of, Asked, Instruction, SetsRange, SubmitsAll, instruction_of, instructions_of}
+use Rattle.check_texts.proofs.Words.{from_here, fault_of, Asked, Instruction, SetsRange, SubmitsAll, instruction_of, instructions_of}
 use Rattle.check_texts.proofs.Words.{Command}
 use Rattle.check_texts.proofs.Words.{RingContents, RingState, ring_of, Reported, MOST_SUBMISSIONS, Prints, AreStagesFrom, HasEachFrom, HasEachLast, LeadsRing}
 use Rattle.check_texts.proofs.Words.{LeadsAll, MayLeadAllTo, Stage, after_call, count_after, count_after_all, count_behind, kept_text, stage}
@@ -8,7 +8,8 @@ use Rattle.check_texts.proofs.Words.{slice_index_or, sym, take, true, ℕ, ◌++
 use Rattle.check_texts.proofs.Words.{map_more, Contains}
 use Rattle.fx_ring.specs.Submission.{IsOneHistory}
 use Rattle.std.proofs.lemmas.List.{take-append-drop}
-use Rattle.check_texts.proofs.Calls.{call_leaves, submission_cases, unless_so}
+use Rattle.check_lines.proofs.CallRings.{called_submissions}
+use Rattle.check_texts.proofs.Calls.{call_leaves, submission_cases}
 
 -- how many submissions a ring has counted
 
@@ -22,16 +23,11 @@ pub submission_counts : (old next : RingContents) (asked : List Asked) (line : L
 submission_counts old next asked line =
     submission_cases old next asked line (λ same is. ap (λ (r : RingState). r.submissions) same ∙ sym is) (λ p is. history_counts p.1 ∙ sym is)
 
-call_count : (ring : RingState) (command : Instruction) → (after_call ring command).submissions ≡ ring.submissions
-call_count ring (SubmitsAll asked) = refl
-call_count ring command =
-    let call = call_of ring command in unless_so (λ (r : RingState). r.submissions ≡ ring.submissions) call.refusal refl (λ _. refl)
-
 pub leads_counts : (old next : RingContents) (command : Instruction) (line : List ℕ) (own : Option Reported) → Prints old command next line
     → FoundMemory old command next line own → next.submissions ≡ count_after old.submissions command
 leads_counts old next (SubmitsAll asked) line own prints found = submission_counts old next asked line prints
 leads_counts old next command line own prints found =
-    ap (λ (r : RingState). r.submissions) (call_leaves old next command line own tt prints found) ∙ call_count (ring_of old) command
+    ap (λ (r : RingState). r.submissions) (call_leaves old next command line own tt prints found) ∙ called_submissions (ring_of old) command
 
 pub all_counts : (ring last : RingContents) (commands : List Instruction) (text : List ℕ) → LeadsAll ring commands last text
     → last.submissions ≡ count_after_all ring.submissions commands

@@ -1,4 +1,5 @@
 use Rattle.std.proofs.Common.{◌∙◌}
+use Rattle.check_lines.proofs.CallRings.{refused_leaves}
 use Rattle.check_lines.proofs.Entries.{AreOf, all_closed, all_of_ring, few_of_ring}
 use Rattle.check_lines.proofs.call_answer.unregister.Goals.{After-deref}
 use Rattle.check_lines.proofs.call_answer.unregister.Goals as goal
@@ -19,3 +20,7 @@ pub with_closes-requires : goal.with_closes-requires
 with_closes-requires c =
     all_closed c.args.catalogue.now c.deref.result.now c.in_ok-closes.closes (entries (goal.at.with_closes-requires c).After-deref)
     c.in_ok-closes.ensures
+
+pub returns-in-Some-clause-value : goal.returns-in-Some-clause-value
+returns-in-Some-clause-value c =
+    refused_leaves c.refused.result c.args.catalogue.now c.args.ring.now _ c.in-Some.ensures c.refused.ensures.same
