@@ -35,7 +35,7 @@ pub use Rattle.fx_order.specs.Access.{Permits, PermitsAll, Table, accesses_of, a
 pub use Rattle.fx_order.specs.declared.access.Access.TheVariants.{Allocates, FindsFull, Looks, Puts, Takes}
 pub use Rattle.fx_order.specs.Order.{IsOneOrder, table_of}
 pub use Rattle.fx_order.specs.Requests.{AreChainsDone, AreEntriesDone, IsChainDone, IsCloseDone, IsEntryDone, IsOpenDone, IsReadDone, IsRequestDone}
-pub use Rattle.fx_order.specs.Requests.{gives}
+pub use Rattle.fx_order.specs.Requests.{IsDoneAtTable, gives}
 pub use Rattle.fx_order.specs.Slots.{ring_with_slots, table_of_slots}
 pub use Rattle.fx_order.specs.declared.access.Access.{Access}
 pub use Rattle.fx_order.specs.declared.access.ChainAccess.{ChainAccess}

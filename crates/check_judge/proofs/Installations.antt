@@ -1,10 +1,10 @@
 -- What an order places, a request installed that completed so.
 use Rattle.check_judge.proofs.Words.{◌≡◌, inl, inr, ⊎_elim, ℕ, zero, suc, ◌+◌, ◌<◌, ◌≤◌, ℤ, pos, negsuc, List, [], ◌∷◌, ◌++◌, length, refl, sym, ap}
-use Rattle.check_judge.proofs.Words.{subst, arith, Some, slice_get, flat_map, has_name, FileEntry, Mark, Submitted, Closed, installed, Completed}
+use Rattle.check_judge.proofs.Words.{subst, arith, Some, slice_get, flat_map, FileEntry, Mark, Submitted, Closed, installed, Completed}
 use Rattle.check_judge.proofs.Words.{completed, next_member, first_member, severs, Asked, Operation, Opens, Reads, Closes, Updates, Place, Target}
 use Rattle.check_judge.proofs.Words.{Slot}
-use Rattle.check_judge.proofs.Words.{Any, accesses_of_chain, Access, Allocates, ChainAccess, IsOpenDone, IsRequestDone, IsChainDone, AreChainsDone}
-use Rattle.check_judge.proofs.Words.{length-done, Has, placed, allocates, puts, updates, either_way, by_equality, Installed, OneInstalled, add-zero}
+use Rattle.check_judge.proofs.Words.{Any, accesses_of_chain, Access, Allocates, ChainAccess, IsDoneAtTable, IsOpenDone, IsRequestDone, IsChainDone, AreChainsDone}
+use Rattle.check_judge.proofs.Words.{length-done, Has, placed, allocates, puts, unless_refused, updates, either_way, by_equality, Installed, OneInstalled, add-zero}
 use Rattle.check_judge.proofs.Words.{zero-add, Puts, close_none, has_either, placed-append, read_none, IsEntryDone, AreEntriesDone}
 
 module _ (s : ℕ) (f : Closed) where
@@ -30,12 +30,12 @@ module _ (s : ℕ) (f : Closed) where
     opened name target {entry} res is = record { entry = 0; is_mark = ap (λ (x : Closed). x.mark) is; listed = refl; res = res; accepted = refl }
 
     open_installed : (name : List ℕ) (entry : ℕ) (target : Target) (accesses : List Access) {c : Completed}
-        → IsOpenDone size place entry target accesses c → IfPlaced (Opens name target) accesses c
+        → IsOpenDone place entry target accesses c → IfPlaced (Opens name target) accesses c
     open_installed name entry (Slot slot) accesses {c} =
-        puts size place (IfPlaced (Opens name (Slot slot))) (λ _ there. absurd there) accesses c entry slot (λ removed there.
+        puts place (IfPlaced (Opens name (Slot slot))) accesses c entry slot (λ removed there.
         opened name (Slot slot) 0 (one_placed (Puts slot (installed place 0 entry) removed ∷ []) refl there))
     open_installed name entry Any accesses {c} =
-        allocates size place (IfPlaced (Opens name Any)) (λ _ there. absurd there) accesses c entry (λ slot there.
+        allocates place (IfPlaced (Opens name Any)) accesses c entry (λ slot there.
         opened name Any slot (one_placed (Allocates slot (installed place 0 entry) ∷ []) refl there)) (λ there. absurd there)
 
     -- the place of the list's number that installed it
@@ -68,23 +68,25 @@ module _ (s : ℕ) (f : Closed) where
         })
         (has_either (placed x.0) (placed x.1) s f (rw (x.2, placed-append x.0 x.1) at has))
 
-    request_installed : (operation : Operation) (accesses : List Access) (c : Completed) → IsRequestDone catalogue size place operation accesses c
+    at_table : (operation : Operation) (accesses : List Access) (c : Completed) → IsDoneAtTable catalogue place operation accesses c
         → IfPlaced operation accesses c
-    request_installed (Opens name target) accesses c =
-        either_way (has_name name catalogue) (λ _ x. open_installed name x.0 target accesses x.2)
-        (λ _ x has. absurd (none_placed accesses x.0 refl has))
-    request_installed (Reads slot off len) accesses c =
-        λ x has. absurd (none_placed accesses refl (read_none catalogue size place slot off len accesses c x) has)
-    request_installed (Closes slot) accesses c = λ x has. absurd (none_placed accesses refl (close_none size place slot accesses c x) has)
-    request_installed (Updates off list) accesses c =
-        updates size place (IfPlaced (Updates off list)) (λ _ there. absurd there) accesses c (length catalogue) off list (λ _ _ x there.
-        let l = listed 0 off list accesses there x in record {
+    at_table (Opens name target) accesses c x has = open_installed name x.0 target accesses x.2 has
+    at_table (Reads slot off len) accesses c x has = absurd (none_placed accesses refl (read_none catalogue place slot off len accesses c x) has)
+    at_table (Closes slot) accesses c x has = absurd (none_placed accesses refl (close_none place slot accesses c x) has)
+    at_table (Updates off list) accesses c x has =
+        updates place (IfPlaced (Updates off list)) accesses c off list (λ are there.
+        let l = listed 0 off list accesses there are in record {
           entry = l.at;
           is_mark = rw zero-add at l.is_mark;
           listed = (l.file, l.number);
           res = length list;
           accepted = refl;
-        })
+        }) x has
+
+    request_installed : (operation : Operation) (accesses : List Access) (c : Completed) → IsRequestDone catalogue size place operation accesses c
+        → IfPlaced operation accesses c
+    request_installed operation accesses c =
+        unless_refused place (IfPlaced operation) accesses c catalogue size operation (λ _ there. absurd there) (λ _. at_table operation accesses c)
 
   module _ (catalogue : List FileEntry) (size : ℕ) where
     chain_installed : (place : Place) (requests : List Asked) (accesses : List Access) (cs : List Completed) → Places accesses

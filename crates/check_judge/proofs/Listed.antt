@@ -3,9 +3,9 @@ use Rattle.check_judge.proofs.Words.{◌≡◌, ◌≢◌, ℕ, suc, ◌+◌, �
 use Rattle.check_judge.proofs.Words.{Some, None, refl, sym, ap, ◌∙◌, arith, append-nil, append_assoc, length-append, slice_index_or, take}
 use Rattle.check_judge.proofs.Words.{length-take-le, take_more, All-append, FileEntry, Completed, next_member, severs, Asked, Operation, Updates}
 use Rattle.check_judge.proofs.Words.{Place}
-use Rattle.check_judge.proofs.Words.{IsChainDone, IsRequestDone, IsUpdateDone, Access, by_equality, IsChainListed, entry_places, place_at}
+use Rattle.check_judge.proofs.Words.{IsChainDone, IsRequestDone, Access, by_equality, IsChainListed, entry_places, place_at}
 use Rattle.check_judge.proofs.Words.{AccessPlace}
-use Rattle.check_judge.proofs.Words.{updates, inl, inr, add-zero, length-replicate, All-replicate, cases_Bool, cond_both, own_places, either_case}
+use Rattle.check_judge.proofs.Words.{unless_refused, inl, inr, add-zero, length-replicate, All-replicate, cases_Bool, cond_both, own_places, either_case}
 use Rattle.check_judge.proofs.Words.{All-nil}
 use Rattle.fx_order.proofs.EntriesMade.{done_ones, entries_made}
 
@@ -39,18 +39,18 @@ entries_listed place n (entry ∷ list) = elim (cases_Bool (int_le (negsuc 0) en
   | inr skipped ↦ rw (skipped, entries_listed place (n + 1) list)
 ]
 
-update_made : (entries size : ℕ) (place : Place) (off : ℕ) (list : List ℤ) (own : List Access) (c : Completed) → length own ≢ 0
-    → IsUpdateDone entries size place off list own c → length own ≡ length (done_ones list)
-update_made entries size place off list own c some done =
-    updates size place (λ l _. length l ≢ 0 → length l ≡ length (done_ones list)) (λ _ none. absurd (none refl)) own c entries off list
-    (λ _ _ x _. entries_made place 0 off list own x) done some
+update_made : (catalogue : List FileEntry) (size : ℕ) (place : Place) (off : ℕ) (list : List ℤ) (own : List Access) (c : Completed) → length own ≢ 0
+    → IsRequestDone catalogue size place (Updates off list) own c → length own ≡ length (done_ones list)
+update_made catalogue size place off list own c some done =
+    unless_refused place (λ l _. length l ≢ 0 → length l ≡ length (done_ones list)) own c catalogue size (Updates off list)
+    (λ _ none. absurd (none refl)) (λ _ x _. entries_made place 0 off list own x.0) done some
 
 -- as many places as accesses
 pub own_listed : (catalogue : List FileEntry) (size : ℕ) (place : Place) (operation : Operation) (own : List Access) (c : Completed)
     → IsRequestDone catalogue size place operation own c → length (own_places place operation own) ≡ length own
 own_listed catalogue size place (Updates off list) own c done =
     by_equality (length own) 0 (λ b. length (if b then [] else entry_places place 0 list) ≡ length own) (λ none. sym none)
-    (λ some. entries_listed place 0 list ∙ sym (update_made (length catalogue) size place off list own c some done))
+    (λ some. entries_listed place 0 list ∙ sym (update_made catalogue size place off list own c some done))
 own_listed catalogue size place _ own c done = length-replicate (length own) (place_at place None)
 
 -- they are all of the chain

@@ -1,12 +1,13 @@
 //! The claims of one request, from its completion.
-ghost use Rattle.std.specs.Prelude.{◌≡◌, ◌↔◌, ◌≤◌, ◌<◌, ◌+◌, ◌^◌, ◌∷◌, [], List, IfOk, IsTrue, length, slice_index_or, true, ℕ, Some};
+ghost use Rattle.std.specs.Prelude.{◌≡◌, ◌↔◌, ◌≤◌, ◌<◌, ◌+◌, ◌^◌, ◌∷◌, [], List, IfOk, IsTrue, length, slice_index_or, true, ℕ, None, Some};
 ghost use Rattle.fx_base.specs.Catalogue.{name_at};
 ghost use Rattle.fx_base.specs.declared.open_file.Closed.{Closed as FileAt};
 ghost use Rattle.fx_chain.specs.Accepted.{IsWithinLimits};
 ghost use Rattle.fx_chain.specs.Completed.{completed_of};
 ghost use Rattle.fx_chain.specs.Operation.{Opens, asked_of, operation_of};
+ghost use Rattle.fx_chain.specs.Refusal.{refusal_of};
 ghost use Rattle.fx_chain.specs.declared.request.Target.TheVariants.{Slot, Any};
-ghost use Rattle.fx_order.specs.Requests.{IsRefused, IsOpenDone, IsReadDone, IsCloseDone, IsRequestDone, gives};
+ghost use Rattle.fx_order.specs.Requests.{IsRefused, IsOpenDone, IsReadDone, IsCloseDone, IsDoneAtTable, IsRequestDone, gives};
 ghost use Rattle.fx_order.specs.declared.access.Access.{Access as OneAccess};
 ghost use Rattle.check_judge.specs.Claims.{Fits, Possibly, Tells};
 
@@ -15,7 +16,7 @@ use crate::update_claims::claims_of_update;
 use crate::verdict::Reason;
 use check_search::{Claim, Leaves, Wants, resident_for};
 use fx_base::{Catalogue, Closed, Errno, NoMemory};
-use fx_chain::{Completion, LONGEST_READ, Op, Place, Request, Target};
+use fx_chain::{Completion, LONGEST_READ, Op, Place, Request, Target, refusal_of};
 use std::alloc::Global;
 
 /// What is known where claims are looked for.
@@ -30,13 +31,8 @@ pub(crate) struct ClaimSetting<'a> {
     pub closes: &'a [Closed],
 }
 
-/// The claims of a request that didn't come to the table.
-pub(crate) fn refused(
-    alloc: Global,
-    place: Place,
-    errno: Errno,
-    c: &Completion,
-) -> Result<Vec<Claim>, Stop>
+// The claims of a refused request.
+fn refused(alloc: Global, place: Place, errno: Errno, c: &Completion) -> Result<Vec<Claim>, Stop>
     ensures { (closes : List FileAt)
         → Tells (λ own. IsRefused place errno own (completed_of c.now)) closes result }
 {
@@ -64,16 +60,10 @@ fn claims_of_open_at(
     opened: (u8, u32),
     c: &Completion,
 ) -> Result<Vec<Claim>, Stop>
-    ensures { Tells (λ own. IsOpenDone setting.now.size place opened.0 (Slot opened.1) own
-        (completed_of c.now)) setting.now.closes.now result }
+    ensures { Tells (λ own. IsOpenDone place opened.0 (Slot opened.1) own (completed_of c.now))
+        setting.now.closes.now result }
 {
     let (entry, slot) = opened;
-    if setting.size == 0 {
-        return refused(alloc, place, Errno::ENXIO, c);
-    }
-    if slot >= setting.size {
-        return refused(alloc, place, Errno::EINVAL, c);
-    }
     if !c.is_answer(place, 0, &[]) {
         return Err(Stop::Refuted(Reason::Member(place)));
     }
@@ -99,12 +89,8 @@ fn claims_of_open_any(
     c: &Completion,
 ) -> Result<Vec<Claim>, Stop>
     ensures { Tells (Possibly setting.now.size setting.now.range (λ own.
-        IsOpenDone setting.now.size place entry Any own (completed_of c.now)))
-        setting.now.closes.now result }
+        IsOpenDone place entry Any own (completed_of c.now))) setting.now.closes.now result }
 {
-    if setting.size == 0 {
-        return refused(alloc, place, Errno::ENFILE, c);
-    }
     if c.is_refusal(place, Errno::ENFILE) {
         return one(alloc, Claim::Full);
     }
@@ -155,13 +141,10 @@ fn claims_of_read(
     c: &Completion,
 ) -> Result<Vec<Claim>, Stop>
     requires { read.2 ≤ LONGEST_READ }
-    ensures { Tells (λ own. IsReadDone setting.now.catalogue.now setting.now.size place read.0 read.1
-        read.2 own (completed_of c.now)) setting.now.closes.now result }
+    ensures { Tells (λ own. IsReadDone setting.now.catalogue.now place read.0 read.1 read.2 own
+        (completed_of c.now)) setting.now.closes.now result }
 {
     let (slot, off, len) = read;
-    if slot >= setting.size {
-        return refused(alloc, place, Errno::EBADF, c);
-    }
     if len > 0 && c.is_refusal(place, Errno::ENOMEM) {
         return Ok(Vec::new(alloc));
     }
@@ -183,15 +166,9 @@ fn claims_of_close(
     slot: u32,
     c: &Completion,
 ) -> Result<Vec<Claim>, Stop>
-    ensures { Tells (λ own. IsCloseDone setting.now.size place slot own (completed_of c.now))
+    ensures { Tells (λ own. IsCloseDone place slot own (completed_of c.now))
         setting.now.closes.now result }
 {
-    if setting.size == 0 {
-        return refused(alloc, place, Errno::ENXIO, c);
-    }
-    if slot >= setting.size {
-        return refused(alloc, place, Errno::EINVAL, c);
-    }
     if c.is_refusal(place, Errno::EBADF) {
         return one(alloc, Claim::At(slot, Wants::NothingToTake, Leaves::Same));
     }
@@ -222,13 +199,15 @@ fn claims_of_open(
     opened: (&str, Target),
     c: &Completion,
 ) -> Result<Vec<Claim>, Stop>
-    ensures { Tells (Possibly setting.now.size setting.now.range (λ own. IsRequestDone
-        setting.now.catalogue.now setting.now.size place (Opens opened.entry.0.now opened.entry.1) own
+    requires accepted { refusal_of setting.now.catalogue.now setting.now.size
+        (Opens opened.0.now opened.1) ≡ None }
+    ensures { Tells (Possibly setting.now.size setting.now.range (λ own. IsDoneAtTable
+        setting.now.catalogue.now place (Opens opened.entry.0.now opened.entry.1) own
         (completed_of c.now))) setting.now.closes.now result }
 {
     let (name, target) = opened;
     let Some(entry) = setting.catalogue.find(name) else {
-        return refused(alloc, place, Errno::ENOENT, c);
+        unreachable!();
     };
     if !is_only(setting.catalogue, name, entry) {
         return Err(Stop::Unknown);
@@ -252,6 +231,9 @@ pub(crate) fn claims_of_request(
         setting.now.catalogue.now setting.now.size place (operation_of request.now.op) own
         (completed_of c.now))) setting.now.closes.now result }
 {
+    if let Some(errno) = refusal_of(setting.catalogue, setting.size, request) {
+        return refused(alloc, place, errno, c);
+    }
     match &request.op {
         Op::Open { name, target } => {
             claims_of_open(alloc, setting, place, (name.as_str(), *target), c)

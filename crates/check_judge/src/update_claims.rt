@@ -1,19 +1,20 @@
 //! The claims of an update, entry by entry.
-ghost use Rattle.std.specs.Prelude.{◌≡◌, ◌<◌, ◌≤◌, ◌+◌, ◌^◌, IsTrue, List, false, length};
+ghost use Rattle.std.specs.Prelude.{◌≡◌, ◌<◌, ◌≤◌, ◌+◌, ◌^◌, IsTrue, List, None, false, length};
 ghost use Rattle.std.specs.List.{AllZip, list_any};
 ghost use Rattle.std.specs.Option.{option_to_list};
-ghost use Rattle.fx_chain.specs.Answers.{is_bad_entry};
 ghost use Rattle.fx_chain.specs.Completed.{completed_of};
+ghost use Rattle.fx_chain.specs.Operation.{Updates};
+ghost use Rattle.fx_chain.specs.Refusal.{is_bad_entry, refusal_of};
 ghost use Rattle.fx_order.specs.Requests.{AreEntriesDone, IsEntryDone, IsUpdateDone};
 ghost use Rattle.fx_order.specs.declared.access.Access.{Access as OneAccess};
 ghost use Rattle.check_judge.specs.Claims.{Fits, Tells};
 
-use crate::request_claims::{ClaimSetting, refused};
+use crate::request_claims::ClaimSetting;
 use crate::stop::Stop;
 use crate::verdict::Reason;
 use check_search::{Claim, Leaves, Wants, resident_for};
-use fx_base::{Errno, MOST_ENTRIES};
-use fx_chain::{Completion, LONGEST_UPDATE, Place, has_bad_entry};
+use fx_base::MOST_ENTRIES;
+use fx_chain::{Completion, LONGEST_UPDATE, Place};
 use std::alloc::Global;
 
 // The claim of an entry at a place in its list, and at a slot; an entry that leaves its slot has none.
@@ -69,21 +70,15 @@ pub(crate) fn claims_of_update(
     update: (u32, &[i32]),
     c: &Completion,
 ) -> Result<Vec<Claim>, Stop>
-    requires { length update.1.now ≤ LONGEST_UPDATE }
-    ensures { Tells (λ own. IsUpdateDone (length setting.now.catalogue.now) setting.now.size place
-        update.entry.0 update.entry.1.now own (completed_of c.now)) setting.now.closes.now result }
+    requires short { length update.1.now ≤ LONGEST_UPDATE }
+    requires size { setting.now.size < 2 ^ 32 }
+    requires entries { length setting.now.catalogue.now ≤ MOST_ENTRIES }
+    requires accepted { refusal_of setting.now.catalogue.now setting.now.size
+        (Updates update.0 update.1.now) ≡ None }
+    ensures { Tells (λ own. IsUpdateDone place update.entry.0 update.entry.1.now own
+        (completed_of c.now)) setting.now.closes.now result }
 {
     let (off, list) = update;
-    if setting.size == 0 {
-        return refused(alloc, place, Errno::ENXIO, c);
-    }
-    if list.is_empty() || off as u64 + list.len() as u64 > setting.size as u64 {
-        return refused(alloc, place, Errno::EINVAL, c);
-    }
-    let entries = setting.catalogue.len();
-    if has_bad_entry(entries, list) {
-        return refused(alloc, place, Errno::EBADF, c);
-    }
     if !c.is_answer(place, list.len() as i32, &[]) {
         return Err(Stop::Refuted(Reason::Member(place)));
     }

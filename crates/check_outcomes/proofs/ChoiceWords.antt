@@ -1,7 +1,7 @@
 -- The names that most proofs of this crate use.
 pub use Rattle.fx_base.specs.Identity.{Identity}
 pub use Rattle.fx_order.proofs.Accesses.{at_itself, not_own, of_chain, own_first}
-pub use Rattle.fx_order.proofs.RequestCases.{allocates, closes, puts, reads, updates}
+pub use Rattle.fx_order.proofs.RequestCases.{allocates, closes, puts, reads, unless_refused}
 pub use Rattle.fx_order.specs.declared.access.Access.{Access}
 pub use Rattle.fx_order.specs.declared.access.Access.TheVariants.{Allocates, Clears, FindsFull, Looks, Puts, Takes}
 pub use Rattle.fx_order.specs.declared.access.ChainAccess.{ChainAccess}

@@ -1,11 +1,12 @@
 -- What a request may do next, case by case.
-use Rattle.fx_order.proofs.Words.{◌≡◌, ℕ, ◌+◌, true, false, List, [], ◌∷◌, ◌++◌, length, sym, ◌∙◌, arith, Option, Some, refl, false≢true}
+use Rattle.fx_order.proofs.Words.{◌≡◌, ℕ, ◌+◌, true, false, List, [], ◌∷◌, ◌++◌, sym, ◌∙◌, arith, Option, Some, refl, false≢true}
 use Rattle.fx_order.proofs.Words.{Contains, FileEntry, Closed, Reads, Closes, Place, Table, Permits, Slot, Any, installed, ◌<◌, contains_head}
-use Rattle.fx_order.proofs.Words.{either_case, zero, suc, ◌-◌, ℤ, pos, negsuc, int_le, list_any, is_bad_entry, nat_tests, option_to_list, ⊎_elim}
-use Rattle.fx_order.proofs.Words.{AreEntriesDone, IsEntryDone, Opens, Updates, Target, IsCatalogue, has_name, name_at, Errno, refusal}
-use Rattle.fx_order.proofs.Words.{Completed, IsUpdateDone}
+use Rattle.fx_order.proofs.Words.{zero, suc, ◌-◌, ℤ, pos, negsuc, int_le, nat_tests, option_to_list, ⊎_elim}
+use Rattle.fx_order.proofs.Words.{IsEntryDone, Opens, Updates, Target, IsCatalogue, name_at, Errno, refusal}
+use Rattle.fx_order.proofs.Words.{Completed, Operation, ENOMEM, ap, either_option, refusal_of}
+use Rattle.std.specs.Prelude.{is_some}
 use Rattle.check_outcomes.proofs.ChoiceWords.{Access, Allocates, FindsFull, Looks, Puts, Takes, Clears, cases_eq, allocates, closes, puts, reads}
-use Rattle.check_outcomes.proofs.ChoiceWords.{updates}
+use Rattle.check_outcomes.proofs.ChoiceWords.{unless_refused}
 use Rattle.std.proofs.lemmas.List.Elements.{Contains-append_left, Contains-push}
 use Rattle.check_outcomes.specs.Choices.{HasEach, HasEachOpen, IsEntryChoice}
 
@@ -36,27 +37,31 @@ module _ (catalogue : List FileEntry) (table : Table) (place : Place) (made slot
     {choices : List Access} where
   pub reads_each : (off len : ℕ) → choices ≡ Looks slot found ∷ [] → HasEach catalogue table place (Reads slot off len) made choices
   reads_each off len are a (front, behind, c, long, done, may) =
-      reads table.size place (HasOf choices a front behind) (none_of choices a front behind place) (front ++ a ∷ behind) c catalogue slot off len
+      unless_refused place (HasOf choices a front behind) (front ++ a ∷ behind) c catalogue table.size (Reads slot off len)
+      (none_of choices a front behind place)
+      (λ _. reads place (HasOf choices a front behind) (front ++ a ∷ behind) c catalogue slot off len (none_of choices a front behind place ENOMEM)
       (λ same. the_one table (Looks slot) are at (λ p. p.1) front behind same may)
-      (λ file same. the_one table (Looks slot) are at (λ p. p.1) front behind same may) done refl
+      (λ file same. the_one table (Looks slot) are at (λ p. p.1) front behind same may)) done refl
 
   pub closes_each : choices ≡ Takes slot found ∷ [] → HasEach catalogue table place (Closes slot) made choices
   closes_each are a (front, behind, c, long, done, may) =
-      closes table.size place (HasOf choices a front behind) (none_of choices a front behind place) (front ++ a ∷ behind) c slot
+      unless_refused place (HasOf choices a front behind) (front ++ a ∷ behind) c catalogue table.size (Closes slot)
+      (none_of choices a front behind place)
+      (λ _. closes place (HasOf choices a front behind) (front ++ a ∷ behind) c slot
       (λ same. the_one table (Takes slot) are at (λ p. p.1) front behind same may)
-      (λ file same. the_one table (Takes slot) are at (λ p. p.1) front behind same may) done refl
+      (λ file same. the_one table (Takes slot) are at (λ p. p.1) front behind same may)) done refl
 
 module _ (table : Table) (place : Place) (entry : ℕ) where
   pub open_at_each : (slot : ℕ) {file : Closed} {found : Option Closed} {choices : List Access} → choices ≡ Puts slot file found ∷ []
       → file ≡ installed place 0 entry → found ≡ table.at slot → HasEachOpen table place entry (Slot slot) choices
   open_at_each slot {choices = choices} are is at a front behind c done may =
-      puts table.size place (HasOf choices a front behind) (none_of choices a front behind place) (front ++ a ∷ behind) c entry slot
+      puts place (HasOf choices a front behind) (front ++ a ∷ behind) c entry slot
       (λ removed same. the_one table (Puts slot (installed place 0 entry)) (rw is at are) at (λ p. p.1) front behind same may) done refl
 
   pub open_any_each : (choices : List Access) → Contains choices FindsFull
       → ((slot : ℕ) → slot < table.size → Contains choices (Allocates slot (installed place 0 entry))) → HasEachOpen table place entry Any choices
   open_any_each choices full each a front behind c done may =
-      allocates table.size place (HasOf choices a front behind) (none_of choices a front behind place) (front ++ a ∷ behind) c entry
+      allocates place (HasOf choices a front behind) (front ++ a ∷ behind) c entry
       (λ slot same. let is = only_one front behind same in rw is (each slot (rw is at may).0.0))
       (λ same. rw (only_one front behind same) full) done refl
 
@@ -92,29 +97,28 @@ entry_past table place in_list slot entry list is some rest a (x ∷ front) behi
     let same : front ++ a ∷ behind ≡ done.1 = cc in
     rest a front behind (omega arith) (rw same done.4) may
 
-module _ (catalogue : List FileEntry) (table : Table) (place : Place) (made off : ℕ) (list : List ℤ) where
-  -- an update with an access isn't refused
-  accepted : (front behind : List Access) (a : Access) (c : Completed)
-      → IsUpdateDone (length catalogue) table.size place off list (front ++ a ∷ behind) c
-      → (list_any (is_bad_entry (length catalogue)) list ≡ false) × AreEntriesDone place 0 off list (front ++ a ∷ behind)
-  accepted front behind a c done =
-      let own = front ++ a ∷ behind in
-      updates table.size place (λ l _. l ≡ own → (list_any (is_bad_entry (length catalogue)) list ≡ false) × AreEntriesDone place 0 off list own)
-      (λ _ is. absurd (never_empty front behind a (sym is))) own c (length catalogue) off list (λ _ good x _. (good, x)) done refl
+module _ (catalogue : List FileEntry) (table : Table) (place : Place) (made : ℕ) where
+  -- a refused request makes no access
+  pub refused_each : (operation : Operation) → is_some (refusal_of catalogue table.size operation) ≡ true → (choices : List Access)
+      → HasEach catalogue table place operation made choices
+  refused_each operation is choices a (front, behind, c, long, done, may) =
+      either_option {R = Contains choices a} (refusal_of catalogue table.size operation)
+      (λ none _. absurd (false≢true (ap (λ (o : Option Errno). is_some o) (sym none) ∙ is)))
+      (λ errno x. absurd (never_empty front behind a x.0))
+      done
 
-  pub update_bad : list_any (is_bad_entry (length catalogue)) list ≡ true → (choices : List Access)
-      → HasEach catalogue table place (Updates off list) made choices
-  update_bad wrong choices a (front, behind, c, long, done, may) = absurd (false≢true (sym (accepted front behind a c done).0 ∙ wrong))
-
-  pub update_each : {choice : Option Access} → IsEntryChoice table place 0 off list made choice → {choices : List Access}
+  pub update_each : (off : ℕ) (list : List ℤ) {choice : Option Access} → IsEntryChoice table place 0 off list made choice → {choices : List Access}
       → choices ≡ option_to_list choice → HasEach catalogue table place (Updates off list) made choices
-  update_each is are a (front, behind, c, long, done, may) =
-      rw (are, is a front behind long (accepted front behind a c done).1 may) (contains_head a [])
+  update_each off list is {choices} are a (front, behind, c, long, done, may) =
+      unless_refused place (HasOf choices a front behind) (front ++ a ∷ behind) c catalogue table.size (Updates off list)
+      (none_of choices a front behind place)
+      (λ _ x _. rw (are, is a front behind long x.0 may) (contains_head a [])) done refl
 
-module _ (catalogue : List FileEntry) (table : Table) (place : Place) (made : ℕ) (name : List ℕ) (target : Target) where
   -- an open of the entry that has the name
-  pub open_each : IsCatalogue catalogue → (entry : ℕ) → name_at catalogue entry ≡ Some name → {to : Target} → target ≡ to → (choices : List Access)
-      → HasEachOpen table place entry to choices → HasEach catalogue table place (Opens name target) made choices
-  open_each catalogued entry named is choices each a (front, behind, c, long, done, may) = either_case (has_name name catalogue)
-      (λ x. each a front behind c (rw (← catalogued.distinct x.0 entry name x.1 named, ← is) x.2) may)
-      (λ x. absurd (never_empty front behind a x.0)) done
+  pub open_each : (name : List ℕ) (target : Target) → IsCatalogue catalogue → (entry : ℕ) → name_at catalogue entry ≡ Some name → {to : Target}
+      → target ≡ to → (choices : List Access) → HasEachOpen table place entry to choices
+      → HasEach catalogue table place (Opens name target) made choices
+  open_each name target catalogued entry named is choices each a (front, behind, c, long, done, may) =
+      unless_refused place (HasOf choices a front behind) (front ++ a ∷ behind) c catalogue table.size (Opens name target)
+      (none_of choices a front behind place)
+      (λ _ x _. each a front behind c (rw (← catalogued.distinct x.0 entry name x.1 named, ← is) x.2) may) done refl

@@ -2,7 +2,7 @@
 use Rattle.fx_order.proofs.Words.{◌≡◌, ℕ, true, List, [], ◌∷◌, refl, arith, false≢true, Option, Some, None, All, All-nil, All-cons}
 use Rattle.fx_order.proofs.Words.{All-append, FileEntry, Completed, Operation, Reads, Asked, Place, ECANCELED, refusal, AllByRecursion, next_member}
 use Rattle.fx_order.proofs.Words.{canceled, severs, IsRequestDone, IsChainDone, either_way}
-use Rattle.check_outcomes.proofs.ChoiceWords.{Access, Looks, Identity, and_parts, IsLeft, are_reads, is_read, rest_at, reads}
+use Rattle.check_outcomes.proofs.ChoiceWords.{Access, Looks, Identity, and_parts, IsLeft, are_reads, is_read, rest_at, reads, unless_refused}
 
 abbrev pub IsLook : Access → Type 0
 IsLook a = (slot : ℕ) × (found : Option Identity) × (a ≡ Looks slot found)
@@ -34,8 +34,9 @@ module _ (catalogue : List FileEntry) (size : ℕ) where
   read_done : {place : Place} (own : List Access) (c : Completed) (operation : Operation) → is_read operation ≡ true
       → IsRequestDone catalogue size place operation own c → All IsLook own × (c.place ≡ place)
   read_done {place} own c (Reads slot off len) is =
-      reads size place (λ l d. All IsLook l × (d.place ≡ place)) (λ _. (All-nil IsLook, refl)) own c catalogue slot off len (look slot None, refl)
-      (λ file. (look slot (Some file), refl))
+      unless_refused place (λ l d. All IsLook l × (d.place ≡ place)) own c catalogue size (Reads slot off len) (λ _. (All-nil IsLook, refl))
+      (λ _. reads place (λ l d. All IsLook l × (d.place ≡ place)) own c catalogue slot off len (All-nil IsLook, refl) (look slot None, refl)
+      (λ file. (look slot (Some file), refl)))
   read_done own c operation isnt = absurd (false≢true isnt)
 
   pub reads_done : (P : Completed → Type 0) {made : ℕ} (place : Place) (requests : List Asked) (accesses : List Access) (cs : List Completed)

@@ -1,11 +1,11 @@
 -- The accesses of a chain that is in a part come to slots of that part.
 use Rattle.fx_order.proofs.Words.{◌≡◌, ℕ, zero, suc, ◌+◌, ◌<◌, ◌≤◌, ℤ, pos, negsuc, List, [], ◌∷◌, length, arith, All, All-nil}
-use Rattle.fx_order.proofs.Words.{⊎_elim, All-cons, All-append, has_name, FileEntry, Completed, Operation, Opens, Reads, Closes}
+use Rattle.fx_order.proofs.Words.{⊎_elim, All-cons, All-append, ENOMEM, IsDoneAtTable, FileEntry, Completed, Operation, Opens, Reads, Closes}
 use Rattle.fx_order.proofs.Words.{Updates, Asked, Place, Target, Slot, Any, Table, next_member, severs, first_member, IsOpenDone, IsEntryDone}
 use Rattle.fx_order.proofs.Words.{AreEntriesDone, IsRequestDone, IsChainDone, AreChainsDone, accesses_of_chain, Errno, refusal}
 use Rattle.fx_order.proofs.Words.{either_case}
 use Rattle.check_outcomes.proofs.ChoiceWords.{Access, ChainAccess, AreParts, Parts, StaysIn, allocates, closes, puts, reads}
-use Rattle.check_outcomes.proofs.ChoiceWords.{updates}
+use Rattle.check_outcomes.proofs.ChoiceWords.{unless_refused}
 use Rattle.check_outcomes.proofs.ChoiceWords.{cases_eq}
 use Rattle.check_outcomes.proofs.Commuting.{ComesTo}
 use Rattle.check_outcomes.proofs.InTurn.{IsInPart}
@@ -26,9 +26,9 @@ module _ (catalogue : List FileEntry) (table : Table) (of_slot : ℕ → ℕ) (p
   none_stay place errno = All-nil Stays
 
   opens : (place : Place) (own : List Access) (c : Completed) (name : List ℕ) (entry : ℕ) (target : Target)
-      → StaysIn table of_slot part (Opens name target) → IsOpenDone table.size place entry target own c → All Stays own
-  opens place own c name entry (Slot slot) stays = puts table.size place AllStay (none_stay place) own c entry slot (λ removed. one _ stays)
-  opens place own c name entry Any stays = allocates table.size place AllStay (none_stay place) own c entry
+      → StaysIn table of_slot part (Opens name target) → IsOpenDone place entry target own c → All Stays own
+  opens place own c name entry (Slot slot) stays = puts place AllStay own c entry slot (λ removed. one _ stays)
+  opens place own c name entry Any stays = allocates place AllStay own c entry
       (λ slot. one _ (λ at few comes. stays at few (comes.1, comes.2))) (one _ stays)
 
   entry : (place : Place) (in_list slot : ℕ) (number : ℤ) (own : List Access) → (slot < table.size → of_slot slot ≡ part)
@@ -45,15 +45,18 @@ module _ (catalogue : List FileEntry) (table : Table) (of_slot : ℕ → ℕ) (p
       rw x.2 (All-append Stays x.0 x.1 (entry place in_list slot number x.0 (λ few. stays slot few (omega arith) (omega arith)) x.3)
       (entries place (in_list + 1) list x.1 (λ at few low high. stays at few (omega arith) (omega arith)) x.4))
 
+  at_table : (place : Place) (own : List Access) (c : Completed) (operation : Operation) → StaysIn table of_slot part operation
+      → IsDoneAtTable catalogue place operation own c → All Stays own
+  at_table place own c (Opens name target) stays x = opens place own c name x.0 target stays x.2
+  at_table place own c (Reads slot off len) stays x =
+      reads place AllStay own c catalogue slot off len (none_stay place ENOMEM) (one _ stays) (λ file. one _ stays) x
+  at_table place own c (Closes slot) stays x = closes place AllStay own c slot (one _ stays) (λ file. one _ stays) x
+  at_table place own c (Updates off list) stays x = entries place 0 list own (λ at few low high. stays at few (low, high)) x.0
+
   request : (place : Place) (own : List Access) (c : Completed) (operation : Operation) → StaysIn table of_slot part operation
       → IsRequestDone catalogue table.size place operation own c → All Stays own
-  request place own c (Opens name target) stays =
-      either_case (has_name name catalogue) (λ x. opens place own c name x.0 target stays x.2) (λ x. rw x.0 (All-nil Stays))
-  request place own c (Reads slot off len) stays =
-      reads table.size place AllStay (none_stay place) own c catalogue slot off len (one _ stays) (λ file. one _ stays)
-  request place own c (Closes slot) stays = closes table.size place AllStay (none_stay place) own c slot (one _ stays) (λ file. one _ stays)
-  request place own c (Updates off list) stays = updates table.size place AllStay (none_stay place) own c (length catalogue) off list
-      (λ _ _. entries place 0 list own (λ at few low high. stays at few (low, high)))
+  request place own c operation stays =
+      unless_refused place AllStay own c catalogue table.size operation (none_stay place) (λ _. at_table place own c operation stays)
 
   chain : (place : Place) (run : List Asked) (accesses : List Access) (cs : List Completed) → All (λ r. StaysIn table of_slot part r.operation) run
       → IsChainDone catalogue table.size place run accesses cs → All Stays accesses

@@ -25,7 +25,7 @@ HasEach catalogue table place operation made choices =
 abbrev pub HasEachOpen : Table → Place → ℕ → Target → List Access → Type 0
 HasEachOpen table place entry target choices =
     (a : Access) (front behind : List Access) (c : Completed)
-    → IsOpenDone table.size place entry target (front ++ a ∷ behind) c → Permits table a
+    → IsOpenDone place entry target (front ++ a ∷ behind) c → Permits table a
     → Contains choices a
 
 -- the access that the entries of a list make behind so many

@@ -7,16 +7,16 @@ ghost use Rattle.fx_order.specs.Requests.{IsEntryDone};
 ghost use Rattle.fx_order.specs.declared.access.Access.{Access as Made};
 ghost use Rattle.fx_order.specs.Slots.{table_of_slots};
 ghost use Rattle.check_outcomes.specs.Choices.{HasEach, HasEachOpen, IsEntryChoice};
-ghost use Rattle.std.specs.Prelude.{◌+◌, ◌<◌, ◌≤◌, ◌^◌, false, int_le, length, negsuc};
+ghost use Rattle.std.specs.Prelude.{◌+◌, ◌<◌, ◌≤◌, ◌^◌, None, false, int_le, length, negsuc};
 ghost use Rattle.std.specs.List.{list_any};
-ghost use Rattle.fx_chain.specs.Answers.{is_bad_entry};
+ghost use Rattle.fx_chain.specs.Refusal.{is_bad_entry, refusal_of};
 ghost use Rattle.fx_chain.specs.declared.request.Target.TheVariants.{Any, Slot};
 ghost use Rattle.std.specs.Prelude.{List};
 ghost use Rattle.fx_base.specs.Catalogue.{FileEntry, IsCatalogue};
 ghost use Rattle.std.specs.Prelude.{ℕ};
 
 use fx_base::{Catalogue, Closed, MOST_ENTRIES, NoMemory};
-use fx_chain::{Op, Place, Request, Target, has_bad_entry};
+use fx_chain::{Op, Place, Request, Target, refusal_of};
 use fx_order::{Access, Slots};
 use std::alloc::Global;
 
@@ -154,27 +154,20 @@ fn entry_choice(
 // What an update may do next, behind so many accesses.
 fn update_choices(
     alloc: Global,
+    catalogue: &Catalogue,
     slots: &Slots,
     place: Place,
-    entries: u32,
     update: (u32, &[i32]),
     made: usize,
 ) -> Result<Vec<Access>, NoMemory>
     requires slots { length slots.now.at.items < 2 ^ 32 }
-    requires few { entries ≤ MOST_ENTRIES }
-    requires short { length update.1.now < 2 ^ 31 }
-    ensures { IfOk result (λ choices. (catalogue : List FileEntry) → length catalogue ≡ entries
-        → HasEach catalogue (table_of_slots slots.now) place
+    requires accepted { refusal_of catalogue.now (length slots.now.at.items)
+        (Updates update.0 update.1.now) ≡ None }
+    ensures { IfOk result (λ choices. HasEach catalogue.now (table_of_slots slots.now) place
         (Updates update.entry.0 update.entry.1.now) made choices.items) }
 {
     let (off, list) = update;
-    if list.is_empty() || slots.at.len() < off as usize + list.len() {
-        return Ok(Vec::new(alloc));
-    }
-    if has_bad_entry(entries, list) {
-        return Ok(Vec::new(alloc));
-    }
-    match entry_choice(slots, place, entries, (0, off), list, made) {
+    match entry_choice(slots, place, catalogue.len(), (0, off), list, made) {
         Some(access) => one(alloc, access),
         None => Ok(Vec::new(alloc)),
     }
@@ -199,6 +192,9 @@ pub fn next_accesses(
     ensures { IfOk result (λ choices. HasEach catalogue.now (table_of_slots slots.now) place
         (operation_of request.now.op) made choices.items) }
 {
+    if refusal_of(catalogue, slots.at.len() as u32, request).is_some() {
+        return Ok(Vec::new(alloc));
+    }
     match &request.op {
         Op::Open { name, target } => {
             let Some(entry) = catalogue.find(name) else {
@@ -212,8 +208,7 @@ pub fn next_accesses(
         Op::Read { slot, off, len } => read_choices(alloc, slots, place, *slot, *off, *len),
         Op::Close { slot } => close_choices(alloc, slots, place, *slot),
         Op::Update { off, list } => {
-            let entries = catalogue.len();
-            update_choices(alloc, slots, place, entries, (*off, list), made)
+            update_choices(alloc, catalogue, slots, place, (*off, list), made)
         }
     }
 }

@@ -1,16 +1,14 @@
 -- The steps of a chain with other numbers, and the count of numbers that they use.
-use Rattle.fx_chain.proofs.Words.{◌≡◌, ◌⊎◌, ℕ, zero, suc, ◌+◌, ◌<◌, ◌≤◌, ℤ, pos, negsuc, List, [], ◌∷◌, ◌++◌, length, map, ap, ◌∙◌}
-use Rattle.fx_chain.proofs.Words.{Option, Some, None, inl, inr, arith, list_any, map-append, sum_by-cons, FileEntry, Action, ◌▷▷◌, Refuses, MayClose}
-use Rattle.fx_chain.proofs.Words.{AppliesEntry, AppliesList, Answers, is_bad_entry, Completed, next_member, Explains, severs, canceled, Operation}
+use Rattle.fx_chain.proofs.Words.{◌≡◌, ℕ, zero, suc, ◌+◌, ◌≤◌, ℤ, pos, negsuc, List, [], ◌∷◌, ◌++◌, length, map, ap, ◌∙◌}
+use Rattle.fx_chain.proofs.Words.{Option, Some, None, inl, inr, arith, map-append, sum_by-cons, FileEntry, Action, ◌▷▷◌, MayClose}
+use Rattle.fx_chain.proofs.Words.{AppliesEntry, AppliesList, Answers, Completed, next_member, Explains, severs, canceled, Operation}
 use Rattle.fx_chain.proofs.Words.{Opens, Reads, Closes, Updates, Asked, entry_installs, list_installs, installs_of, all_installs, Place}
-use Rattle.std.specs.Prelude.{nat_le, nat_lt, ◌==◌, ◌||◌}
-use Rattle.fx_base.specs.AddFault.{has_name}
-use Rattle.fx_base.specs.declared.errno.Errno.TheVariants.{ENOMEM}
 use Rattle.fx_plain.specs.declared.event.File.{File}
 use Rattle.fx_plain.specs.Laws.{installed_by}
 use Rattle.fx_plain.specs.Reopening.{Renaming, renamed, renamed_file, renamed_found, numbers_given, with_number_of}
-use Rattle.fx_chain.specs.Answers.{OpensAt, ReadsAt, TakesAt}
-use Rattle.fx_chain.proofs.Cases.{either_case, same_cases}
+use Rattle.fx_chain.specs.Answers.{AnswersAtTable, OpensAt, ReadsAt, TakesAt}
+use Rattle.fx_chain.specs.Refusal.{refusal_of}
+use Rattle.fx_chain.proofs.Cases.{either_case, either_option, same_cases, same_options}
 use Rattle.fx_chain.proofs.EntryKinds.{list_installs-cons}
 use Rattle.fx_chain.specs.declared.request.Target.{Target}
 use Rattle.fx_chain.specs.declared.request.Target.TheVariants.{Slot, Any}
@@ -28,18 +26,14 @@ module _ (r : Renaming) where
   may_close steps (Some f) events (inl later) = inl (ap other later)
   may_close steps (Some f) events (inr now) = inr (ap other now)
 
-  opens : (size : ℕ) (place : Place) (entry : ℕ) (target : Target) (events : List Action) (c : Completed) → OpensAt size place entry target events c
-      → OpensAt size place entry target (other events) c
-  opens size place entry (Slot slot) events c = same_cases (size == 0) refuses (same_cases (nat_le size slot) refuses
-      (λ is. (renamed_file r is.0, renamed_found r is.1, is.2, may_close _ is.1 events is.3, is.4)))
-  opens size place entry Any events c = same_cases (size == 0) refuses (λ is. elim is [
-    | inl there ↦ inl (there.0, renamed_file r there.1, there.2, ap other there.3, there.4)
-    | inr full ↦ inr (ap other full.0, full.1)
-  ])
+  opens : (place : Place) (entry : ℕ) (target : Target) (events : List Action) (c : Completed) → OpensAt place entry target events c
+      → OpensAt place entry target (other events) c
+  opens place entry (Slot slot) events c is = (renamed_file r is.0, renamed_found r is.1, is.2, may_close _ is.1 events is.3, is.4)
+  opens place entry Any events c (inl there) = inl (there.0, renamed_file r there.1, there.2, ap other there.3, there.4)
+  opens place entry Any events c (inr full) = inr (ap other full.0, full.1)
 
   reads : (catalogue : List FileEntry) (place : Place) (slot off len : ℕ) (events : List Action) (c : Completed)
-      → ((0 < len) × Refuses place ENOMEM events c) ⊎ ReadsAt catalogue place slot off len events c
-      → ((0 < len) × Refuses place ENOMEM (other events) c) ⊎ ReadsAt catalogue place slot off len (other events) c
+      → ReadsAt catalogue place slot off len events c → ReadsAt catalogue place slot off len (other events) c
   reads catalogue place slot off len events c (inl refused) = inl (refused.0, refuses refused.1)
   reads catalogue place slot off len events c (inr (inl none)) = inr (inl (ap other none.0, none.1))
   reads catalogue place slot off len events c (inr (inr (f, closes, is))) = inr (inr (renamed_file r f, may_close _ (Some f) events closes, is))
@@ -64,16 +58,17 @@ module _ (r : Renaming) where
       let more = entries place (in_list + 1) (slot + 1) list others rest in
       (other own, other others, both own others is, entry place in_list slot number own first, more)
 
+  at_table : (catalogue : List FileEntry) (place : Place) (operation : Operation) (events : List Action) (c : Completed)
+      → AnswersAtTable catalogue place operation events c → AnswersAtTable catalogue place operation (other events) c
+  at_table catalogue place (Opens name target) events c is = (is.0, is.1, opens place is.0 target events c is.2)
+  at_table catalogue place (Reads slot off len) events c is = reads catalogue place slot off len events c is
+  at_table catalogue place (Closes slot) events c is = takes place slot events c is
+  at_table catalogue place (Updates off list) events c is = (entries place 0 off list events is.0, is.1)
+
   answers : (catalogue : List FileEntry) (size : ℕ) (place : Place) (operation : Operation) (events : List Action) (c : Completed)
       → Answers catalogue size place operation events c → Answers catalogue size place operation (other events) c
-  answers catalogue size place (Opens name target) events c =
-      same_cases (has_name name catalogue) (λ is. (is.0, is.1, opens size place is.0 target events c is.2)) refuses
-  answers catalogue size place (Reads slot off len) events c = same_cases (nat_le size slot) refuses (reads catalogue place slot off len events c)
-  answers catalogue size place (Closes slot) events c =
-      same_cases (size == 0) refuses (same_cases (nat_le size slot) refuses (takes place slot events c))
-  answers catalogue size place (Updates off list) events c =
-      same_cases (size == 0) refuses (same_cases (length list == 0 || nat_lt size (off + length list)) refuses
-      (same_cases (list_any (is_bad_entry (length catalogue)) list) refuses (λ is. (entries place 0 off list events is.0, is.1))))
+  answers catalogue size place operation events c =
+      same_options (refusal_of catalogue size operation) (at_table catalogue place operation events c) (λ _. refuses)
 
   pub explains : (catalogue : List FileEntry) (size : ℕ) (requests : List Asked) (place : Place) (events : List Action) (completions : List Completed)
       → Explains catalogue size place requests events completions → Explains catalogue size place requests (other events) completions
@@ -110,15 +105,14 @@ given_so_far steps (Some f) events (inr now) = ap given now
 few_refused : {events : List Action} {few : ℕ} {Q : Type 0} → (events ≡ []) × Q → given events ≤ few
 few_refused is = rw is.0 (omega arith)
 
-few_by_open : (size : ℕ) (place : Place) (entry : ℕ) (target : Target) (events : List Action) (c : Completed)
-    → OpensAt size place entry target events c → given events ≤ 1
-few_by_open size place entry (Slot slot) events c =
-    either_case (size == 0) few_refused (either_case (nat_le size slot) few_refused (λ is. rw (given_so_far _ is.1 events is.3) (omega arith)))
-few_by_open size place entry Any events c =
-    either_case (size == 0) few_refused (λ is. elim is [ inl there ↦ rw there.3 (omega arith) | inr full ↦ rw full.0 (omega arith) ])
+few_by_open : (place : Place) (entry : ℕ) (target : Target) (events : List Action) (c : Completed)
+    → OpensAt place entry target events c → given events ≤ 1
+few_by_open place entry (Slot slot) events c is = rw (given_so_far _ is.1 events is.3) (omega arith)
+few_by_open place entry Any events c (inl there) = rw there.3 (omega arith)
+few_by_open place entry Any events c (inr full) = rw full.0 (omega arith)
 
 few_by_read : (catalogue : List FileEntry) (place : Place) (slot off len : ℕ) (events : List Action) (c : Completed)
-    → ((0 < len) × Refuses place ENOMEM events c) ⊎ ReadsAt catalogue place slot off len events c → given events ≤ 0
+    → ReadsAt catalogue place slot off len events c → given events ≤ 0
 few_by_read catalogue place slot off len events c (inl refused) = few_refused refused.1
 few_by_read catalogue place slot off len events c (inr (inl empty)) = rw empty.0 (omega arith)
 few_by_read catalogue place slot off len events c (inr (inr there)) = rw (given_so_far _ (Some there.0) events there.1) (omega arith)
@@ -141,17 +135,17 @@ few_by_list (number ∷ list) place in_list slot events (own, others, is, first,
     let more = few_by_list list place (in_list + 1) (slot + 1) others rest in
     rw (is, given_both others own, list_installs-cons number list) (omega arith)
 
+few_at_table : (catalogue : List FileEntry) (place : Place) (operation : Operation) (events : List Action) (c : Completed)
+    → AnswersAtTable catalogue place operation events c → given events ≤ installs_of operation
+few_at_table catalogue place (Opens name target) events c is = few_by_open place is.0 target events c is.2
+few_at_table catalogue place (Reads slot off len) events c is = few_by_read catalogue place slot off len events c is
+few_at_table catalogue place (Closes slot) events c is = few_by_close place slot events c is
+few_at_table catalogue place (Updates off list) events c is = few_by_list list place 0 off events is.0
+
 few_by_request : (catalogue : List FileEntry) (size : ℕ) (place : Place) (operation : Operation) (events : List Action) (c : Completed)
     → Answers catalogue size place operation events c → given events ≤ installs_of operation
-few_by_request catalogue size place (Opens name target) events c =
-    either_case (has_name name catalogue) (λ is. few_by_open size place is.0 target events c is.2) few_refused
-few_by_request catalogue size place (Reads slot off len) events c =
-    either_case (nat_le size slot) few_refused (few_by_read catalogue place slot off len events c)
-few_by_request catalogue size place (Closes slot) events c =
-    either_case (size == 0) few_refused (either_case (nat_le size slot) few_refused (few_by_close place slot events c))
-few_by_request catalogue size place (Updates off list) events c =
-    either_case (size == 0) few_refused (either_case (length list == 0 || nat_lt size (off + length list)) few_refused
-    (either_case (list_any (is_bad_entry (length catalogue)) list) few_refused (λ is. few_by_list list place 0 off events is.0)))
+few_by_request catalogue size place operation events c =
+    either_option (refusal_of catalogue size operation) (λ _. few_at_table catalogue place operation events c) (λ _. few_refused)
 
 pub few_given : (catalogue : List FileEntry) (size : ℕ) (requests : List Asked) (place : Place) (events : List Action) (completions : List Completed)
     → Explains catalogue size place requests events completions → given events ≤ all_installs requests

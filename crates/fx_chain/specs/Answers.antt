@@ -1,19 +1,12 @@
--- The answers that a request may get, by the steps that it made on a table of the given size. The
--- first case of a request that applies counts (io_uring_enter(2), io_uring_prep_openat(3),
--- io_uring_prep_close(3), io_uring_register_files(3); the order of the cases is this project's
--- own).
-use Rattle.std.specs.Prelude.{◌≡◌, ◌⊎◌, ℕ, zero, suc, ◌+◌, ◌<◌, ℤ, pos, negsuc, ◌==◌, ◌||◌, nat_le}
-use Rattle.std.specs.Prelude.{nat_lt, Bool, List, [], ◌∷◌, length, Option, Some}
-use Rattle.std.specs.Prelude.{None}
-use Rattle.std.specs.Bool.{MatchBool}
-use Rattle.std.specs.List.{list_any}
+-- The answers that a request may get, by the steps that it made on a table of the given size
+-- (io_uring_enter(2), io_uring_prep_openat(3), io_uring_prep_close(3), io_uring_register_files(3)).
+use Rattle.std.specs.Prelude.{◌≡◌, ◌⊎◌, ℕ, zero, suc, ◌+◌, ◌<◌, ℤ, pos, negsuc, List, [], ◌∷◌}
+use Rattle.std.specs.Prelude.{length, Option, Some, None, MatchOption}
 use Rattle.fx_base.specs.declared.errno.Errno.{Errno}
-use Rattle.fx_base.specs.declared.errno.Errno.TheVariants.{ENOENT, ENXIO, EBADF, ENOMEM, EINVAL}
-use Rattle.fx_base.specs.declared.errno.Errno.TheVariants.{ENFILE}
+use Rattle.fx_base.specs.declared.errno.Errno.TheVariants.{EBADF, ENOMEM, ENFILE}
 use Rattle.fx_base.specs.declared.mark.Mark.TheVariants.{Submitted}
 use Rattle.fx_base.specs.Identity.{Identity}
 use Rattle.fx_base.specs.Catalogue.{FileEntry, name_at, bytes_at}
-use Rattle.fx_base.specs.AddFault.{has_name}
 use Rattle.fx_plain.specs.declared.event.File.{File}
 use Rattle.fx_plain.specs.declared.event.Action.{Action}
 use Rattle.fx_plain.specs.declared.event.Action.TheVariants.{Look, Release, Put, Clear, Take}
@@ -21,9 +14,11 @@ use Rattle.fx_plain.specs.declared.event.Action.TheVariants.{Allocate, Full, Clo
 use Rattle.fx_plain.specs.History.{◌▷◌, ◌▷▷◌}
 use Rattle.fx_chain.specs.Completed.{Completed, completed, refusal}
 use Rattle.fx_chain.specs.Operation.{Operation, Opens, Reads, Closes, Updates}
+use Rattle.fx_chain.specs.Refusal.{refusal_of}
 use Rattle.fx_chain.specs.declared.completion.Place.{Place}
 use Rattle.fx_chain.specs.declared.request.Target.{Target}
 use Rattle.fx_chain.specs.declared.request.Target.TheVariants.{Slot, Any}
+pub use Rattle.fx_chain.specs.Refusal.{is_bad_entry}
 
 -- the identity of a file that a request installs: the position in the list is that of an update's
 -- entry, and 0 for an open; it has no tag
@@ -44,27 +39,26 @@ MayClose steps None events = events ≡ steps
 MayClose steps (Some removed) events = (events ≡ steps) ⊎ (events ≡ steps ▷ Close removed)
 
 -- an open of a catalogue entry
-abbrev pub OpensAt : ℕ → Place → ℕ → Target → List Action → Completed → Type 0
-OpensAt size place entry (Slot slot) events c =
-    MatchBool (size == 0) (Refuses place ENXIO events c)
-    (MatchBool (nat_le size slot) (Refuses place EINVAL events c)
-    ((f : File) × (replaced : Option File) × (f.identity ≡ installed place 0 entry)
-    × MayClose ([] ▷ Put slot f replaced) replaced events × (c ≡ completed place (pos 0) [])))
-OpensAt size place entry Any events c =
-    MatchBool (size == 0) (Refuses place ENFILE events c)
-    (((slot : ℕ) × (f : File) × (f.identity ≡ installed place 0 entry)
+abbrev pub OpensAt : Place → ℕ → Target → List Action → Completed → Type 0
+OpensAt place entry (Slot slot) events c =
+    (f : File) × (replaced : Option File) × (f.identity ≡ installed place 0 entry)
+    × MayClose ([] ▷ Put slot f replaced) replaced events × (c ≡ completed place (pos 0) [])
+OpensAt place entry Any events c =
+    ((slot : ℕ) × (f : File) × (f.identity ≡ installed place 0 entry)
     × (events ≡ [] ▷ Allocate slot f) × (c ≡ completed place (pos slot) []))
-    ⊎ ((events ≡ [] ▷ Full) × (c ≡ refusal place ENFILE)))
+    ⊎ ((events ≡ [] ▷ Full) × (c ≡ refusal place ENFILE))
 
--- a look-up at a slot, and the bytes of the file that it found
+-- a read of some bytes at a slot: no memory for them, or a look-up, and the bytes of the file that
+-- it found
 abbrev pub ReadsAt : List FileEntry → Place → ℕ → ℕ → ℕ → List Action → Completed → Type 0
 ReadsAt catalogue place slot off len events c =
-    ((events ≡ [] ▷ Look slot None) × (c ≡ refusal place EBADF))
+    ((0 < len) × Refuses place ENOMEM events c)
+    ⊎ ((events ≡ [] ▷ Look slot None) × (c ≡ refusal place EBADF))
     ⊎ ((f : File) × MayClose ([] ▷ Look slot (Some f) ▷ Release f) (Some f) events
     × (c ≡ completed place (pos (length (bytes_at catalogue f.identity.entry off len)))
     (bytes_at catalogue f.identity.entry off len)))
 
--- a removal at a slot
+-- a close of a slot
 abbrev pub TakesAt : Place → ℕ → List Action → Completed → Type 0
 TakesAt place slot events c =
     ((events ≡ [] ▷ Take slot None) × (c ≡ refusal place EBADF))
@@ -89,39 +83,23 @@ AppliesList place in_list slot (entry ∷ list) events =
     × AppliesEntry place in_list slot entry own
     × AppliesList place (in_list + 1) (slot + 1) list others
 
--- an entry that is below -2 or past the catalogue
-abbrev pub is_bad_entry : ℕ → ℤ → Bool
-is_bad_entry entries (pos entry) = nat_le entries entry
-is_bad_entry entries (negsuc n) = nat_lt 1 n
-
--- a read of some bytes at a slot
-abbrev pub ReadsFrom : List FileEntry → ℕ → Place → ℕ → ℕ → ℕ → List Action → Completed → Type 0
-ReadsFrom catalogue size place slot off len events c =
-    MatchBool (nat_le size slot) (Refuses place EBADF events c)
-    (((0 < len) × Refuses place ENOMEM events c) ⊎ ReadsAt catalogue place slot off len events c)
-
--- a close of a slot
-abbrev pub Empties : ℕ → Place → ℕ → List Action → Completed → Type 0
-Empties size place slot events c =
-    MatchBool (size == 0) (Refuses place ENXIO events c)
-    (MatchBool (nat_le size slot) (Refuses place EINVAL events c) (TakesAt place slot events c))
-
 -- an update of the slots from `off` on
-abbrev pub UpdatesFrom : ℕ → ℕ → Place → ℕ → List ℤ → List Action → Completed → Type 0
-UpdatesFrom entries size place off list events c =
-    MatchBool (size == 0) (Refuses place ENXIO events c)
-    (MatchBool (length list == 0 || nat_lt size (off + length list)) (Refuses place EINVAL events c)
-    (MatchBool (list_any (is_bad_entry entries) list) (Refuses place EBADF events c)
-    (AppliesList place 0 off list events × (c ≡ completed place (pos (length list)) []))))
+abbrev pub AppliesAt : Place → ℕ → List ℤ → List Action → Completed → Type 0
+AppliesAt place off list events c =
+    AppliesList place 0 off list events × (c ≡ completed place (pos (length list)) [])
+
+-- the request, which isn't refused, makes these steps and gets this answer
+abbrev pub AnswersAtTable : List FileEntry → Place → Operation → List Action → Completed → Type 0
+AnswersAtTable catalogue place (Opens name target) events c =
+    (entry : ℕ) × (name_at catalogue entry ≡ Some name) × OpensAt place entry target events c
+AnswersAtTable catalogue place (Reads slot off len) events c =
+    ReadsAt catalogue place slot off len events c
+AnswersAtTable catalogue place (Closes slot) events c = TakesAt place slot events c
+AnswersAtTable catalogue place (Updates off list) events c = AppliesAt place off list events c
 
 -- the request may get this answer, having made these steps
 abbrev pub Answers : List FileEntry → ℕ → Place → Operation → List Action → Completed → Type 0
-Answers catalogue size place (Opens name target) events c =
-    MatchBool (has_name name catalogue)
-    ((entry : ℕ) × (name_at catalogue entry ≡ Some name) × OpensAt size place entry target events c)
-    (Refuses place ENOENT events c)
-Answers catalogue size place (Reads slot off len) events c =
-    ReadsFrom catalogue size place slot off len events c
-Answers catalogue size place (Closes slot) events c = Empties size place slot events c
-Answers catalogue size place (Updates off list) events c =
-    UpdatesFrom (length catalogue) size place off list events c
+Answers catalogue size place operation events c =
+    MatchOption (refusal_of catalogue size operation)
+    (AnswersAtTable catalogue place operation events c)
+    (λ errno. Refuses place errno events c)

@@ -6,6 +6,7 @@ pub mod Runs
 pub mod Target
 pub mod Weights
 pub mod Completed
+pub mod Refusal
 pub mod Answers
 pub mod Explains
 pub mod Performs

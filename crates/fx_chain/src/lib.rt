@@ -1,7 +1,8 @@
 //! Requests on a file table, the chains that link them, and the answers that each may get.
 //!
 //! The contract that others rely on is that of [`run_chain`]: a chain's actions on the table explain its completions
-//! (`specs/Explains.antt`, and for one request `specs/Answers.antt`). [`check`] refuses a submission past the limits,
+//! (`specs/Explains.antt`, and for one request `specs/Answers.antt`). [`refusal_of`] returns the error of a request
+//! that doesn't reach the table. [`check`] refuses a submission past the limits,
 //! and [`cut`] splits it into chains. Begin reading at `request.rt` and `specs/Answers.antt`, then `player.rt`.
 #![tactic(auto)]
 
@@ -16,6 +17,7 @@ pub mod laws;
 mod open;
 mod player;
 mod read;
+mod refusal;
 mod removal;
 mod request;
 mod update;
@@ -27,5 +29,5 @@ pub use file_index::target;
 pub use flags::SqeFlags;
 pub use gate::{Gate, OpenGate};
 pub use player::{perform, run_chain};
+pub use refusal::{has_bad_entry, refusal_of};
 pub use request::{LONGEST_READ, LONGEST_UPDATE, Op, Request, Target};
-pub use update::has_bad_entry;

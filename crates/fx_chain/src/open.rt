@@ -1,10 +1,11 @@
 //! Opens of catalogue entries into a shared table.
-ghost use Rattle.std.specs.Prelude.{◌<◌, length};
+ghost use Rattle.std.specs.Prelude.{◌≡◌, ◌<◌, ◌≤◌, None, length};
 ghost use Rattle.fx_table.specs.Opening.{size_of};
-ghost use Rattle.fx_chain.specs.Answers.{Answers, OpensAt};
+ghost use Rattle.fx_chain.specs.Answers.{AnswersAtTable, OpensAt};
 ghost use Rattle.fx_chain.specs.Completed.{completed_of};
 ghost use Rattle.fx_chain.specs.Contexts.{Does, IsKept, IsReady};
 ghost use Rattle.fx_chain.specs.Operation.{Opens};
+ghost use Rattle.fx_chain.specs.Refusal.{refusal_of};
 ghost use Rattle.fx_chain.specs.declared.request.Target.TheVariants.{Slot, Any};
 
 use crate::completion::Completion;
@@ -12,6 +13,7 @@ use crate::context::{Context, Player};
 use crate::removal::put;
 use crate::request::Target;
 use fx_base::Errno;
+use fx_plain::MOST_SLOTS;
 use fx_table::FileTable;
 use std::sync::Wait;
 
@@ -23,19 +25,13 @@ fn open_at<T: FileTable, R: Wait>(
     slot: u32,
 ) -> Completion
     requires entry { entry < length context.now.catalogue.now }
+    requires slot { slot < size_of (T.opening context.now.table.now) }
     requires ready { IsReady T.view (T.fits context.now.table.now) player.old 0 1 1 }
     ensures kept { IsKept (T.fits context.now.table.now) player.old player.new }
-    ensures opened { let o = T.opening context.now.table.now in Does o T.view player.old 0 1 1
-        (λ actions. OpensAt (size_of o) context.now.place entry (Slot slot) actions
-        (completed_of result)) player.new }
+    ensures opened { Does (T.opening context.now.table.now) T.view player.old 0 1 1
+        (λ actions. OpensAt context.now.place entry (Slot slot) actions (completed_of result))
+        player.new }
 {
-    let size = context.table.size();
-    if size == 0 {
-        return context.refusal(Errno::ENXIO);
-    }
-    if slot >= size {
-        return context.refusal(Errno::EINVAL);
-    }
     let file = context.catalogue.open(entry, context.place.mark(0), 0);
     put(context, player, slot, file);
     context.number(0)
@@ -47,16 +43,13 @@ fn open_any<T: FileTable, R: Wait>(
     player: &mut Player<'_, T::Pass>,
     entry: u8,
 ) -> Completion
+    requires size { size_of (T.opening context.now.table.now) ≤ MOST_SLOTS }
     requires entry { entry < length context.now.catalogue.now }
     requires ready { IsReady T.view (T.fits context.now.table.now) player.old 0 1 1 }
     ensures kept { IsKept (T.fits context.now.table.now) player.old player.new }
-    ensures opened { let o = T.opening context.now.table.now in Does o T.view player.old 0 1 1
-        (λ actions. OpensAt (size_of o) context.now.place entry Any actions
-        (completed_of result)) player.new }
+    ensures opened { Does (T.opening context.now.table.now) T.view player.old 0 1 1
+        (λ actions. OpensAt context.now.place entry Any actions (completed_of result)) player.new }
 {
-    if context.table.size() == 0 {
-        return context.refusal(Errno::ENFILE);
-    }
     let file = context.catalogue.open(entry, context.place.mark(0), 0);
     match context.table.put_any(context.rt, player.pass, file) {
         Ok(slot) => context.number(slot),
@@ -74,14 +67,17 @@ pub(crate) fn open<T: FileTable, R: Wait>(
     name: &str,
     target: Target,
 ) -> Completion
+    requires size { size_of (T.opening context.now.table.now) ≤ MOST_SLOTS }
+    requires accepted { refusal_of context.now.catalogue.now
+        (size_of (T.opening context.now.table.now)) (Opens name.now target) ≡ None }
     requires ready { IsReady T.view (T.fits context.now.table.now) player.old 0 1 1 }
     ensures kept { IsKept (T.fits context.now.table.now) player.old player.new }
-    ensures opened { let o = T.opening context.now.table.now in Does o T.view player.old 0 1 1
-        (λ actions. Answers context.now.catalogue.now (size_of o) context.now.place
+    ensures opened { Does (T.opening context.now.table.now) T.view player.old 0 1 1
+        (λ actions. AnswersAtTable context.now.catalogue.now context.now.place
         (Opens name.now target) actions (completed_of result)) player.new }
 {
     let Some(entry) = context.catalogue.find(name) else {
-        return context.refusal(Errno::ENOENT);
+        unreachable!();
     };
     match target {
         Target::Slot(slot) => open_at(context, player, entry, slot),

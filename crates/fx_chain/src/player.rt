@@ -2,7 +2,7 @@
 ghost use Rattle.std.specs.Prelude.{◌≡◌, ◌+◌, ◌<◌, ◌≤◌, length, vec_len, vec_capacity};
 ghost use Rattle.fx_table.specs.Pass.{IsIdle};
 ghost use Rattle.fx_table.specs.Opening.{size_of};
-ghost use Rattle.fx_chain.specs.Answers.{Empties};
+ghost use Rattle.fx_chain.specs.Answers.{TakesAt};
 ghost use Rattle.fx_chain.specs.Completed.{completed_of, all_completed};
 ghost use Rattle.fx_chain.specs.Contexts.{Does, IsKept, IsReady, view_of};
 ghost use Rattle.fx_chain.specs.Operation.{operation_of, asked_of, all_asked};
@@ -14,6 +14,7 @@ use crate::context::{Context, Player};
 use crate::gate::Gate;
 use crate::open::open;
 use crate::read::read;
+use crate::refusal::refusal_of;
 use crate::removal::take;
 use crate::request::{Op, Request};
 use crate::update::update;
@@ -28,19 +29,12 @@ fn close<T: FileTable, R: Wait>(
     player: &mut Player<'_, T::Pass>,
     slot: u32,
 ) -> Completion
+    requires slot { slot < size_of (T.opening context.now.table.now) }
     requires ready { IsReady T.view (T.fits context.now.table.now) player.old 0 0 1 }
     ensures kept { IsKept (T.fits context.now.table.now) player.old player.new }
-    ensures emptied { let o = T.opening context.now.table.now in Does o T.view player.old 0 0 1
-        (λ actions. Empties (size_of o) context.now.place slot actions
-        (completed_of result)) player.new }
+    ensures emptied { Does (T.opening context.now.table.now) T.view player.old 0 0 1
+        (λ actions. TakesAt context.now.place slot actions (completed_of result)) player.new }
 {
-    let size = context.table.size();
-    if size == 0 {
-        return context.refusal(Errno::ENXIO);
-    }
-    if slot >= size {
-        return context.refusal(Errno::EINVAL);
-    }
     if !take(context, player, slot) {
         return context.refusal(Errno::EBADF);
     }
@@ -60,6 +54,9 @@ fn answer<T: FileTable, R: Wait>(
         context.now.place (asked_of request.now) (view_of T.view player.old)
         (completed_of result) (view_of T.view player.new) }
 {
+    if let Some(errno) = refusal_of(context.catalogue, context.table.size(), request) {
+        return context.refusal(errno);
+    }
     match &request.op {
         Op::Open { name, target } => open(context, player, name.as_str(), *target),
         Op::Read { slot, off, len } => read(context, player, *slot, *off, *len),

@@ -1,8 +1,11 @@
 //! Reads from the file at a slot of a shared table.
+ghost use Rattle.std.specs.Prelude.{◌≡◌, None};
 ghost use Rattle.fx_table.specs.Opening.{size_of};
-ghost use Rattle.fx_chain.specs.Answers.{ReadsFrom};
+ghost use Rattle.fx_chain.specs.Answers.{ReadsAt};
 ghost use Rattle.fx_chain.specs.Completed.{completed_of};
 ghost use Rattle.fx_chain.specs.Contexts.{Does, IsKept, IsReady};
+ghost use Rattle.fx_chain.specs.Operation.{Reads};
+ghost use Rattle.fx_chain.specs.Refusal.{refusal_of};
 
 use crate::completion::Completion;
 use crate::context::{Context, Player};
@@ -20,15 +23,14 @@ pub(crate) fn read<T: FileTable, R: Wait>(
     off: u32,
     len: u32,
 ) -> Completion
+    requires accepted { refusal_of context.now.catalogue.now
+        (size_of (T.opening context.now.table.now)) (Reads slot off len) ≡ None }
     requires ready { IsReady T.view (T.fits context.now.table.now) player.old 1 0 1 }
     ensures kept { IsKept (T.fits context.now.table.now) player.old player.new }
-    ensures read { let o = T.opening context.now.table.now in Does o T.view player.old 1 0 1
-        (λ actions. ReadsFrom context.now.catalogue.now (size_of o) context.now.place
-        slot off len actions (completed_of result)) player.new }
+    ensures read { Does (T.opening context.now.table.now) T.view player.old 1 0 1
+        (λ actions. ReadsAt context.now.catalogue.now context.now.place slot off len actions
+        (completed_of result)) player.new }
 {
-    if slot >= context.table.size() {
-        return context.refusal(Errno::EBADF);
-    }
     let mut got = Vec::new(context.alloc);
     if got.reserve_exact(len as usize).is_err() {
         return context.refusal(Errno::ENOMEM);

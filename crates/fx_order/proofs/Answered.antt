@@ -1,11 +1,11 @@
 -- Accesses that explain an answer: the steps that they are explain it.
-use Rattle.fx_order.proofs.Words.{◌≡◌, inl, inr, ℕ, zero, suc, ◌+◌, ◌==◌, ◌||◌, nat_le, nat_lt, ℤ, pos, negsuc, List, [], ◌∷◌, ◌++◌, length, map}
-use Rattle.fx_order.proofs.Words.{same_cases, file_told, refl, sym, ap, subst, ◌∙◌, append_assoc, Option, Some, None, list_any, append-nil, FileEntry}
-use Rattle.fx_order.proofs.Words.{has_name, Errno, ENOENT, ENXIO, EBADF, ENOMEM, EINVAL, ENFILE, Closed, File, Event, Action, Look, Put, Clear, Take}
-use Rattle.fx_order.proofs.Words.{◌▷◌, ◌▷▷◌, action_of, part_of_chain, close_of, Refuses, MayClose, OpensAt, ReadsFrom, Empties, AppliesEntry}
-use Rattle.fx_order.proofs.Words.{AppliesList, UpdatesFrom, Answers, is_bad_entry, Completed, next_member, Explains, severs, first_member, Operation}
+use Rattle.fx_order.proofs.Words.{◌≡◌, inl, inr, ℕ, zero, suc, ◌+◌, ℤ, pos, negsuc, List, [], ◌∷◌, ◌++◌, map}
+use Rattle.fx_order.proofs.Words.{same_cases, same_options, refusal_of, IsDoneAtTable, AnswersAtTable, TakesAt, file_told, refl, sym, ap, subst, ◌∙◌, append_assoc, Option, Some, None, append-nil, FileEntry}
+use Rattle.fx_order.proofs.Words.{Errno, ENOMEM, Closed, File, Event, Action, Look, Put, Clear, Take}
+use Rattle.fx_order.proofs.Words.{◌▷◌, ◌▷▷◌, action_of, part_of_chain, close_of, Refuses, MayClose, OpensAt, ReadsAt, AppliesEntry}
+use Rattle.fx_order.proofs.Words.{AppliesList, Answers, Completed, next_member, Explains, severs, first_member, Operation}
 use Rattle.fx_order.proofs.Words.{Opens, Reads, Closes, Updates, Asked, Place, Target, Slot, Any, ExplainsParts, accesses_of_chain, Access}
-use Rattle.fx_order.proofs.Words.{ChainAccess, IsRefused, IsOpenDone, IsReadDone, IsCloseDone, IsEntryDone, AreEntriesDone, IsUpdateDone}
+use Rattle.fx_order.proofs.Words.{ChainAccess, IsRefused, IsOpenDone, IsReadDone, IsCloseDone, IsEntryDone, AreEntriesDone}
 use Rattle.fx_order.proofs.Words.{IsRequestDone, IsChainDone, AreChainsDone, gives}
 use Rattle.fx_order.proofs.AtOnce.{Does, release_of, no_file}
 use Rattle.fx_order.proofs.Made.{AllDo}
@@ -63,56 +63,42 @@ module _ (catalogue : List FileEntry) (size : ℕ) (place : Place) (accesses : L
   refused : (errno : Errno) → IsRefused place errno accesses c → Refuses place errno events c
   refused errno x = (none_done x.0 all, x.1)
 
-  opened : (entry : ℕ) (target : Target) → IsOpenDone size place entry target accesses c → OpensAt size place entry target events c
-  opened entry (Slot slot) =
-      same_cases (size == 0) (refused ENXIO) (same_cases (nat_le size slot) (refused EINVAL)
-      (λ x. let put = entry_applied accesses events all place 0 slot (pos entry) (x.0, x.1.0) in (put.0, put.1, put.2, put.3, x.1.1)))
-  opened entry Any = same_cases (size == 0) (refused ENFILE) (λ x. elim x [
-    | inl y ↦ let does = one_done events y.1.0 all in inl (y.0, does.0, does.1, does.2, y.1.1)
-    | inr y ↦ inr (one_done events y.0 all, y.1)
-  ])
+  opened : (entry : ℕ) (target : Target) → IsOpenDone place entry target accesses c → OpensAt place entry target events c
+  opened entry (Slot slot) x =
+      let put = entry_applied accesses events all place 0 slot (pos entry) (x.0, x.1.0) in (put.0, put.1, put.2, put.3, x.1.1)
+  opened entry Any (inl y) = let does = one_done events y.1.0 all in inl (y.0, does.0, does.1, does.2, y.1.1)
+  opened entry Any (inr y) = inr (one_done events y.0 all, y.1)
 
-  read : (slot off len : ℕ) → IsReadDone catalogue size place slot off len accesses c → ReadsFrom catalogue size place slot off len events c
-  read slot off len = same_cases (nat_le size slot) (refused EBADF) (λ x. elim x [
-    | inl y ↦ inl (y.0, refused ENOMEM y.1)
-    | inr y ↦ inr (elim y [
-      | inl z ↦
-          let does = one_done events z.0 all in
-          inl (does.2 ∙ ap (λ (o : Option File). [] ▷ Look slot o ▷▷ release_of o) (no_file does.0 (sym does.1)), z.1)
-      | inr z ↦
-          let does = one_done events z.1.0 all in
-          let there = file_told does.0 z.0 does.1 in inr (
-            there.0,
-            inl (does.2 ∙ ap (λ (o : Option File). [] ▷ Look slot o ▷▷ release_of o) there.1),
-            z.1.1 ∙ ap (λ (i : Closed). gives catalogue place i off len) (sym there.2),
-          )
-    ])
-  ])
+  read : (slot off len : ℕ) → IsReadDone catalogue place slot off len accesses c → ReadsAt catalogue place slot off len events c
+  read slot off len (inl y) = inl (y.0, refused ENOMEM y.1)
+  read slot off len (inr (inl z)) =
+      let does = one_done events z.0 all in
+      inr (inl (does.2 ∙ ap (λ (o : Option File). [] ▷ Look slot o ▷▷ release_of o) (no_file does.0 (sym does.1)), z.1))
+  read slot off len (inr (inr z)) =
+      let does = one_done events z.1.0 all in
+      let there = file_told does.0 z.0 does.1 in inr (inr (
+        there.0,
+        inl (does.2 ∙ ap (λ (o : Option File). [] ▷ Look slot o ▷▷ release_of o) there.1),
+        z.1.1 ∙ ap (λ (i : Closed). gives catalogue place i off len) (sym there.2),
+      ))
 
-  emptied : (slot : ℕ) → IsCloseDone size place slot accesses c → Empties size place slot events c
-  emptied slot =
-      same_cases (size == 0) (refused ENXIO) (same_cases (nat_le size slot) (refused EINVAL) (λ x. elim x [
-        | inl y ↦
-            let does = one_done events y.0 all in
-            inl (does.2 ∙ ap (λ (o : Option File). [] ▷ Take slot o ▷▷ close_of o) (no_file does.0 (sym does.1)), y.1)
-        | inr y ↦
-            let does = one_done events y.1.0 all in
-            let there = file_told does.0 y.0 does.1 in
-            inr (there.0, inr (does.2 ∙ ap (λ (o : Option File). [] ▷ Take slot o ▷▷ close_of o) there.1), y.1.1)
-      ]))
+  emptied : (slot : ℕ) → IsCloseDone place slot accesses c → TakesAt place slot events c
+  emptied slot (inl y) =
+      let does = one_done events y.0 all in
+      inl (does.2 ∙ ap (λ (o : Option File). [] ▷ Take slot o ▷▷ close_of o) (no_file does.0 (sym does.1)), y.1)
+  emptied slot (inr y) =
+      let does = one_done events y.1.0 all in
+      let there = file_told does.0 y.0 does.1 in
+      inr (there.0, inr (does.2 ∙ ap (λ (o : Option File). [] ▷ Take slot o ▷▷ close_of o) there.1), y.1.1)
 
-  updated : (off : ℕ) (list : List ℤ) → IsUpdateDone (length catalogue) size place off list accesses c
-      → UpdatesFrom (length catalogue) size place off list events c
-  updated off list =
-      same_cases (size == 0) (refused ENXIO) (same_cases (length list == 0 || nat_lt size (off + length list)) (refused EINVAL)
-      (same_cases (list_any (is_bad_entry (length catalogue)) list) (refused EBADF)
-      (λ x. (list_applied accesses events all place 0 off list x.0, x.1))))
+  at_table : (operation : Operation) → IsDoneAtTable catalogue place operation accesses c → AnswersAtTable catalogue place operation events c
+  at_table (Opens name target) x = (x.0, x.1, opened x.0 target x.2)
+  at_table (Reads slot off len) x = read slot off len x
+  at_table (Closes slot) x = emptied slot x
+  at_table (Updates off list) x = (list_applied accesses events all place 0 off list x.0, x.1)
 
   answered : (operation : Operation) → IsRequestDone catalogue size place operation accesses c → Answers catalogue size place operation events c
-  answered (Opens name target) = same_cases (has_name name catalogue) (λ x. (x.0, x.1, opened x.0 target x.2)) (refused ENOENT)
-  answered (Reads slot off len) = read slot off len
-  answered (Closes slot) = emptied slot
-  answered (Updates off list) = updated off list
+  answered operation = same_options (refusal_of catalogue size operation) (at_table operation) refused
 
 module _ (catalogue : List FileEntry) (size : ℕ) where
   -- a chain

@@ -1,8 +1,8 @@
 -- The number of accesses of an update.
 use Rattle.fx_order.proofs.Words.{◌≡◌, ℕ, zero, suc, ◌+◌, ℤ, pos, negsuc, int_le, Bool, true, false, if◌then◌else◌, List, [], ◌∷◌, length, filter}
 use Rattle.fx_order.proofs.Words.{refl, sym, ap, ◌∙◌, arith, false≢true, nat_tests, length-append, Errno, ENOENT, Completed, negated, Place, Access}
-use Rattle.fx_order.proofs.Words.{IsEntryDone, AreEntriesDone, IsUpdateDone}
-use Rattle.fx_order.proofs.RequestCases.{updates}
+use Rattle.fx_order.proofs.Words.{IsEntryDone, AreEntriesDone, IsRequestDone, FileEntry, Updates}
+use Rattle.fx_order.proofs.RequestCases.{unless_refused}
 
 -- the entries that aren't skips
 abbrev pub done_ones : List ℤ → List ℤ
@@ -30,9 +30,8 @@ no_success : (errno : Errno) → int_le (pos 0) (negated errno) ≡ false
 no_success ENOENT = refl
 no_success errno = refl
 
-pub update_made : (entries size : ℕ) (place : Place) (off : ℕ) (list : List ℤ) (own : List Access) (c : Completed)
-    → int_le (pos 0) c.res ≡ true → IsUpdateDone entries size place off list own c → length own ≡ length (done_ones list)
-update_made entries size place off list own c good done =
-    updates size place (λ l d. int_le (pos 0) d.res ≡ true → length l ≡ length (done_ones list))
-    (λ errno bad. absurd (false≢true (sym (no_success errno) ∙ bad))) own c entries off list
-    (λ _ _ x _. entries_made place 0 off list own x) done good
+pub update_made : (catalogue : List FileEntry) (size : ℕ) (place : Place) (off : ℕ) (list : List ℤ) (own : List Access) (c : Completed)
+    → int_le (pos 0) c.res ≡ true → IsRequestDone catalogue size place (Updates off list) own c → length own ≡ length (done_ones list)
+update_made catalogue size place off list own c good done =
+    unless_refused place (λ l d. int_le (pos 0) d.res ≡ true → length l ≡ length (done_ones list)) own c catalogue size (Updates off list)
+    (λ errno bad. absurd (false≢true (sym (no_success errno) ∙ bad))) (λ _ x _. entries_made place 0 off list own x.0) done good

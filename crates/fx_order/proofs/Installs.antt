@@ -1,6 +1,6 @@
 -- An order of a submission without a fault installs no more files than its chains have numbers.
 use Rattle.fx_order.proofs.Words.{◌≡◌, ℕ, zero, suc, ◌+◌, ◌*◌, ◌<◌, ◌≤◌, ◌==◌, ℤ, pos, negsuc, true, false, not, cond, List, [], ◌∷◌, ◌++◌, filter}
-use Rattle.fx_order.proofs.Words.{either_case, length, sym, ap, subst, arith, All, All-head, All-tail, All-map, sum_by-cons, FileEntry, has_name}
+use Rattle.fx_order.proofs.Words.{either_case, IsDoneAtTable, length, sym, ap, subst, arith, All, All-head, All-tail, All-map, sum_by-cons, FileEntry}
 use Rattle.fx_order.proofs.Words.{IsAccepted, members_of, Completed, next_member, severs, first_member, Operation, Opens, Reads, Closes, Updates}
 use Rattle.fx_order.proofs.Words.{Asked, runs_of, Place, Slot, Any, by_equality, accesses_of, accesses_of_chain, Access, ChainAccess, IsEntryDone}
 use Rattle.fx_order.proofs.Words.{AreEntriesDone, IsRequestDone, IsChainDone, AreChainsDone, chains_of, entry_installs, list_installs, installs_of}
@@ -8,7 +8,7 @@ use Rattle.fx_order.proofs.Words.{all_installs, accepted-chains, members-are-run
 use Rattle.fx_order.proofs.Words.{none_within}
 use Rattle.fx_order.proofs.AtOnce.{installs}
 use Rattle.fx_order.proofs.Made.{installs_in}
-use Rattle.fx_order.proofs.RequestCases.{allocates, closes, puts, reads, updates}
+use Rattle.fx_order.proofs.RequestCases.{allocates, closes, puts, reads, unless_refused}
 
 installs_in-append : (xs ys : List Access) → installs_in (xs ++ ys) ≡ installs_in xs + installs_in ys
 installs_in-append [] ys = omega arith
@@ -38,19 +38,21 @@ list_few place in_list slot (entry ∷ list) accesses x =
     are_few x.2 (omega arith)
 
 module _ (catalogue : List FileEntry) (size : ℕ) where
+  few_at_table : (place : Place) (operation : Operation) (accesses : List Access) (c : Completed)
+      → IsDoneAtTable catalogue place operation accesses c → InstallAtMost (installs_of operation) accesses
+  few_at_table place (Opens name (Slot slot)) accesses c x =
+      puts place (λ l _. InstallAtMost 1 l) accesses c x.0 slot (λ _. omega arith) x.2
+  few_at_table place (Opens name Any) accesses c x =
+      allocates place (λ l _. InstallAtMost 1 l) accesses c x.0 (λ _. omega arith) (omega arith) x.2
+  few_at_table place (Reads slot off len) accesses c x =
+      reads place (λ l _. InstallAtMost 0 l) accesses c catalogue slot off len (omega arith) (omega arith) (λ _. omega arith) x
+  few_at_table place (Closes slot) accesses c x = closes place (λ l _. InstallAtMost 0 l) accesses c slot (omega arith) (λ _. omega arith) x
+  few_at_table place (Updates off list) accesses c x = list_few place 0 off list accesses x.0
+
   request_few : (place : Place) (operation : Operation) (accesses : List Access) (c : Completed)
       → IsRequestDone catalogue size place operation accesses c → InstallAtMost (installs_of operation) accesses
-  request_few place (Opens name (Slot slot)) accesses c = either_case (has_name name catalogue)
-      (λ x. puts size place (λ l _. InstallAtMost 1 l) (λ _. omega arith) accesses c x.0 slot (λ _. omega arith) x.2) (λ x. are_few x.0 (omega arith))
-  request_few place (Opens name Any) accesses c = either_case (has_name name catalogue)
-      (λ x. allocates size place (λ l _. InstallAtMost 1 l) (λ _. omega arith) accesses c x.0 (λ _. omega arith) (omega arith) x.2)
-      (λ x. are_few x.0 (omega arith))
-  request_few place (Reads slot off len) accesses c =
-      reads size place (λ l _. InstallAtMost 0 l) (λ _. omega arith) accesses c catalogue slot off len (omega arith) (λ _. omega arith)
-  request_few place (Closes slot) accesses c =
-      closes size place (λ l _. InstallAtMost 0 l) (λ _. omega arith) accesses c slot (omega arith) (λ _. omega arith)
-  request_few place (Updates off list) accesses c = updates size place (λ l _. InstallAtMost (list_installs list) l) (λ _. omega arith) accesses c
-      (length catalogue) off list (λ _ _ x. list_few place 0 off list accesses x)
+  request_few place operation accesses c = unless_refused place (λ l _. InstallAtMost (installs_of operation) l) accesses c
+      catalogue size operation (λ _. omega arith) (λ _. few_at_table place operation accesses c)
 
   chain_few : (place : Place) (requests : List Asked) (accesses : List Access) (cs : List Completed)
       → IsChainDone catalogue size place requests accesses cs → InstallAtMost (all_installs requests) accesses

@@ -168,11 +168,9 @@ removes_contained (x ∷ xs) g has = either (removed_by x) refl (λ later. remov
         ⊎_elim (λ here. inl (is ∙ ap (λ y. Some y) (sym here))) (λ later. inr (more later)) (contains_cases f (removed_in xs) g h)
 
 -- a read and a close place nothing
-pub read_none : (catalogue : List FileEntry) (size : ℕ) (place : Place) (slot off len : ℕ) (accesses : List Access) (c : Completed)
-    → IsReadDone catalogue size place slot off len accesses c → placed accesses ≡ []
-read_none catalogue size place slot off len accesses c =
-    reads size place (λ l _. placed l ≡ []) (λ _. refl) accesses c catalogue slot off len refl (λ _. refl)
+pub read_none : (catalogue : List FileEntry) (place : Place) (slot off len : ℕ) (accesses : List Access) (c : Completed)
+    → IsReadDone catalogue place slot off len accesses c → placed accesses ≡ []
+read_none catalogue place slot off len accesses c = reads place (λ l _. placed l ≡ []) accesses c catalogue slot off len refl refl (λ _. refl)
 
-pub close_none : (size : ℕ) (place : Place) (slot : ℕ) (accesses : List Access) (c : Completed) → IsCloseDone size place slot accesses c
-    → placed accesses ≡ []
-close_none size place slot accesses c = closes size place (λ l _. placed l ≡ []) (λ _. refl) accesses c slot refl (λ _. refl)
+pub close_none : (place : Place) (slot : ℕ) (accesses : List Access) (c : Completed) → IsCloseDone place slot accesses c → placed accesses ≡ []
+close_none place slot accesses c = closes place (λ l _. placed l ≡ []) accesses c slot refl (λ _. refl)

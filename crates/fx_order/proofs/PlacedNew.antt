@@ -1,15 +1,16 @@
 -- The files that a submission places: of the catalogue, without a tag, with marks of its own, and no mark twice.
 use Rattle.fx_order.proofs.Words.{◌≡◌, ◌≢◌, inl, inr, ⊎_elim, ℕ, zero, suc, ◌+◌, ◌<◌, ◌≤◌, ℤ, pos, negsuc, false, List, [], ◌∷◌, ◌++◌, length, refl}
-use Rattle.fx_order.proofs.Words.{either_way, or_parts, sym, ap, subst, ◌∙◌, arith, All, list_any, leb-false, ltb-false, All-head, All-tail, has_name}
+use Rattle.fx_order.proofs.Words.{either_way, refusal_of, IsDoneAtTable, None, or_parts, sym, ap, subst, ◌∙◌, arith, All, list_any, leb-false, ltb-false, All-head, All-tail}
 use Rattle.fx_order.proofs.Words.{FileEntry, Errno, Submitted, Closed, IsWithinLimits, installed, is_bad_entry, Completed, next_member, severs}
 use Rattle.fx_order.proofs.Words.{first_member, is_long_update, MOST_MEMBERS, LONGEST_UPDATE, Operation, Opens, Reads, Closes, Updates, Asked, Place}
 use Rattle.fx_order.proofs.Words.{Target, Slot, Any, by_equality, accesses_of, accesses_of_chain, Access, ChainAccess, IsOpenDone, IsEntryDone}
 use Rattle.fx_order.proofs.Words.{AreEntriesDone, IsRequestDone, IsChainDone, AreChainsDone, refusal, Puts, Allocates, FindsFull}
 use Rattle.fx_base.proofs.Entries.{entry_named}
+use Rattle.fx_chain.proofs.Refused.{applied}
 use Rattle.fx_order.proofs.Accesses.{of_chain, own_first}
 use Rattle.fx_order.proofs.Apart.{PlacesOnce, once_behind, once_between}
 use Rattle.fx_order.proofs.Placed.{Has, has_either, has_left, has_right, placed, placed_by, placed-append, close_none, read_none}
-use Rattle.fx_order.proofs.RequestCases.{allocates, puts, updates}
+use Rattle.fx_order.proofs.RequestCases.{allocates, puts, unless_refused}
 
 -- each file that was placed is such a one, and no mark was placed twice
 abbrev pub Own : (Closed → Type 0) → List (ℕ × Closed) → Type 0
@@ -109,11 +110,11 @@ module _ (entries : ℕ) (B : ℕ → Type 0) (place : Place) where
   none_listed : (errno : Errno) → Listed [] (refusal place errno)
   none_listed errno = own_none [] refl
 
-  opens : (size entry : ℕ) (target : Target) (accesses : List Access) (c : Completed) → B 0 → entry < entries
-      → IsOpenDone size place entry target accesses c → Listed accesses c
-  opens size entry (Slot slot) accesses c b inside = puts size place Listed none_listed accesses c entry slot
+  opens : (entry : ℕ) (target : Target) (accesses : List Access) (c : Completed) → B 0 → entry < entries
+      → IsOpenDone place entry target accesses c → Listed accesses c
+  opens entry (Slot slot) accesses c b inside = puts place Listed accesses c entry slot
       (λ removed. own_one (Puts slot (installed place 0 entry) removed ∷ []) refl (0, omega arith, b, marked 0 inside))
-  opens size entry Any accesses c b inside = allocates size place Listed none_listed accesses c entry
+  opens entry Any accesses c b inside = allocates place Listed accesses c entry
       (λ slot. own_one (Allocates slot (installed place 0 entry) ∷ []) refl (0, omega arith, b, marked 0 inside)) (own_none (FindsFull ∷ []) refl)
 
   entry : (in_list slot : ℕ) (z : ℤ) (accesses : List Access) → is_bad_entry entries z ≡ false → IsEntryDone place in_list slot z accesses
@@ -136,17 +137,21 @@ module _ (catalogue : List FileEntry) (size : ℕ) (B : ℕ → ℕ → Type 0) 
   abbrev entries : ℕ
   entries = length catalogue
 
+  at_table : (place : Place) (operation : Operation) (accesses : List Access) (c : Completed) → Reaches (B place.member) operation
+      → refusal_of catalogue size operation ≡ None → IsDoneAtTable catalogue place operation accesses c
+      → OwnOf (IsListed entries (B place.member) place 0) accesses
+  at_table place (Opens name target) accesses c reach accepted x =
+      opens entries (B place.member) place x.0 target accesses c reach (entry_named catalogue x.0 name x.1) x.2
+  at_table place (Reads slot off len) accesses c reach accepted x = own_none accesses (read_none catalogue place slot off len accesses c x)
+  at_table place (Closes slot) accesses c reach accepted x = own_none accesses (close_none place slot accesses c x)
+  at_table place (Updates off zs) accesses c reach accepted x = list entries (B place.member) place 0 off zs accesses
+      (λ j low high. reach j (omega arith)) (applied entries size off zs accepted).good x.0
+
   request : (place : Place) (operation : Operation) (accesses : List Access) (c : Completed) → Reaches (B place.member) operation
       → IsRequestDone catalogue size place operation accesses c → OwnOf (IsListed entries (B place.member) place 0) accesses
-  request place (Opens name target) accesses c reach =
-      either_way (has_name name catalogue)
-      (λ _ x. opens entries (B place.member) place size x.0 target accesses c reach (entry_named catalogue x.0 name x.1) x.2)
-      (λ _ x. own_none accesses (ap placed x.0))
-  request place (Reads slot off len) accesses c reach = λ done. own_none accesses (read_none catalogue size place slot off len accesses c done)
-  request place (Closes slot) accesses c reach = λ done. own_none accesses (close_none size place slot accesses c done)
-  request place (Updates off zs) accesses c reach =
-      updates size place (Listed entries (B place.member) place) (none_listed entries (B place.member) place) accesses c entries off zs
-      (λ inside good x. list entries (B place.member) place 0 off zs accesses (λ j low high. reach j (omega arith)) good x)
+  request place operation accesses c reach =
+      unless_refused place (Listed entries (B place.member) place) accesses c catalogue size operation
+      (none_listed entries (B place.member) place) (at_table place operation accesses c reach)
 
   chain : (place : Place) (requests : List Asked) (accesses : List Access) (cs : List Completed) → ReachesAll B place.member requests
       → IsChainDone catalogue size place requests accesses cs → OwnOf (IsOfMembers entries B place) accesses

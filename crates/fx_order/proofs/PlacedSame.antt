@@ -1,9 +1,9 @@
 -- Two orders with the same completions place the same files at the same slots.
-use Rattle.fx_order.proofs.Words.{◌≡◌, inl, inr, ℕ, zero, suc, ◌+◌, ◌<◌, ◌≤◌, ◌==◌, ◌||◌, nat_le, nat_lt, ℤ, pos, negsuc, Bool, true, false, List, []}
-use Rattle.fx_order.proofs.Words.{both_ways, ◌∷◌, ◌++◌, length, sym, ap, subst, ◌∙◌, arith, list_any, false≢true, has_name, FileEntry, IsCatalogue}
-use Rattle.fx_order.proofs.Words.{installed, is_bad_entry, Completed, next_member, severs, first_member, Operation, Opens, Reads, Closes, Updates}
+use Rattle.fx_order.proofs.Words.{◌≡◌, inl, inr, ℕ, zero, suc, ◌+◌, ◌<◌, ◌≤◌, ℤ, pos, negsuc, Bool, true, false, List, []}
+use Rattle.fx_order.proofs.Words.{both_options, both_ways, refusal_of, IsDoneAtTable, ◌∷◌, ◌++◌, length, sym, ap, subst, ◌∙◌, arith, false≢true, FileEntry, IsCatalogue}
+use Rattle.fx_order.proofs.Words.{installed, Completed, next_member, severs, first_member, Operation, Opens, Reads, Closes, Updates}
 use Rattle.fx_order.proofs.Words.{Asked, Place, Target, Slot, Any, by_equality, accesses_of_chain, Access, ChainAccess, IsOpenDone, IsEntryDone}
-use Rattle.fx_order.proofs.Words.{AreEntriesDone, IsUpdateDone, IsRequestDone, IsChainDone, AreChainsDone, drop-append_seam, take-append_seam}
+use Rattle.fx_order.proofs.Words.{AreEntriesDone, IsRequestDone, IsChainDone, AreChainsDone, drop-append_seam, take-append_seam}
 use Rattle.fx_order.proofs.ChainFront.{front_is, length-done}
 use Rattle.fx_order.proofs.Placed.{placed, placed-append, close_none, read_none}
 
@@ -32,31 +32,16 @@ list_same place in_list slot [] one other x y = ap placed (x ∙ sym y)
 list_same place in_list slot (z ∷ zs) one other x y =
     same_parts x.0 x.1 y.0 y.1 x.2 y.2 (entry_same place in_list slot z x.0 y.0 x.3 y.3) (list_same place (in_list + 1) (slot + 1) zs x.1 y.1 x.4 y.4)
 
-module _ (size : ℕ) (place : Place) (one other : List Access) (c : Completed) where
-  refused : {P Q : Type 0} → (one ≡ []) × P → (other ≡ []) × Q → PlaceSame one other
-  refused x y = ap placed (x.0 ∙ sym y.0)
-
-  opens : (entry : ℕ) (target : Target) → IsOpenDone size place entry target one c → IsOpenDone size place entry target other c → PlaceSame one other
-  opens entry (Slot slot) = both_ways (size == 0) refused (both_ways (nat_le size slot) refused (λ x y. ap placed x.1.0 ∙ sym (ap placed y.1.0)))
-  opens entry Any = both_ways (size == 0) refused (λ x y. elim x [
-    | inl p ↦ elim y [
-      | inl q ↦
-          let same = ap (λ (d : Completed). d.res) (sym p.1.1 ∙ q.1.1) in
-          let slots : p.0 ≡ q.0 = cc in
-          ap placed p.1.0 ∙ ((λ i. (slots i, installed place 0 entry) ∷ []) ∙ sym (ap placed q.1.0))
-      | inr q ↦ absurd (false≢true (ap (λ (d : Completed). is_success d.res) (sym q.1 ∙ p.1.1)))
-    ]
-    | inr p ↦ elim y [
-      | inl q ↦ absurd (false≢true (ap (λ (d : Completed). is_success d.res) (sym p.1 ∙ q.1.1)))
-      | inr q ↦ ap placed (p.0 ∙ sym q.0)
-    ]
-  ])
-
-  update_same : (entries off : ℕ) (zs : List ℤ) → IsUpdateDone entries size place off zs one c → IsUpdateDone entries size place off zs other c
-      → PlaceSame one other
-  update_same entries off zs =
-      both_ways (size == 0) refused (both_ways (length zs == 0 || nat_lt size (off + length zs)) refused
-      (both_ways (list_any (is_bad_entry entries) zs) refused (λ x y. list_same place 0 off zs one other x.0 y.0)))
+module _ (place : Place) (one other : List Access) (c : Completed) where
+  opens : (entry : ℕ) (target : Target) → IsOpenDone place entry target one c → IsOpenDone place entry target other c → PlaceSame one other
+  opens entry (Slot slot) x y = ap placed x.1.0 ∙ sym (ap placed y.1.0)
+  opens entry Any (inl p) (inl q) =
+      let same = ap (λ (d : Completed). d.res) (sym p.1.1 ∙ q.1.1) in
+      let slots : p.0 ≡ q.0 = cc in
+      ap placed p.1.0 ∙ ((λ i. (slots i, installed place 0 entry) ∷ []) ∙ sym (ap placed q.1.0))
+  opens entry Any (inl p) (inr q) = absurd (false≢true (ap (λ (d : Completed). is_success d.res) (sym q.1 ∙ p.1.1)))
+  opens entry Any (inr p) (inl q) = absurd (false≢true (ap (λ (d : Completed). is_success d.res) (sym p.1 ∙ q.1.1)))
+  opens entry Any (inr p) (inr q) = ap placed (p.0 ∙ sym q.0)
 
 -- lists whose first parts are as long have the same parts
 same_halves : {X : Type 0} (xs : List X) {ys : List X} (us : List X) {vs : List X} → length xs ≡ length us → xs ++ ys ≡ us ++ vs
@@ -66,16 +51,19 @@ same_halves xs {ys} us {vs} long same =
     (sym (take-append_seam us vs) ∙ front.0, sym (drop-append_seam us vs) ∙ front.1)
 
 module _ (catalogue : List FileEntry) (is : IsCatalogue catalogue) (size : ℕ) where
+  at_table_same : (place : Place) (operation : Operation) (one other : List Access) (c : Completed)
+      → IsDoneAtTable catalogue place operation one c → IsDoneAtTable catalogue place operation other c → PlaceSame one other
+  at_table_same place (Opens name target) one other c x y = opens place one other c x.0 target x.2
+      (subst (λ n. IsOpenDone place n target other c) (is.distinct y.0 x.0 name y.1 x.1) y.2)
+  at_table_same place (Reads slot off len) one other c x y =
+      read_none catalogue place slot off len one c x ∙ sym (read_none catalogue place slot off len other c y)
+  at_table_same place (Closes slot) one other c x y = close_none place slot one c x ∙ sym (close_none place slot other c y)
+  at_table_same place (Updates off zs) one other c x y = list_same place 0 off zs one other x.0 y.0
+
   request_same : (place : Place) (operation : Operation) (one other : List Access) (c : Completed)
       → IsRequestDone catalogue size place operation one c → IsRequestDone catalogue size place operation other c → PlaceSame one other
-  request_same place (Opens name target) one other c =
-      both_ways (has_name name catalogue)
-      (λ x y. opens size place one other c x.0 target x.2
-      (subst (λ n. IsOpenDone size place n target other c) (is.distinct y.0 x.0 name y.1 x.1) y.2)) (refused size place one other c)
-  request_same place (Reads slot off len) one other c = λ x y.
-      read_none catalogue size place slot off len one c x ∙ sym (read_none catalogue size place slot off len other c y)
-  request_same place (Closes slot) one other c = λ x y. close_none size place slot one c x ∙ sym (close_none size place slot other c y)
-  request_same place (Updates off zs) one other c = update_same size place one other c (length catalogue) off zs
+  request_same place operation one other c = both_options (refusal_of catalogue size operation) (at_table_same place operation one other c)
+      (λ _ p q. ap placed (p.0 ∙ sym q.0))
 
   chain_same : (place : Place) (requests : List Asked) (one other : List Access) (cs : List Completed)
       → IsChainDone catalogue size place requests one cs → IsChainDone catalogue size place requests other cs → PlaceSame one other

@@ -1,11 +1,11 @@
 -- Steps that explain an answer: their accesses explain it.
-use Rattle.fx_order.proofs.Words.{◌≡◌, inl, inr, ℕ, zero, suc, ◌+◌, ◌==◌, ◌||◌, nat_le, nat_lt, ℤ, pos, negsuc, List, [], ◌∷◌, length, map, ap}
-use Rattle.fx_order.proofs.Words.{same_cases, ◌∙◌, Option, Some, None, list_any, append-nil, FileEntry, has_name, Errno, ENOENT, ENXIO, EBADF, ENOMEM}
-use Rattle.fx_order.proofs.Words.{EINVAL, ENFILE, File, Event, Action, Look, Release, Put, Clear, Take, ◌▷◌, action_of, part_of_chain, identity_of}
-use Rattle.fx_order.proofs.Words.{Refuses, MayClose, OpensAt, ReadsFrom, Empties, AppliesEntry, AppliesList, UpdatesFrom, Answers, is_bad_entry}
+use Rattle.fx_order.proofs.Words.{◌≡◌, inl, inr, ℕ, zero, suc, ◌+◌, ℤ, pos, negsuc, List, [], ◌∷◌, map, ap}
+use Rattle.fx_order.proofs.Words.{same_cases, same_options, refusal_of, IsDoneAtTable, AnswersAtTable, TakesAt, ◌∙◌, Option, Some, None, append-nil, FileEntry, Errno, ENOMEM}
+use Rattle.fx_order.proofs.Words.{File, Event, Action, Look, Release, Put, Clear, Take, ◌▷◌, action_of, part_of_chain, identity_of}
+use Rattle.fx_order.proofs.Words.{Refuses, MayClose, OpensAt, ReadsAt, AppliesEntry, AppliesList, Answers}
 use Rattle.fx_order.proofs.Words.{Completed, next_member, Explains, severs, first_member, Operation, Opens, Reads, Closes, Updates, Asked, Place}
 use Rattle.fx_order.proofs.Words.{Target, Slot, Any, ExplainsParts, Puts, Allocates, IsRefused, IsOpenDone, IsReadDone, IsCloseDone, IsEntryDone}
-use Rattle.fx_order.proofs.Words.{AreEntriesDone, IsUpdateDone, IsRequestDone, IsChainDone, AreChainsDone}
+use Rattle.fx_order.proofs.Words.{AreEntriesDone, IsRequestDone, IsChainDone, AreChainsDone}
 use Rattle.fx_order.proofs.Accesses.{accesses_in, accesses_in-then, order_in, accesses_of_chain-order_in}
 
 accesses_may_close : (steps : List Action) (removed : Option File) (events : List Action) → MayClose steps removed events
@@ -36,43 +36,32 @@ module _ (catalogue : List FileEntry) (size : ℕ) (place : Place) (events : Lis
   refused : (errno : Errno) → Refuses place errno events c → IsRefused place errno (accesses_in events) c
   refused errno refuses = (ap accesses_in refuses.0, refuses.1)
 
-  opened : (entry : ℕ) (target : Target) → OpensAt size place entry target events c → IsOpenDone size place entry target (accesses_in events) c
-  opened entry (Slot slot) =
-      same_cases (size == 0) (refused ENXIO) (same_cases (nat_le size slot) (refused EINVAL)
-      (λ x. let put = entry_applied place 0 slot (pos entry) events (x.0, x.1, x.2, x.3) in (put.0, (put.1, x.4))))
-  opened entry Any = same_cases (size == 0) (refused ENFILE) (λ x. elim x [
-    | inl y ↦ inl (y.0, (ap accesses_in y.3 ∙ (λ i. Allocates y.0 (y.2 i) ∷ []), y.4))
-    | inr y ↦ inr (ap accesses_in y.0, y.1)
-  ])
+  opened : (entry : ℕ) (target : Target) → OpensAt place entry target events c → IsOpenDone place entry target (accesses_in events) c
+  opened entry (Slot slot) x =
+      let put = entry_applied place 0 slot (pos entry) events (x.0, x.1, x.2, x.3) in (put.0, (put.1, x.4))
+  opened entry Any (inl y) = inl (y.0, (ap accesses_in y.3 ∙ (λ i. Allocates y.0 (y.2 i) ∷ []), y.4))
+  opened entry Any (inr y) = inr (ap accesses_in y.0, y.1)
 
-  read : (slot off len : ℕ) → ReadsFrom catalogue size place slot off len events c
-      → IsReadDone catalogue size place slot off len (accesses_in events) c
-  read slot off len = same_cases (nat_le size slot) (refused EBADF) (λ x. elim x [
-    | inl y ↦ inl (y.0, refused ENOMEM y.1)
-    | inr y ↦ inr (elim y [
-      | inl z ↦ inl (ap accesses_in z.0, z.1)
-      | inr z ↦ inr (z.0.identity, (accesses_may_close ([] ▷ Look slot (Some z.0) ▷ Release z.0) (Some z.0) events z.1, z.2))
-    ])
-  ])
+  read : (slot off len : ℕ) → ReadsAt catalogue place slot off len events c → IsReadDone catalogue place slot off len (accesses_in events) c
+  read slot off len (inl y) = inl (y.0, refused ENOMEM y.1)
+  read slot off len (inr (inl z)) = inr (inl (ap accesses_in z.0, z.1))
+  read slot off len (inr (inr z)) =
+      inr (inr (z.0.identity, (accesses_may_close ([] ▷ Look slot (Some z.0) ▷ Release z.0) (Some z.0) events z.1, z.2)))
 
-  emptied : (slot : ℕ) → Empties size place slot events c → IsCloseDone size place slot (accesses_in events) c
-  emptied slot = same_cases (size == 0) (refused ENXIO) (same_cases (nat_le size slot) (refused EINVAL) (λ x. elim x [
-    | inl y ↦ inl (ap accesses_in y.0, y.1)
-    | inr y ↦ inr (y.0.identity, (accesses_may_close ([] ▷ Take slot (Some y.0)) (Some y.0) events y.1, y.2))
-  ]))
+  emptied : (slot : ℕ) → TakesAt place slot events c → IsCloseDone place slot (accesses_in events) c
+  emptied slot (inl y) = inl (ap accesses_in y.0, y.1)
+  emptied slot (inr y) = inr (y.0.identity, (accesses_may_close ([] ▷ Take slot (Some y.0)) (Some y.0) events y.1, y.2))
 
-  updated : (off : ℕ) (list : List ℤ) → UpdatesFrom (length catalogue) size place off list events c
-      → IsUpdateDone (length catalogue) size place off list (accesses_in events) c
-  updated off list =
-      same_cases (size == 0) (refused ENXIO) (same_cases (length list == 0 || nat_lt size (off + length list)) (refused EINVAL)
-      (same_cases (list_any (is_bad_entry (length catalogue)) list) (refused EBADF) (λ x. (list_applied place 0 off list events x.0, x.1))))
+  at_table : (operation : Operation) → AnswersAtTable catalogue place operation events c
+      → IsDoneAtTable catalogue place operation (accesses_in events) c
+  at_table (Opens name target) x = (x.0, x.1, opened x.0 target x.2)
+  at_table (Reads slot off len) x = read slot off len x
+  at_table (Closes slot) x = emptied slot x
+  at_table (Updates off list) x = (list_applied place 0 off list events x.0, x.1)
 
   answered : (operation : Operation) → Answers catalogue size place operation events c
       → IsRequestDone catalogue size place operation (accesses_in events) c
-  answered (Opens name target) = same_cases (has_name name catalogue) (λ x. (x.0, x.1, opened x.0 target x.2)) (refused ENOENT)
-  answered (Reads slot off len) = read slot off len
-  answered (Closes slot) = emptied slot
-  answered (Updates off list) = updated off list
+  answered operation = same_options (refusal_of catalogue size operation) (at_table operation) refused
 
 module _ (catalogue : List FileEntry) (size : ℕ) where
   -- the steps that explain a chain

@@ -8,12 +8,12 @@ pub use Rattle.fx_base.specs.declared.errno.Errno.TheVariants.{EBADF, ECANCELED,
 pub use Rattle.fx_base.specs.declared.mark.Mark.{Mark}
 pub use Rattle.fx_base.specs.declared.mark.Mark.TheVariants.{Registered, Submitted}
 pub use Rattle.fx_base.specs.declared.open_file.Closed.{Closed}
-pub use Rattle.fx_chain.proofs.Cases.{both_ways, either_case, either_way, same_cases}
+pub use Rattle.fx_chain.proofs.Cases.{both_options, both_ways, either_case, either_option, either_way, same_cases, same_options}
 pub use Rattle.fx_chain.proofs.Chains.{accepted-chains, members-are-runs}
 pub use Rattle.fx_chain.proofs.EntryKinds.{list_installs-cons}
 pub use Rattle.fx_chain.specs.Accepted.{IsAccepted, IsChain, IsWithinLimits, members_of}
-pub use Rattle.fx_chain.specs.Answers.{Answers, AppliesEntry, AppliesList, Empties, MayClose, OpensAt, ReadsFrom, Refuses, UpdatesFrom, installed}
-pub use Rattle.fx_chain.specs.Answers.{is_bad_entry}
+pub use Rattle.fx_chain.specs.Answers.{Answers, AnswersAtTable, AppliesEntry, AppliesList, MayClose, OpensAt, ReadsAt, Refuses, TakesAt, installed}
+pub use Rattle.fx_chain.specs.Refusal.{is_bad_entry, refusal_of}
 pub use Rattle.fx_chain.specs.Chains.{chains_of}
 pub use Rattle.fx_chain.specs.Completed.{Completed, all_completed, completed, completed_of, negated, next_member, refusal}
 pub use Rattle.fx_chain.specs.Explains.{Explains, canceled, first_member, severs}
@@ -35,7 +35,7 @@ pub use Rattle.fx_order.specs.Access.{accesses_of_chain, removed_by, removed_in,
 pub use Rattle.fx_order.specs.Laws.{AreKnown, IsOfNext}
 pub use Rattle.fx_order.specs.Order.{IsOneOrder, IsOrderOf, ring_left, table_of}
 pub use Rattle.fx_order.specs.Requests.{AreChainsDone, AreEntriesDone, IsChainDone, IsCloseDone, IsEntryDone, IsOpenDone, IsReadDone, IsRefused}
-pub use Rattle.fx_order.specs.Requests.{IsRequestDone, IsUpdateDone, Makes, gives}
+pub use Rattle.fx_order.specs.Requests.{IsDoneAtTable, IsRequestDone, IsUpdateDone, Makes, gives}
 pub use Rattle.fx_order.specs.Slots.{ring_of_slots, table_of_slots, ring_with_slots}
 pub use Rattle.fx_order.specs.declared.access.Access.{Access}
 pub use Rattle.fx_order.specs.declared.access.ChainAccess.{ChainAccess}

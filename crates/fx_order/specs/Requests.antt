@@ -1,19 +1,17 @@
 -- The answers that a request may get when it is done at once, by its accesses of a table of the
--- given size. The first case of a request that applies counts. And the answers of a chain.
-use Rattle.std.specs.Prelude.{◌≡◌, ◌⊎◌, ℕ, zero, suc, ◌+◌, ◌<◌, ℤ, pos, negsuc, ◌==◌, ◌||◌, nat_le}
-use Rattle.std.specs.Prelude.{nat_lt, List, [], ◌∷◌, ◌++◌, length, Option, Some, None}
+-- given size. And the answers of a chain.
+use Rattle.std.specs.Prelude.{◌≡◌, ◌⊎◌, ℕ, zero, suc, ◌+◌, ◌<◌, ℤ, pos, negsuc, List, [], ◌∷◌, ◌++◌}
+use Rattle.std.specs.Prelude.{length, Option, Some, None, MatchOption}
 use Rattle.std.specs.Bool.{MatchBool}
-use Rattle.std.specs.List.{list_any}
 use Rattle.fx_base.specs.declared.errno.Errno.{Errno}
-use Rattle.fx_base.specs.declared.errno.Errno.TheVariants.{ENOENT, ENXIO, EBADF, ENOMEM, EINVAL}
-use Rattle.fx_base.specs.declared.errno.Errno.TheVariants.{ENFILE}
+use Rattle.fx_base.specs.declared.errno.Errno.TheVariants.{EBADF, ENOMEM, ENFILE}
 use Rattle.fx_base.specs.Identity.{Identity}
 use Rattle.fx_base.specs.Catalogue.{FileEntry, name_at, bytes_at}
-use Rattle.fx_base.specs.AddFault.{has_name}
-use Rattle.fx_chain.specs.Answers.{installed, is_bad_entry}
+use Rattle.fx_chain.specs.Answers.{installed}
 use Rattle.fx_chain.specs.Completed.{Completed, completed, refusal, next_member}
 use Rattle.fx_chain.specs.Explains.{canceled, first_member, severs}
 use Rattle.fx_chain.specs.Operation.{Operation, Opens, Reads, Closes, Updates, Asked}
+use Rattle.fx_chain.specs.Refusal.{refusal_of}
 use Rattle.fx_chain.specs.declared.completion.Place.{Place}
 use Rattle.fx_chain.specs.declared.request.Target.{Target}
 use Rattle.fx_chain.specs.declared.request.Target.TheVariants.{Slot, Any}
@@ -31,17 +29,14 @@ abbrev pub IsRefused : Place → Errno → List Access → Completed → Type 0
 IsRefused place errno accesses c = (accesses ≡ []) × (c ≡ refusal place errno)
 
 -- an open of a catalogue entry
-abbrev pub IsOpenDone : ℕ → Place → ℕ → Target → List Access → Completed → Type 0
-IsOpenDone size place entry (Slot slot) accesses c =
-    MatchBool (size == 0) (IsRefused place ENXIO accesses c)
-    (MatchBool (nat_le size slot) (IsRefused place EINVAL accesses c)
-    ((removed : Option Identity)
-    × Makes (Puts slot (installed place 0 entry) removed) (completed place (pos 0) []) accesses c))
-IsOpenDone size place entry Any accesses c =
-    MatchBool (size == 0) (IsRefused place ENFILE accesses c)
-    (((slot : ℕ)
+abbrev pub IsOpenDone : Place → ℕ → Target → List Access → Completed → Type 0
+IsOpenDone place entry (Slot slot) accesses c =
+    (removed : Option Identity)
+    × Makes (Puts slot (installed place 0 entry) removed) (completed place (pos 0) []) accesses c
+IsOpenDone place entry Any accesses c =
+    ((slot : ℕ)
     × Makes (Allocates slot (installed place 0 entry)) (completed place (pos slot) []) accesses c)
-    ⊎ Makes FindsFull (refusal place ENFILE) accesses c)
+    ⊎ Makes FindsFull (refusal place ENFILE) accesses c
 
 -- the completion of a read of a file
 abbrev pub gives : List FileEntry → Place → Identity → ℕ → ℕ → Completed
@@ -50,22 +45,19 @@ gives catalogue place file off len =
     (bytes_at catalogue file.entry off len)
 
 -- a read of some bytes at a slot
-abbrev pub IsReadDone : List FileEntry → ℕ → Place → ℕ → ℕ → ℕ → List Access → Completed → Type 0
-IsReadDone catalogue size place slot off len accesses c =
-    MatchBool (nat_le size slot) (IsRefused place EBADF accesses c)
-    (((0 < len) × IsRefused place ENOMEM accesses c)
+abbrev pub IsReadDone : List FileEntry → Place → ℕ → ℕ → ℕ → List Access → Completed → Type 0
+IsReadDone catalogue place slot off len accesses c =
+    ((0 < len) × IsRefused place ENOMEM accesses c)
     ⊎ Makes (Looks slot None) (refusal place EBADF) accesses c
     ⊎ ((file : Identity)
-    × Makes (Looks slot (Some file)) (gives catalogue place file off len) accesses c))
+    × Makes (Looks slot (Some file)) (gives catalogue place file off len) accesses c)
 
 -- a close of a slot
-abbrev pub IsCloseDone : ℕ → Place → ℕ → List Access → Completed → Type 0
-IsCloseDone size place slot accesses c =
-    MatchBool (size == 0) (IsRefused place ENXIO accesses c)
-    (MatchBool (nat_le size slot) (IsRefused place EINVAL accesses c)
-    (Makes (Takes slot None) (refusal place EBADF) accesses c
+abbrev pub IsCloseDone : Place → ℕ → List Access → Completed → Type 0
+IsCloseDone place slot accesses c =
+    Makes (Takes slot None) (refusal place EBADF) accesses c
     ⊎ ((removed : Identity)
-    × Makes (Takes slot (Some removed)) (completed place (pos 0) []) accesses c)))
+    × Makes (Takes slot (Some removed)) (completed place (pos 0) []) accesses c)
 
 -- one entry of an update: its position in the list, and its slot. -1 empties the slot, a number of
 -- 0 or more installs that catalogue entry, and any other number leaves the slot
@@ -86,26 +78,25 @@ AreEntriesDone place in_list slot (entry ∷ list) accesses =
     × AreEntriesDone place (in_list + 1) (slot + 1) list others
 
 -- an update of the slots from `off` on
-abbrev pub IsUpdateDone : ℕ → ℕ → Place → ℕ → List ℤ → List Access → Completed → Type 0
-IsUpdateDone entries size place off list accesses c =
-    MatchBool (size == 0) (IsRefused place ENXIO accesses c)
-    (MatchBool (length list == 0 || nat_lt size (off + length list))
-    (IsRefused place EINVAL accesses c)
-    (MatchBool (list_any (is_bad_entry entries) list) (IsRefused place EBADF accesses c)
-    (AreEntriesDone place 0 off list accesses × (c ≡ completed place (pos (length list)) []))))
+abbrev pub IsUpdateDone : Place → ℕ → List ℤ → List Access → Completed → Type 0
+IsUpdateDone place off list accesses c =
+    AreEntriesDone place 0 off list accesses × (c ≡ completed place (pos (length list)) [])
+
+-- a request that isn't refused
+abbrev pub IsDoneAtTable : List FileEntry → Place → Operation → List Access → Completed → Type 0
+IsDoneAtTable catalogue place (Opens name target) accesses c =
+    (entry : ℕ) × (name_at catalogue entry ≡ Some name) × IsOpenDone place entry target accesses c
+IsDoneAtTable catalogue place (Reads slot off len) accesses c =
+    IsReadDone catalogue place slot off len accesses c
+IsDoneAtTable catalogue place (Closes slot) accesses c = IsCloseDone place slot accesses c
+IsDoneAtTable catalogue place (Updates off list) accesses c = IsUpdateDone place off list accesses c
 
 -- the request may have this completion, having made these accesses
 abbrev pub IsRequestDone : List FileEntry → ℕ → Place → Operation → List Access → Completed → Type 0
-IsRequestDone catalogue size place (Opens name target) accesses c =
-    MatchBool (has_name name catalogue)
-    ((entry : ℕ) × (name_at catalogue entry ≡ Some name)
-    × IsOpenDone size place entry target accesses c)
-    (IsRefused place ENOENT accesses c)
-IsRequestDone catalogue size place (Reads slot off len) accesses c =
-    IsReadDone catalogue size place slot off len accesses c
-IsRequestDone catalogue size place (Closes slot) accesses c = IsCloseDone size place slot accesses c
-IsRequestDone catalogue size place (Updates off list) accesses c =
-    IsUpdateDone (length catalogue) size place off list accesses c
+IsRequestDone catalogue size place operation accesses c =
+    MatchOption (refusal_of catalogue size operation)
+    (IsDoneAtTable catalogue place operation accesses c)
+    (λ errno. IsRefused place errno accesses c)
 
 -- the members of a chain from this place on make these accesses, one after another, and have these
 -- completions, up to and including the first one that severs the chain; the later ones are canceled

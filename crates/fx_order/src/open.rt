@@ -7,11 +7,10 @@ ghost use Rattle.fx_chain.specs.Completed.{completed_of};
 ghost use Rattle.fx_chain.specs.Operation.{Opens};
 ghost use Rattle.fx_chain.specs.declared.request.Target.TheVariants.{Slot, Any};
 ghost use Rattle.fx_order.specs.Access.{Puts, Allocates};
-ghost use Rattle.fx_order.specs.Requests.{IsOpenDone, IsRequestDone};
+ghost use Rattle.fx_order.specs.Requests.{IsDoneAtTable, IsOpenDone};
 
 use crate::access::Access;
 use crate::answer::{Performed, puts};
-use crate::setting::OrderSetting;
 use fx_base::{Catalogue, Errno};
 use fx_chain::Target;
 
@@ -59,16 +58,10 @@ fn entry_of(catalogue: &Catalogue, name: &str, own: &[Access]) -> Option<u8>
 }
 
 // Checks an open at a slot.
-fn is_open_at_done(size: u32, entry: u8, slot: u32, answer: &Performed<'_>) -> bool
-    ensures { IsTrue result ↔ IsOpenDone size answer.now.place entry (Slot slot) answer.now.own.now
+fn is_open_at_done(entry: u8, slot: u32, answer: &Performed<'_>) -> bool
+    ensures { IsTrue result ↔ IsOpenDone answer.now.place entry (Slot slot) answer.now.own.now
         (completed_of answer.now.c.now) }
 {
-    if size == 0 {
-        return answer.is_refusal(Errno::ENXIO);
-    }
-    if slot >= size {
-        return answer.is_refusal(Errno::EINVAL);
-    }
     match answer.own {
         [access] => puts(answer.place, 0, slot, entry, access) && answer.says(0, &[]),
         _ => false,
@@ -76,13 +69,10 @@ fn is_open_at_done(size: u32, entry: u8, slot: u32, answer: &Performed<'_>) -> b
 }
 
 // Checks an open at any slot.
-fn is_open_any_done(size: u32, entry: u8, answer: &Performed<'_>) -> bool
-    ensures { IsTrue result ↔ IsOpenDone size answer.now.place entry Any answer.now.own.now
+fn is_open_any_done(entry: u8, answer: &Performed<'_>) -> bool
+    ensures { IsTrue result ↔ IsOpenDone answer.now.place entry Any answer.now.own.now
         (completed_of answer.now.c.now) }
 {
-    if size == 0 {
-        return answer.is_refusal(Errno::ENFILE);
-    }
     match answer.own {
         [Access::Allocates(slot, file)] => {
             *file == answer.place.installed(0, entry)
@@ -96,20 +86,19 @@ fn is_open_any_done(size: u32, entry: u8, answer: &Performed<'_>) -> bool
 
 /// Checks whether an open made these accesses and has this completion.
 pub(crate) fn is_open_done(
-    setting: &OrderSetting<'_>,
+    catalogue: &Catalogue,
     name: &str,
     target: Target,
     answer: &Performed<'_>,
 ) -> bool
-    ensures { IsTrue result ↔ IsRequestDone setting.now.catalogue.now setting.now.size
-        answer.now.place (Opens name.now target) answer.now.own.now
-        (completed_of answer.now.c.now) }
+    ensures { IsTrue result ↔ IsDoneAtTable catalogue.now answer.now.place (Opens name.now target)
+        answer.now.own.now (completed_of answer.now.c.now) }
 {
-    let Some(entry) = entry_of(setting.catalogue, name, answer.own) else {
-        return answer.is_refusal(Errno::ENOENT);
+    let Some(entry) = entry_of(catalogue, name, answer.own) else {
+        return false;
     };
     match target {
-        Target::Slot(slot) => is_open_at_done(setting.size, entry, slot, answer),
-        Target::Any => is_open_any_done(setting.size, entry, answer),
+        Target::Slot(slot) => is_open_at_done(entry, slot, answer),
+        Target::Any => is_open_any_done(entry, answer),
     }
 }

@@ -12,7 +12,7 @@ use crate::open::is_open_done;
 use crate::setting::OrderSetting;
 use crate::update::is_update_done;
 use fx_base::{Closed, Errno, NoMemory};
-use fx_chain::{Op, Request};
+use fx_chain::{Op, Request, refusal_of};
 
 // Checks whether a read of a file has this completion.
 fn is_given(
@@ -50,12 +50,9 @@ fn is_read_done(
     len: u32,
     answer: &Performed<'_>,
 ) -> Result<bool, NoMemory>
-    ensures { IfOk result (λ yes. IsTrue yes ↔ IsReadDone setting.now.catalogue.now setting.now.size
+    ensures { IfOk result (λ yes. IsTrue yes ↔ IsReadDone setting.now.catalogue.now
         answer.now.place slot off len answer.now.own.now (completed_of answer.now.c.now)) }
 {
-    if slot >= setting.size {
-        return Ok(answer.is_refusal(Errno::EBADF));
-    }
     if answer.own.is_empty() {
         return Ok(len > 0 && answer.is_refusal(Errno::ENOMEM));
     }
@@ -67,16 +64,10 @@ fn is_read_done(
 }
 
 // Checks whether a close made these accesses and has this completion.
-fn is_close_done(size: u32, slot: u32, answer: &Performed<'_>) -> bool
-    ensures { IsTrue result ↔ IsCloseDone size answer.now.place slot answer.now.own.now
+fn is_close_done(slot: u32, answer: &Performed<'_>) -> bool
+    ensures { IsTrue result ↔ IsCloseDone answer.now.place slot answer.now.own.now
         (completed_of answer.now.c.now) }
 {
-    if size == 0 {
-        return answer.is_refusal(Errno::ENXIO);
-    }
-    if slot >= size {
-        return answer.is_refusal(Errno::EINVAL);
-    }
     match answer.own {
         [Access::Takes(at, None)] => *at == slot && answer.says(-Errno::EBADF.code(), &[]),
         [Access::Takes(at, Some(_))] => *at == slot && answer.says(0, &[]),
@@ -94,10 +85,13 @@ pub(crate) fn is_request_done(
         setting.now.size answer.now.place (operation_of request.now.op) answer.now.own.now
         (completed_of answer.now.c.now)) }
 {
+    if let Some(errno) = refusal_of(setting.catalogue, setting.size, request) {
+        return Ok(answer.is_refusal(errno));
+    }
     match &request.op {
-        Op::Open { name, target } => Ok(is_open_done(setting, name, *target, answer)),
+        Op::Open { name, target } => Ok(is_open_done(setting.catalogue, name, *target, answer)),
         Op::Read { slot, off, len } => is_read_done(setting, *slot, *off, *len, answer),
-        Op::Close { slot } => Ok(is_close_done(setting.size, *slot, answer)),
-        Op::Update { off, list } => Ok(is_update_done(setting, *off, list, answer)),
+        Op::Close { slot } => Ok(is_close_done(*slot, answer)),
+        Op::Update { off, list } => Ok(is_update_done(*off, list, answer)),
     }
 }

@@ -5,9 +5,7 @@ ghost use Rattle.fx_order.specs.Requests.{IsEntryDone, AreEntriesDone, IsUpdateD
 
 use crate::access::Access;
 use crate::answer::Performed;
-use crate::setting::OrderSetting;
-use fx_base::Errno;
-use fx_chain::{Place, has_bad_entry};
+use fx_chain::Place;
 
 // Checks whether this access is that of one entry, which isn't a skip.
 fn is_entry_done(place: Place, in_list: u32, slot: u32, entry: i32, access: &Access) -> bool
@@ -50,24 +48,11 @@ fn are_entries_done(
 }
 
 /// Checks whether an update made these accesses and has this completion.
-pub(crate) fn is_update_done(
-    setting: &OrderSetting<'_>,
-    off: u32,
-    list: &[i32],
-    answer: &Performed<'_>,
-) -> bool
-    ensures { IsTrue result ↔ IsUpdateDone (length setting.now.catalogue.now) setting.now.size
-        answer.now.place off list.now answer.now.own.now (completed_of answer.now.c.now) }
+pub(crate) fn is_update_done(off: u32, list: &[i32], answer: &Performed<'_>) -> bool
+    requires { off + length list.now < 2 ^ 32 }
+    ensures { IsTrue result ↔ IsUpdateDone answer.now.place off list.now answer.now.own.now
+        (completed_of answer.now.c.now) }
 {
-    if setting.size == 0 {
-        return answer.is_refusal(Errno::ENXIO);
-    }
-    if list.is_empty() || off as u64 + list.len() as u64 > setting.size as u64 {
-        return answer.is_refusal(Errno::EINVAL);
-    }
-    if has_bad_entry(setting.catalogue.len(), list) {
-        return answer.is_refusal(Errno::EBADF);
-    }
     are_entries_done(answer.place, 0, off, list, answer.own)
         && i64::from(answer.c.res) == list.len() as i64
         && answer.says(answer.c.res, &[])

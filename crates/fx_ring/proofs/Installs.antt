@@ -1,12 +1,14 @@
 -- What the members of a chain install: files of the catalogue, each with a mark of its own.
-use Rattle.fx_ring.proofs.Words.{refl, installed_by, ◌≡◌, ◌≢◌, ℕ, zero, suc, ◌+◌, ◌<◌, ◌≤◌, ◌==◌, ◌||◌, nat_le, nat_lt, ℤ, pos, negsuc, false, List}
-use Rattle.fx_ring.proofs.Words.{[], ◌∷◌, length, sym, ap, subst, ◌∙◌, ⊎_elim, Option, Some, None, arith, list_any, leb-false, has_name, FileEntry}
-use Rattle.fx_ring.proofs.Words.{Errno, ENOENT, ENXIO, EBADF, ENOMEM, EINVAL, ENFILE, Mark, Submitted, Closed, ◌▷◌, File, Action, Look, Release, Put}
-use Rattle.fx_ring.proofs.Words.{Clear, Take, Allocate, Full, Answers, OpensAt, AppliesEntry, AppliesList, Refuses, installed, is_bad_entry}
+use Rattle.fx_ring.proofs.Words.{refl, installed_by, ◌≡◌, ◌≢◌, ℕ, zero, suc, ◌+◌, ◌<◌, ◌≤◌, ℤ, pos, negsuc, false, List}
+use Rattle.fx_ring.proofs.Words.{[], ◌∷◌, length, sym, ap, subst, ◌∙◌, ⊎_elim, Option, Some, None, arith, list_any, leb-false, FileEntry}
+use Rattle.fx_ring.proofs.Words.{Errno, ENOMEM, Mark, Submitted, Closed, ◌▷◌, File, Action, Look, Release, Put}
+use Rattle.fx_ring.proofs.Words.{Clear, Take, Allocate, Full, Answers, AnswersAtTable, OpensAt, AppliesEntry, AppliesList, Refuses, installed, is_bad_entry}
 use Rattle.fx_ring.proofs.Words.{Completed, next_member, Explains, severs, Operation, Opens, Reads, Closes, Updates, Asked, Place, Target, Slot, Any}
-use Rattle.fx_ring.proofs.Words.{either_way, either_case, or_parts}
+use Rattle.fx_ring.proofs.Words.{either_case, either_option, or_parts}
 use Rattle.fx_ring.proofs.NewMarks.{Puts, puts_then, puts_so, puts_none, puts_one, puts_may_close}
 use Rattle.fx_base.proofs.Entries.{entry_named}
+use Rattle.fx_chain.proofs.Refused.{applied}
+use Rattle.fx_chain.specs.Refusal.{refusal_of}
 
 -- a file of the catalogue, by its mark
 abbrev pub IsMarked : ℕ → Mark → File → Type 0
@@ -59,19 +61,19 @@ module _ (catalogue : List FileEntry) (place : Place) where
     puts = subst (Puts P) (sym is) (puts_one P a (λ f new. no_file P f (sym none ∙ new)));
   }
 
-  opens : (size : ℕ) {entry : ℕ} (target : Target) {events : List Action} {c : Completed} → entry < entries
-      → OpensAt size place entry target events c → Gives place (Here 0) events c
-  opens size (Slot slot) {events} inside it =
-      either_case (size == 0) (refuses ENXIO) (either_case (nat_le size slot) (refuses EINVAL) (λ put. record {
-        at = ap place_of put.4;
-        puts = puts_may_close (Here 0) ([] ▷ Put slot put.0 put.1) put.1 events put.3 (installs_here (Put slot put.0 put.1) refl put.2 inside);
-      })) it
-  opens size Any inside it = either_case (size == 0) (refuses ENFILE) (⊎_elim
+  opens : {entry : ℕ} (target : Target) {events : List Action} {c : Completed} → entry < entries
+      → OpensAt place entry target events c → Gives place (Here 0) events c
+  opens (Slot slot) {events} inside put = record {
+    at = ap place_of put.4;
+    puts = puts_may_close (Here 0) ([] ▷ Put slot put.0 put.1) put.1 events put.3 (installs_here (Put slot put.0 put.1) refl put.2 inside);
+  }
+  opens Any inside it = ⊎_elim
       (λ found. record {
         at = ap place_of found.4;
         puts = subst (Puts (Here 0)) (sym found.3) (installs_here (Allocate found.0 found.1) refl found.2 inside);
       })
-      (λ full. installs_nothing Full refl full.0 full.1 refl)) it
+      (λ full. installs_nothing Full refl full.0 full.1 refl)
+      it
 
   applies_entry : {j : ℕ} (slot : ℕ) (z : ℤ) (events : List Action) → is_bad_entry entries z ≡ false → AppliesEntry place j slot z events
       → Puts (Here j) events
@@ -97,32 +99,33 @@ module _ (catalogue : List FileEntry) (place : Place) where
       (λ f at. (at.0, let le = at.1 in omega arith, at.2)) later_place (applies_entry slot z own (or_parts _ _ good).0 one)
       (applies_list (j + 1) (slot + 1) list others (or_parts _ _ good).1 more))
 
-  pub answered : (size : ℕ) (operation : Operation) {events : List Action} {c : Completed} → Answers catalogue size place operation events c
-      → Gives place (Listed 0) events c
-  answered size (Opens name target) {events} it = either_case (has_name name catalogue)
-      (λ found. let o = opens size target (entry_named catalogue found.0 name found.1) found.2 in
-      record { at = o.at; puts = puts_so (Here 0) (Listed 0) events (λ f at. (0, omega arith, at)) o.puts }) (refuses ENOENT) it
-  answered size (Reads slot off len) {events} it =
-      either_case (nat_le size slot) (refuses EBADF) (⊎_elim (λ large. refuses ENOMEM large.1) (⊎_elim
+  -- a request that isn't refused
+  at_table : (size : ℕ) (operation : Operation) {events : List Action} {c : Completed} → refusal_of catalogue size operation ≡ None
+      → AnswersAtTable catalogue place operation events c → Gives place (Listed 0) events c
+  at_table size (Opens name target) {events} accepted found =
+      let o = opens target (entry_named catalogue found.0 name found.1) found.2 in
+      record { at = o.at; puts = puts_so (Here 0) (Listed 0) events (λ f at. (0, omega arith, at)) o.puts }
+  at_table size (Reads slot off len) {events} accepted it = ⊎_elim (λ large. refuses ENOMEM large.1) (⊎_elim
       (λ none. installs_nothing (Look slot None) refl none.0 none.1 refl)
       (λ found. record {
         at = ap place_of found.2;
         puts = puts_may_close (Listed 0) ([] ▷ Look slot (Some found.0) ▷ Release found.0) (Some found.0) events found.1
             (puts_none (Listed 0) ([] ▷ Look slot (Some found.0) ▷ Release found.0)
             (λ f. ⊎_elim (⊎_elim (λ before. before) (no_file (λ _. ⊥) f)) (no_file (λ _. ⊥) f)));
-      }))) it
-  answered size (Closes slot) {events} it =
-      either_case (size == 0) (refuses ENXIO) (either_case (nat_le size slot) (refuses EINVAL) (⊎_elim
+      })) it
+  at_table size (Closes slot) {events} accepted it = ⊎_elim
       (λ none. installs_nothing (Take slot None) refl none.0 none.1 refl)
       (λ taken. record {
         at = ap place_of taken.2;
         puts = puts_may_close (Listed 0) ([] ▷ Take slot (Some taken.0)) (Some taken.0) events taken.1
             (puts_one (Listed 0) (Take slot (Some taken.0)) (no_file (Listed 0)));
-      }))) it
-  answered size (Updates off list) {events} it = either_case (size == 0) (refuses ENXIO)
-      (either_case (length list == 0 || nat_lt size (off + length list)) (refuses EINVAL)
-      (either_way (list_any (is_bad_entry entries) list) (λ _. refuses EBADF)
-      (λ good applied. record { at = ap place_of applied.1; puts = applies_list 0 off list events good applied.0 }))) it
+      }) it
+  at_table size (Updates off list) {events} accepted it =
+      record { at = ap place_of it.1; puts = applies_list 0 off list events (applied entries size off list accepted).good it.0 }
+
+  pub answered : (size : ℕ) (operation : Operation) {events : List Action} {c : Completed} → Answers catalogue size place operation events c
+      → Gives place (Listed 0) events c
+  answered size operation it = either_option (refusal_of catalogue size operation) (at_table size operation) (λ errno. refuses errno) it
 
 module _ (catalogue : List FileEntry) (size : ℕ) where
   later_member : {place : Place} (f g : File) → IsOfMembers (length catalogue) (next_member place) f → IsListed (length catalogue) place 0 g

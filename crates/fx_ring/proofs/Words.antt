@@ -9,9 +9,9 @@ pub use Rattle.fx_base.specs.declared.mark.Mark.{Mark}
 pub use Rattle.fx_base.specs.declared.mark.Mark.TheVariants.{Registered, Submitted}
 pub use Rattle.fx_base.specs.declared.open_file.Closed.{Closed}
 pub use Rattle.fx_chain.proofs.Accepted.{accepted-each, accepted-length, all_weights-small}
-pub use Rattle.fx_chain.proofs.Cases.{either_case, either_way}
+pub use Rattle.fx_chain.proofs.Cases.{either_case, either_option, either_way}
 pub use Rattle.fx_chain.specs.Accepted.{IsAccepted, IsChain, IsShortRun, members_of}
-pub use Rattle.fx_chain.specs.Answers.{Answers, AppliesEntry, AppliesList, MayClose, OpensAt, Refuses, installed, is_bad_entry}
+pub use Rattle.fx_chain.specs.Answers.{Answers, AnswersAtTable, AppliesEntry, AppliesList, MayClose, OpensAt, Refuses, installed, is_bad_entry}
 pub use Rattle.fx_chain.specs.Completed.{Completed, all_completed, completed_of, next_member}
 pub use Rattle.fx_chain.specs.Explains.{Explains, canceled, first_member, severs}
 pub use Rattle.fx_chain.specs.Operation.{Asked, Closes, Opens, Operation, Reads, Updates, all_asked, asked_of, operation_of}

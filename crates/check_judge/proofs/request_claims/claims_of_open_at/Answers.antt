@@ -1,18 +1,7 @@
-use Rattle.check_judge.proofs.ClaimWords.{eq-eqb, le-leb, ne_eqb}
 use Rattle.check_judge.proofs.RequestClaims.{open_here}
 use Rattle.check_judge.proofs.Telling.{tells_so}
 use Rattle.check_judge.proofs.request_claims.claims_of_open_at.Goals as goal
 
-pub returns-then-setting-eq0 : goal.returns-then-setting-eq0
-returns-then-setting-eq0 c =
-    tells_so _ _ _ _ (λ own done. rw (eq-eqb _ 0 c.if-setting-eq0.true) at done) (c.refused.ensures c.args.setting.now.closes.now)
-
-pub returns-then-slot-setting : goal.returns-then-slot-setting
-returns-then-slot-setting c =
-    tells_so _ _ _ _ (λ own done. rw (ne_eqb _ 0 c.if-setting-eq0.false, le-leb _ _ c.if-slot-setting.true) at done)
-    (c.refused-then-slot-setting.ensures c.args.setting.now.closes.now)
-
 pub returns : goal.returns
 returns c =
-    tells_so _ _ _ _ (λ own. open_here _ _ _ _ own c.if-setting-eq0.false c.if-slot-setting.false
-    (rw c.installed.ensures at c.resident_for-file.ensures)) (c.one.ensures c.args.setting.now.closes.now)
+    tells_so _ _ _ _ (λ own. open_here _ _ _ own (rw c.installed.ensures at c.resident_for-file.ensures)) (c.one.ensures c.args.setting.now.closes.now)

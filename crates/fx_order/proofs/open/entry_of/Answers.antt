@@ -1,13 +1,6 @@
-use Rattle.fx_order.proofs.Words.{◌≡◌, ℕ, zero, suc, Bool, true, ◌||◌, List, [], ◌∷◌, sym, ap, ◌∙◌, Some, has_name, FileEntry, name_at, bytes_eq}
-use Rattle.fx_order.proofs.Words.{bytes_decides}
-use Rattle.std.proofs.Math.Bool.{or-true}
+use Rattle.fx_order.proofs.Words.{sym}
+use Rattle.fx_order.proofs.Opened.{has_name_at}
 use Rattle.fx_order.proofs.open.entry_of.Goals as goal
-
-has_name_at : (catalogue : List FileEntry) {name : List ℕ} (i : ℕ) → name_at catalogue i ≡ Some name → has_name name catalogue ≡ true
-has_name_at [] i is = absurd (cc)
-has_name_at (x ∷ xs) {name} zero is =
-    let same : x.name ≡ name = cc in ap (λ (b : Bool). b || has_name name xs) ((bytes_decides x.name name).1 same)
-has_name_at (x ∷ xs) {name} (suc i) is = ap (λ (b : Bool). bytes_eq x.name name || b) (has_name_at xs i is) ∙ or-true (bytes_eq x.name name)
 
 pub returns-then-is_named-clause-variant : goal.returns-then-is_named-clause-variant
 returns-then-is_named-clause-variant c = sym (has_name_at c.args.catalogue.now c.in-Some.entry (c.is_named.ensures.0 c.if-is_named.true))

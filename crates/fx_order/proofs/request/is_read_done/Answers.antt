@@ -1,17 +1,14 @@
-use Rattle.fx_order.proofs.Words.{◌≡◌, ◌↔◌, inl, inr, ℕ, ◌<◌, nat_le, Bool, IsTrue, List, [], ◌∷◌, ap, ◌∙◌, arith, Some, nat_tests, FileEntry, Closed}
-use Rattle.fx_order.proofs.Words.{Completed, Place, Looks, IfOk-weaker, false, Access, IsReadDone, gives}
+use Rattle.fx_order.proofs.Words.{◌≡◌, ◌↔◌, inl, inr, ℕ, Bool, IsTrue, List, [], ◌∷◌, ap, ◌∙◌, Some, FileEntry, Closed}
+use Rattle.fx_order.proofs.Words.{Completed, Place, Looks, IfOk-weaker, Access, IsReadDone, gives}
 use Rattle.fx_order.proofs.request.is_read_done.Goals as goal
 
 -- a read that found a file
-module _ (catalogue : List FileEntry) (size : ℕ) (place : Place) (slot off len : ℕ) (own : List Access) (c : Completed) (file : Closed)
-    (lt : slot < size) (is : own ≡ Looks slot (Some file) ∷ []) where
-  within : nat_le size slot ≡ false
-  within = grind (arith, nat_tests)
-
-  read : (b : Bool) → (IsTrue b ↔ (c ≡ gives catalogue place file off len)) → IsTrue b ↔ IsReadDone catalogue size place slot off len own c
+module _ (catalogue : List FileEntry) (place : Place) (slot off len : ℕ) (own : List Access) (c : Completed) (file : Closed)
+    (is : own ≡ Looks slot (Some file) ∷ []) where
+  read : (b : Bool) → (IsTrue b ↔ (c ≡ gives catalogue place file off len)) → IsTrue b ↔ IsReadDone catalogue place slot off len own c
   read b told = (
-    λ yes. rw within (inr (inr (file, (is, told.0 yes)))),
-    λ x. elim (rw within at x) [
+    λ yes. inr (inr (file, (is, told.0 yes))),
+    λ x. elim x [
       | inl y ↦ let no = y.1.0 in absurd (cc)
       | inr y ↦ elim y [
         | inl z ↦ let no = z.0 in absurd (cc)
@@ -23,5 +20,5 @@ module _ (catalogue : List FileEntry) (size : ℕ) (place : Place) (slot off len
 pub returns-in-Some-Some : goal.returns-in-Some-Some
 returns-in-Some-Some c =
     IfOk-weaker c.is_given.result _ _
-    (read c.args.setting.now.catalogue.now c.args.setting.now.size c.args.answer.now.place c.args.slot c.args.off c.args.len c.args.answer.now.own.now
-    _ c.in-Some-Some.file c.if-slot-setting.false (rw c.in-Some-Some.field-0-is at c.in-Some-Some.ensures.some)) c.is_given.ensures
+    (read c.args.setting.now.catalogue.now c.args.answer.now.place c.args.slot c.args.off c.args.len c.args.answer.now.own.now
+    _ c.in-Some-Some.file (rw c.in-Some-Some.field-0-is at c.in-Some-Some.ensures.some)) c.is_given.ensures

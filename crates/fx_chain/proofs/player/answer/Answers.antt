@@ -1,0 +1,12 @@
+use Rattle.fx_chain.proofs.Words.{◌≡◌, Some, rules, size_of}
+use Rattle.fx_chain.proofs.ActsInTurn.{so_nothing}
+use Rattle.fx_chain.specs.Operation.{operation_of}
+use Rattle.fx_chain.specs.Refusal.{refusal_of}
+use Rattle.fx_chain.proofs.player.answer.Goals as goal
+
+pub returns-in-Some-clause-performed : goal.returns-in-Some-clause-performed
+returns-in-Some-clause-performed g c =
+    let seen = (g.met.T.SharedTable g.world.𝓛 g.world.𝓜 g.world.𝓡 ((λ s x. x), (λ x. x), (λ x. x), λ x. x)).fronts _ _ c.requires.ready.0 in
+    let refused : refusal_of c.args.context.now.catalogue.now (size_of (g.T.SharedTable.opening c.args.context.now.table.now))
+    (operation_of c.args.request.now.op) ≡ Some c.in-Some.errno = search rules in
+    so_nothing _ seen c.requires.ready.1 (rw refused (search rules))
