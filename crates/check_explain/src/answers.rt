@@ -3,7 +3,7 @@ use crate::case::Case;
 use crate::event::name_of;
 use crate::may_be::MayBe;
 use fx_base::{Errno, NoMemory};
-use fx_chain::{Completion, Op, Request, Target, has_bad_entry};
+use fx_chain::{Completion, Op, Request, Target};
 use std::alloc::{AllocError, Global};
 
 /// The largest number of answers, and of bytes of a file, that are shown.
@@ -18,54 +18,6 @@ pub enum ValidAnswer {
     Slots(u32, u32),
     /// The bytes of a file of this catalogue entry, as far as the read asks for them.
     Bytes(u8),
-}
-
-// Returns the error of an open that is refused whatever is at the slots.
-fn open_refusal(case: &Case<'_>, name: &str, target: Target) -> Option<Errno> {
-    if case.catalogue.find(name).is_none() {
-        return Some(Errno::ENOENT);
-    }
-    match target {
-        Target::Any if case.size() == 0 => Some(Errno::ENFILE),
-        Target::Any => None,
-        Target::Slot(slot) => close_refusal(case, slot),
-    }
-}
-
-// Returns the error of a close, or of an open at a slot, that is refused whatever is at the slots.
-fn close_refusal(case: &Case<'_>, slot: u32) -> Option<Errno> {
-    if case.size() == 0 {
-        Some(Errno::ENXIO)
-    } else if slot as usize >= case.size() {
-        Some(Errno::EINVAL)
-    } else {
-        None
-    }
-}
-
-// Returns the error of an update that is refused.
-fn update_refusal(case: &Case<'_>, off: u32, list: &[i32]) -> Option<Errno> {
-    let end = list.len().saturating_add(off as usize);
-    if case.size() == 0 {
-        Some(Errno::ENXIO)
-    } else if list.is_empty() || end > case.size() {
-        Some(Errno::EINVAL)
-    } else if has_bad_entry(case.catalogue.len(), list) {
-        Some(Errno::EBADF)
-    } else {
-        None
-    }
-}
-
-/// Returns the error of a request that is refused whatever is at the slots, or `None` if the slots decide.
-pub fn refusal_of(case: &Case<'_>, request: &Request) -> Option<Errno> {
-    match &request.op {
-        Op::Open { name, target } => open_refusal(case, name.as_str(), *target),
-        Op::Read { slot, .. } if *slot as usize >= case.size() => Some(Errno::EBADF),
-        Op::Read { .. } => None,
-        Op::Close { slot } => close_refusal(case, *slot),
-        Op::Update { off, list } => update_refusal(case, *off, list.as_slice()),
-    }
 }
 
 // Appends the answers of a read or a close of a slot, but for -12.
@@ -94,7 +46,7 @@ pub fn answers_of(
     request: &Request,
 ) -> Result<Vec<ValidAnswer>, NoMemory> {
     let mut answers = Vec::new(alloc);
-    if let Some(errno) = refusal_of(case, request) {
+    if let Some(errno) = case.refusal_of(request) {
         answers.push(ValidAnswer::Result(-errno.code()))?;
         return Ok(answers);
     }

@@ -1,5 +1,4 @@
 //! Canceled requests that would come to a slot.
-use crate::answers::refusal_of;
 use crate::case::Case;
 use crate::installed::KnownReport;
 use fx_base::Errno;
@@ -8,7 +7,7 @@ use std::alloc::AllocError;
 
 // Checks whether a request, unless it is canceled, empties a slot, or, if `installs`, leaves a file of its own there.
 fn comes_to(case: &Case<'_>, request: &Request, slot: usize, installs: bool) -> bool {
-    if refusal_of(case, request).is_some() {
+    if case.refusal_of(request).is_some() {
         return false;
     }
     match &request.op {

@@ -1,8 +1,8 @@
 //! The submission at which a text breaks.
 use crate::lines::{behind, line_at};
 use check_lines::read_report;
-use fx_base::{Catalogue, NoMemory};
-use fx_chain::{Completion, Op, Place, Request};
+use fx_base::{Catalogue, Errno, NoMemory};
+use fx_chain::{Completion, Op, Place, Request, refusal_of};
 use fx_order::Slots;
 use std::alloc::{AllocError, Global};
 
@@ -46,6 +46,12 @@ impl<'a> Case<'a> {
     /// Returns the number of slots of the table.
     pub fn size(&self) -> usize {
         self.slots.at.len()
+    }
+
+    /// Returns the error of a request that is refused whatever is at the slots, or `None` if the slots decide.
+    pub fn refusal_of(&self, request: &Request) -> Option<Errno> {
+        let size = u32::try_from(self.size()).unwrap_or(u32::MAX);
+        refusal_of(self.catalogue, size, request)
     }
 
     /// Checks whether a slot is in the allocation range.

@@ -40,11 +40,12 @@ pub fn may_change(cause: &Cause<'_>, request: &Request) -> bool {
 // Checks whether a request, if it runs, has one result whatever is at the slots.
 fn is_fixed(case: &Case<'_>, request: &Request) -> bool {
     match &request.op {
-        Op::Open { name, target } => {
-            *target != Target::Any || case.catalogue.find(name.as_str()).is_none()
+        Op::Open {
+            target: Target::Slot(_),
+            ..
         }
-        Op::Read { slot, .. } | Op::Close { slot } => *slot as usize >= case.size(),
-        Op::Update { .. } => true,
+        | Op::Update { .. } => true,
+        _ => case.refusal_of(request).is_some(),
     }
 }
 

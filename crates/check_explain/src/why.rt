@@ -1,5 +1,5 @@
 //! The reason why a request can't have its completion.
-use crate::answers::{push_bytes, refusal_of};
+use crate::answers::push_bytes;
 use crate::case::Case;
 use crate::event::name_of;
 use fx_base::{Errno, NoMemory};
@@ -106,7 +106,7 @@ pub fn push_why(
     let Some(Completion { res, got, .. }) = completion else {
         return Ok(told.push_str("its result can't be read")?);
     };
-    if let Some(errno) = refusal_of(case, request) {
+    if let Some(errno) = case.refusal_of(request) {
         return Ok(push_refusal(told, case, request, errno)?);
     }
     let count = got.len();

@@ -1,5 +1,5 @@
 //! Completions that no request there may have, or that their chain doesn't let be.
-use crate::answers::{ValidAnswer, answers_of, is_among, push_answers, refusal_of};
+use crate::answers::{ValidAnswer, answers_of, is_among, push_answers};
 use crate::case::{Case, next_place, push_place};
 use crate::complaint::Complaint;
 use crate::may_be::{MayBe, may_be_at};
@@ -44,7 +44,7 @@ fn may_fail(case: &Case<'_>, request: &Request) -> bool {
         Op::Read { .. } | Op::Close { .. } => true,
         Op::Update { .. } => false,
     };
-    depends && refusal_of(case, request).is_none()
+    depends && case.refusal_of(request).is_none()
 }
 
 // Returns the complaint that a member is canceled, though no earlier one severs its chain: the lines of those that could, and its
