@@ -6,6 +6,7 @@ use Rattle.fx_base.specs.Identity.{Identity}
 use Rattle.fx_plain.specs.History.{◌▷◌}
 use Rattle.fx_plain.specs.declared.event.File.{File}
 use Rattle.fx_plain.specs.declared.event.Action.TheVariants.{Allocate, Full}
+use Rattle.fx_plain.specs.declared.table.TheConstants.{MOST_SLOTS}
 use Rattle.fx_table.specs.Calls.{LookedUp, Released, Placed, Taken, HasRetired, Adds, IsNewFile}
 use Rattle.fx_table.specs.Calls.{no_use, one_number}
 use Rattle.fx_table.specs.Opening.{Opening, size_of}
@@ -17,6 +18,7 @@ use Rattle.fx_table.specs.declared.values.LookFault.{LookFault as TableFault}
 use Rattle.fx_table.specs.declared.values.LookFault.TheVariants as fault
 use Rattle.fx_table.specs.declared.values.Retired.{Retired}
 use Rattle.fx_lasting.specs.Passes.{nodes_of}
+use Rattle.fx_lasting.specs.declared.layout.TheConstants.{MOST_PASSES, MOST_INSTALLING}
 use Rattle.fx_lasting.specs.Tables.{view_of, opening_of_table, IsPassOfTable}
 use Rattle.fx_lasting.specs.declared.table.LastingTable.{LastingTable}
 use Rattle.fx_server.specs.Files.{file_with}
@@ -34,6 +36,12 @@ use Rattle.fx_server.specs.declared.answers.TakeFault.{TakeFault}
 use Rattle.fx_server.specs.declared.answers.TakeFault.TheVariants as take
 use Rattle.fx_server.specs.declared.worker.Held.{Held}
 use Rattle.fx_server.specs.declared.worker.TableWorker.{TableWorker}
+
+-- a table can have this many slots and workers, and workers that install files
+abbrev pub IsInRange : ℕ → ℕ → ℕ → Type 0
+IsInRange slots workers installing = (1 ≤ slots) × (slots ≤ MOST_SLOTS) × (1 ≤ workers)
+    × (workers ≤ MOST_PASSES) × (1 ≤ installing) × (installing ≤ MOST_INSTALLING)
+    × (installing ≤ workers)
 
 abbrev pub its_table : TableWorker → LastingTable
 its_table w = (arc_value w.shared).table

@@ -1,9 +1,10 @@
 //! Opening a table with its workers.
-ghost use Rattle.std.specs.Prelude.{◌≡◌, ◌<◌, All, IfOk, length};
+ghost use Rattle.std.specs.Prelude.{◌≡◌, ◌<◌, All, IfOk, IfErr, Err, length};
 ghost use Rattle.std.specs.Arc.{arc_value};
 ghost use Rattle.fx_table.specs.Pass.{IsIdle};
 ghost use Rattle.fx_lasting.specs.Tables.{view_of, IsPassOfTable};
-ghost use Rattle.fx_server.specs.Workers.{IsGood};
+ghost use Rattle.fx_server.specs.Workers.{IsGood, IsInRange};
+ghost use Rattle.fx_server.specs.declared.opening.OpenFault.TheVariants.{OutOfRange, NoMemory as RanOut};
 
 use crate::shared::{Shared, one_file};
 use crate::worker::TableWorker;
@@ -34,6 +35,8 @@ pub fn open(
 ) -> Result<Vec<TableWorker>, OpenFault>
     ensures good { IfOk result (λ list. All IsGood list.items) }
     ensures count { IfOk result (λ list. length list.items ≡ workers) }
+    ensures range { IfOk result (λ list. IsInRange slots workers installing) }
+    ensures out_of_range { result ≡ Err OutOfRange → IsInRange slots workers installing → ⊥ }
 {
     if slots < 1 || slots > MOST_SLOTS || workers < 1 || workers > MOST_PASSES {
         return Err(OpenFault::OutOfRange);
@@ -65,6 +68,7 @@ fn share(
     requires ready { All (λ p. IsPassOfTable shared.table p × IsIdle (view_of p)) passes.items }
     ensures good { IfOk result (λ list. All IsGood list.items) }
     ensures count { IfOk result (λ list. length list.items ≡ length passes.items) }
+    ensures memory { IfErr result (λ fault. fault ≡ RanOut) }
 {
     let Ok(shared) = Arc::new(alloc, shared) else {
         spend(passes);
@@ -87,6 +91,7 @@ fn deal(
     requires none { length workers.items ≡ 0 }
     ensures good { IfOk result (λ list. All IsGood list.items) }
     ensures count { IfOk result (λ list. length list.items ≡ length passes.items) }
+    ensures memory { IfErr result (λ fault. fault ≡ RanOut) }
 {
     while let Some(pass) = passes.pop() {
         let Ok(worker) = begin(&shared, pass) else {
