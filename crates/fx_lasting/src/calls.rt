@@ -1,6 +1,6 @@
 //! The calls of a pass that never wait, allocate or retry: each makes at most as many atomic steps as its clause says.
-//! A look-up and a release are inlined into their caller, except for a withdrawal and for taking a file out. These hints
-//! change no proof.
+//! They are inlined into their caller, except for a withdrawal, for the visits of a retirement and for taking a file out.
+//! These hints change no proof.
 ghost use Rattle.std.specs.Prelude.{◌≡◌, ◌≢◌, ◌+◌, ◌*◌, ◌-◌, ◌<◌, ◌≤◌, Option, option_map, Err};
 ghost use Rattle.fx_plain.specs.declared.event.File.{File};
 ghost use Rattle.fx_table.specs.Calls.{Looked, LookedUp, Released, Placed, Cleared, Taken, HasRetired};
@@ -129,6 +129,7 @@ impl LastingTable {
     /// Installs a file at a slot below `size`, under a number that no file has had, for an idle pass (`is_idle`) that
     /// installs files (`numbers_left`). It makes at most four atomic steps more than the pass's block has nodes. Returns
     /// the file that it replaced, to be retired, or `None` (io_uring_prep_openat(3), `io_uring_prep_openat_direct`).
+    #[inline(always)]
     pub fn put(&self, pass: &mut LastingPass, slot: u32, file: OpenFile) -> Option<Retired>
         requires fits { IsPassOfTable self.now pass.old }
         requires idle { IsIdle (view_of pass.old) }
@@ -158,6 +159,7 @@ impl LastingTable {
     /// Empties a slot below `size` for an update, for an idle pass (`is_idle`), in at most three atomic steps. Returns
     /// the file that was there, to be retired, or `None` (io_uring_register(2), "IORING_REGISTER_FILES_UPDATE", an
     /// entry of -1).
+    #[inline(always)]
     pub fn clear(&self, pass: &mut LastingPass, slot: u32) -> Option<Retired>
         requires fits { IsPassOfTable self.now pass.old }
         requires idle { IsIdle (view_of pass.old) }
@@ -183,6 +185,7 @@ impl LastingTable {
     ///
     /// # Errors
     /// `Empty` if the slot has no file.
+    #[inline(always)]
     pub fn take(&self, pass: &mut LastingPass, slot: u32) -> Result<Retired, Empty>
         requires fits { IsPassOfTable self.now pass.old }
         requires idle { IsIdle (view_of pass.old) }
@@ -206,6 +209,7 @@ impl LastingTable {
     /// Retires the file that the pass removed, by the `Retired` that it got, in at most twice as many atomic steps as the
     /// table has passes. Returns the file, to be closed, if nobody uses it now. Otherwise its last release returns it, or
     /// a look-up that first saw it and came too late (`LookUp::freed`). Afterwards the pass is idle.
+    #[inline(always)]
     pub fn retire(&self, pass: &mut LastingPass, retired: Retired) -> Option<OpenFile>
         requires fits { IsPassOfTable self.now pass.old }
         requires removed { IsRetiredOf (view_of pass.old) retired }

@@ -15,6 +15,7 @@ use fx_words::{begin_amount, end_amount};
 
 impl LastingTable {
     // Begins a change if the slot is in the range, and returns whether it is.
+    #[inline(always)]
     pub(crate) fn begin(&self, seat: &mut Seat<Option<OpenFile>, View>, slot: u32) -> bool
         requires table { seat.old.table_id ≡ self.now.table.shared.table_id }
         requires at { (number : ℕ) × IsAtWork self.now.table.shared.key number seat.old.me }
@@ -34,6 +35,7 @@ impl LastingTable {
     }
 
     // Ends the change, if one was begun, and reports the difference in the number of full slots.
+    #[inline(always)]
     pub(crate) fn end(&self, seat: &mut Seat<Option<OpenFile>, View>, began: bool, delta: i32)
         requires table { seat.old.table_id ≡ self.now.table.shared.table_id }
         requires at { (number : ℕ) × IsAtWork self.now.table.shared.key number seat.old.me }

@@ -64,6 +64,7 @@ impl SharedTable for LastingTable {
         self.release(pass, hold)
     }
 
+    #[inline(always)]
     fn put(
         &self,
         _rt: &impl Wait,
@@ -83,14 +84,17 @@ impl SharedTable for LastingTable {
         self.put_any(rt, pass, file)
     }
 
+    #[inline(always)]
     fn clear(&self, _rt: &impl Wait, pass: &mut LastingPass, slot: u32) -> Option<Retired> {
         self.clear(pass, slot)
     }
 
+    #[inline(always)]
     fn take(&self, _rt: &impl Wait, pass: &mut LastingPass, slot: u32) -> Result<Retired, Empty> {
         self.take(pass, slot)
     }
 
+    #[inline(always)]
     fn retire(
         &self,
         _rt: &impl Wait,

@@ -18,6 +18,7 @@ use fx_base::OpenFile;
 impl LastingTable {
     // Marks the announcements of the node by other passes, from `first` on, in at most two steps for each. Returns the
     // number of marks.
+    #[inline(never)]
     pub(crate) fn mark_all(
         &self,
         seat: &mut Seat<Option<OpenFile>, View>,
