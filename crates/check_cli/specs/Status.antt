@@ -9,9 +9,9 @@ use Rattle.check_judge.specs.declared.judgement.Judgement.TheVariants.{Legal, No
 abbrev pub may_status : RequestAnswers → ℕ
 may_status may = if may.are_all then 0 else 6
 
--- 0 where these are all texts of a script, 6 where there may be more
+-- 0 where these are all ways of a script, 6 where there may be more
 abbrev pub all_status : AllTexts → ℕ
-all_status all = if all.are_all then 0 else 6
+all_status all = if all.are_counted then 0 else 6
 
 -- 0 where the script may print the text, 1 where it may not, 6 where neither was shown
 abbrev pub status : Judgement → ℕ

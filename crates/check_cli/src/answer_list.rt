@@ -135,8 +135,11 @@ fn members_of<'a>(requests: &'a [Request], chains: &[Chain], i: usize) -> &'a [R
     requests.get(first..end).unwrap_or(&[])
 }
 
-// Puts the line of an order behind others: its submission, and the requests of its accesses.
-fn push_past(
+/// Appends the line of an order: its submission, and the requests of its accesses.
+///
+/// # Errors
+/// `NoMemory` if an allocation fails.
+pub(crate) fn push_past(
     alloc: Global,
     told: &mut String,
     script: &Script,

@@ -96,8 +96,8 @@ fn list_texts(
     script: &Script,
 ) -> Result<u8, NoVerdict> {
     let alloc = rt.alloc();
-    let all = texts_of(alloc, script, limits_of(settings))?;
-    let told = listing_of_texts(alloc, script, settings, most, &all)?;
+    let all = texts_of(alloc, script, limits_of(settings), most as usize)?;
+    let told = listing_of_texts(alloc, script, settings, &all)?;
     write(rt, told.as_str())?;
     Ok(status_of_texts(&all))
 }

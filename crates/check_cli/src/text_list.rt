@@ -2,38 +2,42 @@
 ghost use Rattle.std.specs.Prelude.{◌≡◌};
 ghost use Rattle.check_cli.specs.Status.{all_status};
 
-use crate::answer_list::{push_limits, push_orders};
+use crate::answer_list::{push_limits, push_past};
 use check_arguments::Settings;
 use check_texts::AllTexts;
 use fx_base::NoMemory;
 use fx_script::Script;
 use std::alloc::{AllocError, Global};
 
-/// Returns the exit status of the program: 0 if all texts were found, 6 if there may be more.
+/// Returns the exit status of the program: 0 if all ways of the script were found, 6 if there may be more.
 pub(crate) fn status_of_texts(all: &AllTexts) -> u8
     ensures { result ≡ all_status all.now }
 {
-    if all.are_all { 0 } else { 6 }
+    if all.are_counted { 0 } else { 6 }
+}
+
+// Returns the number of texts: that of a list of all texts, or else that of the ways.
+fn count_of(all: &AllTexts) -> u64 {
+    if all.are_all {
+        all.texts.len() as u64
+    } else {
+        all.ways
+    }
 }
 
 // Puts the line of how many texts there are behind others: what that rests on, and how many are listed, where not all are.
-fn push_count(
-    told: &mut String,
-    settings: Settings<'_>,
-    most: u32,
-    all: &AllTexts,
-) -> Result<(), AllocError> {
-    let count = all.texts.len();
-    if !all.are_all {
+fn push_count(told: &mut String, settings: Settings<'_>, all: &AllTexts) -> Result<(), AllocError> {
+    let (count, listed) = (count_of(all), all.texts.len() as u64);
+    if !all.are_counted {
         told.push_str("at least ")?;
     }
     let noun = if count == 1 { "text" } else { "texts" };
     write!(told, "{count} {noun}, if no allocation fails")?;
-    if !all.are_all {
+    if !all.are_counted {
         push_limits(told, settings)?;
     }
-    if count > most as usize {
-        write!(told, "; the first {most}:")?;
+    if count > listed {
+        write!(told, "; the first {listed}:")?;
     }
     told.push('\n')
 }
@@ -48,7 +52,26 @@ fn push_lines(told: &mut String, text: &str) -> Result<(), AllocError> {
     Ok(())
 }
 
-/// Returns the lines of the list: the number of texts, and of the first `most` texts the number, the lines and the orders of each.
+// Puts the lines of the orders behind others that lead to a text, by its number in the list, from 0.
+fn push_orders_of(
+    alloc: Global,
+    told: &mut String,
+    script: &Script,
+    all: &AllTexts,
+    number: usize,
+) -> Result<(), NoMemory> {
+    let Some(by) = all.by.get(number) else {
+        return Ok(());
+    };
+    for i in by {
+        if let Some(past) = all.orders.get(*i) {
+            push_past(alloc, told, script, past)?;
+        }
+    }
+    Ok(())
+}
+
+/// Returns the lines of the list: the number of texts, and of each text that was made the number, the lines and the orders.
 ///
 /// # Errors
 /// `NoMemory` if an allocation fails.
@@ -56,20 +79,17 @@ pub(crate) fn listing_of_texts(
     alloc: Global,
     script: &Script,
     settings: Settings<'_>,
-    most: u32,
     all: &AllTexts,
 ) -> Result<String, NoMemory> {
     let mut told = String::new(alloc);
-    push_count(&mut told, settings, most, all)?;
+    push_count(&mut told, settings, all)?;
     let mut number = 0usize;
-    for text in all.texts.iter().take(most as usize) {
-        let by = all.by.get(number).copied().flatten();
+    for text in all.texts.iter() {
+        let at = number;
         number = number.saturating_add(1);
         write!(told, "\ntext {number}\n")?;
         push_lines(&mut told, text.as_str())?;
-        if let Some(last) = by {
-            push_orders(alloc, &mut told, script, &all.orders, last, "")?;
-        }
+        push_orders_of(alloc, &mut told, script, all, at)?;
     }
     Ok(told)
 }

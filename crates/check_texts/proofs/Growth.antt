@@ -20,7 +20,7 @@ grows_on weaker one more = record {
 
 -- one more behind them
 module _ {X Y : Type 0} (f : Y → X) (xs : List Y) {ys : List Y} (y : Y) (are : ys ≡ xs ++ y ∷ []) where
-  has_pushed : Contains (map f ys) (f y)
+  pub has_pushed : Contains (map f ys) (f y)
   has_pushed = contains_mapped f ys y (rw are (Contains-push xs y))
 
   pub pushed : {P : X → Type 0} → P (f y) → Grows P (map f xs) (map f ys)

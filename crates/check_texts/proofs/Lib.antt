@@ -7,3 +7,4 @@ pub mod Plays
 pub mod Walks
 pub mod LedRings
 pub mod Whole
+pub mod Ways

@@ -1,9 +1,9 @@
 -- Plays in which memory is found, cut at a submission and put together again.
-use Rattle.check_texts.proofs.Words.{fault_of, Asked, Instruction, SubmitsAll, Meaning, RingContents, Reported, Prints, contains_none, EndsAs}
+use Rattle.check_texts.proofs.Words.{fault_of, Asked, Instruction, SubmitsAll, Meaning, RingContents, Reported, Prints, contains_none}
 use Rattle.check_texts.proofs.Words.{LeadsAll}
-use Rattle.check_texts.proofs.Words.{count_after_all, count_behind, stage, FoundMemory, IsReportFound, IsTextFound, PrintsAllFound, List, None}
+use Rattle.check_texts.proofs.Words.{count_after_all, count_behind, FoundMemory, IsReportFound, IsTextFound, PrintsAllFound, List, None}
 use Rattle.check_texts.proofs.Words.{Option}
-use Rattle.check_texts.proofs.Words.{Some, [], ap, arith, inl, inr, refl, subst, sym, true, ℕ, ⊎_elim, ◌++◌, ◌+◌, ◌∷◌, ◌≡◌, ◌≤◌, ◌⊎◌, append_assoc}
+use Rattle.check_texts.proofs.Words.{Some, [], ap, arith, inl, inr, refl, subst, sym, ℕ, ⊎_elim, ◌++◌, ◌+◌, ◌∷◌, ◌≡◌, ◌≤◌, ◌⊎◌, append_assoc}
 use Rattle.check_texts.proofs.Words.{option_to_list, Contains}
 use Rattle.std.proofs.lemmas.List.Elements.{Contains-append_cases, Contains-append_right}
 use Rattle.fx_table.proofs.Members.{contains_only}
@@ -60,16 +60,6 @@ play_behind ring mid (command ∷ front) rest before text reports (next, line, o
       (next, line, others ++ text, own, all, one, memory, rw (split, append_assoc), refl, whole),
       λ report inside. Contains-append_right (option_to_list own) all report (kept report inside),
     )
-
--- how a whole play is led to its end
-pub led_to_end : (ring : RingContents) (commands : List Instruction) (text : List ℕ) (reports : List Reported)
-    → PrintsAllFound ring commands text reports
-    → (last : RingContents) × (before : List ℕ) × LeadsAll ring commands last before × EndsAs (stage true last before) text
-led_to_end ring [] text reports (ends, none) = (ring, [], (refl, refl), (text, ends, refl))
-led_to_end ring (command ∷ commands) text reports (next, line, others, own, later, prints, memory, split, parts, rest) =
-    let (last, before, leads, (end, ends, is)) = led_to_end next commands others later rest in
-    let whole : text ≡ (line ++ before) ++ end = rw (split, append_assoc) (ap (λ (t : List ℕ). line ++ t) is) in
-    (last, line ++ before, (next, line, before, (own, prints, memory), refl, leads), (end, ends, whole))
 
 -- where a submission's report comes from
 pub record ReportAt (ring : RingContents) (front : List Instruction) (asked : List Asked) (report : Reported) : Type 0 where

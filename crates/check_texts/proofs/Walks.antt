@@ -2,7 +2,7 @@
 use Rattle.check_texts.proofs.Words.{from_here, fault_of, Asked, Instruction, SetsRange, SubmitsAll, instruction_of, instructions_of}
 use Rattle.check_texts.proofs.Words.{Command}
 use Rattle.check_texts.proofs.Words.{RingContents, RingState, ring_of, Reported, MOST_SUBMISSIONS, Prints, AreStagesFrom, HasEachFrom, HasEachLast, LeadsRing}
-use Rattle.check_texts.proofs.Words.{LeadsAll, MayLeadAllTo, Stage, after_call, count_after, count_after_all, count_behind, kept_text, stage}
+use Rattle.check_texts.proofs.Words.{LeadsAll, MayLeadAllTo, Stage, count_after, count_after_all, count_behind, kept_text, stage}
 use Rattle.check_texts.proofs.Words.{FoundMemory, Bool, List, None, Option, Some, [], ap, arith, drop, false, if◌then◌else◌, length, nat_le, refl}
 use Rattle.check_texts.proofs.Words.{slice_index_or, sym, take, true, ℕ, ◌++◌, ◌+◌, ◌<◌, ◌∙◌, ◌∷◌, ◌≡◌, ◌≤◌, append-nil, append_assoc, map-append}
 use Rattle.check_texts.proofs.Words.{map_more, Contains}

@@ -1,14 +1,13 @@
 -- What a whole play prints, and what a request may answer in it.
 use Rattle.check_texts.proofs.Words.{FileEntry, Completed, fault_of, Asked, Place, Instruction, SubmitsAll, Meaning, RingContents, RingState}
 use Rattle.check_texts.proofs.Words.{files_of_ring}
-use Rattle.check_texts.proofs.Words.{new_ring, ring_of, EndsAs, HasEachLast, HasEachSaidFrom, IsTextAt, MayEnd, MayLeadAllTo, MayLeadTo, MaySay}
+use Rattle.check_texts.proofs.Words.{new_ring, ring_of, HasEachLast, HasEachSaidFrom, MayEnd, MayLeadAllTo, MayLeadTo, MaySay}
 use Rattle.check_texts.proofs.Words.{Stage}
-use Rattle.check_texts.proofs.Words.{count_after_all, count_behind, stage, IsTextFound, MayAnswerIn, Bool, List, Some, [], ap, arith, refl, sym, true}
-use Rattle.check_texts.proofs.Words.{ℕ}
-use Rattle.check_texts.proofs.Words.{⊎_elim, ◌++◌, ◌+◌, ◌<◌, ◌∙◌, ◌∷◌, ◌≡◌, ◌⊎◌, append-nil, option_to_list, Contains}
+use Rattle.check_texts.proofs.Words.{count_after_all, count_behind, stage, MayAnswerIn, Bool, List, Some, [], ap, arith, refl}
+use Rattle.check_texts.proofs.Words.{⊎_elim, ◌++◌, ◌+◌, ◌<◌, ◌∙◌, ◌∷◌, ◌≡◌, ◌⊎◌, option_to_list, Contains}
 use Rattle.fx_print.specs.Text.{teardown_text}
 use Rattle.check_texts.proofs.LedRings.{starts}
-use Rattle.check_texts.proofs.Plays.{led_to_end, numbers_behind, play_behind, report_at}
+use Rattle.check_texts.proofs.Plays.{numbers_behind, play_behind, report_at}
 use Rattle.check_texts.proofs.Sorted.{closes_for, has_closed}
 use Rattle.check_texts.proofs.Walks.{all_counts}
 
@@ -71,21 +70,3 @@ none_answered {script} none may =
     let n = rw (none_counted ring new) at (numbers_behind ring script.commands may.text may.reports play may.among) in
     let is = may.submission in
     ⊎_elim (λ zero_is. omega (arith, n.0)) (λ past. omega (arith, n.1)) none
-
--- the texts of a script are those of the stages that it may come to
-
-pub stage_texts : (script : Meaning) {text : List ℕ} (stages : List Stage)
-    → ((s : Stage) → Contains stages s → MayLeadAllTo true (new_ring script.catalogue) script.commands s) → IsTextAt stages text
-    → IsTextFound script text
-stage_texts script stages each (s, inside, at_end) =
-    let (start, new) = starts script.catalogue in
-    let (last, before, all, is) = each s inside start new in
-    let (end, prints, split) = rw (sym is) at at_end in
-    let (reports, play, kept) = play_behind start last script.commands [] before end [] all (prints, refl) in
-    (reports, (start, new, rw split (rw append-nil at play)))
-
-pub text_at_stage : (script : Meaning) {text : List ℕ} (stages : List Stage) → HasEachLast true (new_ring script.catalogue) script.commands stages
-    → IsTextFound script text → (s : Stage) × Contains stages s × EndsAs s text
-text_at_stage script {text} stages all (reports, (ring, new, prints)) =
-    let (last, before, leads, ends) = led_to_end ring script.commands text reports prints in
-    (stage true last before, all ring last before new leads, ends)

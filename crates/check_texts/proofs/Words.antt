@@ -34,10 +34,10 @@ pub use Rattle.fx_ring.specs.Tags.{are_bad_tags, tags_given}
 pub use Rattle.fx_ring.specs.declared.ring.TheConstants.{MOST_REGISTRATIONS, MOST_SUBMISSIONS}
 pub use Rattle.fx_script.specs.Play.{CallAnswers, IsCallRefused, Prints, PrintsReport}
 pub use Rattle.fx_table.proofs.Members.{contains_map, contains_mapped, contains_none}
-pub use Rattle.check_texts.specs.Rings.{AreStagesFrom, EndsAs, Grows, HasEachFrom, HasEachLast, HasEachNextStage, HasEachSaidFrom, IsTextAt, LeadsRing}
+pub use Rattle.check_texts.specs.Rings.{AreStagesFrom, EndsAs, Grows, HasEachFrom, HasEachLast, HasEachNextStage, HasEachSaidFrom, LeadsRing}
 pub use Rattle.check_texts.specs.Rings.{LeadsAll, MayEnd, MayLeadAllTo, MayLeadTo, MaySay, Stage, count_after, count_after_all}
 pub use Rattle.check_texts.specs.Rings.{kept_text, said_in, stage, stage_left, stage_of, stage_reported, stages_of, AreSaidFrom}
-pub use Rattle.check_texts.specs.Rings.{IsAskedIn, AreReportsAt, IsSearched, asked_in}
+pub use Rattle.check_texts.specs.Rings.{IsAskedIn, AreReportsAt}
 pub use Rattle.check_texts.specs.Texts.{FoundMemory, IsReportFound, IsTextFound, MayAnswerIn, PrintsAllFound}
 pub use Rattle.check_texts.specs.declared.reached.Reached.{Reached}
 pub use Rattle.check_texts.specs.declared.saying.Said.{Said}

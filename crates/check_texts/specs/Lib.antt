@@ -1,2 +1,4 @@
 pub mod Texts
 pub mod Rings
+pub mod Ways
+pub mod Layers

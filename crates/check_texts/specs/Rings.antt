@@ -1,6 +1,6 @@
 -- The rings that commands may come to where memory is found.
 use Rattle.std.specs.Prelude.{◌≡◌, ◌⊎◌, ℕ, ◌+◌, List, [], ◌∷◌, ◌++◌, map, string_bytes}
-use Rattle.std.specs.Prelude.{All, Bool, true, false, Option, Some, None, Contains, IsTrue}
+use Rattle.std.specs.Prelude.{All, Bool, true, false, Option, Contains, IsTrue}
 use Rattle.fx_base.specs.Catalogue.{FileEntry}
 use Rattle.fx_chain.specs.Completed.{Completed, completed_of}
 use Rattle.fx_chain.specs.Faults.{fault_of}
@@ -21,7 +21,6 @@ use Rattle.check_texts.specs.Texts.{FoundMemory, IsReportFound, PrintsAllFound}
 use Rattle.check_texts.specs.declared.asking.Inquiry.{Inquiry}
 use Rattle.check_texts.specs.declared.saying.Said.{Said}
 use Rattle.check_texts.specs.declared.reached.Reached.{Reached}
-use Rattle.check_texts.specs.declared.searched.Searched.{Searched}
 
 -- the count of accepted submissions behind a command
 abbrev pub count_after : ℕ → Instruction → ℕ
@@ -80,22 +79,12 @@ HasEachNextStage keeps old command stages =
     (ring next : RingContents) (line : List ℕ) → ring_of ring ≡ old.ring
     → LeadsRing ring command next line → Contains stages (stage keeps next (old.printed ++ line))
 
--- the requests of a command, where it is a submission
-abbrev pub asked_in : Instruction → List Asked
-asked_in (SubmitsAll asked) = asked
-asked_in _ = []
-
 -- the reports that a search found at a ring are reports of the submission, and all of them where it
 -- says so
 pub record AreReportsAt (old : RingState) (asked : List Asked) (found : PossibleReports) : Type 0
   where
     pub each : All (IsPossible old asked) found.reports.items
     pub all : IsTrue found.are_all → HasEachReport old asked found.reports.items
-
--- what is kept of a search at its ring
-abbrev pub IsSearched : List FileEntry → List Asked → Searched → Type 0
-IsSearched catalogue asked searched =
-    AreReportsAt (ring_with_slots catalogue searched.ring) asked searched.found
 
 -- each of the one list is where the command may lead to from one of the other
 abbrev pub AreStagesFrom : Bool → List Stage → Instruction → List Stage → Type 0
@@ -154,15 +143,6 @@ stage_reported keeps old possible =
 abbrev pub EndsAs : Stage → List ℕ → Type 0
 EndsAs last text =
     (end : List ℕ) × PrintsEnd last.ring end × (text ≡ last.printed ++ end)
-
--- it is the text of a play that has come to one of these
-abbrev pub IsTextAt : List Stage → List ℕ → Type 0
-IsTextAt stages text = (s : Stage) × Contains stages s × EndsAs s text
-
--- whatever text a play has that has come to one of these is in the list
-abbrev pub HasEachText : List Stage → List (List ℕ) → Type 0
-HasEachText stages texts =
-    (s : Stage) (text : List ℕ) → Contains stages s → EndsAs s text → Contains texts text
 
 -- a ring of this state may answer so at the place, in front of these commands
 pub record MaySay (old : RingState) (asked : List Asked) (behind : List Instruction) (place : Place)

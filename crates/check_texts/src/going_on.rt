@@ -7,7 +7,6 @@ ghost use Rattle.check_texts.specs.Rings.{MayEnd, MayLeadTo, stage_of};
 
 use crate::next::push_next;
 use crate::reached::Reached;
-use crate::searched::Searches;
 use crate::setting::WalkSetting;
 use crate::spent::Spent;
 use fx_base::NoMemory;
@@ -24,17 +23,10 @@ fn one_next(
         (stage_of setting.now.catalogue.now from.now) (instruction_of command.now)
         (stage_of setting.now.catalogue.now reached))) }
 {
-    let mut searches = Searches::none(setting.alloc, Spent::nothing());
+    let mut spent = Spent::nothing();
     let mut pasts = Vec::new(setting.alloc);
     let mut rings = Vec::new(setting.alloc);
-    let _all = push_next(
-        setting,
-        &mut searches,
-        &mut pasts,
-        &mut rings,
-        from,
-        command,
-    )?;
+    let _all = push_next(setting, &mut spent, &mut pasts, &mut rings, from, command)?;
     Ok(rings.pop())
 }
 

@@ -12,14 +12,14 @@ ghost use Rattle.fx_ring.specs.Ring.{IsRing};
 ghost use Rattle.fx_ring.specs.declared.ring.TheConstants.{MOST_SUBMISSIONS};
 ghost use Rattle.check_lines.specs.Calls.{IsCall};
 ghost use Rattle.check_texts.specs.Rings.{Grows, HasEachNextStage, MayLeadTo, kept_text};
-ghost use Rattle.check_texts.specs.Rings.{AreReportsAt, IsSearched, asked_in};
+ghost use Rattle.check_texts.specs.Rings.{AreReportsAt};
 ghost use Rattle.check_texts.specs.Rings.{stage_left, stage_of, stage_reported, stages_of};
 
 use crate::distinct::push_new;
 use crate::reached::{Past, Reached};
-use crate::searched::{Searched, Searches, search_at};
 use crate::setting::WalkSetting;
-use check_lines::{accepted_in, call, copy_of};
+use crate::spent::Spent;
+use check_lines::{accepted_in, call};
 use check_outcomes::{PossibleReport, PossibleReports, may_leave, may_report};
 use fx_base::NoMemory;
 use fx_chain::Request;
@@ -212,10 +212,10 @@ fn push_found(
     Ok(found.are_all)
 }
 
-// The same of the reports of the submission. They are searched for once at each ring.
+// The same of the reports of the submission.
 fn push_reports(
     setting: &WalkSetting<'_>,
-    searches: &mut Searches,
+    spent: &mut Spent,
     pasts: &mut Vec<Past>,
     rings: &mut Vec<Reached>,
     from: &Reached,
@@ -225,8 +225,6 @@ fn push_reports(
     requires faultless { fault_of (all_asked requests.now) ≡ None }
     requires few { from.now.ring.submissions < MOST_SUBMISSIONS }
     requires ring { IsRing (ring_with_slots setting.now.catalogue.now from.now.ring) }
-    requires known { All (IsSearched setting.now.catalogue.now (all_asked requests.now))
-        searches.old.known.items }
     ensures grows { IfOk result (λ _. Grows
         (MayLeadTo setting.now.keeps (stage_of setting.now.catalogue.now from.now)
         (SubmitsAll (all_asked requests.now)))
@@ -235,26 +233,17 @@ fn push_reports(
     ensures all { IfOk result (λ all. IsTrue all → HasEachNextStage setting.now.keeps
         (stage_of setting.now.catalogue.now from.now) (SubmitsAll (all_asked requests.now))
         (stages_of setting.now.catalogue.now rings.new.items)) }
-    ensures known { IfOk result (λ _. All
-        (IsSearched setting.now.catalogue.now (all_asked requests.now)) searches.new.known.items) }
 {
-    if let Some(searched) = search_at(&searches.known, &from.ring) {
-        return push_found(setting, pasts, rings, from, requests, &searched.found);
-    }
     let found = may_report(
         setting.alloc,
         setting.catalogue,
         &from.ring.slots,
         from.ring.submissions,
         requests,
-        searches.spent.left_of(setting.limits, rings.is_empty()),
+        spent.left_of(setting.limits),
     )?;
-    searches.spent.count_states(found.states);
-    searches.spent.count_reports(&found);
-    let all = push_found(setting, pasts, rings, from, requests, &found)?;
-    let ring = copy_of(setting.alloc, &from.ring)?;
-    searches.known.push(Searched { ring, found })?;
-    Ok(all)
+    spent.count_states(found.states);
+    push_found(setting, pasts, rings, from, requests, &found)
 }
 
 // Puts the ring that a call between submissions leaves of one, or a refused submission, behind others.
@@ -289,22 +278,19 @@ fn push_call(
 }
 
 /// Appends the rings that a command may lead to from one, and returns whether these are all of them. Where the limits of the
-/// script are reached, it appends none, unless the list is empty.
+/// script are reached, it appends none, unless none is kept yet after the command.
 ///
 /// # Errors
 /// `NoMemory` if an allocation fails.
 pub(crate) fn push_next(
     setting: &WalkSetting<'_>,
-    searches: &mut Searches,
+    spent: &mut Spent,
     pasts: &mut Vec<Past>,
     rings: &mut Vec<Reached>,
     from: &Reached,
     command: &Command,
 ) -> Result<bool, NoMemory>
     requires ring { IsRing (ring_with_slots setting.now.catalogue.now from.now.ring) }
-    requires known { All
-        (IsSearched setting.now.catalogue.now (asked_in (instruction_of command.now)))
-        searches.old.known.items }
     ensures grows { IfOk result (λ _. Grows
         (MayLeadTo setting.now.keeps (stage_of setting.now.catalogue.now from.now)
         (instruction_of command.now)) (stages_of setting.now.catalogue.now rings.old.items)
@@ -312,16 +298,13 @@ pub(crate) fn push_next(
     ensures all { IfOk result (λ all. IsTrue all → HasEachNextStage setting.now.keeps
         (stage_of setting.now.catalogue.now from.now) (instruction_of command.now)
         (stages_of setting.now.catalogue.now rings.new.items)) }
-    ensures known { IfOk result (λ _. All
-        (IsSearched setting.now.catalogue.now (asked_in (instruction_of command.now)))
-        searches.new.known.items) }
 {
-    if !rings.is_empty() && !searches.spent.has_room(setting.limits, rings.len()) {
+    if !spent.has_room(setting.limits) {
         return Ok(false);
     }
     if let Some(requests) = accepted_in(command, from.ring.submissions) {
         if setting.keeps {
-            return push_reports(setting, searches, pasts, rings, from, requests);
+            return push_reports(setting, spent, pasts, rings, from, requests);
         }
         return push_ends(setting, pasts, rings, from, requests);
     }

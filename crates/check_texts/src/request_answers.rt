@@ -50,6 +50,7 @@ pub fn may(
         catalogue: script.catalogue(),
         limits,
         keeps: false,
+        most: 0,
     };
     let mut orders = Vec::new(alloc);
     let Some(asking) = asking_at(script.commands(), place) else {

@@ -1,14 +1,14 @@
 //! The rings that commands may lead to, one after another.
-ghost use Rattle.std.specs.Prelude.{◌≡◌, [], ◌∷◌, IfOk, IsTrue, Contains, List};
+ghost use Rattle.std.specs.Prelude.{◌≡◌, [], ◌∷◌, IfOk, IsTrue, Contains, List, length};
 ghost use Rattle.fx_base.specs.Catalogue.{FileEntry};
 ghost use Rattle.fx_language.specs.Instruction.{instruction_of, instructions_of};
+ghost use Rattle.fx_order.specs.Slots.{ring_with_slots};
 ghost use Rattle.fx_ring.specs.Ring.{new_ring};
 ghost use Rattle.check_texts.specs.Rings.{AreStagesFrom, AreRings, HasEachFrom, HasEachLast, MayLeadAllTo};
 ghost use Rattle.check_texts.specs.Rings.{Stage, stages_of};
 
 use crate::next::{both, push_next};
 use crate::reached::{Past, Reached};
-use crate::searched::Searches;
 use crate::setting::WalkSetting;
 use crate::spent::Spent;
 use fx_base::NoMemory;
@@ -24,30 +24,42 @@ pub(crate) struct Rings {
     pub(crate) are_all: bool,
 }
 
-// A ring without a table, with nothing counted, alone.
-fn start(alloc: Global) -> Result<Vec<Reached>, NoMemory>
+/// Returns a ring without a table, with nothing counted.
+pub(crate) fn start_ring(alloc: Global) -> RingSlots
+    ensures ring { (catalogue : List FileEntry)
+        → ring_with_slots catalogue result ≡ new_ring catalogue }
+    ensures empty { length result.slots.at.items ≡ 0 }
+{
+    RingSlots {
+        slots: Slots {
+            range: (0, 0),
+            at: Vec::new(alloc),
+        },
+        submissions: 0,
+        registrations: 0,
+    }
+}
+
+/// Returns a list of that ring alone.
+///
+/// # Errors
+/// `NoMemory` if an allocation fails.
+pub(crate) fn start(alloc: Global) -> Result<Vec<Reached>, NoMemory>
     ensures { IfOk result (λ rings. (catalogue : List FileEntry)
         → stages_of catalogue rings.items
         ≡ record { ring = new_ring catalogue; printed = [] } ∷ []) }
 {
     let mut rings = Vec::new(alloc);
     rings.push(Reached {
-        ring: RingSlots {
-            slots: Slots {
-                range: (0, 0),
-                at: Vec::new(alloc),
-            },
-            submissions: 0,
-            registrations: 0,
-        },
+        ring: start_ring(alloc),
         printed: String::new(alloc),
         past: None,
     })?;
     Ok(rings)
 }
 
-// Counts the bytes of the rings and orders that are new.
-fn count_new(spent: &mut Spent, rings: &[Reached], pasts: &[Past]) {
+/// Counts the bytes of the rings and orders that are new.
+pub(crate) fn count_new(spent: &mut Spent, rings: &[Reached], pasts: &[Past]) {
     for reached in rings {
         spent.count_ring(reached);
     }
@@ -78,16 +90,14 @@ pub(crate) fn after(
     let mut next = Vec::new(setting.alloc);
     let mut are_all = true;
     spent.begin_command();
-    let mut searches = Searches::none(setting.alloc, *spent);
     for reached in rings {
         let (old_rings, old_pasts) = (next.len(), pasts.len());
-        let all = push_next(setting, &mut searches, pasts, &mut next, reached, command)?;
+        let all = push_next(setting, spent, pasts, &mut next, reached, command)?;
         let new_rings = next.as_slice().get(old_rings..).unwrap_or(&[]);
         let new_pasts = pasts.as_slice().get(old_pasts..).unwrap_or(&[]);
-        count_new(&mut searches.spent, new_rings, new_pasts);
+        count_new(spent, new_rings, new_pasts);
         are_all = both(are_all, all);
     }
-    *spent = searches.spent;
     Ok(Rings {
         rings: next,
         are_all,

@@ -14,5 +14,7 @@ pub(crate) struct WalkSetting<'a> {
     pub(crate) limits: Limits,
     /// Whether it is kept what was printed.
     pub(crate) keeps: bool,
+    /// The number of texts that are made at most.
+    pub(crate) most: usize,
     pub ghost files: { IsCatalogue catalogue.now },
 }

@@ -1,7 +1,6 @@
 //! How much of its limits the walk through a script has used. Nothing is proved of these numbers: they only bound the walk.
 
 use crate::reached::Reached;
-use check_outcomes::PossibleReports;
 use check_search::Limits;
 
 // What a ring that is kept takes beside its slots and its text: its place in two lists and among the texts.
@@ -21,17 +20,24 @@ const LAST_STATES: usize = 4_096;
 
 const LAST_BYTES: usize = 16 * 1_048_576;
 
+// What a text takes beside its bytes, and each of its orders.
+const TEXT_BYTES: usize = 80;
+
+const PLACE_BYTES: usize = 8;
+
 /// The states that the searches of a script have met, and the bytes that are kept.
 #[derive(Clone, Copy, Debug)]
 pub(crate) struct Spent {
     /// The states that the searches met.
     states: usize,
-    /// The bytes of the orders, which are kept to the end.
-    orders: usize,
-    /// The bytes of the rings before a command.
+    /// The bytes that are kept to the end.
+    kept: usize,
+    /// The bytes of the rings or texts before a command.
     before: usize,
-    /// The bytes of the rings after it.
+    /// The bytes of the rings or texts after it.
     after: usize,
+    /// The number of rings that are kept after it.
+    rings: usize,
 }
 
 impl Spent {
@@ -39,16 +45,25 @@ impl Spent {
     pub(crate) fn nothing() -> Spent {
         Spent {
             states: 0,
-            orders: 0,
+            kept: 0,
             before: 0,
             after: 0,
+            rings: 0,
         }
     }
 
-    /// Begins the next command: the rings after the last one are those before it.
+    /// Begins the next command: the rings or texts after the last one are those before it.
     pub(crate) fn begin_command(&mut self) {
         self.before = self.after;
         self.after = 0;
+        self.rings = 0;
+    }
+
+    /// Begins the next command, and keeps the rings after the last one to the end.
+    pub(crate) fn keep_command(&mut self) {
+        self.kept = self.kept.saturating_add(self.after);
+        self.after = 0;
+        self.rings = 0;
     }
 
     /// Counts the states that a search met.
@@ -56,59 +71,57 @@ impl Spent {
         self.states = self.states.saturating_add(states);
     }
 
-    /// Counts the bytes of a ring that is kept after a command, with its text.
+    /// Counts a ring that is kept after a command, with its text.
     pub(crate) fn count_ring(&mut self, reached: &Reached) {
         let slots = reached.ring.slots.at.len().saturating_mul(SLOT_BYTES);
-        // the text stands once more among those of the script
-        let text = reached.printed.len().saturating_mul(2);
+        self.rings = self.rings.saturating_add(1);
         self.after = self
             .after
             .saturating_add(slots)
-            .saturating_add(text)
+            .saturating_add(reached.printed.len())
             .saturating_add(RING_BYTES);
     }
 
     /// Counts the bytes of an order with `accesses` accesses.
     pub(crate) fn count_order(&mut self, accesses: usize) {
-        self.orders = self
-            .orders
+        self.kept = self
+            .kept
             .saturating_add(accesses.saturating_mul(ACCESS_BYTES))
             .saturating_add(ORDER_BYTES);
     }
 
-    /// Counts the bytes of the reports that a search found, which are kept until the next command.
-    pub(crate) fn count_reports(&mut self, found: &PossibleReports) {
-        for possible in &found.reports {
-            let slots = possible.slots.at.len().saturating_mul(SLOT_BYTES);
-            let order = possible.order.len().saturating_mul(ACCESS_BYTES);
-            let told = possible.report.completions.len().saturating_mul(SLOT_BYTES);
-            self.after = self
-                .after
-                .saturating_add(slots)
-                .saturating_add(order)
-                .saturating_add(told)
-                .saturating_add(RING_BYTES);
-        }
+    /// Counts a text of `bytes` bytes with `orders` orders.
+    pub(crate) fn count_text(&mut self, bytes: usize, orders: usize) {
+        self.after = self
+            .after
+            .saturating_add(bytes)
+            .saturating_add(orders.saturating_mul(PLACE_BYTES))
+            .saturating_add(TEXT_BYTES);
     }
 
     // The bytes that are kept.
     fn bytes(&self) -> usize {
-        self.orders
+        self.kept
             .saturating_add(self.before)
             .saturating_add(self.after)
     }
 
-    /// Checks whether more rings may be kept after a command, where `count` are.
-    pub(crate) fn has_room(&self, limits: Limits, count: usize) -> bool {
-        count < limits.states && self.bytes() < limits.bytes
+    /// Checks whether more bytes may be kept.
+    pub(crate) fn has_bytes(&self, limits: Limits) -> bool {
+        self.bytes() < limits.bytes
+    }
+
+    /// Checks whether more rings may be kept after a command: if none is, at least a few.
+    pub(crate) fn has_room(&self, limits: Limits) -> bool {
+        self.rings == 0 || (self.rings < limits.states && self.has_bytes(limits))
     }
 
     /// Returns what the next search of a submission may use: what is left of the limits, and at the first ring after a command
     /// at least a little.
-    pub(crate) fn left_of(&self, limits: Limits, is_first: bool) -> Limits {
+    pub(crate) fn left_of(&self, limits: Limits) -> Limits {
         let states = limits.states.saturating_sub(self.states);
         let bytes = limits.bytes.saturating_sub(self.bytes());
-        if !is_first {
+        if self.rings != 0 {
             return Limits { states, bytes };
         }
         Limits {

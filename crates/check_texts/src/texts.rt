@@ -1,122 +1,141 @@
 //! The texts that a script can print.
-ghost use Rattle.std.specs.Prelude.{◌≡◌, All, Contains, IfOk, IsTrue, List, OnOk, map};
-ghost use Rattle.fx_order.specs.Slots.{ring_with_slots};
-ghost use Rattle.std.specs.Prelude.{string_bytes, string_eq, true, ℕ};
+ghost use Rattle.std.specs.Prelude.{◌≡◌, ◌-◌, ◌<◌, ◌^◌, All, Contains, IfOk, IsTrue, List, OnOk, map};
+ghost use Rattle.std.specs.Prelude.{string_bytes, string_eq, ℕ};
 ghost use Rattle.indexmap.specs.IndexSet.{IsUnique};
-ghost use Rattle.fx_ring.specs.Ring.{IsRing};
-ghost use Rattle.check_texts.specs.Rings.{AreRings, EndsAs, Grows, HasEachText, IsTextAt};
-ghost use Rattle.check_texts.specs.Rings.{stage_of, stages_of};
+ghost use Rattle.check_texts.specs.Layers.{texts_in};
+ghost use Rattle.check_texts.specs.Rings.{Grows};
 ghost use Rattle.check_texts.specs.Texts.{IsTextFound};
+ghost use Rattle.check_texts.specs.Ways.{HasWays};
 
-use crate::next::printed_behind;
-use crate::reached::{Past, Reached};
-use crate::rings::after_all;
+use crate::layers::layers_of;
+use crate::next::both;
+use crate::reached::Past;
+use crate::rests::{TextEnd, rest_at, rests_of};
+use crate::rings::start_ring;
 use crate::setting::WalkSetting;
-use check_lines::{close_in_order, files_at};
+use crate::spent::Spent;
 use check_search::Limits;
 use fx_base::NoMemory;
 use fx_language::Script;
-use fx_script::teardown_text;
 use indexmap::IndexSet;
 use std::alloc::Global;
 
 /// The texts that a script can print, and orders that lead to them.
 #[derive(Debug, Drop)]
 pub struct AllTexts {
-    /// The texts, each once.
+    /// The texts that were made, each once.
     pub texts: IndexSet<String>,
-    /// For each text, the index of the order of its last accepted submission, if there is one.
-    pub by: Vec<Option<usize>>,
+    /// For each text, the indices of the orders of its accepted submissions, the first submission's first.
+    pub by: Vec<Vec<usize>>,
     /// The orders of the submissions.
     pub orders: Vec<Past>,
-    /// True if these were shown to be all.
+    /// True if these were shown to be all texts.
     pub are_all: bool,
+    /// The number of ways by which plays of the script print, or of those that were found.
+    pub ways: u64,
+    /// True if `ways` was shown to be the number of all ways.
+    pub are_counted: bool,
 }
 
-// The texts of plays that have come to the end of a script, each once.
+// Texts, each once.
 #[derive(Drop)]
 struct EachText {
     texts: IndexSet<String>,
-    by: Vec<Option<usize>>,
-}
-
-// The text of a play that has come to the end of the script.
-fn text_at_end(setting: &WalkSetting<'_>, reached: &Reached) -> Result<String, NoMemory>
-    requires ring { IsRing (ring_with_slots setting.now.catalogue.now reached.now.ring) }
-    requires told { setting.now.keeps ≡ true }
-    ensures is { IfOk result (λ text.
-        EndsAs (stage_of setting.now.catalogue.now reached.now) (string_bytes text)) }
-    ensures only { IfOk result (λ text. (other : List ℕ)
-        → EndsAs (stage_of setting.now.catalogue.now reached.now) other
-        → other ≡ string_bytes text) }
-{
-    let files = files_at(setting.alloc, &reached.ring.slots)?;
-    let closes = close_in_order(setting.alloc, setting.catalogue, &files)?;
-    let last = teardown_text(setting.alloc, setting.catalogue, &closes)?;
-    let text = printed_behind(setting, reached.printed.as_str(), last.as_str())?;
-    Ok(text)
+    by: Vec<Vec<usize>>,
 }
 
 // Puts a text behind others that haven't got it.
-fn push_text(all: &mut EachText, text: String, past: Option<usize>) -> Result<(), NoMemory>
+fn push_text(all: &mut EachText, text: String, orders: Vec<usize>) -> Result<(), NoMemory>
     ensures grows { OnOk result (Grows (λ t. t ≡ string_bytes text)
         (map string_bytes all.old.texts.keys) (map string_bytes all.new.texts.keys)) }
     ensures there { OnOk result
         (Contains (map string_bytes all.new.texts.keys) (string_bytes text)) }
 {
     if all.texts.insert(text)? {
-        all.by.push(past)?;
+        all.by.push(orders)?;
     }
     Ok(())
 }
 
-// The texts of plays that have come to the end of the script.
-fn all_at_end(setting: &WalkSetting<'_>, rings: &[Reached]) -> Result<EachText, NoMemory>
-    requires rings { AreRings (stages_of setting.now.catalogue.now rings.now) }
-    requires told { setting.now.keeps ≡ true }
+// Returns texts, each once.
+fn each_text(alloc: Global, endings: &[TextEnd]) -> Result<EachText, NoMemory>
     ensures each { IfOk result (λ all. (text : List ℕ)
         → Contains (map string_bytes all.texts.keys) text
-        → IsTextAt (stages_of setting.now.catalogue.now rings.now) text) }
-    ensures all { IfOk result (λ all. HasEachText
-        (stages_of setting.now.catalogue.now rings.now) (map string_bytes all.texts.keys)) }
+        → Contains (texts_in endings.now) text) }
+    ensures all { IfOk result (λ all. (text : List ℕ) → Contains (texts_in endings.now) text
+        → Contains (map string_bytes all.texts.keys) text) }
 {
     let mut all = EachText {
-        texts: IndexSet::new(setting.alloc),
-        by: Vec::new(setting.alloc),
+        texts: IndexSet::new(alloc),
+        by: Vec::new(alloc),
     };
-    for reached in rings {
-        let text = text_at_end(setting, reached)?;
-        push_text(&mut all, text, reached.past)?;
+    for ending in endings {
+        let text = String::from_str(alloc, ending.text.as_str())?;
+        let mut orders = Vec::from_slice(alloc, &ending.orders)?;
+        orders.reverse();
+        push_text(&mut all, text, orders)?;
     }
     Ok(all)
 }
 
-/// Returns the texts that the plays of a script print in which no allocation fails, each once. Where `are_all` is true there is no
-/// other; else that was not shown within `limits`, which apply to the whole script: to all states that the searches meet, and to
-/// all bytes that are kept. The orders are those by which the texts were found, and no contract says anything of them.
+// Checks whether a number of ways is not the largest one, which stands for all larger ones.
+fn is_exact(ways: u64) -> bool
+    ensures { IsTrue result → ways < 2 ^ 64 - 1 }
+{
+    ways < u64::MAX
+}
+
+/// Returns the first texts that the plays of a script print in which no allocation fails, at most `most`, each once, and the
+/// number of ways by which they go. Where `are_all` is true there is no other text, and where `are_counted` is true no other way;
+/// else that was not shown within `limits`, which apply to the whole script: to all states that the searches meet, and to all bytes
+/// that are kept. The orders are those by which the texts were found, and no contract says anything of them.
 ///
 /// # Errors
 /// `NoMemory` if an allocation fails.
-pub fn texts_of(alloc: Global, script: &Script, limits: Limits) -> Result<AllTexts, NoMemory>
+pub fn texts_of(
+    alloc: Global,
+    script: &Script,
+    limits: Limits,
+    most: usize,
+) -> Result<AllTexts, NoMemory>
     ensures each { IfOk result (λ all.
         All (λ text. IsTextFound script.now (string_bytes text)) all.texts.keys) }
     ensures once { IfOk result (λ all. IsUnique string_eq all.texts) }
     ensures all { IfOk result (λ all. IsTrue all.are_all → (text : List ℕ)
         → IsTextFound script.now text → Contains (map string_bytes all.texts.keys) text) }
+    ensures ways { IfOk result (λ all. HasWays script.now all.are_counted all.ways) }
 {
     let setting = WalkSetting {
         alloc,
         catalogue: script.catalogue(),
         limits,
         keeps: true,
+        most,
     };
+    let mut spent = Spent::nothing();
     let mut orders = Vec::new(alloc);
-    let rings = after_all(&setting, &mut orders, script.commands())?;
-    let found = all_at_end(&setting, &rings.rings)?;
+    let layers = layers_of(&setting, &mut spent, &mut orders, script.commands())?;
+    let rests = rests_of(&setting, &mut spent, layers)?;
+    let Some(rest) = rest_at(&rests, 0, &start_ring(alloc)) else {
+        return Ok(AllTexts {
+            texts: IndexSet::new(alloc),
+            by: Vec::new(alloc),
+            orders,
+            are_all: false,
+            ways: 0,
+            are_counted: false,
+        });
+    };
+    let found = each_text(alloc, &rest.endings)?;
+    let are_all = both(rest.are_all, rest.is_whole);
+    let exact = is_exact(rest.ways);
+    let are_counted = both(rest.are_all, exact);
     Ok(AllTexts {
         texts: found.texts,
         by: found.by,
         orders,
-        are_all: rings.are_all,
+        are_all,
+        ways: rest.ways,
+        are_counted,
     })
 }

@@ -73,7 +73,7 @@ pub extern "C" fn yacht_outcomes(
             return BAD_SCRIPT;
         }
     };
-    let Ok(all) = texts_of(alloc, &read, limits_of(states, memory)) else {
+    let Ok(all) = texts_of(alloc, &read, limits_of(states, memory), usize::MAX) else {
         return NO_MEMORY;
     };
     let Ok(listed) = list(alloc, all.texts.as_slice()) else {

@@ -2,11 +2,11 @@ use Rattle.check_texts.proofs.Words.{stage_of, take_all}
 use Rattle.check_texts.proofs.Growth.{at_value, from_more, holds_more}
 use Rattle.check_texts.proofs.rings.after.Goals as goal
 
-pub push_next-requires-clause-ring : goal.push_next-requires-clause-ring
-push_next-requires-clause-ring c =
+pub push_next-requires : goal.push_next-requires
+push_next-requires c =
     let cat = c.args.setting.now.catalogue.now in
     let reached = c.reached-item.result in
-    c.requires (stage_of cat reached) (at_value (stage_of cat) c.args.rings.now c.loop-reached-test.true c.reached-item.is)
+    record { ring = c.requires (stage_of cat reached) (at_value (stage_of cat) c.args.rings.now c.loop-reached-test.true c.reached-item.is) }
 
 pub loop-reached-preserved : goal.loop-reached-preserved
 loop-reached-preserved c =
@@ -19,7 +19,6 @@ loop-reached-preserved c =
           holds_more stage_at c.args.rings.now c.loop-reached-test.true c.reached-item.is
           (λ o has ring next line same leads. grows.kept _ (c.loop-reached.invariant.all two.0 o has ring next line same leads))
           (c.in_ok-all.ensures.all two.1);
-      known = c.in_ok-all.ensures.known;
     }
 
 pub returns-clause-all : goal.returns-clause-all

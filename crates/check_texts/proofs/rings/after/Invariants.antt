@@ -1,4 +1,4 @@
-use Rattle.check_texts.proofs.Words.{instruction_of, AreStagesFrom, HasEachFrom, IsSearched, asked_in, stages_of, take, All, IsTrue}
+use Rattle.check_texts.proofs.Words.{instruction_of, AreStagesFrom, HasEachFrom, stages_of, take, IsTrue}
 use Rattle.check_texts.proofs.rings.after.Given as goal
 
 abbrev pub invariant-loop-reached : goal.invariant-loop-reached
@@ -7,5 +7,4 @@ invariant-loop-reached l = record {
       (stages_of l.setting.catalogue.now l.next.items);
   all : IsTrue l.are_all → HasEachFrom l.setting.keeps (stages_of l.setting.catalogue.now (take l.reached-index l.rings)) (instruction_of l.command)
       (stages_of l.setting.catalogue.now l.next.items);
-  known : All (IsSearched l.setting.catalogue.now (asked_in (instruction_of l.command))) l.searches.known.items;
 }

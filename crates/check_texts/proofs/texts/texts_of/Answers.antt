@@ -1,21 +1,42 @@
-use Rattle.check_texts.proofs.Words.{stages_of, IsTextFound, string_bytes, sym}
+use Rattle.check_texts.proofs.Words.{IsTextFound, ring_with_slots, string_bytes, ◌∙◌, ◌≡◌}
+use Rattle.std.proofs.lemmas.List.Elements.{All-contains}
+use Rattle.fx_ring.specs.Ring.{new_ring}
+use Rattle.check_texts.specs.Layers.{IsRest, commands_in}
 use Rattle.check_texts.proofs.Growth.{all_of_values}
-use Rattle.check_texts.proofs.Whole.{stage_texts, text_at_stage}
+use Rattle.check_texts.proofs.Ways.{no_script_ways, script_text, script_texts, script_ways}
+use Rattle.check_texts.proofs.texts.texts_of.Goals.{In-Some}
 use Rattle.check_texts.proofs.texts.texts_of.Goals as goal
 
-pub all_at_end-requires-clause-rings : goal.all_at_end-requires-clause-rings
-all_at_end-requires-clause-rings c = rw c.deref.ensures.value c.in_ok-rings.ensures.rings
+pub returns-in_default-clause-ways : goal.returns-in_default-clause-ways
+returns-in_default-clause-ways c = no_script_ways c.args.script.now
+
+-- the ways of the first ring
+first_ways : (c : In-Some) → IsRest c.args.script.now.catalogue c.args.script.now.commands c.in-Some.rest.now
+first_ways c =
+    rw (c.catalogue.ensures.value, c.in_ok-layers.ensures.commands, c.commands.ensures)
+    at (All-contains (IsRest c.catalogue.result.now (commands_in c.in_ok-layers.layers.layers.items)) c.deref.result.now c.in-Some.rest.now (rw c.deref.ensures.value c.in_ok-rests.ensures)
+    c.in-Some.ensures.inside)
+
+first_ring : (c : In-Some)
+    → ring_with_slots c.args.script.now.catalogue c.in-Some.rest.now.ring ≡ new_ring c.args.script.now.catalogue
+first_ring c = c.in-Some.ensures.same c.args.script.now.catalogue ∙ c.start_ring.ensures.ring c.args.script.now.catalogue
 
 pub returns-clause-each : goal.returns-clause-each
 returns-clause-each c =
-    let script = c.args.script.now in
-    let stages = stages_of c.catalogue.result.now c.deref.result.now in
-    all_of_values string_bytes c.in_ok-found.found.texts.keys (IsTextFound script) (λ text inside. stage_texts script stages
-    (λ s there. rw (c.commands.ensures, c.catalogue.ensures.value) at (c.in_ok-rings.ensures.each s (rw c.deref.ensures.value at there)))
-    (c.in_ok-found.ensures.each text inside))
+    let at = (goal.at.returns-clause-each c).In-Some in
+    all_of_values string_bytes c.in_ok-found.found.texts.keys (IsTextFound c.args.script.now) (λ text inside.
+    script_text c.args.script.now (first_ways at) (first_ring at) text (rw c.deref-2.ensures.value at (c.in_ok-found.ensures.each text inside)))
 
 pub returns-clause-all : goal.returns-clause-all
 returns-clause-all c = λ yes text found.
-    let (s, inside, ends) = text_at_stage c.args.script.now (stages_of c.catalogue.result.now c.deref.result.now)
-    (rw (c.deref.ensures.value, sym c.commands.ensures, sym c.catalogue.ensures.value) (c.in_ok-rings.ensures.all yes)) found in
-    c.in_ok-found.ensures.all s text inside ends
+    let at = (goal.at.returns-clause-all c).In-Some in
+    let two = c.both-are_all.ensures yes in
+    c.in_ok-found.ensures.all text
+    (rw c.deref-2.ensures.value (script_texts c.args.script.now (first_ways at) (first_ring at) two.0 two.1 text found))
+
+pub returns-clause-ways : goal.returns-clause-ways
+returns-clause-ways c =
+    let at = (goal.at.returns-clause-ways c).In-Some in
+    let ways = first_ways at in
+    script_ways c.args.script.now ways (first_ring at) c.both-are_counted.result
+    (λ yes. let two = c.both-are_counted.ensures yes in (two.0, ways.count.same (c.is_exact-exact.ensures two.1)))

@@ -1,7 +1,7 @@
 use Rattle.check_texts.proofs.Words.{AreOf, all_closed, all_of_ring, few_of_ring, ring_with_slots, ◌∙◌}
 use Rattle.check_lines.proofs.FilesThere.{end_printed}
-use Rattle.check_texts.proofs.texts.text_at_end.Goals.{After-deref}
-use Rattle.check_texts.proofs.texts.text_at_end.Goals as goal
+use Rattle.check_texts.proofs.text_end.text_at_end.Goals.{After-deref}
+use Rattle.check_texts.proofs.text_end.text_at_end.Goals as goal
 
 -- the files that are there are of the catalogue
 entries : (c : After-deref) → AreOf c.args.setting.now.catalogue.now c.deref.result.now

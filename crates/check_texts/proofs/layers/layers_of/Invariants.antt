@@ -1,0 +1,11 @@
+use Rattle.check_texts.proofs.Words.{instructions_of, stages_of, take, ◌≡◌, All}
+use Rattle.check_texts.specs.Layers.{IsLayer, commands_in}
+use Rattle.check_texts.specs.Ways.{AreBare}
+use Rattle.check_texts.proofs.layers.layers_of.Given as goal
+
+abbrev pub invariant-loop-command : goal.invariant-loop-command
+invariant-loop-command l = record {
+  layers : All (IsLayer l.setting.catalogue.now) l.layers.items;
+  commands : commands_in l.layers.items ≡ instructions_of (take l.command-index l.commands);
+  last : AreBare (stages_of l.setting.catalogue.now l.rings.items);
+}

@@ -1,0 +1,8 @@
+use Rattle.check_texts.proofs.Words.{FileEntry, List, stages_of}
+use Rattle.check_texts.specs.Rings.{AreRings}
+use Rattle.check_texts.specs.Ways.{AreBare}
+use Rattle.check_texts.proofs.layers.numbers_of.Given as goal
+
+abbrev pub invariant-loop-exit : goal.invariant-loop-exit
+invariant-loop-exit l = (catalogue : List FileEntry) → AreRings (stages_of catalogue l.exits)
+    → AreBare (stages_of catalogue l.fn.bare.rings.items) → AreBare (stages_of catalogue l.bare.rings.items)

@@ -1,0 +1,15 @@
+use Rattle.check_texts.proofs.Words.{[], stage_of}
+use Rattle.std.proofs.lemmas.List.Elements.{All-push}
+use Rattle.check_texts.proofs.Growth.{at_value}
+use Rattle.check_texts.specs.Layers.{IsRest}
+use Rattle.check_texts.proofs.rests.rests_at_end.Goals as goal
+
+pub rest_at_end-requires-clause-bare : goal.rest_at_end-requires-clause-bare
+rest_at_end-requires-clause-bare c =
+    let cat = c.args.setting.now.catalogue.now in
+    c.requires.rings (stage_of cat c.last-item.result) (at_value (stage_of cat) c.args.rings.now c.loop-last-test.true c.last-item.is)
+
+pub loop-last-preserved : goal.loop-last-preserved
+loop-last-preserved c =
+    rw c.in_ok-push.ensures.items
+    (All-push (IsRest c.args.setting.now.catalogue.now []) c.loop-last.rests.items _ c.loop-last.invariant c.in_ok-rest_at_end.ensures)

@@ -1,0 +1,7 @@
+use Rattle.check_texts.proofs.Words.{Instruction, List, All, ◌∷◌}
+use Rattle.check_texts.specs.Layers.{AreExits, IsRest}
+use Rattle.check_texts.proofs.rests.rests_before.Given as goal
+
+abbrev pub invariant-loop-own : goal.invariant-loop-own
+invariant-loop-own l = (command : Instruction) (commands : List Instruction) → All (AreExits l.setting.catalogue.now command) l.exits
+    → All (IsRest l.setting.catalogue.now commands) l.later → All (IsRest l.setting.catalogue.now (command ∷ commands)) l.rests.items

@@ -1,0 +1,13 @@
+use Rattle.check_texts.proofs.Words.{Instruction, List, All, length, ◌++◌, ◌≡◌}
+use Rattle.check_texts.specs.Layers.{IsLayer, IsRest, commands_in}
+use Rattle.check_texts.proofs.rests.rests_of.Given as goal
+
+abbrev pub invariant-loop-layer : goal.invariant-loop-layer
+invariant-loop-layer l = record {
+  layers : All (IsLayer l.setting.catalogue.now) l.layers.items;
+  rests : (done : List Instruction) × (commands_in l.layers.items ++ done ≡ commands_in l.fn.all.layers.items)
+      × All (IsRest l.setting.catalogue.now done) l.later.items;
+}
+
+abbrev pub decreases-loop-layer : goal.decreases-loop-layer
+decreases-loop-layer l = length l.layers.items

@@ -1,0 +1,184 @@
+//! The rings before each command of a script, each once, and the exits of each: what the command prints, and the ring after it.
+ghost use Rattle.std.specs.Prelude.{◌≡◌, All, IfOk, List, OnOk, true};
+ghost use Rattle.fx_base.specs.Catalogue.{FileEntry};
+ghost use Rattle.fx_language.specs.Instruction.{instruction_of, instructions_of};
+ghost use Rattle.check_texts.specs.Rings.{AreRings, Grows, stage_of, stages_of};
+ghost use Rattle.check_texts.specs.Layers.{AreExits, IsLayer, commands_in};
+ghost use Rattle.check_texts.specs.Ways.{AreBare, IsBare, IsBareOf};
+
+use crate::next::push_next;
+use crate::reached::{Past, Reached};
+use crate::ring_key::key_of;
+use crate::rings::{count_new, start};
+use crate::setting::WalkSetting;
+use crate::spent::Spent;
+use check_lines::copy_of;
+use fx_base::NoMemory;
+use fx_language::Command;
+use fx_order::RingSlots;
+use indexmap::IndexSet;
+use std::alloc::Global;
+
+/// The exits of a ring by a command.
+#[derive(Debug, Drop)]
+pub(crate) struct Exits {
+    pub(crate) ring: RingSlots,
+    /// The rings after the command, each with what the command printed.
+    pub(crate) to: Vec<Reached>,
+    /// The number of each of them among the rings before the next command.
+    pub(crate) numbers: Vec<usize>,
+    /// True if these are all exits.
+    pub(crate) are_all: bool,
+}
+
+/// The exits of the rings before a command.
+#[derive(Drop)]
+pub(crate) struct Layer<'a> {
+    pub(crate) command: &'a Command,
+    pub(crate) exits: Vec<Exits>,
+}
+
+/// The exits before each command of a script, and the rings before its end.
+#[derive(Drop)]
+pub(crate) struct Layers<'a> {
+    pub(crate) layers: Vec<Layer<'a>>,
+    pub(crate) last: Vec<Reached>,
+}
+
+// Rings, each once, without what was printed before.
+#[derive(Drop)]
+struct Bare {
+    rings: Vec<Reached>,
+    // Their numbers, for looking them up.
+    keys: IndexSet<Vec<u32>>,
+}
+
+// Puts the ring of an exit among others, unless it is there. Returns its number, of which nothing is proved.
+fn number_of(alloc: Global, bare: &mut Bare, exit: &Reached) -> Result<usize, NoMemory>
+    ensures { OnOk result ((catalogue : List FileEntry)
+        → Grows (IsBareOf catalogue exit.now) (stages_of catalogue bare.old.rings.items)
+        (stages_of catalogue bare.new.rings.items)) }
+{
+    let key = key_of(alloc, &exit.ring)?;
+    let (number, is_new) = bare.keys.insert_full(key)?;
+    if !is_new {
+        return Ok(number);
+    }
+    let ring = copy_of(alloc, &exit.ring)?;
+    bare.rings.push(Reached {
+        ring,
+        printed: String::new(alloc),
+        past: None,
+    })?;
+    Ok(number)
+}
+
+// Puts the rings of exits among others. Returns their numbers.
+fn numbers_of(alloc: Global, bare: &mut Bare, exits: &[Reached]) -> Result<Vec<usize>, NoMemory>
+    ensures { OnOk result ((catalogue : List FileEntry)
+        → AreRings (stages_of catalogue exits.now)
+        → AreBare (stages_of catalogue bare.old.rings.items)
+        → AreBare (stages_of catalogue bare.new.rings.items)) }
+{
+    let mut numbers = Vec::new(alloc);
+    for exit in exits {
+        numbers.push(number_of(alloc, bare, exit)?)?;
+    }
+    Ok(numbers)
+}
+
+// Returns the exits of a ring by a command. Their numbers are left out.
+fn exits_at(
+    setting: &WalkSetting<'_>,
+    spent: &mut Spent,
+    pasts: &mut Vec<Past>,
+    from: &Reached,
+    command: &Command,
+) -> Result<Exits, NoMemory>
+    requires told { setting.now.keeps ≡ true }
+    requires bare { IsBare (stage_of setting.now.catalogue.now from.now) }
+    ensures exits { IfOk result (AreExits setting.now.catalogue.now (instruction_of command.now)) }
+    ensures rings { IfOk result (λ exits.
+        AreRings (stages_of setting.now.catalogue.now exits.to.items)) }
+{
+    let alloc = setting.alloc;
+    let mut to = Vec::new(alloc);
+    let old_pasts = pasts.len();
+    let are_all = push_next(setting, spent, pasts, &mut to, from, command)?;
+    let new_pasts = pasts.as_slice().get(old_pasts..).unwrap_or(&[]);
+    count_new(spent, &to, new_pasts);
+    let ring = copy_of(alloc, &from.ring)?;
+    Ok(Exits {
+        ring,
+        to,
+        numbers: Vec::new(alloc),
+        are_all,
+    })
+}
+
+// Returns the exits of rings by a command. Their rings are put into a list.
+fn exits_of(
+    setting: &WalkSetting<'_>,
+    spent: &mut Spent,
+    pasts: &mut Vec<Past>,
+    bare: &mut Bare,
+    rings: &[Reached],
+    command: &Command,
+) -> Result<Vec<Exits>, NoMemory>
+    requires told { setting.now.keeps ≡ true }
+    requires rings { AreBare (stages_of setting.now.catalogue.now rings.now) }
+    requires next { AreBare (stages_of setting.now.catalogue.now bare.old.rings.items) }
+    ensures exits { IfOk result (λ exits. All
+        (AreExits setting.now.catalogue.now (instruction_of command.now)) exits.items) }
+    ensures next { OnOk result
+        (AreBare (stages_of setting.now.catalogue.now bare.new.rings.items)) }
+{
+    let mut all = Vec::new(setting.alloc);
+    for from in rings {
+        let mut exits = exits_at(setting, spent, pasts, from, command)?;
+        exits.numbers = numbers_of(setting.alloc, bare, &exits.to)?;
+        all.push(exits)?;
+    }
+    Ok(all)
+}
+
+/// Returns the exits before each command, and the rings before the end, beginning at a ring without a table.
+///
+/// # Errors
+/// `NoMemory` if an allocation fails.
+pub(crate) fn layers_of<'a>(
+    setting: &WalkSetting<'_>,
+    spent: &mut Spent,
+    pasts: &mut Vec<Past>,
+    commands: &'a [Command],
+) -> Result<Layers<'a>, NoMemory>
+    requires told { setting.now.keeps ≡ true }
+    ensures layers { IfOk result (λ all.
+        All (IsLayer setting.now.catalogue.now) all.layers.items) }
+    ensures commands { IfOk result (λ all.
+        commands_in all.layers.items ≡ instructions_of commands.now) }
+    ensures last { IfOk result (λ all.
+        AreBare (stages_of setting.now.catalogue.now all.last.items)) }
+{
+    let alloc = setting.alloc;
+    let mut layers = Vec::new(alloc);
+    let mut rings = start(alloc)?;
+    for command in commands {
+        spent.keep_command();
+        let mut bare = Bare {
+            rings: Vec::new(alloc),
+            keys: IndexSet::new(alloc),
+        };
+        let exits = exits_of(setting, spent, pasts, &mut bare, &rings, command)?;
+        let Bare {
+            rings: next,
+            keys: _,
+        } = bare;
+        rings = next;
+        layers.push(Layer { command, exits })?;
+    }
+    Ok(Layers {
+        layers,
+        last: rings,
+    })
+}
