@@ -62,9 +62,9 @@ pub(crate) fn rest_at<'a>(
     None
 }
 
-// Checks whether there is a place for one more text of a ring, where `count` are. The first one needs no room.
+// Checks whether there is a place for one more text of a ring that has `count`.
 fn has_place(setting: &WalkSetting<'_>, spent: &Spent, count: usize) -> bool {
-    count < setting.most && (count == 0 || spent.has_bytes(setting.limits))
+    count < setting.most && spent.has_place(setting.limits)
 }
 
 // Appends a text and its orders.
@@ -272,6 +272,7 @@ fn rest_before(
     };
     let to = exits.to.as_slice();
     for (i, exit) in to.iter().enumerate() {
+        // a number that no ring has: what is kept of the exit's ring counts as unknown
         let number = exits.numbers.get(i).copied().unwrap_or(later.len());
         let behind = rest_at(later, number, &exit.ring);
         push_exit(setting, spent, &mut lines, &mut rest, exit, behind)?;

@@ -1,4 +1,4 @@
-//! What stays while the commands of a script are played.
+//! The setting in which the commands of a script are played.
 ghost use Rattle.fx_base.specs.Catalogue.{IsCatalogue};
 
 use check_search::Limits;

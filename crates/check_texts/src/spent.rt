@@ -6,8 +6,8 @@ use check_search::Limits;
 // What a ring that is kept takes beside its slots and its text: its place in two lists and among the texts.
 const RING_BYTES: usize = 400;
 
-// What one of its slots takes.
-const SLOT_BYTES: usize = 40;
+// What one of its slots takes, in both lists.
+const SLOT_BYTES: usize = 80;
 
 // What an order takes, and each of its accesses.
 const ORDER_BYTES: usize = 128;
@@ -38,6 +38,8 @@ pub(crate) struct Spent {
     after: usize,
     /// The number of rings that are kept after it.
     rings: usize,
+    /// The number of texts that are kept after it.
+    texts: usize,
 }
 
 impl Spent {
@@ -49,6 +51,7 @@ impl Spent {
             before: 0,
             after: 0,
             rings: 0,
+            texts: 0,
         }
     }
 
@@ -57,6 +60,7 @@ impl Spent {
         self.before = self.after;
         self.after = 0;
         self.rings = 0;
+        self.texts = 0;
     }
 
     /// Begins the next command, and keeps the rings after the last one to the end.
@@ -64,6 +68,7 @@ impl Spent {
         self.kept = self.kept.saturating_add(self.after);
         self.after = 0;
         self.rings = 0;
+        self.texts = 0;
     }
 
     /// Counts the states that a search met.
@@ -92,6 +97,7 @@ impl Spent {
 
     /// Counts a text of `bytes` bytes with `orders` orders.
     pub(crate) fn count_text(&mut self, bytes: usize, orders: usize) {
+        self.texts = self.texts.saturating_add(1);
         self.after = self
             .after
             .saturating_add(bytes)
@@ -106,14 +112,16 @@ impl Spent {
             .saturating_add(self.after)
     }
 
-    /// Checks whether more bytes may be kept.
-    pub(crate) fn has_bytes(&self, limits: Limits) -> bool {
-        self.bytes() < limits.bytes
+    /// Checks whether one more text may be kept after a command: the first one of all rings, and others in half of the bytes, since
+    /// those before the command are made of them while both are kept.
+    pub(crate) fn has_place(&self, limits: Limits) -> bool {
+        let twice = self.after.saturating_mul(2);
+        self.texts == 0 || self.kept.saturating_add(twice) < limits.bytes
     }
 
     /// Checks whether more rings may be kept after a command: if none is, at least a few.
     pub(crate) fn has_room(&self, limits: Limits) -> bool {
-        self.rings == 0 || (self.rings < limits.states && self.has_bytes(limits))
+        self.rings == 0 || (self.rings < limits.states && self.bytes() < limits.bytes)
     }
 
     /// Returns what the next search of a submission may use: what is left of the limits, and at the first ring after a command

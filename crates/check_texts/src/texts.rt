@@ -86,9 +86,10 @@ fn is_exact(ways: u64) -> bool
 }
 
 /// Returns the first texts that the plays of a script print in which no allocation fails, at most `most`, each once, and the
-/// number of ways by which they go. Where `are_all` is true there is no other text, and where `are_counted` is true no other way;
-/// else that was not shown within `limits`, which apply to the whole script: to all states that the searches meet, and to all bytes
-/// that are kept. The orders are those by which the texts were found, and no contract says anything of them.
+/// number of ways by which they go. `are_all` is false if there are more texts, or if `limits` were reached. `are_counted` is false
+/// if the ways weren't all found within `limits`, or are more than 2^64 - 2. `limits` apply to the whole script: to all states
+/// that the searches meet, and to all bytes that are kept. The orders are those by which the texts were found, and no contract
+/// says anything of them.
 ///
 /// # Errors
 /// `NoMemory` if an allocation fails.
