@@ -25,7 +25,8 @@ fn count_of(all: &AllTexts) -> u64 {
     }
 }
 
-// Puts the line of how many texts there are behind others: what that rests on, and how many are listed, where not all are.
+// Appends the line of how many texts there are: what that rests on, and how many are listed, if not all are. Larger limits don't
+// help where u64 doesn't hold the number.
 fn push_count(told: &mut String, settings: Settings<'_>, all: &AllTexts) -> Result<(), AllocError> {
     let (count, listed) = (count_of(all), all.texts.len() as u64);
     if !all.are_counted {
@@ -33,7 +34,7 @@ fn push_count(told: &mut String, settings: Settings<'_>, all: &AllTexts) -> Resu
     }
     let noun = if count == 1 { "text" } else { "texts" };
     write!(told, "{count} {noun}, if no allocation fails")?;
-    if !all.are_counted {
+    if !all.are_counted && all.ways < u64::MAX {
         push_limits(told, settings)?;
     }
     if count > listed {
@@ -42,7 +43,7 @@ fn push_count(told: &mut String, settings: Settings<'_>, all: &AllTexts) -> Resu
     told.push('\n')
 }
 
-// Puts the lines of a text behind others, each behind four spaces.
+// Appends the lines of a text, each after four spaces.
 fn push_lines(told: &mut String, text: &str) -> Result<(), AllocError> {
     for line in text.lines() {
         told.push_str("    ")?;
@@ -52,7 +53,7 @@ fn push_lines(told: &mut String, text: &str) -> Result<(), AllocError> {
     Ok(())
 }
 
-// Puts the lines of the orders behind others that lead to a text, by its number in the list, from 0.
+// Appends the lines of the orders that lead to a text, by its number in the list, from 0.
 fn push_orders_of(
     alloc: Global,
     told: &mut String,
