@@ -7,7 +7,8 @@
 //! The arguments below name what they rest on. Clauses of the core's worker (`fx_server::TableWorker`): `looked` (the look-up found a file
 //! of the slot, and the worker holds it), `released`, `placed`, `allocated` and `removed` (which file is returned to be closed, by its
 //! tag), `chosen`. Laws of every history (`fx_plain::laws`): `no_close_while_held`, `closed_at_most_once`. A law of every state of the
-//! table (`fx_lasting::laws`): `nodes_are_of_one_file`. And a fact that no clause says: the next installation uses the chosen node.
+//! table (`fx_lasting::laws`): `nodes_are_of_one_file`, `words_are_bounded`. And two facts that no clause says: the word of the chosen
+//! node is 0, and the next installation uses that node.
 mod core;
 #[cfg(yachtbanyan_stand_in)]
 mod stand_in;
@@ -232,7 +233,8 @@ impl<T> Access<T> {
         let address = Box::into_raw(value);
         // SAFETY: the handle is this worker's, and it installs.
         let node = unsafe { core::yacht_core_next(self.installer()) };
-        // No file has this node until the installation, so nobody reads the place (`nodes_are_of_one_file`).
+        // The node's word is 0 (no clause), so it is that of no file at a slot (`words_are_bounded`) and of no held file
+        // (`nodes_are_of_one_file`): until the installation nobody reads the place.
         self.by_node(node).store(address, Ordering::Relaxed);
         address as usize as u64
     }

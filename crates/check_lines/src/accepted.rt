@@ -1,4 +1,4 @@
-//! Which submissions are accepted.
+//! The submissions that are accepted.
 ghost use Rattle.std.specs.Prelude.{◌≡◌, ◌<◌, ◌≤◌, IfNone, IfSome, IsTrue, None, false, length};
 ghost use Rattle.fx_chain.specs.Accepted.{IsAccepted};
 ghost use Rattle.fx_chain.specs.Faults.{fault_of};
@@ -13,7 +13,8 @@ use fx_chain::{Request, check};
 use fx_language::Command;
 use fx_ring::MOST_SUBMISSIONS;
 
-/// Checks whether requests are accepted behind so many submissions: none of them has a fault, and there is a number for one more.
+/// Checks whether requests are accepted after `submissions` accepted submissions: none of them has a fault, and there is a number
+/// for one more.
 pub fn is_accepted(requests: &[Request], submissions: u32) -> bool
     ensures accepted { IsTrue result → IsAccepted (all_asked requests.now) }
     ensures faultless { IsTrue result → fault_of (all_asked requests.now) ≡ None }
@@ -25,7 +26,7 @@ pub fn is_accepted(requests: &[Request], submissions: u32) -> bool
     check(requests).is_ok() && submissions < MOST_SUBMISSIONS
 }
 
-/// Returns the requests of a command if it is a submission that is accepted behind so many.
+/// Returns the requests of a command if it is a submission that is accepted after `submissions` accepted ones.
 pub fn accepted_in(command: &Command, submissions: u32) -> Option<&[Request]>
     ensures requests { IfSome result (λ requests.
         instruction_of command.now ≡ SubmitsAll (all_asked requests.now)) }

@@ -1,4 +1,5 @@
-//! What a call between submissions leaves and prints, and what a refused submission prints, where they find memory.
+//! Calls between submissions: the ring that each leaves and the line that it prints if no allocation fails; and the line of a refused
+//! submission.
 ghost use Rattle.std.specs.Prelude.{◌≡◌, ◌++◌, ◌<◌, ◌≤◌, ◌^◌, pos, All, IfOk, List, codes, length};
 ghost use Rattle.std.specs.Prelude.{option_map, string_bytes};
 ghost use Rattle.std.specs.Option.{MatchOption};
@@ -74,7 +75,7 @@ fn refused(
     Ok(CallAnswer { ring, line })
 }
 
-// A table of so many empty slots is registered.
+// Registers a table of `n` empty slots.
 fn sparse(
     alloc: Global,
     catalogue: &Catalogue,
@@ -196,7 +197,7 @@ fn set_range(
     Ok(CallAnswer { ring: left, line })
 }
 
-// The line of an update by so many numbers, and those of the files that it closes.
+// Returns the line of an update by `count` numbers, and those of the files that it closes.
 fn update_line(
     alloc: Global,
     catalogue: &Catalogue,

@@ -131,7 +131,7 @@ pub(crate) fn update_refusal(
     None
 }
 
-/// Returns the word of a call that may find no memory, or `None` if the call is refused or allocates nothing.
+/// Returns the word of a call that may fail to allocate, or `None` if the call is refused, sets the range or is a submission.
 pub fn memory_word(
     catalogue: &Catalogue,
     ring: &RingSlots,

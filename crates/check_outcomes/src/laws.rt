@@ -4,7 +4,7 @@ ghost use Rattle.check_outcomes.specs.Reports.{EachReportIsListed};
 
 /// States that a closed list of states has every outcome of a submission if no allocation fails. A list is closed if it has the
 /// submission's first state, and each state that an access of a chain leads to, if the chain has its turn and isn't idle. Parts
-/// have their turns one after another, and so have the chains of a part of which nothing but reads is left. The answer at a place
+/// have their turns one after another. If nothing but reads is left of a part, so have its chains. The answer at a place
 /// is then one of those given on the way, and the ring that is left is that of a listed state where each chain is idle. An idle
 /// chain can have reads left, which change no slot.
 pub fn each_outcome_is_listed()

@@ -2,7 +2,7 @@
 //!
 //! The contract that others rely on is that of [`run_chain`]: a chain's actions on the table explain its completions
 //! (`specs/Explains.antt`, and for one request `specs/Answers.antt`). [`refusal_of`] returns the error of a request
-//! that doesn't reach the table. [`check`] refuses a submission past the limits,
+//! that is refused whatever is at the slots. [`check`] refuses a submission past the limits,
 //! and [`cut`] splits it into chains. Begin reading at `request.rt` and `specs/Answers.antt`, then `player.rt`.
 #![tactic(auto)]
 

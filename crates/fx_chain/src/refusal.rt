@@ -64,8 +64,8 @@ fn list_refusal(entries: u32, size: u32, off: u32, list: &[i32]) -> Option<Errno
     None
 }
 
-/// Returns the error of a request that a table of `size` slots refuses whatever is at its slots, or `None` if the
-/// request reaches the table. The first error that applies counts (io_uring_prep_openat(3), io_uring_enter(2),
+/// Returns the error of a request that a table of `size` slots refuses whatever is at its slots, or `None` if it doesn't
+/// (a read may still fail with ENOMEM). The first error that applies counts (io_uring_prep_openat(3), io_uring_enter(2),
 /// io_uring_prep_close(3), io_uring_register_files(3)): ENOENT for an open of a name that no entry has; ENFILE for an
 /// open at any slot, and ENXIO for another open, a close or an update, if there are no slots; EINVAL for a slot past the
 /// end of the table, or an update whose list is empty or passes the end; EBADF for a read past the end, or an update with

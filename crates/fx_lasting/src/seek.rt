@@ -52,7 +52,7 @@ impl LastingTable {
 
     /// Returns the node that the next installation of an idle pass (`is_idle`) will use, in at most as many loads as the
     /// pass's block has nodes. It is a free node of that block, and only this pass takes nodes of its block, so it stays
-    /// free until then. Which file has which node is not part of any contract (this project's own).
+    /// free until then. No contract says that it is free, or that the next installation uses it (this project's own).
     pub fn next_node(&self, pass: &mut LastingPass) -> u32
         requires fits { IsPassOfTable self.now pass.old }
         requires numbers { 0 < (view_of pass.old).numbers_left }
