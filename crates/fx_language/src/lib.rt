@@ -15,7 +15,6 @@ mod parts;
 mod reader;
 mod request;
 mod script;
-mod tags;
 mod words;
 
 pub use command::Command;

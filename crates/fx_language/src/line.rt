@@ -2,38 +2,30 @@
 ghost use Rattle.std.specs.Prelude.{◌≡◌, true};
 ghost use Rattle.std.specs.List.{list_all};
 ghost use Rattle.fx_language.specs.Cursor.{GivesExpected};
-ghost use Rattle.fx_language.specs.Line.{file_of, sparse_of, register_of, unregister_of, range_line_of, regupdate_of, submit_of, request_of, line_of};
+ghost use Rattle.fx_language.specs.Line.{file_of, sparse_of, register_of, unregister_of, range_line_of, regupdate_of, submit_of, line_of};
 ghost use Rattle.fx_language.specs.LineView.{line_in};
 ghost use Rattle.fx_language.specs.Lines.{is_printable, words};
 ghost use Rattle.fx_language.specs.Parts.{parts_left};
 ghost use Rattle.fx_language.specs.ScriptView.{GivesOrFails};
 
+use crate::command::Command;
 use crate::fault::{LineError, ScriptFault};
-use crate::list::List;
+use crate::list::{entries, tags};
 use crate::parts::Parts;
-use crate::request::{self, Ask};
-use crate::tags::tags;
+use crate::request::request;
 use crate::words::{end, last, number, text, word};
-use fx_chain::SqeFlags;
+use fx_chain::Request;
 use std::alloc::Global;
 
-// A line that isn't skipped. Words refer to the bytes of the line, and only tags are kept as numbers.
+// A line that isn't skipped.
 #[derive(Drop)]
 pub enum Line<'a> {
     // Adds a file to the catalogue; its name and bytes are still to be checked.
     File { name: &'a str, hex: &'a [u8] },
-    // Registers empty slots.
-    Sparse(u32),
-    // Registers the files of a list, perhaps with tags.
-    Register(List<'a>, Option<Vec<u64>>),
-    // Unregisters the table.
-    Unregister,
-    // Sets the allocation range.
-    Range(u32, u32),
-    // Updates the table, perhaps with tags.
-    Update(u32, List<'a>, Option<Vec<u64>>),
-    // Adds a request with these flags to the next submission.
-    Request(Ask<'a>, SqeFlags),
+    // Adds a command other than `submit`.
+    Command(Command),
+    // Adds a request to the next submission.
+    Request(Request),
     // Submits.
     Submit,
 }
@@ -56,7 +48,7 @@ fn sparse<'a>(words: &mut Parts<'a>) -> Result<Line<'a>, ScriptFault>
 {
     let n = word(words)?;
     end(words)?;
-    Ok(Line::Sparse(number(n)?))
+    Ok(Line::Command(Command::Sparse(number(n)?)))
 }
 
 fn register<'a>(alloc: Global, words: &mut Parts<'a>) -> Result<Line<'a>, LineError>
@@ -64,15 +56,16 @@ fn register<'a>(alloc: Global, words: &mut Parts<'a>) -> Result<Line<'a>, LineEr
 {
     let list = word(words)?;
     let last = last(words)?;
-    let list = List::new(list)?;
-    Ok(Line::Register(list, tags(alloc, last)?))
+    let list = entries(alloc, list)?;
+    let tags = tags(alloc, last)?;
+    Ok(Line::Command(Command::Register(list, tags)))
 }
 
 fn unregister<'a>(words: &mut Parts<'a>) -> Result<Line<'a>, ScriptFault>
     ensures { GivesExpected line_in result (unregister_of (parts_left words.old)) }
 {
     end(words)?;
-    Ok(Line::Unregister)
+    Ok(Line::Command(Command::Unregister))
 }
 
 fn range<'a>(words: &mut Parts<'a>) -> Result<Line<'a>, ScriptFault>
@@ -81,7 +74,9 @@ fn range<'a>(words: &mut Parts<'a>) -> Result<Line<'a>, ScriptFault>
     let off = word(words)?;
     let len = word(words)?;
     end(words)?;
-    Ok(Line::Range(number(off)?, number(len)?))
+    let off = number(off)?;
+    let len = number(len)?;
+    Ok(Line::Command(Command::Range(off, len)))
 }
 
 fn regupdate<'a>(alloc: Global, words: &mut Parts<'a>) -> Result<Line<'a>, LineError>
@@ -91,8 +86,9 @@ fn regupdate<'a>(alloc: Global, words: &mut Parts<'a>) -> Result<Line<'a>, LineE
     let list = word(words)?;
     let last = last(words)?;
     let off = number(off)?;
-    let list = List::new(list)?;
-    Ok(Line::Update(off, list, tags(alloc, last)?))
+    let list = entries(alloc, list)?;
+    let tags = tags(alloc, last)?;
+    Ok(Line::Command(Command::Update(off, list, tags)))
 }
 
 fn submit<'a>(words: &mut Parts<'a>) -> Result<Line<'a>, ScriptFault>
@@ -102,25 +98,8 @@ fn submit<'a>(words: &mut Parts<'a>) -> Result<Line<'a>, ScriptFault>
     Ok(Line::Submit)
 }
 
-fn request_line<'a>(command: &[u8], words: &mut Parts<'a>) -> Result<Line<'a>, ScriptFault>
-    requires { list_all is_printable (parts_left words.old) ≡ true }
-    ensures { GivesExpected line_in result (request_of command.now (parts_left words.old)) }
-{
-    if command == b"open".as_slice() {
-        request::open(words)
-    } else if command == b"read".as_slice() {
-        request::read(words)
-    } else if command == b"close".as_slice() {
-        request::close(words)
-    } else if command == b"update".as_slice() {
-        request::update(words)
-    } else {
-        Err(ScriptFault::UnknownCommand)
-    }
-}
-
-// Parses a line that isn't skipped, or returns its fault. Tags are allocated. `late` says whether an earlier line isn't
-// a `file` line.
+// Parses a line that isn't skipped, or returns its fault. Requests, lists and tags are allocated, so an allocation may
+// fail before a fault is found. `late` says whether an earlier line isn't a `file` line.
 pub fn parse(alloc: Global, line: &[u8], late: bool) -> Result<Line<'_>, LineError>
     requires { is_printable line.now ≡ true }
     ensures { GivesOrFails line_in result (line_of late (words line.now)) }
@@ -145,6 +124,6 @@ pub fn parse(alloc: Global, line: &[u8], late: bool) -> Result<Line<'_>, LineErr
     } else if command == b"submit".as_slice() {
         Ok(submit(words)?)
     } else {
-        Ok(request_line(command, words)?)
+        Ok(Line::Request(request(alloc, command, words)?))
     }
 }

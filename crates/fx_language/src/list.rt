@@ -1,54 +1,51 @@
-//! Lists of entries.
-ghost use Rattle.std.specs.Prelude.{◌≡◌, IfOk, IsSome, Some, true, is_some};
-ghost use Rattle.fx_language.specs.Cursor.{GivesExpected};
-ghost use Rattle.fx_language.specs.Line.{list_in};
-ghost use Rattle.fx_language.specs.Words.{list_of};
+//! Lists of entries and of tags: words with at least one of them, separated by single commas. A list is read once, part
+//! by part, so an allocation may fail before a fault is found.
+ghost use Rattle.std.specs.Prelude.{option_map, ok_or};
+ghost use Rattle.fx_language.specs.declared.fault.ScriptFault.TheVariants.{BadTag};
+ghost use Rattle.fx_language.specs.Line.{list_in, tags_in};
+ghost use Rattle.fx_language.specs.ScriptView.{GivesOrFails};
+ghost use Rattle.fx_language.specs.Words.{tag_list_of};
 
-use crate::fault::ScriptFault;
-use crate::number::entry;
+use crate::fault::{LineError, ScriptFault};
+use crate::number::{entry, tag};
 use crate::parts::Parts;
-use std::alloc::{AllocError, Global};
+use std::alloc::Global;
 
-// A word that is a list: entries, at least one, separated by single commas.
-#[derive(Clone, Copy)]
-pub struct List<'a> {
-    text: &'a [u8],
-    ghost is_list: { is_some (list_of text.now) ≡ true },
-}
-
-fn is_list(word: &[u8]) -> bool
-    ensures { result ≡ is_some (list_of word.now) }
+// Parses a word as a list of entries.
+pub fn entries(alloc: Global, word: &[u8]) -> Result<Vec<i32>, LineError>
+    ensures { GivesOrFails (λ list. list.items) result (list_in word.now) }
 {
+    let mut list = Vec::new(alloc);
     for part in Parts::new(word, b',') {
-        if entry(part).is_none() {
-            return false;
-        }
+        let Some(entry) = entry(part) else {
+            return Err(LineError::Fault(ScriptFault::BadEntry));
+        };
+        list.push(entry)?;
     }
-    true
+    Ok(list)
 }
 
-impl<'a> List<'a> {
-    ghost use Rattle.fx_language.specs.LineView.{entries_in};
-
-    // Parses a word as a list.
-    pub fn new(word: &'a [u8]) -> Result<List<'a>, ScriptFault>
-        ensures { GivesExpected entries_in result (list_in word.now) }
-    {
-        if is_list(word) {
-            Ok(List { text: word })
-        } else {
-            Err(ScriptFault::BadEntry)
-        }
+// Parses a word as a list of tags.
+fn tag_list(alloc: Global, word: &[u8]) -> Result<Vec<u64>, LineError>
+    ensures { GivesOrFails (λ tags. tags.items) result (ok_or (tag_list_of word.now) BadTag) }
+{
+    let mut tags = Vec::new(alloc);
+    for part in Parts::new(word, b',') {
+        let Some(tag) = tag(part) else {
+            return Err(LineError::Fault(ScriptFault::BadTag));
+        };
+        tags.push(tag)?;
     }
+    Ok(tags)
+}
 
-    // Returns its entries.
-    pub fn entries(self, alloc: Global) -> Result<Vec<i32>, AllocError>
-        ensures { IfOk result (λ list. list.items ≡ entries_in self.entry) }
-    {
-        let mut list = Vec::new(alloc);
-        for part in Parts::new(self.text, b',') {
-            list.push(entry(part).unwrap())?;
-        }
-        Ok(list)
+// Parses the last word as a list of tags, if there is one.
+pub fn tags(alloc: Global, last: Option<&[u8]>) -> Result<Option<Vec<u64>>, LineError>
+    ensures { GivesOrFails (option_map (λ given. given.items)) result
+        (tags_in (option_map (λ word. word.now) last.entry)) }
+{
+    match last {
+        None => Ok(None),
+        Some(word) => Ok(Some(tag_list(alloc, word)?)),
     }
 }

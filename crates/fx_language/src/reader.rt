@@ -1,8 +1,8 @@
 //! The reader of a script, line by line.
 ghost use Rattle.std.specs.Prelude.{◌≡◌, ◌∷◌, ◌++◌, [], IfOk, MatchResult, Ok, Some, ok_or};
-ghost use Rattle.fx_chain.specs.Operation.{asked_of, operation_of};
+ghost use Rattle.fx_chain.specs.Operation.{asked_of};
 ghost use Rattle.fx_language.specs.Line.{RequestLine};
-ghost use Rattle.fx_language.specs.LineView.{line_in, operation_in};
+ghost use Rattle.fx_language.specs.LineView.{line_in};
 ghost use Rattle.fx_language.specs.Lines.{is_printable, is_skipped};
 ghost use Rattle.fx_language.specs.Script.{after_file, after_line, after_text, nothing, with_command};
 ghost use Rattle.fx_language.specs.ScriptView.{progress_of, IsExpected, TakesExpected};
@@ -13,11 +13,10 @@ use crate::command::Command;
 use crate::fault::{LineError, ScriptFault};
 use crate::limits::LONGEST_LINE;
 use crate::line::{Line, parse};
-use crate::request::Ask;
 use fx_base::{AddFault, Catalogue};
-use fx_chain::{Op, Request};
+use fx_chain::Request;
 use hex::FromHexError;
-use std::alloc::{AllocError, Global};
+use std::alloc::Global;
 
 // The result of the lines that were read so far.
 #[derive(Drop)]
@@ -57,24 +56,6 @@ fn file_bytes(alloc: Global, hex: &[u8]) -> Result<Vec<u8>, LineError>
         Ok(bytes) => Ok(bytes),
         Err(FromHexError::OutOfMemory) => Err(LineError::NoMemory),
         Err(_) => Err(LineError::Fault(ScriptFault::BadHex)),
-    }
-}
-
-// Returns the operation that a request line asks for, with memory of its own.
-fn op_of(alloc: Global, ask: Ask<'_>) -> Result<Op, AllocError>
-    ensures { IfOk result (λ op. operation_of op ≡ operation_in ask.entry) }
-{
-    match ask {
-        Ask::Open { name, target } => Ok(Op::Open {
-            name: String::from_str(alloc, name)?,
-            target,
-        }),
-        Ask::Read { slot, off, len } => Ok(Op::Read { slot, off, len }),
-        Ask::Close { slot } => Ok(Op::Close { slot }),
-        Ask::Update { off, list } => Ok(Op::Update {
-            off,
-            list: list.entries(alloc)?,
-        }),
     }
 }
 
@@ -138,22 +119,8 @@ impl Reader {
     {
         match line {
             Line::File { name, hex } => self.take_file(alloc, name, hex),
-            Line::Sparse(slots) => self.take_command(Command::Sparse(slots)),
-            Line::Register(list, tags) => self.take_command(Command::Register(
-                list.entries(alloc)?,
-                tags,
-            )),
-            Line::Unregister => self.take_command(Command::Unregister),
-            Line::Range(off, len) => self.take_command(Command::Range(off, len)),
-            Line::Update(off, list, tags) => self.take_command(Command::Update(
-                off,
-                list.entries(alloc)?,
-                tags,
-            )),
-            Line::Request(ask, flags) => {
-                let op = op_of(alloc, ask)?;
-                self.take_request(n, Request { op, flags })
-            }
+            Line::Command(command) => self.take_command(command),
+            Line::Request(request) => self.take_request(n, request),
             Line::Submit => {
                 let requests = std::mem::replace(&mut self.waiting, Vec::new(alloc));
                 self.take_command(Command::Submit(requests))

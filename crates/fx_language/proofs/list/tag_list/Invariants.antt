@@ -2,7 +2,7 @@ use Rattle.std.proofs.Common.{◌≡◌, ◌++◌}
 use Rattle.std.specs.Prelude.{option_map}
 use Rattle.fx_language.specs.Parts.{parts_left}
 use Rattle.fx_language.specs.Words.{tags_of_parts, tag_list_of}
-use Rattle.fx_language.proofs.tags.tag_list.Given as goal
+use Rattle.fx_language.proofs.list.tag_list.Given as goal
 
 -- the tags so far, and those of the parts that are left, are the tags of the word
 abbrev pub invariant-loop-part : goal.invariant-loop-part
