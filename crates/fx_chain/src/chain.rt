@@ -20,6 +20,18 @@ pub struct Chain {
     pub len: u32,
 }
 
+impl Chain {
+    /// Returns the members of the chain, one of this list of requests ([`cut`]).
+    pub fn members(self, requests: &[Request]) -> &[Request]
+        requires inside { self.first + self.len ≤ length requests.now }
+        ensures part { result.now ≡ take self.len (drop self.first requests.now) }
+        ensures members { all_asked result.now ≡ members_of (all_asked requests.now) self }
+    {
+        let first = self.first as usize;
+        &requests[first..first + self.len as usize]
+    }
+}
+
 // Returns the number of members of the first chain: the requests up to the first one that doesn't link, or all of them.
 fn first_chain_len(requests: &[Request]) -> usize
     requires { 0 < length requests.now }
