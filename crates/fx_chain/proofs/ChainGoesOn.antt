@@ -3,13 +3,14 @@ use Rattle.fx_chain.proofs.Words.{◌≡◌, ℕ, suc, ◌+◌, ◌<◌, Bool, t
 use Rattle.fx_chain.proofs.Words.{append_assoc, length-append, slice_index_or, arith, MatchBool-at_true, MatchBool-at_false, append-nil, cases_Bool}
 use Rattle.fx_chain.proofs.Words.{sum_by-append, sum_by-cons, MatchBool, FileEntry, Action, ◌▷▷◌, Opening, size_of, Completed, next_member, refusal}
 use Rattle.fx_chain.proofs.Words.{Explains, AnswersBehind, canceled, severs, Asked, asked_of, all_asked, PlayerView, AnswersNext, PlaysMembers}
-use Rattle.fx_chain.proofs.Words.{installs_of, weight_of, Place, Request}
+use Rattle.fx_chain.proofs.Words.{installs_of, room_of, Place, Request}
 use Rattle.std.specs.List.{sum_by}
 use Rattle.std.proofs.Math.Bool.{or-false, or_assoc}
 use Rattle.fx_base.specs.declared.errno.Errno.TheVariants.{ECANCELED}
 use Rattle.fx_chain.proofs.ActsInTurn.{so_then}
 use Rattle.fx_chain.proofs.Asking.{asked_rest}
 use Rattle.fx_chain.proofs.Cases.{either_case}
+use Rattle.fx_chain.proofs.Freed.{may_free_then}
 
 -- one of the members severs the chain
 abbrev pub any_severs : List Asked → List Completed → Bool
@@ -88,8 +89,10 @@ pub answers_next : (o : Opening) (catalogue : List FileEntry) (place : Place) (r
 answers_next o catalogue place requests r cs c n is done own =
     let count = length-append requests (r ∷ []) in
     let installs = sum_by-append (λ (x : Asked). installs_of x.operation) requests (r ∷ []) in
-    let weights = sum_by-append (λ (x : Asked). weight_of x.operation) requests (r ∷ []) in
-    so_then done own (λ xs ys a b. explains_next catalogue (size_of o) place requests r xs ys cs c n is a b) (omega arith) (omega arith) (omega arith)
+    let room = sum_by-append (λ (x : Asked). room_of o.lasts x.operation) requests (r ∷ []) in
+    so_then done own
+    (λ _ _ a b. may_free_then a b (λ xs ys explained answered. explains_next catalogue (size_of o) place requests r xs ys cs c n is explained answered))
+    (omega arith) (omega arith) (omega arith)
 
 -- the requests from a place on, as contracts see them
 abbrev pub asked_from : List Request → ℕ → List Asked

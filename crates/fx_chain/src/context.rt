@@ -4,12 +4,12 @@ ghost use Rattle.fx_chain.specs.Completed.{completed, completed_of, refusal};
 
 use crate::completion::{Completion, Place};
 use fx_base::{Catalogue, CloseList, Errno};
-use fx_table::FileTable;
+use fx_table::SharedTable;
 use std::alloc::Global;
 
 /// The values that stay the same while a request is performed: the table, the catalogue, and the request's place.
 #[derive(Drop)]
-pub(crate) struct Context<'a, T: FileTable, R> {
+pub(crate) struct Context<'a, T: SharedTable, R> {
     pub(crate) rt: &'a R,
     pub(crate) alloc: Global,
     pub(crate) table: &'a T,
@@ -24,7 +24,7 @@ pub(crate) struct Player<'a, P> {
     pub(crate) closes: &'a mut CloseList,
 }
 
-impl<T: FileTable, R> Context<'_, T, R> {
+impl<T: SharedTable, R> Context<'_, T, R> {
     // Creates the answer to the request, if it fails.
     pub(crate) fn refusal(&self, errno: Errno) -> Completion
         ensures { completed_of result ≡ refusal self.now.place errno }

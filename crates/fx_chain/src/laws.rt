@@ -1,10 +1,10 @@
-//! Laws of runs and faults, over lists of requests alone. Each is the contract of a function with an empty body (this
-//! project's own).
+//! Laws of runs, faults and chains. Each is the contract of a function with an empty body (this project's own).
 
 ghost use Rattle.std.specs.Prelude.{◌≡◌, List, ◌∷◌, ◌++◌, MatchOption};
 ghost use Rattle.fx_chain.specs.Faults.{HasNoFault, IsFirstFault, fault_of};
 ghost use Rattle.fx_chain.specs.Operation.{Asked};
 ghost use Rattle.fx_chain.specs.OtherNumbers.{ExplainsByAnyNumbers, GivesNumbersAsAsked};
+ghost use Rattle.fx_chain.specs.Performs.{OnlyLastingTablesFree};
 ghost use Rattle.fx_chain.specs.Runs.{AreTheOnlyRuns, StandsIn, runs_of};
 
 use crate::fault::MOST_MEMBERS;
@@ -48,4 +48,10 @@ pub fn chains_answer_by_any_numbers()
 /// States that a chain uses no more file numbers than its requests ask for.
 pub fn chains_give_numbers_as_asked()
     ensures { GivesNumbersAsAsked }
+{}
+
+/// States that in a table that doesn't last a chain frees no file by a look-up: its actions are those that explain its
+/// completions, and the room that it needs is its weight.
+pub fn only_lasting_tables_free()
+    ensures { OnlyLastingTablesFree }
 {}

@@ -14,11 +14,11 @@ use crate::removal::put;
 use crate::request::Target;
 use fx_base::Errno;
 use fx_plain::MOST_SLOTS;
-use fx_table::FileTable;
+use fx_table::SharedTable;
 use std::sync::Wait;
 
 // Opens a catalogue entry at a slot.
-fn open_at<T: FileTable, R: Wait>(
+fn open_at<T: SharedTable, R: Wait>(
     context: &Context<'_, T, R>,
     player: &mut Player<'_, T::Pass>,
     entry: u8,
@@ -38,7 +38,7 @@ fn open_at<T: FileTable, R: Wait>(
 }
 
 // Opens a catalogue entry at any empty slot of the allocation range.
-fn open_any<T: FileTable, R: Wait>(
+fn open_any<T: SharedTable, R: Wait>(
     context: &Context<'_, T, R>,
     player: &mut Player<'_, T::Pass>,
     entry: u8,
@@ -61,7 +61,7 @@ fn open_any<T: FileTable, R: Wait>(
 }
 
 // Opens the catalogue entry of a name.
-pub(crate) fn open<T: FileTable, R: Wait>(
+pub(crate) fn open<T: SharedTable, R: Wait>(
     context: &Context<'_, T, R>,
     player: &mut Player<'_, T::Pass>,
     name: &str,

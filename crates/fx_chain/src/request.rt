@@ -1,8 +1,9 @@
 //! Requests, as io_uring_enter(2) describes them.
-ghost use Rattle.std.specs.Prelude.{◌≡◌, length, filter, pos, int_le};
+ghost use Rattle.std.specs.Prelude.{◌≡◌, ◌+◌, ◌≤◌, Bool, length, filter, pos, int_le};
 ghost use Rattle.fx_chain.specs.Completed.{completed_of};
 ghost use Rattle.fx_chain.specs.Explains.{has_failed, severs};
 ghost use Rattle.fx_chain.specs.Faults.{has_bad_flags, is_long_read, is_long_update};
+ghost use Rattle.fx_chain.specs.Freed.{look_ups_of, room_of};
 ghost use Rattle.fx_chain.specs.Operation.{asked_of, operation_of, is_fixed, is_link};
 ghost use Rattle.fx_chain.specs.Weights.{installs_of, weight_of};
 
@@ -82,13 +83,32 @@ impl Request {
     }
 
     /// Returns the greatest number of files that the request may close: the length of the list for an update, otherwise
-    /// 1. Each uses one place of the room in a list of closes.
+    /// 1. Each uses one place of the room in a list of closes. In a table that lasts, each of its [`Request::looks`] may
+    /// free one more.
     pub fn weight(&self) -> usize
         ensures { result ≡ weight_of (operation_of self.now.op) }
     {
         match &self.op {
             Op::Update { off: _, list } => list.len(),
             _ => 1,
+        }
+    }
+
+    /// Returns the number of slots that the request looks up: 1 for a read, otherwise 0. In a table that lasts, each may
+    /// use one more place of the room in a list of closes.
+    #[tactic(auto, using(crate::proofs::Freed::room_at_most))]
+    pub fn looks(&self) -> usize
+        ensures value { result ≡ look_ups_of (operation_of self.now.op) }
+        ensures room { (lasts : Bool) → room_of lasts (operation_of self.now.op)
+            ≤ weight_of (operation_of self.now.op) + result }
+    {
+        match &self.op {
+            Op::Read {
+                slot: _,
+                off: _,
+                len: _,
+            } => 1,
+            _ => 0,
         }
     }
 

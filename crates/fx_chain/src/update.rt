@@ -14,11 +14,11 @@ use crate::context::{Context, Player};
 use crate::removal::{clear, put};
 use fx_base::MOST_ENTRIES;
 use fx_plain::MOST_SLOTS;
-use fx_table::FileTable;
+use fx_table::SharedTable;
 use std::sync::Wait;
 
 // Applies one entry: -1 empties its slot, -2 leaves it as it is, and any other number installs that catalogue entry.
-fn apply_entry<T: FileTable, R: Wait>(
+fn apply_entry<T: SharedTable, R: Wait>(
     context: &Context<'_, T, R>,
     player: &mut Player<'_, T::Pass>,
     in_list: u32,
@@ -47,7 +47,7 @@ fn apply_entry<T: FileTable, R: Wait>(
 }
 
 // Applies the entries of a list, in order.
-fn apply_list<T: FileTable, R: Wait>(
+fn apply_list<T: SharedTable, R: Wait>(
     context: &Context<'_, T, R>,
     player: &mut Player<'_, T::Pass>,
     off: u32,
@@ -72,7 +72,7 @@ fn apply_list<T: FileTable, R: Wait>(
 
 // Updates the slots from `off` on by a list (io_uring_register_files(3), `io_uring_register_files_update`). The result is
 // the length of the list.
-pub(crate) fn update<T: FileTable, R: Wait>(
+pub(crate) fn update<T: SharedTable, R: Wait>(
     context: &Context<'_, T, R>,
     player: &mut Player<'_, T::Pass>,
     off: u32,

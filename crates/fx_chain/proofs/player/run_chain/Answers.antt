@@ -1,6 +1,7 @@
 use Rattle.fx_chain.proofs.Words.{rules, ◌≡◌, ◌<◌, ◌+◌, ◌++◌, ◌∷◌, [], length, take, sym, refl, ◌∙◌, append_assoc, arith, append-nil, map-append}
-use Rattle.fx_chain.proofs.Words.{size_of, completed_of, all_completed, first_member, Asked, asked_of, all_asked, installs_of, weight_of}
+use Rattle.fx_chain.proofs.Words.{size_of, completed_of, all_completed, first_member, Asked, asked_of, all_asked, installs_of, room_of}
 use Rattle.fx_chain.proofs.ActsInTurn.{so_nothing}
+use Rattle.fx_chain.proofs.Freed.{may_free}
 use Rattle.fx_chain.proofs.Asking.{asked_more, asked_length}
 use Rattle.fx_chain.proofs.ChainGoesOn.{any_severs-push, answers_next, explained_count, weighs_from}
 use Rattle.fx_table.proofs.Calls.{looks_least, numbers_least}
@@ -17,7 +18,7 @@ loop-i-init g c =
       room = c.requires.room;
       count = search rules;
       capacity = search rules;
-      done = ([], sym (append-nil (all_completed c.args.out.now.items)), refl, so_nothing _ seen c.requires.idle (refl, refl));
+      done = ([], sym (append-nil (all_completed c.args.out.now.items)), refl, so_nothing _ seen c.requires.idle (may_free _ (refl, refl)));
     }
 
 pub loop-i-preserved : goal.loop-i-preserved
@@ -37,9 +38,9 @@ loop-i-preserved g c =
     let front : all_asked (take (n + 1) requests) ≡ asked ++ asked_of x ∷ [] = asked_more requests n x inside c.index-requests-i.is in
     let answered = ensures.answered in
     let next = answers_next o c.args.catalogue.now first asked (asked_of x) cs done (n + 1) (omega arith) plays (rw severed_is at answered) in
-    let as_many = explained_count c.args.catalogue.now (size_of o) first asked plays.actions cs plays.says in
+    let as_many = explained_count c.args.catalogue.now (size_of o) first asked plays.says.steps cs plays.says.says in
     let installs = weighs_from (λ (r : Asked). installs_of r.operation) requests n x inside c.index-requests-i.is in
-    let weights = weighs_from (λ (r : Asked). weight_of r.operation) requests n x inside c.index-requests-i.is in
+    let room = weighs_from (λ (r : Asked). room_of o.lasts r.operation) requests n x inside c.index-requests-i.is in
     record {
       kept = (ensures.kept.0 ∙ i.kept.0, ensures.kept.1 ∙ i.kept.1, ensures.kept.2);
       idle = answered.acts.adds.now;

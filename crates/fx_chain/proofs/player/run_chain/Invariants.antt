@@ -1,5 +1,5 @@
 use Rattle.fx_chain.proofs.Words.{◌≡◌, ◌≤◌, ◌+◌, ◌++◌, List, length, take, vec_len, vec_capacity, IsIdle, Completed, all_completed, IsKept, view_of}
-use Rattle.fx_chain.proofs.Words.{first_member, all_asked, PlaysMembers, player, all_installs, all_weights}
+use Rattle.fx_chain.proofs.Words.{first_member, all_asked, PlaysMembers, player, all_installs, all_room}
 use Rattle.fx_chain.proofs.ChainGoesOn.{any_severs, asked_from}
 use Rattle.fx_chain.proofs.player.run_chain.Given as goal
 
@@ -9,7 +9,7 @@ invariant-loop-i g l = record {
   idle : IsIdle (g.T.SharedTable.view l.player.pass.now);
   looks : length l.requests ≤ (g.T.SharedTable.view l.player.pass.now).looks_left + l.i;
   numbers : all_installs (asked_from l.requests l.i) ≤ (g.T.SharedTable.view l.player.pass.now).numbers_left;
-  room : all_weights (asked_from l.requests l.i) ≤ l.player.closes.now.room;
+  room : all_room (g.T.SharedTable.opening l.table).lasts (asked_from l.requests l.i) ≤ l.player.closes.now.room;
   count : vec_len l.out ≡ vec_len l.fn.out + l.i;
   capacity : vec_capacity l.fn.out ≤ vec_capacity l.out;
   done : (cs : List Completed) × (all_completed l.out.items ≡ all_completed l.fn.out.items ++ cs)
