@@ -2,11 +2,11 @@
 use Rattle.fx_script.proofs.Words.{◌≡◌, ℕ, ◌+◌, ◌<◌, ◌≤◌, List, [], ◌∷◌, ◌++◌, length, refl, sym, ap, subst, ◌∙◌, Option, Some, None, append_assoc}
 use Rattle.fx_script.proofs.Words.{drop, take, slice_index_or, inl, inr, arith, append-nil, map-append, take-append-drop, take_all, IfErr-weaker}
 use Rattle.fx_script.proofs.Words.{Appends, IfErr, Result, RingContents, RingState, ring_files_in_order, ring_of, Instruction, instruction_of}
-use Rattle.fx_script.proofs.Words.{instructions_of, Prints, PrintsAll, PrintsEnd, PrintsFirst, PrintsUpTo, IsPlayFault, Writes, PlayFault}
+use Rattle.fx_script.proofs.Words.{instructions_of, Prints, PrintsAll, PrintsEnd, PrintsFirst, IsPlayFault, Writes, PlayFault, Ok, Err, IfOk}
+use Rattle.std.specs.Prelude.{IsOkAnd, OnOk}
 use Rattle.std.proofs.lemmas.List.Sorted.{IsPermutation-refl}
 use Rattle.std.proofs.Math.Seq.{drop-cons, take-add}
 use Rattle.std.specs.List.Sorted.{IsPermutation}
-use Rattle.fx_script.proofs.SameRings.{up_to_same, all_same, first_same}
 use Rattle.fx_language.specs.declared.command.Command.{Command}
 use Rattle.fx_script.specs.declared.play_fault.PlayFault.TheVariants.{Read, Script, Write, NoMemory}
 
@@ -27,18 +27,25 @@ fault_maps (Script line kind) f known = known
 fault_maps Write f known = known
 fault_maps NoMemory f known = f known
 
+-- the commands lead from one ring to another, and print this, one after another
+abbrev pub PrintsUpTo : RingContents → List Instruction → RingContents → List ℕ → Type 0
+PrintsUpTo ring [] last text = (last ≡ ring) × (text ≡ [])
+PrintsUpTo ring (command ∷ commands) last text =
+    (next : RingContents) × (line : List ℕ) × (others : List ℕ)
+    × Prints ring command next line × (text ≡ line ++ others)
+    × PrintsUpTo next commands last others
+
 -- the output of some commands, and then that of the later ones
 behind : (next : RingContents) (others : List ℕ) (P : RingContents → List Instruction → List ℕ → Type 0)
-    → ((ring : RingContents) (back : List Instruction) → ring_of ring ≡ ring_of next → P next back others → P ring back others)
     → ((ring then : RingContents) (command : Instruction) (commands : List Instruction) (line rest : List ℕ) → Prints ring command then line
     → P then commands rest → P ring (command ∷ commands) (line ++ rest))
     → (front back : List Instruction) (ring : RingContents) (text : List ℕ) → PrintsUpTo ring front next text → P next back others
     → P ring (front ++ back) (text ++ others)
-behind next others P same step [] back ring text (end, none) more =
-    subst (λ (t : List ℕ). P ring back (t ++ others)) (sym none) (same ring back (sym end) more)
-behind next others P same step (command ∷ front) back ring text (then, line, rest, prints, parts, goes_on) more =
+behind next others P step [] back ring text (end, none) more =
+    subst (λ (z : RingContents × List ℕ). P z.0 back (z.1 ++ others)) (λ i. (end i, sym none i)) more
+behind next others P step (command ∷ front) back ring text (then, line, rest, prints, parts, goes_on) more =
     subst (P ring (command ∷ (front ++ back))) (sym (ap (λ (t : List ℕ). t ++ others) parts ∙ append_assoc line rest others))
-    (step ring then command (front ++ back) line (rest ++ others) prints (behind next others P same step front back then rest goes_on more))
+    (step ring then command (front ++ back) line (rest ++ others) prints (behind next others P step front back then rest goes_on more))
 
 prints_nothing : (now : RingContents) (left : List Instruction) → PrintsFirst now left []
 prints_nothing now [] = refl
@@ -65,53 +72,48 @@ module _ {ring now : RingContents} {commands : List Command} {i : ℕ} {before k
   since written goes (line, prints, appended) =
       (text ++ line, goes line prints, Appends-append before known written text line played.written.2 appended)
 
-  -- and then `count` more
-  pub some_more : {next : RingContents} {written : Option (List ℕ)} (count : ℕ)
-      → Writes (PrintsUpTo now (instructions_of (take count (drop i commands))) next) known written
-      → HasPlayed ring next commands (i + count) before written
-  some_more {next} {written} count more = record {
-    written = since written (λ line prints. subst (λ (l : List Instruction). PrintsUpTo ring l next (text ++ line))
-        (sym (map-append instruction_of (take i commands) (take count (drop i commands))) ∙ ap instructions_of (sym (take-add i count commands)))
-        (behind now line (λ r l t. PrintsUpTo r l next t) (λ r l is. up_to_same now r is l next line)
-        (λ r then command l line rest prints more. (then, line, rest, prints, refl, more))
-        front (instructions_of (take count (drop i commands))) ring text played.written.1 prints)) more;
-  }
-
   -- and one more
   pub one_more : {next : RingContents} {written : Option (List ℕ)} {command : Command} → i < length commands
       → command ≡ slice_index_or commands i command → Writes (Prints now (instruction_of command) next) known written
       → HasPlayed ring next commands (i + 1) before written
-  one_more {next} {command = command} inside is (line, prints, appended) =
-      let first : command ∷ [] ≡ take 1 (drop i commands) =
-      ap (λ (c : Command). c ∷ []) is ∙ ap (take 1) (sym (drop-cons commands i command inside)) in
-      some_more 1 (
-        line,
-        subst (λ (l : List Command). PrintsUpTo now (instructions_of l) next line) first
-            (next, line, [], prints, sym (append-nil line), (refl, refl)),
-        appended,
-      )
+  one_more {next} {written} {command} inside is more = record {
+    written =
+        let first : command ∷ [] ≡ take 1 (drop i commands) =
+        ap (λ (c : Command). c ∷ []) is ∙ ap (take 1) (sym (drop-cons commands i command inside)) in
+        since written (λ line prints. subst (λ (l : List Instruction). PrintsUpTo ring l next (text ++ line))
+        (sym (map-append instruction_of (take i commands) (command ∷ []))
+        ∙ ap instructions_of (ap (λ (l : List Command). take i commands ++ l) first ∙ sym (take-add i 1 commands)))
+        (behind now line (λ r l t. PrintsUpTo r l next t) (λ r then command l line rest prints more. (then, line, rest, prints, refl, more))
+        front (instruction_of command ∷ []) ring text played.written.1 (next, line, [], prints, sym (append-nil line), (refl, refl)))) more;
+  }
 
-  -- and the end
-  pub ends : length commands ≤ i → (written : Option (List ℕ)) → Writes (PrintsEnd (ring_of now)) known written
+  -- and the end, on a ring that shows the same
+  pub ends : {last : RingState} → length commands ≤ i → last ≡ ring_of now → (written : Option (List ℕ)) → Writes (PrintsEnd last) known written
       → Writes (PrintsAll ring (instructions_of commands)) before written
-  ends all written = since written (λ line prints. subst (λ (l : List Instruction). PrintsAll ring l (text ++ line))
+  ends all same written = since written (λ line prints. subst (λ (l : List Instruction). PrintsAll ring l (text ++ line))
       (append-nil front ∙ ap instructions_of (take_all i commands all))
-      (behind now line PrintsAll (λ r l is. all_same now r is l line)
-      (λ r then command l line rest prints more. (then, line, rest, prints, refl, more)) front [] ring text played.written.1 prints))
+      (behind now line PrintsAll (λ r then command l line rest prints more. (then, line, rest, prints, refl, more)) front [] ring text
+      played.written.1 (subst (λ (r : RingState). PrintsEnd r line) same prints)))
 
-  -- or the play ended early after them
-  pub ends_early : (fault : PlayFault) (written : Option (List ℕ)) → IsPlayFault fault (Writes (PrintsFirst now back) known written)
-      → IsPlayFault fault (Writes (PrintsFirst ring (instructions_of commands)) before written)
-  ends_early fault written = fault_maps fault (since written (λ line prints. subst (λ (l : List Instruction). PrintsFirst ring l (text ++ line))
-      (sym (map-append instruction_of (take i commands) (drop i commands)) ∙ ap instructions_of (take-append-drop i commands))
-      (behind now line PrintsFirst (λ r l is. first_same now r is l line)
-      (λ r then command l line rest prints more. inr (then, line, rest, prints, refl, more)) front back ring text played.written.1 prints)))
-
-  -- and nothing was written since
+  -- or the play ended early after them, and nothing was written since
   pub fails : (fault : PlayFault) (written : Option (List ℕ)) → IsPlayFault fault (written ≡ known)
       → IsPlayFault fault (Writes (PrintsFirst ring (instructions_of commands)) before written)
-  fails fault written failed = ends_early fault written (fault_maps fault (λ same.
-      ([], prints_nothing now back, subst (λ (w : Option (List ℕ)). Appends known w []) (sym same) (Appends-nothing known))) failed)
+  fails fault written = fault_maps fault (λ same.
+      since written (λ line none. subst (λ (l : List Instruction). PrintsFirst ring l (text ++ line))
+      (sym (map-append instruction_of (take i commands) (drop i commands)) ∙ ap instructions_of (take-append-drop i commands))
+      (behind now line PrintsFirst (λ r then command l line rest prints more. inr (then, line, rest, prints, refl, more)) front back ring text
+      played.written.1 (subst (PrintsFirst now back) (sym none) (prints_nothing now back))))
+      ([], refl, subst (λ (w : Option (List ℕ)). Appends known w []) (sym same) (Appends-nothing known)))
+
+-- a text that was written
+pub text_written : {S E : Type 0} (bytes : S → List ℕ) (P : List ℕ → Type 0) (before written : Option (List ℕ)) (text : Result S E)
+    → IfOk text (λ t. P (bytes t)) → IsOkAnd text (λ t. Appends before written (bytes t)) → Writes P before written
+text_written bytes P before written (Ok t) is appended = (bytes t, is, appended)
+text_written bytes P before written (Err e) is appended = absurd appended
+
+pub known_ok : {S E A : Type 0} (P : S → Type 0) (text : Result S E) → IsOkAnd text P → OnOk text A → A
+known_ok P (Ok t) is known = known
+known_ok P (Err e) is known = absurd is
 
 -- the output is a text of another kind, too
 pub written_as : {P Q : List ℕ → Type 0} (before written : Option (List ℕ)) → ((text : List ℕ) → P text → Q text)

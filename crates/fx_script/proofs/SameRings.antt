@@ -1,8 +1,7 @@
--- The output of commands on a ring is that on a ring that shows the same.
+-- The output of a command on a ring is that on a ring that shows the same.
 use Rattle.fx_script.proofs.Words.{◌≡◌, ℕ, pos, List, [], ◌∷◌, length, sym, subst, ◌∙◌, Option, Some, None, Bool, true, false, nat_le, inl, inr}
 use Rattle.fx_script.proofs.Words.{codes, Asked, RingContents, RingState, files_of_ring, ring_of, without_table, Instruction, MakesSparse, RegistersList}
-use Rattle.fx_script.proofs.Words.{Unregisters, SetsRange, UpdatesRing, SubmitsAll, CallAnswers, IsCallRefused, Prints, PrintsAll, PrintsClosed, PrintsEnd}
-use Rattle.fx_script.proofs.Words.{PrintsFirst, PrintsReport, PrintsUpTo}
+use Rattle.fx_script.proofs.Words.{Unregisters, SetsRange, UpdatesRing, SubmitsAll, CallAnswers, IsCallRefused, Prints, PrintsClosed, PrintsReport}
 use Rattle.std.specs.Bool.{MatchBool}
 use Rattle.std.specs.Option.{MatchOption}
 use Rattle.fx_chain.specs.Faults.{fault_of}
@@ -31,7 +30,7 @@ module _ (old same next : RingContents) (line : List ℕ) (is : ring_of same ≡
   report_same {asked} (report, one, text) =
       (report, same_history old same next asked report is one, subst (λ (r : RingState). line ≡ report_text r.catalogue report) (sym is) text)
 
-  prints_same : (command : Instruction) → Prints old command next line → Prints same command next line
+  pub prints_same : (command : Instruction) → Prints old command next line → Prints same command next line
   prints_same (MakesSparse n) p = subst (λ (r : RingState). CallAnswers (sparse_refusal r n)
       ((ring_of next ≡ registered_sparse r n) × (line ≡ result_line (codes "sparse") (pos 0)))
       (IsCallRefused r (ring_of next) (codes "sparse") line)) (sym is) p
@@ -50,28 +49,3 @@ module _ (old same next : RingContents) (line : List ℕ) (is : ring_of same ≡
       (IsCallRefused r (ring_of next) (codes "regupdate") line)) (sym is) p
   prints_same (SubmitsAll asked) p = subst (λ (r : RingState). OnSubmit (fault_of asked) (nat_le MOST_SUBMISSIONS r.submissions) r
       (PrintsReport same asked next line)) (sym is) (reports (fault_of asked) (nat_le MOST_SUBMISSIONS old.submissions) (ring_of old) (report_same) p)
-
-module _ (old same : RingContents) (is : ring_of same ≡ ring_of old) where
-  pub up_to_same : (commands : List Instruction) (last : RingContents) (text : List ℕ) → PrintsUpTo old commands last text
-      → PrintsUpTo same commands last text
-  up_to_same [] last text (end, none) = (end ∙ sym is, none)
-  up_to_same (command ∷ commands) last text (next, line, others, prints, parts, more) =
-      (next, line, others, prints_same old same next line is command prints, parts, more)
-
-  pub all_same : (commands : List Instruction) (text : List ℕ) → PrintsAll old commands text → PrintsAll same commands text
-  all_same [] text end = subst (λ (r : RingState). PrintsEnd r text) (sym is) end
-  all_same (command ∷ commands) text (next, line, others, prints, parts, more) =
-      (next, line, others, prints_same old same next line is command prints, parts, more)
-
-  pub first_same : (commands : List Instruction) (text : List ℕ) → PrintsFirst old commands text → PrintsFirst same commands text
-  first_same [] text none = none
-  first_same (command ∷ commands) text (inl none) = inl none
-  first_same (command ∷ commands) text (inr (next, line, others, prints, parts, more)) =
-      inr (next, line, others, prints_same old same next line is command prints, parts, more)
-
--- the last ring may be any that shows the same
-pub up_to_other : (last other : RingContents) → ring_of other ≡ ring_of last → (commands : List Instruction) (ring : RingContents) (text : List ℕ)
-    → PrintsUpTo ring commands last text → PrintsUpTo ring commands other text
-up_to_other last other is [] ring text (end, none) = (is ∙ end, none)
-up_to_other last other is (command ∷ commands) ring text (next, line, others, prints, parts, more) =
-    (next, line, others, prints, parts, up_to_other last other is commands next others more)

@@ -4,7 +4,8 @@ pub use Rattle.fx_language.specs.Instruction.{Instruction, MakesSparse, Register
 pub use Rattle.fx_language.specs.Instruction.{instruction_of, instructions_of}
 pub use Rattle.fx_language.specs.declared.limits.TheConstants.{LONGEST_SCRIPT}
 pub use Rattle.fx_ring.specs.Ring.{RingContents, RingState, ring_files_in_order, files_of_ring, new_ring, ring_of, without_table}
-pub use Rattle.fx_script.specs.Play.{CallAnswers, IsCallRefused, Prints, PrintsAll, PrintsClosed, PrintsEnd, PrintsFirst, PrintsReport, PrintsUpTo}
+pub use Rattle.fx_script.specs.Play.{CallAnswers, IsCallRefused, Prints, PrintsAll, PrintsClosed, PrintsEnd, PrintsFirst, PrintsReport}
+pub use Rattle.fx_script.specs.PlayedRing.{ring_played}
 pub use Rattle.fx_script.specs.Run.{IsInput, IsInputFault, IsPlayFault, Writes}
 pub use Rattle.fx_script.specs.declared.play_fault.PlayFault.{PlayFault}
 pub use Rattle.fx_table.specs.declared.limits.TheConstants.{CHAIN_NUMBERS, MAX_CHAINS}
@@ -14,4 +15,4 @@ pub use Rattle.std.proofs.Common.{◌++◌, ◌+◌, ◌-◌, ◌<◌, ◌∙◌
 pub use Rattle.std.proofs.lemmas.List.{append-nil, length-take, map-append, take-append-drop, take_all, take_rest}
 pub use Rattle.std.proofs.lemmas.Result.{IfErr-weaker, IfOk-weaker, err_from_is_err_and, on_ok_weaker}
 pub use Rattle.std.specs.Io.KnownBytes.{Appends, Consumes, IsAtEnd}
-pub use Rattle.std.specs.Prelude.{Err, IfErr, IfSome, Result}
+pub use Rattle.std.specs.Prelude.{Err, IfErr, IfOk, IfSome, Ok, Result}

@@ -2,3 +2,4 @@ pub mod Text
 pub mod Play
 pub mod RunView
 pub mod Run
+pub mod PlayedRing

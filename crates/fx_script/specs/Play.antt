@@ -107,15 +107,6 @@ PrintsFirst ring (command ∷ commands) text =
     (text ≡ []) ⊎ ((next : RingContents) × (line : List ℕ) × (others : List ℕ)
     × Prints ring command next line × (text ≡ line ++ others) × PrintsFirst next commands others)
 
--- the commands lead from one ring to another, whatever the numbers of its files, and print this,
--- one after another
-abbrev pub PrintsUpTo : RingContents → List Instruction → RingContents → List ℕ → Type 0
-PrintsUpTo ring [] last text = (ring_of last ≡ ring_of ring) × (text ≡ [])
-PrintsUpTo ring (command ∷ commands) last text =
-    (next : RingContents) × (line : List ℕ) × (others : List ℕ)
-    × Prints ring command next line × (text ≡ line ++ others)
-    × PrintsUpTo next commands last others
-
 -- a ring with the script's files and without a table
 abbrev pub IsNewRing : Meaning → RingContents → Type 0
 IsNewRing meaning ring = ring_of ring ≡ new_ring meaning.catalogue

@@ -9,12 +9,12 @@ mod input;
 pub mod laws;
 mod needs;
 mod play_fault;
+mod played_ring;
 mod player;
 mod prints;
 mod report;
 mod runner;
 mod setting;
-mod together;
 mod writes;
 
 pub use fx_language::{

@@ -7,13 +7,13 @@ ghost use Rattle.fx_language.specs.Instruction.{MakesSparse, RegistersList, Unre
 ghost use Rattle.fx_print.specs.Text.{result_line};
 ghost use Rattle.fx_script.specs.Play.{Prints, PrintsEnd};
 
-use crate::report::printed_report;
+use crate::report::answer_text;
 use crate::setting::Setting;
 use fx_base::{Errno, NoMemory};
 use fx_chain::{Gate, Request};
 use fx_language::Command;
-use fx_print::{refused_line, result_line, teardown_text, too_many_line, with_closes};
-use fx_ring::{Ring, SubmitFault};
+use fx_print::{result_line, teardown_text, with_closes};
+use fx_ring::Ring;
 use fx_table::FileTable;
 use std::alloc::Global;
 use std::sync::Wait;
@@ -123,13 +123,8 @@ fn submit<T: FileTable, R: Threads + Wait + Sync, G: Gate>(
         Prints ring.old (SubmitsAll (all_asked requests.now)) ring.new (string_bytes text)) }
 {
     let (rt, alloc, workers) = (setting.rt, setting.alloc, setting.workers);
-    match ring.submit::<T, G>(rt, alloc, requests, workers, setting.gate) {
-        Ok(report) => printed_report(rt, alloc, &report, ring.catalogue(), workers),
-        Err(SubmitFault::Cut(fault)) => refused_line(alloc, fault),
-        Err(SubmitFault::TooMany) => too_many_line(alloc),
-        Err(SubmitFault::NoMemory) => Err(NoMemory),
-        Err(SubmitFault::Workers) => unreachable!(),
-    }
+    let answer = ring.submit::<T, G>(rt, alloc, requests, workers, setting.gate);
+    answer_text(setting, ring.catalogue(), answer)
 }
 
 // Executes a command on the ring, and returns its text. An allocation failure of a call between submissions is printed;

@@ -1,24 +1,21 @@
-use Rattle.fx_script.proofs.Words.{length-drop, arith, take_rest, IfErr-weaker, on_ok_weaker}
-use Rattle.fx_script.proofs.PlaySteps.{some_more, ends, ends_early, fails}
+use Rattle.fx_script.proofs.Words.{rules, ◌<◌, length, arith, string_bytes, ring_of, PrintsEnd, IfErr-weaker, on_ok_weaker}
+use Rattle.fx_script.proofs.PlaySteps.{one_more, ends, fails, text_written, known_ok}
 use Rattle.fx_script.proofs.player.play_commands.Goals as goal
 
-pub loop-played-preserved : goal.loop-played-preserved
-loop-played-preserved g c =
-    let left = take_rest c.args.commands.now c.loop-played.played in
-    let few = rw (left, c.in-Ok.is) at c.play_some-after.ensures.count in
-    record {
-      inside = omega (arith, few.1, length-drop c.loop-played.played c.args.commands.now, c.loop-played.invariant.inside);
-      so_far = some_more c.loop-played.invariant.so_far c.in-Ok.count (rw (left, c.in-Ok.is) at c.play_some-after.ensures.ok);
-    }
+pub loop-i-preserved : goal.loop-i-preserved
+loop-i-preserved g c = one_more c.loop-i.invariant (search rules) c.index-commands-i.is (search rules)
 
 pub returns-in-Err-clause-fault : goal.returns-in-Err-clause-fault
-returns-in-Err-clause-fault g c = ends_early c.loop-played.invariant.so_far c.in-Err.fault _
-    (rw (take_rest c.args.commands.now c.loop-played.played, c.in-Err.is) at c.play_some-after.ensures.fault)
+returns-in-Err-clause-fault g c = fails c.loop-i.invariant c.in-Err.fault _ (search rules)
 
 pub returns-clause-ok : goal.returns-clause-ok
-returns-clause-ok g c =
-    on_ok_weaker c.play_end-ended.result (ends c.loop-played.invariant.so_far c.loop-played-test.false _) c.play_end-ended.ensures.ok
+returns-clause-ok g c = on_ok_weaker c.write_text.result
+    (λ written. ends c.loop-i.invariant (search rules) c.closed-ring.ensures _ (text_written (λ t. string_bytes t)
+    (PrintsEnd (ring_of c.closed-ring.result)) _ _ c.end_text-text.result c.end_text-text.ensures.end written)) c.write_text.ensures.written
 
 pub returns-clause-fault : goal.returns-clause-fault
-returns-clause-fault g c =
-    IfErr-weaker c.play_end-ended.result _ _ (λ fault. fails c.loop-played.invariant.so_far fault _) c.play_end-ended.ensures.fault
+returns-clause-fault g c = IfErr-weaker c.write_text.result _ _ (λ fault. fails c.loop-i.invariant fault _) c.write_text.ensures.fault
+
+pub returns-clause-closed : goal.returns-clause-closed
+returns-clause-closed g c =
+    on_ok_weaker c.write_text.result (λ written. known_ok _ c.end_text-text.result written c.end_text-text.ensures.closed) c.write_text.ensures.written
