@@ -68,6 +68,17 @@ pub record IsApplied (k off : ℕ) (list : List ℤ) (tags : List ℕ) (old cur 
   pub closed : mid.files ++ removed_from (files_at old) (off + i) (drop i list) ≡ before.files ++ removed_from (files_at old) off list
   pub room : mid.room + length (removed_from (files_at old) off list) ≡ before.room + length (removed_from (files_at old) (off + i) (drop i list))
 
+pub none_applied : {k off : ℕ} {list : List ℤ} {tags : List ℕ} {old cur : State} {before : CloseListView} → cur.size ≡ old.size
+    → cur.range ≡ old.range → files_at cur ≡ files_at old → IsSettled cur → IsApplied k off list tags old cur before before 0
+none_applied {k} {off} {list} {tags} {old} {before = before} size range files settled = record {
+  size = size;
+  range = range;
+  at_slots = files ∙ sym (upto_none k (files_at old) off list tags);
+  settled = settled;
+  closed = let e : off + 0 ≡ off = omega arith in ap (λ (n : ℕ). before.files ++ removed_from (files_at old) n list) e;
+  room = let e : off ≡ off + 0 = omega arith in ap (λ (n : ℕ). before.room + length (removed_from (files_at old) n list)) e;
+}
+
 module _ {k off : ℕ} {list : List ℤ} {tags : List ℕ} {old cur : State} {before mid : CloseListView} where
   pub all_applied : IsApplied k off list tags old cur before mid (length list) → SetsList k off list tags old cur before mid
   all_applied done =

@@ -99,12 +99,6 @@ vacant_empty {n} is = ap files_of_state is ∙ none_in_order n
 pub vacant_files : {st : State} {n : ℕ} → st ≡ vacant n → files_at st ≡ (λ _. None)
 vacant_files is = ap files_at is
 
--- a ring by the parts of its table
-pub ring_is : (ring : RingState) (st : State) (size : ℕ) (range : ℕ × ℕ) (files : ℕ → Option Closed)
-    → st.size ≡ size → st.range ≡ range → files_at st ≡ files → with_table ring st ≡ record ring { size = size; range = range; at = files }
-ring_is ring st size range files same_size same_range same_files =
-    λ i. record ring { size = same_size i; range = same_range i; at = same_files i }
-
 -- a ring whose table has the files of a state, their numbers aside
 pub ring_as : (c : RingContents) {st : State} (t : Contents) → HasSameFiles st (state_of t)
     → ring_of (record c { table = t }) ≡ with_table (ring_of c) st

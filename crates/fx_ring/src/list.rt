@@ -1,5 +1,5 @@
 //! Lists of numbers, one for each slot, and their tags.
-ghost use Rattle.std.specs.Prelude.{◌≡◌, ◌+◌, ◌<◌, ◌≤◌, ℕ, ℤ, pos, List, false, true, length, slice_index_or};
+ghost use Rattle.std.specs.Prelude.{◌≡◌, ◌+◌, ◌<◌, ◌≤◌, ℕ, ℤ, pos, List, OnErr, OnOk, false, true, length, slice_index_or};
 ghost use Rattle.std.specs.List.{list_any, zip};
 ghost use Rattle.fx_plain.specs.State.{IsSettled};
 ghost use Rattle.fx_plain.specs.Contents.{state_of};
@@ -8,10 +8,10 @@ ghost use Rattle.fx_base.specs.declared.catalogue.TheConstants.{MOST_ENTRIES};
 ghost use Rattle.fx_chain.specs.Answers.{is_bad_entry};
 ghost use Rattle.fx_ring.specs.Registration.{is_bad_file, removed_by_number, removed_from};
 ghost use Rattle.fx_ring.specs.Tags.{are_bad_tags, is_bad_tag, tag_at, tags_for};
-ghost use Rattle.fx_ring.specs.Slots.{AreFresh, SetsList, SetsNumber, files_at};
+ghost use Rattle.fx_ring.specs.Slots.{SetsList, SetsNumber, files_at};
 
 use crate::slots::{clear_slot, fill_slot};
-use fx_base::{Catalogue, CloseList, MOST_ENTRIES, Mark};
+use fx_base::{Catalogue, CloseList, MOST_ENTRIES, Mark, NoMemory};
 use fx_plain::{MOST_SLOTS, PlainTable};
 
 // Whether a number is neither an empty slot nor an entry of the catalogue.
@@ -72,8 +72,8 @@ pub fn tag_at(tags: Option<&[u64]>, place: usize) -> u64
     tags.get(place).copied().unwrap_or(0)
 }
 
-/// The list of registration or update number `k`, for the slots from `off` on. Its files get the
-/// table's numbers from `first` on, and tag 0 if `tags` is `None`.
+/// The list of registration or update number `k`, for the slots from `off` on. Its files have tag 0
+/// if `tags` is `None`.
 #[derive(Drop)]
 pub(crate) struct NumberList<'a> {
     pub(crate) catalogue: &'a Catalogue,
@@ -81,27 +81,32 @@ pub(crate) struct NumberList<'a> {
     pub(crate) off: u32,
     pub(crate) list: &'a [i32],
     pub(crate) tags: Option<&'a [u64]>,
-    pub(crate) first: u32,
     pub ghost entries: { length catalogue.now ≤ MOST_ENTRIES },
     pub ghost good: { list_any (is_bad_entry (length catalogue.now)) list.now ≡ false },
-    pub ghost few: { first ≤ MOST_SLOTS },
 }
 
 // Applies the number at place `i`: -1 empties its slot, -2 leaves it, and every other one opens
-// that catalogue entry there.
-fn apply_number(table: &mut PlainTable, numbers: &NumberList<'_>, i: usize, closes: &mut CloseList)
+// that catalogue entry there, under number `first + i` of the table.
+fn apply_number(
+    table: &mut PlainTable,
+    numbers: &NumberList<'_>,
+    first: u32,
+    i: usize,
+    closes: &mut CloseList,
+)
     requires place { i < length numbers.now.list.now }
     requires settled { IsSettled (state_of table.old) }
     requires slots { numbers.now.off + length numbers.now.list.now ≤ (state_of table.old).size }
     requires few_slots { (state_of table.old).size ≤ MOST_SLOTS }
-    requires fresh { (state_of table.old).fresh (numbers.now.first + i) ≡ true }
+    requires few { first ≤ MOST_SLOTS }
+    requires fresh { (state_of table.old).fresh (first + i) ≡ true }
     requires room { length (removed_by_number (slice_index_or numbers.now.list.now i (pos 0))
         (files_at (state_of table.old) (numbers.now.off + i))) ≤ closes.old.room }
     ensures files { SetsNumber numbers.now.k numbers.now.off i
         (tag_at (tags_for numbers.now.list.now numbers.now.tags) i)
         (slice_index_or numbers.now.list.now i (pos 0))
         (state_of table.old) (state_of table.new) closes.old closes.new }
-    ensures fresh { (other : ℕ) → numbers.now.first + i < other
+    ensures fresh { (other : ℕ) → first + i < other
         → (state_of table.new).fresh other ≡ (state_of table.old).fresh other }
 {
     let number = numbers.list[i];
@@ -114,7 +119,7 @@ fn apply_number(table: &mut PlainTable, numbers: &NumberList<'_>, i: usize, clos
         };
         let tag = tag_at(numbers.tags, i);
         let file = numbers.catalogue.open(number as u8, mark, tag);
-        fill_slot(table, slot, numbers.first + place, file, closes);
+        fill_slot(table, slot, first + place, file, closes);
         return;
     }
     if number > -2 {
@@ -122,20 +127,30 @@ fn apply_number(table: &mut PlainTable, numbers: &NumberList<'_>, i: usize, clos
     }
 }
 
-/// Applies a list to a table that has a fresh number for each number of the list, from `first` on.
-pub(crate) fn apply_list(table: &mut PlainTable, numbers: &NumberList<'_>, closes: &mut CloseList)
+/// Applies a list to a settled table.
+///
+/// # Errors
+/// `NoMemory` if an allocation fails. The table and the closes are then as before.
+pub(crate) fn apply_list(
+    table: &mut PlainTable,
+    numbers: &NumberList<'_>,
+    closes: &mut CloseList,
+) -> Result<(), NoMemory>
     requires settled { IsSettled (state_of table.old) }
     requires slots { numbers.now.off + length numbers.now.list.now ≤ (state_of table.old).size }
-    requires few_slots { (state_of table.old).size ≤ MOST_SLOTS }
-    requires fresh { AreFresh (state_of table.old) numbers.now.first
-        (numbers.now.first + length numbers.now.list.now) }
     requires room { length (removed_from (files_at (state_of table.old)) numbers.now.off
         numbers.now.list.now) ≤ closes.old.room }
-    ensures { SetsList numbers.now.k numbers.now.off numbers.now.list.now
+    ensures ok { OnOk result (SetsList numbers.now.k numbers.now.off numbers.now.list.now
         (tags_for numbers.now.list.now numbers.now.tags)
-        (state_of table.old) (state_of table.new) closes.old closes.new }
+        (state_of table.old) (state_of table.new) closes.old closes.new) }
+    ensures err { OnErr result (table.new ≡ table.old) }
 {
+    let first = table.size();
+    let Ok(()) = table.prepare(first + numbers.list.len() as u32) else {
+        return Err(NoMemory);
+    };
     for i in 0..numbers.list.len() {
-        apply_number(table, numbers, i, closes);
+        apply_number(table, numbers, first, i, closes);
     }
+    Ok(())
 }

@@ -1,17 +1,15 @@
 //! The calls between submissions: registrations, updates, the allocation range.
-ghost use Rattle.std.specs.Prelude.{◌≡◌, ◌+◌, ◌<◌, ◌≤◌, ℕ, [], false, length, Ok, Err, IfSome, IfNone, IfOk, OnOk, OnErr, IsOkUnless};
-ghost use Rattle.std.specs.List.{list_any};
+ghost use Rattle.std.specs.Prelude.{◌≡◌, ◌<◌, ◌≤◌, false, length, Ok, Err, IfSome, IfNone, IfOk, OnOk, OnErr, IsOkUnless};
 ghost use Rattle.fx_base.specs.declared.errno.Errno.TheVariants.{ENOMEM};
-ghost use Rattle.fx_plain.specs.State.{IsSettled};
-ghost use Rattle.fx_plain.specs.Contents.{state_of};
+ghost use Rattle.std.specs.List.{list_any};
+ghost use Rattle.fx_chain.specs.Answers.{is_bad_entry};
 ghost use Rattle.fx_ring.specs.Ring.{AreEntries, HasClosed, files_of_ring, ring_of, without_table};
-ghost use Rattle.fx_ring.specs.Registration.{files_after, is_bad_file, range_refusal, register_refusal, registered, registered_sparse, removed_from, sparse_refusal, unregister_refusal, update_refusal, updated};
+ghost use Rattle.fx_ring.specs.Registration.{is_bad_file, range_refusal, register_refusal, registered, registered_sparse, removed_from, sparse_refusal, unregister_refusal, update_refusal, updated};
 ghost use Rattle.fx_ring.specs.Tags.{no_tags, tags_for};
-ghost use Rattle.fx_ring.specs.Slots.{files_at};
 
 use crate::list::{NumberList, apply_list, are_bad_tags, has_bad_file};
 use crate::ring::{MOST_REGISTRATIONS, Ring};
-use fx_base::{Catalogue, CloseList, Errno, MOST_ENTRIES, NoMemory};
+use fx_base::{CloseList, Errno, MOST_ENTRIES, NoMemory};
 use fx_chain::has_bad_entry;
 use fx_plain::{MOST_SLOTS, PlainTable};
 use std::alloc::Global;
@@ -39,6 +37,9 @@ impl Ring {
         ensures value { result ≡ register_refusal (ring_of self.now) list.now
             (tags_for list.now tags.entry) }
         ensures entries { IfNone result (length self.now.catalogue ≤ MOST_ENTRIES) }
+        ensures good { IfNone result
+            (list_any (is_bad_file (length self.now.catalogue)) list.now ≡ false) }
+        ensures few { IfNone result (self.now.registrations < MOST_REGISTRATIONS) }
     {
         if self.table.size() > 0 {
             return Some(Errno::EBUSY);
@@ -63,6 +64,10 @@ impl Ring {
         ensures value { result ≡ update_refusal (ring_of self.now) off list.now
             (tags_for list.now tags.entry) }
         ensures entries { IfNone result (length self.now.catalogue ≤ MOST_ENTRIES) }
+        ensures good { IfNone result
+            (list_any (is_bad_entry (length self.now.catalogue)) list.now ≡ false) }
+        ensures few { IfNone result (self.now.registrations < MOST_REGISTRATIONS) }
+        ensures short { IfNone result (length list.now ≤ MOST_SLOTS) }
     {
         let size = self.table.size();
         if size == 0 {
@@ -104,14 +109,27 @@ impl Ring {
         if let Some(errno) = self.register_refusal(list, tags) {
             return Err(errno);
         }
-        match new_table(alloc, &self.catalogue, self.registrations + 1, list, tags) {
-            Ok(table) => {
-                mem::replace(&mut self.table, table).dismiss();
-                self.registrations += 1;
-                Ok(())
-            }
-            Err(NoMemory) => Err(Errno::ENOMEM),
-        }
+        let Ok(mut closes) = CloseList::with_room(alloc, 0) else {
+            return Err(Errno::ENOMEM);
+        };
+        let Ok(mut table) = PlainTable::sparse(alloc, list.len() as u32) else {
+            return Err(Errno::ENOMEM);
+        };
+        let k = self.registrations + 1;
+        let numbers = NumberList {
+            catalogue: &self.catalogue,
+            k,
+            off: 0,
+            list,
+            tags,
+        };
+        let Ok(()) = apply_list(&mut table, &numbers, &mut closes) else {
+            table.dismiss();
+            return Err(Errno::ENOMEM);
+        };
+        mem::replace(&mut self.table, table).dismiss();
+        self.registrations = k;
+        Ok(())
     }
 
     /// Registers a table with a slot for each number of the list (io_uring_register(2),
@@ -264,24 +282,21 @@ impl Ring {
         if let Some(errno) = self.update_refusal(off, list, tags) {
             return Err(errno);
         }
-        let size = self.table.size();
         let len = list.len() as u32;
         let Ok(mut closes) = CloseList::with_room(alloc, len) else {
             return Err(Errno::ENOMEM);
         };
-        let Ok(()) = self.table.prepare(size + len) else {
-            return Err(Errno::ENOMEM);
-        };
-        self.registrations += 1;
         let numbers = NumberList {
             catalogue: &self.catalogue,
-            k: self.registrations,
+            k: self.registrations + 1,
             off,
             list,
             tags,
-            first: size,
         };
-        apply_list(&mut self.table, &numbers, &mut closes);
+        let Ok(()) = apply_list(&mut self.table, &numbers, &mut closes) else {
+            return Err(Errno::ENOMEM);
+        };
+        self.registrations += 1;
         closes.sort();
         Ok((len, closes))
     }
@@ -348,41 +363,4 @@ impl Ring {
     {
         self.update_list(alloc, off, list, Some(tags))
     }
-}
-
-// The table of the k-th list: a slot for each of its numbers, and tags 0 where none are given.
-fn new_table(
-    alloc: Global,
-    catalogue: &Catalogue,
-    k: u32,
-    list: &[i32],
-    tags: Option<&[u64]>,
-) -> Result<PlainTable, NoMemory>
-    requires some { 0 < length list.now }
-    requires few { length list.now ≤ MOST_SLOTS }
-    requires entries { length catalogue.now ≤ MOST_ENTRIES }
-    requires good { list_any (is_bad_file (length catalogue.now)) list.now ≡ false }
-    ensures size { IfOk result (λ table. (state_of table).size ≡ length list.now) }
-    ensures range { IfOk result (λ table. (state_of table).range ≡ (0, length list.now)) }
-    ensures files { IfOk result (λ table. files_at (state_of table)
-        ≡ files_after k (λ _. None) 0 list.now (tags_for list.now tags.entry)) }
-    ensures settled { IfOk result (λ table. IsSettled (state_of table)) }
-{
-    let len = list.len() as u32;
-    let mut closes = CloseList::with_room(alloc, 0)?;
-    let mut table = PlainTable::sparse(alloc, len)?;
-    let Ok(()) = table.prepare(2 * len) else {
-        table.dismiss();
-        return Err(NoMemory);
-    };
-    let numbers = NumberList {
-        catalogue,
-        k,
-        off: 0,
-        list,
-        tags,
-        first: len,
-    };
-    apply_list(&mut table, &numbers, &mut closes);
-    Ok(table)
 }

@@ -1,5 +1,6 @@
-use Rattle.fx_ring.proofs.Words.{◌+◌, ◌≡◌, ◌∙◌, arith, length}
-use Rattle.fx_ring.proofs.ListSteps.{all_applied, room_next, applied_next}
+use Rattle.fx_ring.proofs.Words.{◌+◌, ◌≡◌, ◌∙◌, ap, arith, length, State, state_of}
+use Rattle.fx_ring.proofs.ListSteps.{all_applied, none_applied, room_next, applied_next}
+use Rattle.fx_ring.proofs.Rings.{opening_files}
 use Rattle.fx_ring.proofs.list.apply_list.Goals as goal
 
 pub apply_number-requires : goal.apply_number-requires
@@ -10,8 +11,9 @@ apply_number-requires c =
       place = inside;
       settled = done.settled;
       slots = omega (arith, done.size, c.requires.slots);
-      few_slots = omega (arith, done.size, c.requires.few_slots);
-      fresh = c.loop-i.invariant.fresh (c.args.numbers.now.first + c.loop-i.i) (omega arith) (omega (arith, inside));
+      few_slots = omega (arith, done.size, c.size-first.ensures.few, c.size-first.ensures.value);
+      few = omega (arith, c.size-first.ensures.few);
+      fresh = c.loop-i.invariant.fresh (c.size-first.result + c.loop-i.i) (omega arith) (omega (arith, inside));
       room = room_next inside done c.requires.room;
     }
 
@@ -22,7 +24,17 @@ loop-i-preserved c = record {
       ∙ c.loop-i.invariant.fresh number (omega (arith, low)) high;
 }
 
-pub returns : goal.returns
-returns c =
+pub loop-i-init : goal.loop-i-init
+loop-i-init c =
+    let st = state_of c.args.table.now in
+    let opened = c.in-Ok.ensures.ok in
+    record {
+      applied = none_applied (ap (λ (s : State). s.size) opened) (ap (λ (s : State). s.range) opened)
+          (opening_files st (c.size-first.result + length c.args.numbers.now.list.now) opened) c.in-Ok.ensures.settled;
+      fresh = λ number low high. c.in-Ok.ensures.fresh number (omega (arith, c.size-first.ensures.value, low)) (omega (arith, high));
+    }
+
+pub returns-clause-ok : goal.returns-clause-ok
+returns-clause-ok c =
     let all : c.loop-i.i ≡ length c.args.numbers.now.list.now = omega (arith, c.loop-i-test.false, c.loop-i.auto.i-end) in
     all_applied (rw all at c.loop-i.invariant.applied)

@@ -6,5 +6,5 @@ abbrev pub invariant-loop-i : goal.invariant-loop-i
 invariant-loop-i l = record {
   applied : IsApplied l.numbers.k l.numbers.off l.numbers.list.now (tags_for l.numbers.list.now l.numbers.tags)
       (state_of l.fn.table) (state_of l.table) l.fn.closes l.closes l.i;
-  fresh : AreFresh (state_of l.table) (l.numbers.first + l.i) (l.numbers.first + length l.numbers.list.now);
+  fresh : AreFresh (state_of l.table) (l.first + l.i) (l.first + length l.numbers.list.now);
 }

@@ -1,35 +1,57 @@
-use Rattle.fx_ring.proofs.Words.{◌≡◌, ◌+◌, ◌<◌, ap, sym, subst, ◌∙◌, false, length, rules, arith, None, list_any, IsSettled, Contents, state_of}
-use Rattle.fx_ring.proofs.Words.{RingContents, IsRing, ring_of, registered, is_bad_file, files_after, tags_for, files_at, with_table}
-use Rattle.fx_ring.proofs.Origins.{registered_rings}
-use Rattle.fx_ring.proofs.Rings.{contents_of, ring_is}
+use Rattle.fx_ring.proofs.Words.{◌≡◌, ◌+◌, ap, sym, subst, ◌∙◌, false, length, arith, list_any, IsSettled, Contents, State, state_of, Closed, Option}
+use Rattle.fx_ring.proofs.Words.{ℕ, RingContents, IsRing, ring_of, ring_with, registered, updated, is_bad_entry, removed_from, tags_for, with_table}
+use Rattle.fx_ring.proofs.Numbers.{good_files}
+use Rattle.fx_ring.proofs.Origins.{none_removed}
+use Rattle.fx_ring.proofs.Rings.{contents_of, none_rings, vacant_empty, vacant_files}
+use Rattle.fx_ring.proofs.Updates.{is_updated, ring_updated}
 use Rattle.fx_ring.proofs.ring.Ring.register_list.Goals.{After-replace}
 use Rattle.fx_ring.proofs.ring.Ring.register_list.Goals as goal
 
-is_registered : (c : After-replace)
-    → with_table (record (ring_of (contents_of c.self.inside)) { registrations = c.self.inside.registrations + 1 }) (state_of c.replace.new.dest)
-    ≡ registered (ring_of (contents_of c.self.inside)) c.args.list.now (tags_for c.args.list.now c.args.tags)
-is_registered c =
-    let after = c.replace.ensures.after in
-    let k = c.self.inside.registrations + 1 in
-    ring_is (record (ring_of (contents_of c.self.inside)) { registrations = k }) (state_of c.replace.new.dest) (length c.args.list.now)
-    (0, length c.args.list.now) (files_after k (λ _. None) 0 c.args.list.now (tags_for c.args.list.now c.args.tags))
-    (ap (λ (t : Contents). (state_of t).size) after ∙ c.in-Ok.ensures.size)
-    (ap (λ (t : Contents). (state_of t).range) after ∙ c.in-Ok.ensures.range)
-    (ap (λ (t : Contents). files_at (state_of t)) after ∙ c.in-Ok.ensures.files)
+pub invariant_of-numbers-clause-good : goal.invariant_of-numbers-clause-good
+invariant_of-numbers-clause-good c =
+    rw (sym (ap (λ (r : RingContents). r.catalogue) c.self.view_is)) at (good_files (length c.args.self.now.catalogue) c.args.list.now c.in_default.ensures.good)
+
+pub apply_list-requires-clause-room : goal.apply_list-requires-clause-room
+apply_list-requires-clause-room c =
+    let none = ap (λ (a : ℕ → Option Closed). length (removed_from a 0 c.args.list.now)) (vacant_files c.in-Ok-sparse.ensures.state)
+    ∙ ap length (none_removed 0 c.args.list.now) in
+    omega (arith, none)
+
+pub dismiss-requires-clause-empty : goal.dismiss-requires-clause-empty
+dismiss-requires-clause-empty c = vacant_empty (ap state_of c.in_default-apply_list.ensures.err ∙ c.in-Ok-sparse.ensures.state)
+
+module _ (c : After-replace) where
+  -- the ring with the table of empty slots
+  abbrev sparse : RingContents
+  sparse = ring_with c.self.inside.catalogue c.in-Ok-sparse.table c.self.inside.submissions c.self.inside.registrations
+
+  is_registered : with_table (record (ring_of (contents_of c.self.inside)) { registrations = c.self.inside.registrations + 1 })
+      (state_of c.replace.new.dest)
+      ≡ registered (ring_of (contents_of c.self.inside)) c.args.list.now (tags_for c.args.list.now c.args.tags)
+  is_registered =
+      let ring = ring_of (contents_of c.self.inside) in
+      ap (λ (t : Contents). with_table (record ring { registrations = c.self.inside.registrations + 1 }) (state_of t)) c.replace.ensures.after
+      ∙ is_updated sparse 0 c.args.list.now (tags_for c.args.list.now c.args.tags) c.in-Ok-apply_list.ensures.ok
+      ∙ ap (λ (st : State). updated (with_table ring st) 0 c.args.list.now (tags_for c.args.list.now c.args.tags)) c.in-Ok-sparse.ensures.state
+
+  is_ring : IsRing (with_table (record (ring_of (contents_of c.self.inside)) { registrations = c.self.inside.registrations + 1 })
+      (state_of c.replace.new.dest))
+  is_ring =
+      let good : list_any (is_bad_entry (length c.self.inside.catalogue)) c.args.list.now ≡ false =
+      rw (sym (ap (λ (r : RingContents). r.catalogue) c.self.view_is)) at (good_files (length c.args.self.now.catalogue) c.args.list.now c.in_default.ensures.good) in
+      subst (λ (t : Contents). IsRing (ring_of (ring_with c.self.inside.catalogue t c.self.inside.submissions (c.self.inside.registrations + 1))))
+      (sym c.replace.ensures.after) (ring_updated sparse 0 c.args.list.now (tags_for c.args.list.now c.args.tags) c.in-Ok-apply_list.ensures.ok
+      (none_rings (ring_of sparse) (vacant_files c.in-Ok-sparse.ensures.state)) good)
 
 pub invariant_of-self : goal.invariant_of-self
-invariant_of-self c =
-    let good : list_any (is_bad_file (length c.self.inside.catalogue)) c.args.list.now ≡ false = search rules in
-    let few : c.self.inside.registrations < 65535 = search rules in
-    record {
-      settled = subst (λ (t : Contents). IsSettled (state_of t)) (sym c.replace.ensures.after) c.in-Ok.ensures.settled;
-      ring = subst IsRing (sym (is_registered (goal.at.invariant_of-self c).After-replace))
-          (registered_rings (ring_of (contents_of c.self.inside)) c.args.list.now (tags_for c.args.list.now c.args.tags) good);
-      few_submissions = c.self.invariant.few_submissions;
-      few_registrations = omega (arith, few);
-    }
+invariant_of-self c = record {
+  settled = subst (λ (t : Contents). IsSettled (state_of t)) (sym c.replace.ensures.after) c.in-Ok-apply_list.ensures.ok.settled;
+  ring = is_ring (goal.at.invariant_of-self c).After-replace;
+  few_submissions = c.self.invariant.few_submissions;
+  few_registrations = omega (arith, c.in_default.ensures.few, ap (λ (r : RingContents). r.registrations) c.self.view_is);
+}
 
-pub returns-in-Ok-clause-ok : goal.returns-in-Ok-clause-ok
-returns-in-Ok-clause-ok c =
-    is_registered (goal.at.returns-in-Ok-clause-ok c).After-replace
+pub returns-clause-ok : goal.returns-clause-ok
+returns-clause-ok c =
+    is_registered (goal.at.returns-clause-ok c).After-replace
     ∙ ap (λ (v : RingContents). registered (ring_of v) c.args.list.now (tags_for c.args.list.now c.args.tags)) c.self.view_is
