@@ -2,7 +2,7 @@
 use Rattle.fx_ring.proofs.Words.{◌≡◌, ◌≢◌, ℕ, ◌+◌, ◌-◌, ◌<◌, ◌≤◌, List, [], ◌∷◌, ◌++◌, map, length, refl, sym, ap, subst, ◌∙◌, All, Contains, Some}
 use Rattle.fx_ring.proofs.Words.{None, ⊎_elim, length-append, arith, map-append, All-append, FileEntry, CloseListView, Closed, Event, Action}
 use Rattle.fx_ring.proofs.Words.{action_of, closes_in, part_of_chain, ◌▷◌, Opening, size_of, PassView, event_of, Completed, Explains, first_member}
-use Rattle.fx_ring.proofs.Words.{Asked, all_weights, worker_state, run_of_chain, completions_of_chain, HasWorked, HasRoom, drop, slice_index_or}
+use Rattle.fx_ring.proofs.Words.{Asked, all_weights, IsEnoughFor, WorkerState, worker_state, run_of_chain, completions_of_chain, HasWorked, HasRoom, drop, slice_index_or}
 use Rattle.fx_ring.proofs.Words.{sum_by, sum_by-drop_more, drop-drop, Contains-append_cases, sum_by-take-drop, closes_in-then, Draws, Use}
 use Rattle.fx_ring.proofs.Words.{contains_head, contains_tail, contains_cases, contains_map, each_all, PlaysChain, player}
 use Rattle.fx_chain.proofs.ChainGoesOn.{explained_count}
@@ -49,11 +49,11 @@ IsDone catalogue size submission runs chain events completions =
     × (length (closes_in events) ≤ all_weights (run_of_chain runs chain))
 
 -- a chain behind all others was played from w to y, and that takes the worker from v to x
-module _ {o : Opening} {catalogue : List FileEntry} {submission : ℕ} {runs : List (List Asked)} {v x w y : PassView} {asked : List Asked}
+module _ {o : Opening} {catalogue : List FileEntry} {submission : ℕ} {runs : List (List Asked)} {v x w y : PassView}
     {before now : List Completed} {closes files : CloseListView} {chain : ℕ}
     (worked : HasWorked catalogue (size_of o) submission runs (worker_state v before closes))
-    (further : v.chain < chain) (inside : chain ≤ length runs) (are : asked ≡ run_of_chain runs chain)
-    (played : PlaysChain o catalogue submission chain asked (player w closes) before (player y files) now)
+    (further : v.chain < chain) (inside : chain ≤ length runs)
+    (played : PlaysChain o catalogue submission chain (run_of_chain runs chain) (player w closes) before (player y files) now)
     (goes : GoesOn (drawing o v chain) x played.2.actions played.2.used) where
   abbrev events : List Event
   events = map (event_of (drawing o v chain)) played.2.actions
@@ -66,7 +66,8 @@ module _ {o : Opening} {catalogue : List FileEntry} {submission : ℕ} {runs : L
   new_events = each_all (λ e. chain_of e ≡ chain) events of_chain
 
   new_completions : All (λ c. chain_of_completed c ≡ chain) played.0
-  new_completions k d l = let are = explained_of_members catalogue (size_of o) (first_member submission chain) asked played.2.actions played.2.says in
+  new_completions k d l =
+      let are = explained_of_members catalogue (size_of o) (first_member submission chain) (run_of_chain runs chain) played.2.actions played.2.says in
       (are.within k d l).0
 
   -- those before are of chains before it
@@ -86,8 +87,8 @@ module _ {o : Opening} {catalogue : List FileEntry} {submission : ℕ} {runs : L
       let part = ap (map action_of) (only_first chain_of chain events v.own new_events old_events)
       ∙ actions_again (drawing o v chain) played.2.actions in
       let mine = only_second chain_of_completed chain before played.0 old_completions new_completions in
-      subst (λ (z : List Action × List Completed × List Asked). Explains catalogue (size_of o) (first_member submission chain) z.2 z.0 z.1
-      × (length (closes_in z.0) ≤ all_weights z.2)) (λ i. (sym part i, sym mine i, are i)) (played.2.says, played.2.few_files)
+      subst (λ (z : List Action × List Completed). IsDone catalogue (size_of o) submission runs chain z.0 z.1)
+      (λ i. (sym part i, sym mine i)) (played.2.says, played.2.few_files)
 
   done_before : {c : ℕ} → Contains v.drawn c → Done c
   done_before {c} h =
@@ -126,9 +127,8 @@ module _ {o : Opening} {catalogue : List FileEntry} {submission : ℕ} {runs : L
   room_left {more} room grows =
       let requests = sum_behind (λ (run : List Asked). length run) runs [] v.chain further inside in
       let weights = sum_behind all_weights runs [] v.chain further inside in
-      let count = explained_count catalogue (size_of o) (first_member submission chain) asked played.2.actions played.0 played.2.says in
-      let same = ap length are in
-      let weights_same = ap all_weights are in
+      let count =
+      explained_count catalogue (size_of o) (first_member submission chain) (run_of_chain runs chain) played.2.actions played.0 played.2.says in
       let longer = ap length played.1 ∙ length-append before played.0 in
       let few = played.2.few_looks in
       let looks = goes.looks_left in
@@ -137,39 +137,29 @@ module _ {o : Opening} {catalogue : List FileEntry} {submission : ℕ} {runs : L
       subst (λ (n : ℕ). HasRoom runs (worker_state (record x { chain = n }) now files) more) (sym goes.chain)
       (record { looks = omega arith; completions = omega arith; closes = omega arith })
 
--- what a worker has in front of a chain that its pass drew suffices for the chain
-pub enough : (o : Opening) {runs : List (List Asked)} {v w : PassView} {before : List Completed} {closes : CloseListView} {chain capacity : ℕ}
-    {asked : List Asked} → HasRoom runs (worker_state v before closes) capacity → o.chains ≡ length runs → Draws o v (Some chain) w
-    → asked ≡ run_of_chain runs chain
-    → (length asked ≤ w.looks_left) × (length before + length asked ≤ capacity) × (all_weights asked ≤ closes.room)
-enough o {runs} {v} room count drew are =
-    let further = drew.1 in
-    let last = drew.2 in
-    let requests = sum_behind (λ (run : List Asked). length run) runs [] v.chain further (omega arith) in
-    let weights = sum_behind all_weights runs [] v.chain further (omega arith) in
-    let same = ap length are in
-    let weigh = ap all_weights are in
-    let left = ap (λ (z : PassView). z.looks_left) drew.3 in
+-- what is left to a worker suffices for a further chain
+pub enough : {runs : List (List Asked)} {w : WorkerState} {capacity : ℕ} {chain : ℕ} → HasRoom runs w capacity → w.pass.chain < chain
+    → chain ≤ length runs → IsEnoughFor (run_of_chain runs chain) w capacity
+enough {runs} {w} room further inside =
+    let requests = sum_behind (λ (run : List Asked). length run) runs [] w.pass.chain further inside in
+    let weights = sum_behind all_weights runs [] w.pass.chain further inside in
     (omega arith, omega arith, omega arith)
 
 -- and the worker goes on
-module _ {o : Opening} {catalogue : List FileEntry} {submission : ℕ} {runs : List (List Asked)} {v w x : PassView} {asked : List Asked}
-    {before now : List Completed} {closes files : CloseListView} {chain : ℕ} (count : o.chains ≡ length runs) (drew : Draws o v (Some chain) w)
-    (are : asked ≡ run_of_chain runs chain) (worked : HasWorked catalogue (size_of o) submission runs (worker_state v before closes))
-    (played : PlaysChain o catalogue submission chain asked (player w closes) before (player x files) now) where
-  inside : chain ≤ length runs
-  inside = let low = drew.2 in omega arith
-
+module _ {o : Opening} {catalogue : List FileEntry} {submission : ℕ} {runs : List (List Asked)} {v w x : PassView}
+    {before now : List Completed} {closes files : CloseListView} {chain : ℕ} (inside : chain ≤ length runs) (drew : Draws o v (Some chain) w)
+    (worked : HasWorked catalogue (size_of o) submission runs (worker_state v before closes))
+    (played : PlaysChain o catalogue submission chain (run_of_chain runs chain) (player w closes) before (player x files) now) where
   goes : GoesOn (drawing o v chain) x played.2.actions played.2.used
   goes = let looks = looks_least played.2.acts.adds in
       subst (λ (z : PassView). GoesOn z x played.2.actions played.2.used) drew.3 (assumption (looks, played.2.acts.adds))
 
   pub worked_next : HasWorked catalogue (size_of o) submission runs (worker_state x now files)
-  worked_next = worked_on worked drew.1 inside are played goes
+  worked_next = worked_on worked drew.1 inside played goes
 
   pub room_next : {capacity more : ℕ} → HasRoom runs (worker_state v before closes) capacity → capacity ≤ more
       → HasRoom runs (worker_state x now files) more
-  room_next = room_left worked drew.1 inside are played goes
+  room_next = room_left worked drew.1 inside played goes
 
 -- a worker whose pass was told that there are no more chains
 pub worked_all : (o : Opening) {catalogue : List FileEntry} {size submission : ℕ} {runs : List (List Asked)} {v w : PassView} {cs : List Completed}

@@ -25,6 +25,5 @@ pub mod PlayedCrew
 pub mod TableOfState
 pub mod LoneHistories
 pub mod LonePlays
-pub mod LoneEnds
 pub mod RingsOpened
 pub mod SameRings

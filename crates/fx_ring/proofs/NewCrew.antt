@@ -69,9 +69,7 @@ few_requests requests short = rw (runs_have_all requests) at (sum_by-le (λ (run
 pub few_of_chains : (requests : List Request) (chains : List Chain) → map (members_of (all_asked requests)) chains ≡ runs_of (all_asked requests)
     → All (IsChain (all_asked requests)) chains → length requests ≤ length chains * MOST_MEMBERS
 few_of_chains requests chains members within =
-    let few = few_requests (all_asked requests) (runs_within chains members within) in
-    let count = as_many requests chains members in
-    let same = length-map requests asked_of in omega (arith, few, count, same)
+    omega (arith, few_requests (all_asked requests) (runs_within _ chains members within), as_many _ chains members, length-map requests asked_of)
 
 pub runs_weigh_all : (requests : List Asked) → sum_by all_weights (runs_of requests) ≡ all_weights requests
 runs_weigh_all requests = sym (weights_joined (runs_of requests)) ∙ ap all_weights (are_runs requests).whole

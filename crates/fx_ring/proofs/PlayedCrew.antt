@@ -1,13 +1,11 @@
 -- What a crew has come to, as its passes and outcomes say it once they lie in lists of their own.
-use Rattle.fx_ring.proofs.Words.{false, ◌≡◌, ℕ, List, map, flat_map, reverse, length, All, true, sum_by, refl, sym, ap, ◌∙◌, arith, length-map}
-use Rattle.fx_ring.proofs.Words.{reverse-reverse, map-append, map-map, length-flat_map, All-map, All-weaker, IsShortRun, Closed, FileEntry, Contents}
-use Rattle.fx_ring.proofs.Words.{ClosesTable, Opening, size_of, PassView, new_passes, sum_reverse, all_completed, completed_of, members_of, all_asked}
-use Rattle.fx_ring.proofs.Words.{runs_of, Chain, Request, IsChain, Completion, state_of_worker, HasWorked, WorkerState, Outcome, Worker, flat_map-map}
+use Rattle.fx_ring.proofs.Words.{◌≡◌, List, map, flat_map, reverse, length, sum_by, refl, sym, ap, ◌∙◌, arith, length-map}
+use Rattle.fx_ring.proofs.Words.{reverse-reverse, map-append, map-map, length-flat_map, Closed}
+use Rattle.fx_ring.proofs.Words.{PassView, sum_reverse, all_completed, completed_of}
+use Rattle.fx_ring.proofs.Words.{Completion, state_of_worker, WorkerState, Outcome, Worker, flat_map-map}
 use Rattle.fx_ring.proofs.NumberedParts.{made_of_parts}
-use Rattle.fx_ring.proofs.NewCrew.{map_reversed, numbers_are}
-use Rattle.fx_ring.proofs.WorkersTogether.{HavePlayed, pass_of, number_of, completed_by, closed_by_worker}
-use Rattle.fx_ring.proofs.PartsExplained.{IsShort}
-use Rattle.fx_ring.proofs.Runs.{as_many, runs_within}
+use Rattle.fx_ring.proofs.NewCrew.{map_reversed}
+use Rattle.fx_ring.proofs.WorkersTogether.{pass_of, completed_by, closed_by_worker}
 
 abbrev pub completions_of : Outcome → List Completion
 completions_of outcome = outcome.completions.items
@@ -53,25 +51,3 @@ module _ {P : Type 0} (V : P → PassView) where
     as_many_files =
         let sum = sum_reverse (λ outcome. length outcome.closes.files) outcomes in
         omega (arith, sum, length-flat_map files_of (reverse outcomes), ap length files_joined)
-
-  -- a crew has played, once its passes are back: what each worker did is known, and each was told that no chains are left
-  pub crew_has_played : {catalogue : List FileEntry} {submission : ℕ} (requests : List Request) (chains : List Chain) {o : Opening}
-      (ps : List P) (begun ws : List (Worker P)) {back : List P} {left : Contents}
-      → map (members_of (all_asked requests)) chains ≡ runs_of (all_asked requests)
-      → All (IsChain (all_asked requests)) chains → o.chains ≡ length chains → o.lasts ≡ false → map (λ p. V p) ps ≡ new_passes o.passes
-      → map (λ w. w.pass) begun ≡ reverse ps → map (λ w. (V w.pass).number) ws ≡ map (λ w. (V w.pass).number) begun
-      → back ≡ reverse (map (λ w. w.pass) ws)
-      → All (λ w. HasWorked catalogue (size_of o) submission (runs_of (all_asked requests)) (state_of_worker V w)) ws
-      → All (λ w. (V w.pass).no_chains_left ≡ true) ws → ClosesTable o (map (λ p. V p) back) left
-      → HavePlayed catalogue submission (runs_of (all_asked requests)) o (states ws) (map (λ p. V p) back) left
-  crew_has_played {catalogue} {submission} requests chains {o} ps begun ws members within count ends new gathered numbers scattered
-      worked told closing = record {
-        worked = All-map (HasWorked catalogue (size_of o) submission (runs_of (all_asked requests))) (state_of_worker V) ws worked;
-        told = All-map (λ w. w.pass.no_chains_left ≡ true) (state_of_worker V) ws told;
-        chains = count ∙ sym (as_many requests chains members);
-        ends = ends;
-        short = All-weaker IsShortRun IsShort (λ run is. is.members) (runs_of (all_asked requests)) (runs_within chains members within);
-        are = scattered_views ws scattered;
-        numbers = map-map number_of (state_of_worker V) ws ∙ (numbers ∙ numbers_are V ps o.passes new begun gathered);
-        closing = closing;
-      }

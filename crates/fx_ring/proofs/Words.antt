@@ -39,8 +39,8 @@ pub use Rattle.fx_plain.specs.declared.event.Action.TheVariants.{Allocate, Clear
 pub use Rattle.fx_plain.specs.declared.event.Event.{Event}
 pub use Rattle.fx_plain.specs.declared.event.File.{File}
 pub use Rattle.fx_plain.specs.declared.table.TheConstants.{MOST_SLOTS}
-pub use Rattle.fx_ring.specs.OpenRings.{HasPlayedAlone, IsAloneAt, IsKeptOpen, OpenRingContents, begun_behind, chain_less, chains_to, listed, node_if}
-pub use Rattle.fx_ring.specs.OpenRings.{number_if, ring_led_by, ring_shown, table_with_files}
+pub use Rattle.fx_ring.specs.OpenRings.{IsAloneAt, IsKeptOpen, OpenRingContents, begun_behind, chain_less, chains_to, listed, node_if}
+pub use Rattle.fx_ring.specs.OpenRings.{number_if, ring_led_by, table_with_files}
 pub use Rattle.fx_ring.specs.Outcomes.{HasRoomFor}
 pub use Rattle.fx_ring.specs.Playing.{number_of_worker, state_of_worker}
 pub use Rattle.fx_ring.specs.Registration.{file_after, file_listed, files_after, is_bad_file, registered, removed_by_number, removed_from, updated}
@@ -49,7 +49,7 @@ pub use Rattle.fx_ring.specs.Ring.{ring_with, with_table}
 pub use Rattle.fx_ring.specs.Slots.{AreFresh, CanRetire, SetsList, SetsNumber, SetsSlot, closes_of_removed, file_removed, files_at}
 pub use Rattle.fx_ring.specs.Submission.{ExplainsParts, IsOneHistory, Reported}
 pub use Rattle.fx_ring.specs.Tags.{are_bad_tags, is_bad_tag, no_tags, tag_at, tags_for}
-pub use Rattle.fx_ring.specs.Work.{HasRoom, HasWorked, InstallAtMost, WorkerState, completions_of_chain, run_of_chain, worker_state}
+pub use Rattle.fx_ring.specs.Work.{HasRoom, HasWorked, InstallAtMost, IsEnoughFor, WorkerState, completions_of_chain, run_of_chain, worker_state}
 pub use Rattle.fx_ring.specs.declared.outcome.Outcome.{Outcome}
 pub use Rattle.fx_ring.specs.declared.ring.TheConstants.{MOST_SUBMISSIONS}
 pub use Rattle.fx_ring.specs.declared.worker.Worker.{Worker}

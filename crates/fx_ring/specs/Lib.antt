@@ -6,6 +6,5 @@ pub mod Submission
 pub mod Work
 pub mod Outcomes
 pub mod Playing
-pub mod PlaySetting
 pub mod Laws
 pub mod OpenRings

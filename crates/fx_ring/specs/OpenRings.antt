@@ -1,6 +1,7 @@
 -- A ring whose table stays open between submissions of one worker.
 use Rattle.std.specs.Prelude.{◌≡◌, ℕ, false, zero, suc, ◌+◌, ◌-◌, ◌*◌, ◌≤◌, List, [], ◌∷◌, ◌++◌}
-use Rattle.std.specs.Prelude.{map, replicate}
+use Rattle.std.specs.Global.{Vec}
+use Rattle.std.specs.Prelude.{map, replicate, vec_capacity}
 use Rattle.std.specs.Prelude.{length, All, Contains, Option, Some, None, IsPermutation}
 use Rattle.std.specs.List.Sorted.{IsNonDecreasingBy}
 use Rattle.fx_base.specs.Catalogue.{FileEntry}
@@ -13,9 +14,8 @@ use Rattle.fx_plain.specs.declared.event.Event.{Event}
 use Rattle.fx_plain.specs.declared.node.Node.{Node}
 use Rattle.fx_plain.specs.declared.node.Node.TheVariants.{At, Gone}
 use Rattle.fx_plain.specs.declared.table.TheConstants.{MOST_SLOTS}
-use Rattle.fx_table.specs.declared.limits.TheConstants.{MAX_CHAINS, PASS_LOOKS}
 use Rattle.fx_table.specs.Opening.{Opening, size_of, state_at}
-use Rattle.fx_table.specs.Pass.{PassView, IsIdle, new_pass}
+use Rattle.fx_table.specs.Pass.{PassView, IsIdle}
 use Rattle.fx_table.specs.Settling.{IsSettledSoFar}
 use Rattle.fx_chain.specs.Accepted.{IsShortRun}
 use Rattle.fx_chain.specs.Completed.{Completed}
@@ -25,7 +25,7 @@ use Rattle.fx_chain.specs.Weights.{all_installs}
 use Rattle.fx_chain.specs.declared.fault.TheConstants.{MOST_MEMBERS}
 use Rattle.fx_ring.specs.Ring.{RingContents, HasClosed, IsAtRest, ring_with}
 use Rattle.fx_ring.specs.Submission.{IsOneHistory}
-use Rattle.fx_ring.specs.Work.{HasWorked, requests_behind, worker_state}
+use Rattle.fx_ring.specs.Work.{HasWorked, worker_state}
 
 -- the list of what stands at the first so many places
 abbrev pub listed : {X : Type 0} → (ℕ → X) → ℕ → List X
@@ -88,25 +88,6 @@ abbrev pub chains_to : ℕ → List ℕ
 chains_to zero = []
 chains_to (suc n) = chains_to n ▷ suc n
 
--- a pass alone, which was so before, has played so many chains of a submission
-pub record HasPlayedAlone {P : Type 0} (V : P → PassView) (Fits : P → Type 0) (o : Opening)
-    (catalogue : List FileEntry) (submission : ℕ) (requests : List Asked) (before : PassView)
-    (played : ℕ) (pass : P) (completions : List Completed) (closes : CloseListView)
-    : Type 0 where
-  pub fits : Fits pass
-  pub idle : IsIdle (V pass)
-  pub more : (V pass).no_chains_left ≡ false
-  pub number : (V pass).number ≡ before.number
-  pub chain : (V pass).chain ≡ before.chain + played
-  -- it looked up at most once for each request of these chains
-  pub looks : before.looks_left + requests_behind (runs_of requests) played
-      ≤ (V pass).looks_left + requests_behind (runs_of requests) 0
-  pub since : List Event
-  pub own : (V pass).own ≡ before.own ▷▷ since
-  pub worked : HasWorked catalogue (size_of o) submission (runs_of requests)
-      (worker_state (begun_behind before.chain (chains_to played) since (V pass)) completions
-      closes)
-
 -- the only pass of an open table, between two submissions
 pub record IsAloneAt {P : Type 0} (V : P → PassView) (Fits : P → Type 0) (o : Opening) (pass : P)
     : Type 0 where
@@ -117,33 +98,20 @@ pub record IsAloneAt {P : Type 0} (V : P → PassView) (Fits : P → Type 0) (o 
   pub more : (V pass).no_chains_left ≡ false
   pub settled : IsSettledSoFar o (V pass)
 
--- what is kept beside an open table: its number of slots, the chains that it was opened for, how
--- many of them were drawn, and the most files that each may install
-pub record HasRoomLeft (o : Opening) (v : PassView) (size chains drawn most : ℕ) : Type 0 where
+-- what a ring with an open table keeps: the table's only pass, between two submissions, and an
+-- empty list with a place for it; the number of slots; the number of chains that are left, and the
+-- most files that each may install
+pub record IsKeptOpen {P : Type 0} (V : P → PassView) (Fits : P → Type 0)
+    (catalogue : List FileEntry) (o : Opening) (pass : P) (list : Vec P)
+    (size left most submissions registrations : ℕ) : Type 0 where
+  pub at : IsAloneAt V Fits o pass
+  pub place : (list.items ≡ []) × (1 ≤ vec_capacity list)
   pub slots : size ≡ size_of o
-  pub all : chains ≡ o.chains
-  pub given : drawn ≡ v.chain
-  pub few_given : drawn ≤ chains
-  pub few_chains : chains ≤ MAX_CHAINS
+  pub chains : (V pass).chain + left ≡ o.chains
   pub installs : most ≤ o.numbers
-  -- the pass has used at most one look-up for each member of a drawn chain, so it never lacks one
-  pub looks : PASS_LOOKS ≤ v.looks_left + drawn * MOST_MEMBERS
-
--- a ring with a list of passes, of which one is meant
-abbrev pub ring_shown : {P : Type 0} → (P → PassView) → List FileEntry → Opening → ℕ → ℕ → List P
-    → RingContents
-ring_shown V catalogue o submissions registrations [] =
-    ring_led_by catalogue o (new_pass 1) submissions registrations
-ring_shown V catalogue o submissions registrations (pass ∷ others) =
-    ring_led_by catalogue o (V pass) submissions registrations
-
--- what a ring with an open table keeps
-abbrev pub IsKeptOpen : {P : Type 0} → (P → PassView) → (P → Type 0) → List FileEntry → Opening
-    → ℕ → ℕ → ℕ → ℕ → ℕ → ℕ → List P → Type 0
-IsKeptOpen V Fits catalogue o size chains drawn most submissions registrations [] = ⊥
-IsKeptOpen V Fits catalogue o size chains drawn most submissions registrations (pass ∷ others) =
-    (others ≡ []) × IsAloneAt V Fits o pass × HasRoomLeft o (V pass) size chains drawn most
-    × IsAtRest (ring_led_by catalogue o (V pass) submissions registrations)
+  -- the pass has a look-up for each member of a chain that is left
+  pub looks : left * MOST_MEMBERS ≤ (V pass).looks_left
+  pub rest : IsAtRest (ring_led_by catalogue o (V pass) submissions registrations)
 
 -- what a pass alone did for a submission, from one moment at which all was settled to another, is
 -- one history

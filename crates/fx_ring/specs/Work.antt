@@ -5,11 +5,10 @@ use Rattle.fx_base.specs.Catalogue.{FileEntry}
 use Rattle.fx_base.specs.CloseListView.{CloseListView}
 use Rattle.fx_plain.specs.History.{action_of, closes_in, part_of_chain}
 use Rattle.fx_table.specs.Pass.{PassView, IsOfDrawnChains}
-use Rattle.fx_chain.specs.Accepted.{members_of}
 use Rattle.fx_chain.specs.Completed.{Completed}
 use Rattle.fx_chain.specs.Explains.{Explains, first_member}
 use Rattle.fx_chain.specs.Operation.{Asked}
-use Rattle.fx_chain.specs.declared.chain.Chain.{Chain}
+use Rattle.fx_chain.specs.Runs.{runs_of}
 use Rattle.fx_chain.specs.Weights.{all_installs, all_weights}
 
 -- what a worker has at a moment
@@ -26,10 +25,15 @@ worker_state pass completions closes =
 abbrev pub run_of_chain : List (List Asked) → ℕ → List Asked
 run_of_chain runs chain = slice_index_or runs (chain - 1) []
 
--- none of these chains installs more files
-abbrev pub InstallAtMost : List Asked → ℕ → List Chain → Type 0
-InstallAtMost requests most chains =
-    All (λ chain. all_installs (members_of requests chain) ≤ most) chains
+-- no run of the requests installs more files
+abbrev pub InstallAtMost : List Asked → ℕ → Type 0
+InstallAtMost requests most = All (λ run. all_installs run ≤ most) (runs_of requests)
+
+-- what is left to a worker suffices for a run
+abbrev pub IsEnoughFor : List Asked → WorkerState → ℕ → Type 0
+IsEnoughFor run w capacity =
+    (length run ≤ w.pass.looks_left) × (length w.completions + length run ≤ capacity)
+    × (all_weights run ≤ w.closes.room)
 
 abbrev pub completions_of_chain : ℕ → List Completed → List Completed
 completions_of_chain chain completions = filter (λ c. c.place.chain == chain) completions

@@ -1,27 +1,22 @@
 //! Rings whose table stays open from one submission to the next, for one worker.
-ghost use Rattle.std.specs.Prelude.{IfOk, IfErr, IfSome, IfNone, OnErr, Err, IsOkUnless, MatchOption, ◌≡◌, ◌+◌, ◌≤◌, ℕ, false, length, map, All};
-ghost use Rattle.fx_table.specs.Pass.{IsIdle};
+ghost use Rattle.std.specs.Prelude.{IfOk, IfErr, IfSome, IfNone, OnErr, Err, IsOkUnless, MatchOption, ◌≡◌, ◌+◌, ◌*◌, ◌≤◌, ℕ, length};
 ghost use Rattle.fx_table.specs.declared.limits.TheConstants.{CHAIN_NUMBERS, MAX_CHAINS};
-ghost use Rattle.fx_chain.specs.Accepted.{IsChain, members_of};
-ghost use Rattle.fx_chain.specs.Completed.{all_completed};
 ghost use Rattle.fx_chain.specs.Operation.{all_asked};
-ghost use Rattle.fx_chain.specs.Runs.{runs_of};
+ghost use Rattle.fx_chain.specs.declared.fault.TheConstants.{MOST_MEMBERS};
 ghost use Rattle.fx_ring.specs.Outcomes.{HasRoomFor};
-ghost use Rattle.fx_ring.specs.OpenRings.{HasPlayedAlone, HasUsed, IsAloneAt, IsRoomFor, ring_led_by};
+ghost use Rattle.fx_ring.specs.OpenRings.{HasUsed, IsAloneAt, IsRoomFor, ring_led_by};
 ghost use Rattle.fx_ring.specs.Submission.{IsOneHistory, reported, submit_refusal};
 ghost use Rattle.fx_ring.specs.declared.report.SubmitFault.TheVariants.{NoMemory as Refused};
 ghost use Rattle.fx_ring.specs.Work.{InstallAtMost};
 ghost use Rattle.fx_ring.specs.Ring.{AreEntries, ring_of};
 
-use crate::needs::most_installs;
 use crate::outcome::Outcome;
 use crate::play::Submission;
 use crate::report::{Report, SubmitFault};
 use crate::ring::Ring;
-use crate::submission::refusal_behind;
-use crate::worker::members_of_chain;
+use crate::submission::refusal_after;
 use fx_base::{Catalogue, NoMemory};
-use fx_chain::{Chain, Gate, Request, cut, run_chain};
+use fx_chain::{Gate, Request, cut};
 use fx_table::FileTable;
 use std::alloc::Global;
 use std::marker::Model;
@@ -35,32 +30,31 @@ use std::sync::Wait;
 pub struct OpenRing<T: FileTable> {
     catalogue: Catalogue,
     table: T,
-    // The only pass.
-    passes: Vec<T::Pass>,
+    // The only pass, and the list that it came in, which is empty until the table is closed.
+    pass: T::Pass,
+    list: Vec<T::Pass>,
     size: u32,
-    // The number of chains that it was opened for, those that were drawn, and the most files that each may install.
-    chains: u32,
-    drawn: u32,
+    // The number of chains that the table can still play, and the most files that each may install.
+    left: u32,
     most: u32,
     submissions: u32,
     registrations: u32,
 }
 
 impl<T: FileTable> Model for OpenRing<T> {
-    ghost use Rattle.std.specs.Prelude.{◌-◌};
-    ghost use Rattle.fx_ring.specs.OpenRings.{OpenRingContents, ring_shown, IsKeptOpen};
+    ghost use Rattle.fx_ring.specs.OpenRings.{OpenRingContents, IsKeptOpen, ring_led_by};
 
     ghost Value = { OpenRingContents };
 
     ghost view = { λ s. record {
-      ring = ring_shown T.view s.catalogue (T.opening s.table) s.submissions s.registrations
-          s.passes.items;
-      chains_left = s.chains - s.drawn;
+      ring = ring_led_by s.catalogue (T.opening s.table) (T.view s.pass) s.submissions
+          s.registrations;
+      chains_left = s.left;
       most = s.most;
     } };
 
-    ghost invariant = { λ s. IsKeptOpen T.view (T.fits s.table) s.catalogue (T.opening s.table) s.size
-        s.chains s.drawn s.most s.submissions s.registrations s.passes.items };
+    ghost invariant = { λ s. IsKeptOpen T.view (T.fits s.table) s.catalogue (T.opening s.table) s.pass
+        s.list s.size s.left s.most s.submissions s.registrations };
 }
 
 impl Ring {
@@ -91,17 +85,23 @@ impl Ring {
         } = self;
         let size = plain.size();
         match T::open_for(alloc, plain, chains, most, 1) {
-            Ok((table, passes)) => Ok(OpenRing {
-                catalogue,
-                table,
-                passes,
-                size,
-                chains,
-                drawn: 0,
-                most,
-                submissions,
-                registrations,
-            }),
+            Ok((table, passes)) => {
+                let mut list = passes;
+                let Some(pass) = list.pop() else {
+                    unreachable!()
+                };
+                Ok(OpenRing {
+                    catalogue,
+                    table,
+                    pass,
+                    list,
+                    size,
+                    left: chains,
+                    most,
+                    submissions,
+                    registrations,
+                })
+            }
             Err((table, refused)) => Err((
                 Ring {
                     catalogue,
@@ -165,21 +165,10 @@ impl<T: FileTable> OpenRing<T> {
             (λ _. HasUsed self.old (all_asked requests.now) self.new)) }
         ensures err { OnErr result (self.new ≡ self.old) }
     {
-        if let Some(fault) = refusal_behind(self.submissions, requests, 1) {
+        if let Some(fault) = refusal_after(self.submissions, requests, 1) {
             return Err(fault);
         }
         let Ok(chains) = cut(alloc, requests) else {
-            return Err(SubmitFault::NoMemory);
-        };
-        let chains = chains.as_slice();
-        let count = chains.len() as u32;
-        if count > self.chains - self.drawn {
-            return Ok(None);
-        }
-        if most_installs(requests, chains) > self.most {
-            return Ok(None);
-        }
-        let Ok(outcome) = Outcome::with_room(alloc, requests) else {
             return Err(SubmitFault::NoMemory);
         };
         let submission = Submission {
@@ -188,16 +177,21 @@ impl<T: FileTable> OpenRing<T> {
             catalogue: &self.catalogue,
             earlier: self.submissions,
             requests,
+            chains: chains.as_slice(),
             gate,
         };
-        let report = submit_alone(
-            &submission,
-            chains,
-            &self.table,
-            &mut self.passes[0],
-            outcome,
-        );
-        self.drawn += count;
+        let count = submission.chains.len() as u32;
+        if count > self.left {
+            return Ok(None);
+        }
+        if submission.most_installs() > self.most {
+            return Ok(None);
+        }
+        let Ok(outcome) = Outcome::with_room(alloc, requests) else {
+            return Err(SubmitFault::NoMemory);
+        };
+        let report = play_alone(&submission, &self.table, &mut self.pass, outcome);
+        self.left -= count;
         self.submissions += 1;
         Ok(Some(report))
     }
@@ -209,17 +203,18 @@ impl<T: FileTable> OpenRing<T> {
         let OpenRing {
             catalogue,
             table,
-            passes,
+            pass,
+            mut list,
             size: _,
-            chains: _,
-            drawn: _,
+            left: _,
             most: _,
             submissions,
             registrations,
         } = self;
+        list.push_reserved(pass);
         Ring {
             catalogue,
-            table: table.close(passes),
+            table: table.close(list),
             submissions,
             registrations,
         }
@@ -227,82 +222,38 @@ impl<T: FileTable> OpenRing<T> {
 }
 
 // Plays a submission by the only pass of a table, which stays open.
-fn submit_alone<T: FileTable, R: Wait, G: Gate>(
+fn play_alone<T: FileTable, R: Wait, G: Gate>(
     submission: &Submission<'_, R, G>,
-    chains: &[Chain],
     table: &T,
     pass: &mut T::Pass,
     mut outcome: Outcome,
 ) -> Report
-    requires members { map (members_of (all_asked submission.now.requests.now)) chains.now
-        ≡ runs_of (all_asked submission.now.requests.now) }
-    requires within { All (IsChain (all_asked submission.now.requests.now)) chains.now }
     requires numbers { InstallAtMost (all_asked submission.now.requests.now)
-        (T.opening table.now).numbers chains.now }
-    requires few { length chains.now ≤ MAX_CHAINS }
+        (T.opening table.now).numbers }
     requires alone { IsAloneAt T.view (T.fits table.now) (T.opening table.now) pass.old }
-    requires chains { (T.view pass.old).chain + length chains.now ≤ (T.opening table.now).chains }
-    requires looks { length submission.now.requests.now ≤ (T.view pass.old).looks_left }
+    requires chains { (T.view pass.old).chain + length submission.now.chains.now
+        ≤ (T.opening table.now).chains }
+    requires looks { length submission.now.chains.now * MOST_MEMBERS
+        ≤ (T.view pass.old).looks_left }
     requires room { HasRoomFor (all_asked submission.now.requests.now) outcome }
     ensures alone { IsAloneAt T.view (T.fits table.now) (T.opening table.now) pass.new }
-    ensures chain { (T.view pass.new).chain ≡ (T.view pass.old).chain + length chains.now }
+    ensures chain { (T.view pass.new).chain
+        ≡ (T.view pass.old).chain + length submission.now.chains.now }
     ensures looks { (T.view pass.old).looks_left
-        ≤ (T.view pass.new).looks_left + length submission.now.requests.now }
+        ≤ (T.view pass.new).looks_left + length submission.now.chains.now * MOST_MEMBERS }
     ensures played { let o = T.opening table.now in let s = submission.now in
         (registrations : ℕ) → IsOneHistory
         (ring_led_by s.catalogue.now o (T.view pass.old) s.earlier registrations)
         (all_asked s.requests.now) (reported result)
         (ring_led_by s.catalogue.now o (T.view pass.new) (s.earlier + 1) registrations) }
 {
-    play_alone(submission, chains, table, pass, &mut outcome);
-    table.settle(pass);
-    outcome.sort();
-    outcome.report(submission.earlier + 1)
-}
-
-// Plays the chains of a submission one after another, by the only pass of a table.
-fn play_alone<T: FileTable, R: Wait, G: Gate>(
-    submission: &Submission<'_, R, G>,
-    chains: &[Chain],
-    table: &T,
-    pass: &mut T::Pass,
-    outcome: &mut Outcome,
-)
-    requires members { map (members_of (all_asked submission.now.requests.now)) chains.now
-        ≡ runs_of (all_asked submission.now.requests.now) }
-    requires within { All (IsChain (all_asked submission.now.requests.now)) chains.now }
-    requires numbers { InstallAtMost (all_asked submission.now.requests.now)
-        (T.opening table.now).numbers chains.now }
-    requires few { length chains.now ≤ MAX_CHAINS }
-    requires alone { (T.opening table.now).passes ≡ 1 }
-    requires fits { T.fits table.now pass.old }
-    requires idle { IsIdle (T.view pass.old) }
-    requires more { (T.view pass.old).no_chains_left ≡ false }
-    requires chains { (T.view pass.old).chain + length chains.now ≤ (T.opening table.now).chains }
-    requires looks { length submission.now.requests.now ≤ (T.view pass.old).looks_left }
-    requires room { HasRoomFor (all_asked submission.now.requests.now) outcome.old }
-    ensures played { HasPlayedAlone T.view (T.fits table.now) (T.opening table.now)
-        submission.now.catalogue.now (submission.now.earlier + 1)
-        (all_asked submission.now.requests.now) (T.view pass.old) (length chains.now) pass.new
-        (all_completed outcome.new.completions.items) outcome.new.closes }
-{
-    for i in 0..chains.len() {
-        let chain = i as u32 + 1;
+    for i in 0..submission.chains.len() {
         let Some(_drawn) = table.draw(pass) else {
             unreachable!()
         };
-        run_chain(
-            submission.rt,
-            submission.alloc,
-            table,
-            pass,
-            submission.catalogue,
-            submission.earlier + 1,
-            chain,
-            members_of_chain(submission.requests, chains, chain),
-            submission.gate,
-            &mut outcome.completions,
-            &mut outcome.closes,
-        );
+        submission.play_chain(table, pass, i as u32 + 1, &mut outcome);
     }
+    table.settle(pass);
+    outcome.sort();
+    outcome.report(submission.earlier + 1)
 }

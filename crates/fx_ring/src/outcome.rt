@@ -1,5 +1,5 @@
 //! The completions and closes of a submission's chains, of one worker or of all.
-ghost use Rattle.std.specs.Prelude.{◌≡◌, ◌+◌, ◌*◌, ◌≤◌, [], ◌++◌, length, flat_map, sum_by, reverse, All, IfOk, IsPermutation, vec_len, vec_capacity};
+ghost use Rattle.std.specs.Prelude.{◌≡◌, ◌+◌, ◌*◌, ◌≤◌, [], length, flat_map, sum_by, reverse, All, IfOk, IsPermutation, vec_capacity};
 ghost use Rattle.std.specs.List.Sorted.{IsNonDecreasingBy};
 ghost use Rattle.fx_base.specs.CloseList.{IsInOrderOfMark};
 ghost use Rattle.fx_chain.specs.Accepted.{IsAccepted};
@@ -73,28 +73,6 @@ impl Outcome {
         Ok(outcomes)
     }
 
-    // Takes what all the others came to. It can't run out of memory.
-    fn join(&mut self, mut others: Vec<Outcome>)
-        requires completions { vec_len self.old.completions
-            + sum_by (λ other. length other.completions.items) others.items
-            ≤ vec_capacity self.old.completions }
-        requires closes { sum_by (λ other. length other.closes.files) others.items
-            ≤ self.old.closes.room }
-        ensures completions { self.new.completions.items ≡ self.old.completions.items
-            ++ flat_map (λ other. other.completions.items) (reverse others.items) }
-        ensures closes { self.new.closes.files ≡ self.old.closes.files
-            ++ flat_map (λ other. other.closes.files) (reverse others.items) }
-    {
-        while let Some(other) = others.pop() {
-            let Outcome {
-                mut completions,
-                closes,
-            } = other;
-            self.completions.append(&mut completions).unwrap();
-            self.closes.append(closes);
-        }
-    }
-
     /// Joins the outcomes of all workers. A single one is returned as it is. Several are appended to
     /// the lists of `self`, which are empty and have room for them, so no memory is needed.
     pub(crate) fn joined(mut self, mut others: Vec<Outcome>) -> Outcome
@@ -108,14 +86,21 @@ impl Outcome {
         ensures closes { result.closes.files
             ≡ flat_map (λ other. other.closes.files) (reverse others.items) }
     {
-        if others.len() != 1 {
-            self.join(others);
-            return self;
+        if others.len() == 1 {
+            let Some(only) = others.pop() else {
+                unreachable!()
+            };
+            return only;
         }
-        let Some(only) = others.pop() else {
-            unreachable!()
-        };
-        only
+        while let Some(other) = others.pop() {
+            let Outcome {
+                mut completions,
+                closes,
+            } = other;
+            self.completions.append(&mut completions).unwrap();
+            self.closes.append(closes);
+        }
+        self
     }
 
     /// Sorts the completions by place and the closes by mark.

@@ -1,18 +1,24 @@
-//! The values that stay the same while a submission is played.
-ghost use Rattle.std.specs.Prelude.{◌≡◌, ◌<◌, length, map, All};
+//! The values that stay the same while a submission is played, and the play of one chain.
+ghost use Rattle.std.specs.Prelude.{◌≡◌, ◌+◌, ◌<◌, ◌≤◌, length, map, vec_capacity, All};
+ghost use Rattle.fx_table.specs.Pass.{IsIdle};
+ghost use Rattle.fx_table.specs.declared.limits.TheConstants.{MAX_CHAINS};
 ghost use Rattle.fx_chain.specs.Accepted.{IsAccepted, IsChain, members_of};
+ghost use Rattle.fx_chain.specs.Completed.{all_completed};
 ghost use Rattle.fx_chain.specs.Operation.{all_asked};
+ghost use Rattle.fx_chain.specs.Performs.{PlaysChain, player};
 ghost use Rattle.fx_chain.specs.Runs.{runs_of};
-ghost use Rattle.fx_ring.specs.Work.{InstallAtMost};
+ghost use Rattle.fx_ring.specs.Work.{InstallAtMost, IsEnoughFor, run_of_chain, worker_state};
 ghost use Rattle.fx_ring.specs.declared.ring.TheConstants.{MOST_SUBMISSIONS};
 
+use crate::outcome::Outcome;
 use crate::ring::MOST_SUBMISSIONS;
 use fx_base::Catalogue;
-use fx_chain::{Chain, Request};
+use fx_chain::{Chain, Gate, Request, run_chain};
 use fx_table::FileTable;
 use std::alloc::Global;
+use std::sync::Wait;
 
-/// An accepted submission with the values that playing it needs.
+/// A submission that was accepted and cut into its chains, with the values that playing it needs.
 #[derive(Drop)]
 pub(crate) struct Submission<'a, R, G> {
     pub(crate) rt: &'a R,
@@ -21,22 +27,80 @@ pub(crate) struct Submission<'a, R, G> {
     // The number of submissions that the ring accepted before, one less than the number of this one.
     pub(crate) earlier: u32,
     pub(crate) requests: &'a [Request],
+    pub(crate) chains: &'a [Chain],
     pub(crate) gate: &'a G,
     pub ghost few: { earlier < MOST_SUBMISSIONS },
     pub ghost accepted: { IsAccepted (all_asked requests.now) },
+    pub ghost members: { map (members_of (all_asked requests.now)) chains.now
+        ≡ runs_of (all_asked requests.now) },
+    pub ghost within: { All (IsChain (all_asked requests.now)) chains.now },
+    pub ghost few_chains: { length chains.now ≤ MAX_CHAINS },
 }
 
-/// The values that all workers of a submission share: its chains, and a table that was opened for
-/// that number of chains, with a number for each file that a chain installs.
+/// A submission and a table that was opened for its chains, with a number for each file that a
+/// chain installs: the values that all its workers share.
 #[derive(Drop)]
 pub(crate) struct Play<'a, T: FileTable, R, G> {
     pub(crate) submission: &'a Submission<'a, R, G>,
     pub(crate) table: &'a T,
-    pub(crate) chains: &'a [Chain],
-    pub ghost members: { map (members_of (all_asked submission.now.requests.now)) chains.now
-        ≡ runs_of (all_asked submission.now.requests.now) },
-    pub ghost within: { All (IsChain (all_asked submission.now.requests.now)) chains.now },
-    pub ghost count: { (T.opening table.now).chains ≡ length chains.now },
+    pub ghost count: { (T.opening table.now).chains ≡ length submission.now.chains.now },
     pub ghost numbers: { InstallAtMost (all_asked submission.now.requests.now)
-        (T.opening table.now).numbers chains.now },
+        (T.opening table.now).numbers },
+}
+
+impl<'a, R, G> Submission<'a, R, G> {
+    /// Returns the members of a chain.
+    pub(crate) fn members(&self, chain: Chain) -> &'a [Request]
+        requires { IsChain (all_asked self.now.requests.now) chain }
+        ensures { all_asked result.now ≡ members_of (all_asked self.now.requests.now) chain }
+    {
+        let first = chain.first as usize;
+        &self.requests[first..first + chain.len as usize]
+    }
+}
+
+impl<'a, R: Wait, G: Gate> Submission<'a, R, G> {
+    /// Plays chain number `chain`, counted from 1, by a pass that drew it, and adds its completions
+    /// and closes to an outcome.
+    pub(crate) fn play_chain<T: FileTable>(
+        &self,
+        table: &T,
+        pass: &mut T::Pass,
+        chain: u32,
+        outcome: &mut Outcome,
+    )
+        requires some { (1 ≤ chain) × (chain ≤ length self.now.chains.now) }
+        requires fits { T.fits table.now pass.old }
+        requires idle { IsIdle (T.view pass.old) }
+        requires numbers { InstallAtMost (all_asked self.now.requests.now)
+            (T.view pass.old).numbers_left }
+        requires enough { IsEnoughFor (run_of_chain (runs_of (all_asked self.now.requests.now)) chain)
+            (worker_state (T.view pass.old) (all_completed outcome.old.completions.items)
+            outcome.old.closes)
+            (vec_capacity outcome.old.completions) }
+        ensures fits { T.fits table.now pass.new }
+        ensures played { PlaysChain (T.opening table.now) self.now.catalogue.now
+            (self.now.earlier + 1) chain
+            (run_of_chain (runs_of (all_asked self.now.requests.now)) chain)
+            (player (T.view pass.old) outcome.old.closes)
+            (all_completed outcome.old.completions.items)
+            (player (T.view pass.new) outcome.new.closes)
+            (all_completed outcome.new.completions.items) }
+        ensures capacity { vec_capacity outcome.old.completions
+            ≤ vec_capacity outcome.new.completions }
+    {
+        run_chain(
+            self.rt,
+            self.alloc,
+            table,
+            pass,
+            self.catalogue,
+            self.earlier + 1,
+            chain,
+            self.members(self.chains[chain as usize - 1]),
+            self.gate,
+            &mut outcome.completions,
+            &mut outcome.closes,
+        );
+    }
 }

@@ -5,24 +5,22 @@ ghost use Rattle.fx_plain.specs.Contents.{state_of};
 ghost use Rattle.fx_table.specs.Opening.{IsGivenBack};
 ghost use Rattle.fx_table.specs.Pass.{IsIdle, new_passes};
 ghost use Rattle.fx_table.specs.declared.limits.TheConstants.{MAX_PASSES};
-ghost use Rattle.fx_chain.specs.Accepted.{IsAccepted, IsChain, members_of};
+ghost use Rattle.fx_chain.specs.Accepted.{IsAccepted};
 ghost use Rattle.fx_chain.specs.Operation.{all_asked};
-ghost use Rattle.fx_chain.specs.Runs.{runs_of};
 ghost use Rattle.fx_ring.specs.Outcomes.{HasRoomForCrew};
 ghost use Rattle.fx_ring.specs.Ring.{AreEntries, RingState, ring_of, ring_with};
-ghost use Rattle.fx_ring.specs.PlaySetting.{IsPlayOf};
+ghost use Rattle.fx_ring.specs.Playing.{IsPlayOf};
 ghost use Rattle.fx_ring.specs.Work.{InstallAtMost};
 ghost use Rattle.fx_ring.specs.Submission.{IsOneHistory, reported, submit_refusal};
 ghost use Rattle.fx_ring.specs.declared.report.SubmitFault.TheVariants.{NoMemory as Refused};
 
 use crate::crew::{Room, gather, scatter};
-use crate::needs::most_installs;
 use crate::play::{Play, Submission};
 use crate::report::{Report, SubmitFault};
 use crate::ring::{MOST_SUBMISSIONS, Ring};
 use crate::worker::work_crew;
 use fx_base::{Catalogue, NoMemory};
-use fx_chain::{Chain, Gate, Request, check, cut};
+use fx_chain::{Gate, Request, check, cut};
 use fx_plain::PlainTable;
 use fx_table::{FileTable, MAX_PASSES};
 use std::alloc::Global;
@@ -33,17 +31,13 @@ use std::thread::Threads;
 // Plays the chains of a submission on a table that was opened for them.
 fn play_open<'a, T: FileTable, R: Threads + Wait + Sync, G: Gate>(
     submission: &'a Submission<'a, R, G>,
-    chains: &'a [Chain],
     table: T,
     mut passes: Vec<T::Pass>,
     room: Room<T::Pass>,
 ) -> (PlainTable, Report)
-    requires members { map (members_of (all_asked submission.now.requests.now)) chains.now
-        ≡ runs_of (all_asked submission.now.requests.now) }
-    requires within { All (IsChain (all_asked submission.now.requests.now)) chains.now }
-    requires chains { (T.opening table).chains ≡ length chains.now }
+    requires chains { (T.opening table).chains ≡ length submission.now.chains.now }
     requires numbers { InstallAtMost (all_asked submission.now.requests.now)
-        (T.opening table).numbers chains.now }
+        (T.opening table).numbers }
     requires some { 1 ≤ (T.opening table).passes }
     requires ready { All (λ p. T.fits table p × IsIdle (T.view p)) passes.items }
     requires new { map (λ p. T.view p) passes.items ≡ new_passes (T.opening table).passes }
@@ -62,7 +56,6 @@ fn play_open<'a, T: FileTable, R: Threads + Wait + Sync, G: Gate>(
         &Play {
             submission: &*submission,
             table: &table,
-            chains: &*chains,
         },
         &mut crew,
     );
@@ -86,27 +79,23 @@ fn play<T: FileTable, R: Threads + Wait + Sync, G: Gate>(
     ensures settled { IfOk result (λ (left, _). IsSettled (state_of left)) }
     ensures played { IfOk result (λ (left, report). IsPlayOf submission.now plain report left) }
 {
-    let (alloc, requests) = (submission.alloc, submission.requests);
-    let Ok(chains) = cut(alloc, requests) else {
+    let alloc = submission.alloc;
+    let chains = submission.chains.len() as u32;
+    let passes = workers.min(1.max(chains));
+    let Ok(room) = Room::new(alloc, submission.requests, passes) else {
         return Err((plain, NoMemory));
     };
-    let passes = workers.min(1.max(chains.len() as u32));
-    let Ok(room) = Room::new(alloc, requests, passes) else {
-        return Err((plain, NoMemory));
-    };
-    let chains = chains.as_slice();
-    let most = most_installs(requests, chains);
-    match T::open_for(alloc, plain, chains.len() as u32, most, passes) {
+    match T::open_for(alloc, plain, chains, submission.most_installs(), passes) {
         Err(refused) => {
             room.give_up();
             Err(refused)
         }
-        Ok((table, passes)) => Ok(play_open(submission, chains, table, passes, room)),
+        Ok((table, passes)) => Ok(play_open(submission, table, passes, room)),
     }
 }
 
 // Returns the reason to refuse a submission after `submissions` accepted ones, memory aside.
-pub(crate) fn refusal_behind(
+pub(crate) fn refusal_after(
     submissions: u32,
     requests: &[Request],
     workers: u32,
@@ -175,9 +164,12 @@ impl Ring {
             AreEntries (ring_of self.new) report.closes.files) }
         ensures err { OnErr result (ring_of self.new ≡ ring_of self.old) }
     {
-        if let Some(fault) = refusal_behind(self.submissions, requests, workers) {
+        if let Some(fault) = refusal_after(self.submissions, requests, workers) {
             return Err(fault);
         }
+        let Ok(chains) = cut(alloc, requests) else {
+            return Err(SubmitFault::NoMemory);
+        };
         let plain = mem::replace(&mut self.table, PlainTable::none(alloc));
         let submission = Submission {
             rt,
@@ -185,6 +177,7 @@ impl Ring {
             catalogue: &self.catalogue,
             earlier: self.submissions,
             requests,
+            chains: chains.as_slice(),
             gate,
         };
         match play::<T, _, G>(&submission, plain, workers) {

@@ -1,19 +1,59 @@
-use Rattle.fx_ring.proofs.Words.{◌≡◌, ◌+◌, ◌≤◌, length, arith, Some, all_asked, runs_of, asked_of, length-map}
-use Rattle.fx_ring.proofs.Runs.{as_many}
-use Rattle.fx_ring.proofs.LonePlays.{begins, goes_on}
+use Rattle.fx_ring.proofs.Words.{◌≡◌, ◌+◌, ◌-◌, ◌≤◌, [], length, arith, sym, ap, subst, Some, PassView, all_asked, runs_of, asked_of, length-map, Reported}
+use Rattle.fx_ring.proofs.Words.{IsOneHistory, IsSettledSoFar, ring_led_by}
+use Rattle.fx_ring.proofs.NewCrew.{few_of_chains}
+use Rattle.fx_ring.proofs.Runs.{as_many, runs_within}
+use Rattle.fx_ring.proofs.ChainPlayed.{enough}
+use Rattle.fx_ring.proofs.LonePlays.{begins, goes_on, authors_of, all_drawn}
+use Rattle.fx_ring.proofs.LoneHistories.{part_is_one_history}
 use Rattle.fx_ring.proofs.open_ring.play_alone.Goals as goal
 
 pub loop-i-init : goal.loop-i-init
-loop-i-init g c = begins c.requires.fits c.requires.idle c.requires.more c.requires.room
-    (omega (arith, length-map c.args.submission.now.requests.now asked_of, c.requires.looks))
+loop-i-init g c =
+    let alone = c.requires.alone in
+    let s = c.args.submission.now in
+    begins alone.fits alone.idle alone.more c.requires.room
+    (omega (arith, length-map s.requests.now asked_of, c.requires.looks, few_of_chains s.requests.now s.chains.now s.members s.within))
+
+pub play_chain-requires-clause-enough : goal.play_chain-requires-clause-enough
+play_chain-requires-clause-enough g c κs within =
+    let s = c.args.submission.now in
+    let is = c.loop-i.invariant in
+    let left = ap (λ (v : PassView). v.looks_left) c.in-Some.ensures.drawn.3 in
+    let its = enough {chain = c.loop-i.i + 1} is.room (omega (arith, is.chain)) (omega (arith, as_many _ s.chains.now s.members, c.loop-i-test.true)) in
+    (omega (arith, its.0, left), its.1, its.2)
 
 pub loop-i-preserved : goal.loop-i-preserved
 loop-i-preserved g c =
-    let requests = c.args.submission.now.requests.now in
+    let s = c.args.submission.now in
     let is = c.loop-i.invariant in
-    let count = as_many requests c.args.chains.now c.requires.members in
-    let inside : c.loop-i.i + 1 ≤ length (runs_of (all_asked requests)) = omega (arith, count, c.loop-i-test.true) in
+    let count = as_many _ s.chains.now s.members in
+    let inside : c.loop-i.i + 1 ≤ length (runs_of (all_asked s.requests.now)) = omega (arith, count, c.loop-i-test.true) in
     let next : Some c.in-Some._drawn ≡ Some ((g.T.SharedTable.view c.loop-i.pass).chain + 1) =
-    c.in-Some.ensures.next c.requires.alone is.played.more (omega (arith, is.played.chain, c.requires.chains, inside, count)) in
-    goes_on is inside (cc next) c.in-Some.ensures.drawn c.members_of_chain.ensures.run c.run_chain.ensures.played c.run_chain.ensures.fits
-    c.run_chain.ensures.capacity
+    c.in-Some.ensures.next c.requires.alone.alone is.more (omega (arith, is.chain, c.requires.chains, inside, count)) in
+    let short = runs_within _ s.chains.now s.members s.within (c.loop-i.i + 1 - 1) [] (omega (arith, inside)) in
+    goes_on is inside (cc next) c.in-Some.ensures.drawn c.play_chain.ensures.played short.members c.play_chain.ensures.fits c.play_chain.ensures.capacity
+
+pub returns-clause-played : goal.returns-clause-played
+returns-clause-played g c registrations =
+    let V : g.row.T-Pass.Denot → PassView = λ p. g.T.SharedTable.view p in
+    let s = c.args.submission.now in
+    let o = g.T.SharedTable.opening c.args.table.now in
+    let asked = all_asked s.requests.now in
+    let before = V c.args.pass.now in
+    let p = c.loop-i.invariant in
+    let alone = c.requires.alone in
+    let one = part_is_one_history p.since s.earlier asked alone.few_slots (runs_within _ s.chains.now s.members s.within) alone.settled
+    (subst (λ (v : PassView). IsSettledSoFar o v) c.settle.ensures.same c.settle.ensures.settled)
+    (authors_of alone.settled ((g.met.T.SharedTable g.world.𝓛 g.world.𝓜 g.world.𝓡 ((λ s x. x), (λ x. x), (λ x. x), λ x. x)).fronts _ _ alone.fits))
+    p.own p.worked
+    (λ chain low high. all_drawn c.loop-i.i chain low (omega (arith, high, as_many _ s.chains.now s.members, c.loop-i-test.false))) registrations
+    c.sort.ensures.completions c.sort.ensures.in_order
+    (record { same_files = c.sort.ensures.closes; in_order = c.sort.ensures.in_order_of_mark }) in
+    subst (λ (z : Reported × PassView). IsOneHistory (ring_led_by s.catalogue.now o before s.earlier registrations) asked z.0
+    (ring_led_by s.catalogue.now o z.1 (s.earlier + 1) registrations))
+    (λ i. (sym c.report.ensures i, sym c.settle.ensures.same i)) one
+
+pub returns-clause-looks : goal.returns-clause-looks
+returns-clause-looks g c =
+    let same = ap (λ (v : PassView). v.looks_left) c.settle.ensures.same in
+    omega (arith, c.loop-i.invariant.looks, c.loop-i.auto.i-end, same)

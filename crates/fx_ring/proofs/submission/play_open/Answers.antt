@@ -1,10 +1,13 @@
 use Rattle.fx_ring.proofs.Words.{◌+◌, List, length, sym, ap, subst, ◌∙◌, arith, PassView, IsIdle, all_asked, runs_of, Completed, all_completed}
 use Rattle.fx_ring.proofs.Words.{HasRoomFor, ring_with, IsOneHistory, Reported, Worker, Completion, CloseListView, Closed, map, IsPermutation}
 use Rattle.fx_ring.proofs.Words.{accepted-length, PASS_LOOKS}
-use Rattle.fx_ring.proofs.NewCrew.{IsNew, all_gathered, all_scattered, all_new, as_many_passes, new_has_worked, new_has_room, runs_have_all}
+use Rattle.fx_ring.proofs.NewCrew.{IsNew, all_gathered, all_scattered, all_new, numbers_are, as_many_passes, new_has_worked, new_has_room, runs_have_all}
 use Rattle.fx_ring.proofs.NewCrew.{runs_weigh_all}
-use Rattle.fx_ring.proofs.WorkersTogether.{HavePlayed, one_of_each, closes_weigh, one_history}
-use Rattle.fx_ring.proofs.PlayedCrew.{states, crew_has_played, completions_joined, files_joined, as_many_completions, as_many_files}
+use Rattle.fx_ring.proofs.WorkersTogether.{HavePlayed, number_of, one_of_each, closes_weigh, one_history}
+use Rattle.fx_ring.proofs.PlayedCrew.{states, scattered_views, completions_joined, files_joined, as_many_completions, as_many_files}
+use Rattle.fx_ring.proofs.Words.{◌≡◌, true, All-map, All-weaker, HasWorked, IsShortRun, map-map, size_of, state_of_worker}
+use Rattle.fx_ring.proofs.PartsExplained.{IsShort}
+use Rattle.fx_ring.proofs.Runs.{as_many, runs_within}
 use Rattle.fx_ring.proofs.submission.play_open.Given.{Over}
 use Rattle.fx_ring.proofs.submission.play_open.Goals.{After-close-left}
 use Rattle.fx_ring.proofs.submission.play_open.Goals as goal
@@ -49,11 +52,22 @@ module _ (g : Over) (c : After-close-left g) where
 
   played : HavePlayed c.args.submission.now.catalogue.now (c.args.submission.now.earlier + 1) (runs_of (all_asked c.args.submission.now.requests.now))
       (g.T.SharedTable.opening c.args.table) (states V ws) (map V c.scatter.new.passes.items) c.close-left.result
-  played = crew_has_played V c.args.submission.now.requests.now c.args.chains.now c.args.passes.items c.gather.new.crew.items ws
-      c.requires.members c.requires.within c.requires.chains
-      ((g.met.T.FileTable g.world.𝓛 g.world.𝓜 g.world.𝓡 ((λ s x. x), (λ x. x), (λ x. x), λ x. x)).ends c.args.table) c.requires.new c.gather.ensures.passes c.work_crew.ensures.numbers
-      c.scatter.ensures.passes (λ k d l. (c.work_crew.ensures.done k d l).between.worked)
-      (λ k d l. (c.work_crew.ensures.done k d l).all_drawn) c.close-left.ensures
+  played =
+      let s = c.args.submission.now in
+      let o = g.T.SharedTable.opening c.args.table in
+      let runs = runs_of (all_asked s.requests.now) in
+      record {
+        worked = All-map (HasWorked s.catalogue.now (size_of o) (s.earlier + 1) runs) (state_of_worker V) ws
+            (λ k d l. (c.work_crew.ensures.done k d l).between.worked);
+        told = All-map (λ w. w.pass.no_chains_left ≡ true) (state_of_worker V) ws (λ k d l. (c.work_crew.ensures.done k d l).all_drawn);
+        chains = c.requires.chains ∙ sym (as_many _ s.chains.now s.members);
+        ends = (g.met.T.FileTable g.world.𝓛 g.world.𝓜 g.world.𝓡 ((λ s x. x), (λ x. x), (λ x. x), λ x. x)).ends c.args.table;
+        short = All-weaker IsShortRun IsShort (λ run is. is.members) runs (runs_within _ s.chains.now s.members s.within);
+        are = scattered_views V ws c.scatter.ensures.passes;
+        numbers = map-map number_of (state_of_worker V) ws ∙ (c.work_crew.ensures.numbers
+            ∙ numbers_are V c.args.passes.items o.passes c.requires.new c.gather.new.crew.items c.gather.ensures.passes);
+        closing = c.close-left.ensures;
+      }
 
 pub joined-all-requires-clause-completions : goal.joined-all-requires-clause-completions
 joined-all-requires-clause-completions g c =

@@ -1,14 +1,14 @@
 use Rattle.fx_ring.proofs.Words.{◌≡◌, ◌≤◌, ◌++◌, ◌+◌, length, flat_map, sum_by, reverse, vec_len, vec_capacity}
-use Rattle.fx_ring.proofs.outcome.Outcome.join.Given as goal
+use Rattle.fx_ring.proofs.outcome.Outcome.joined.Given as goal
 
 abbrev pub invariant-loop-other : goal.invariant-loop-other
 invariant-loop-other l = record {
   completions_room : vec_len l.self.completions + sum_by (λ other. length other.completions.items) l.others.items ≤ vec_capacity l.self.completions;
   closes_room : sum_by (λ other. length other.closes.files) l.others.items ≤ l.self.closes.room;
   completions : l.self.completions.items ++ flat_map (λ other. other.completions.items) (reverse l.others.items)
-      ≡ l.initial.self.completions.items ++ flat_map (λ other. other.completions.items) (reverse l.initial.others.items);
+      ≡ flat_map (λ other. other.completions.items) (reverse l.initial.others.items);
   closes : l.self.closes.files ++ flat_map (λ other. other.closes.files) (reverse l.others.items)
-      ≡ l.initial.self.closes.files ++ flat_map (λ other. other.closes.files) (reverse l.initial.others.items);
+      ≡ flat_map (λ other. other.closes.files) (reverse l.initial.others.items);
 }
 
 abbrev pub decreases-loop-other : goal.decreases-loop-other
