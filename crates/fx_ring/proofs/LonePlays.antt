@@ -2,7 +2,7 @@
 use Rattle.fx_ring.proofs.Words.{◌≡◌, ℕ, ◌+◌, ◌-◌, ◌<◌, ◌≤◌, false, List, [], ◌∷◌, ◌++◌, map, length, refl, sym, ap, ◌∙◌, arith, Some, map-append}
 use Rattle.fx_ring.proofs.Words.{append_assoc, FileEntry, CloseListView, Event, Action, ◌▷◌, ◌▷▷◌, Opening, size_of, PassView, IsIdle, event_of}
 use Rattle.fx_ring.proofs.Words.{Completed, Asked, HasWorked, worker_state, run_of_chain, HasRoom, vec_capacity, runs_of, all_completed, HasRoomFor}
-use Rattle.fx_ring.proofs.Words.{◌*◌, MOST_MEMBERS, Outcome, add-one, Draws, PlaysChain, player, chain_less, chains_to, begun_behind}
+use Rattle.fx_ring.proofs.Words.{◌*◌, MOST_MEMBERS, Outcome, add-one, Draws, PlaysChainExactly, player, chain_less, chains_to, begun_behind}
 use Rattle.fx_ring.proofs.NewCrew.{IsNew, new_has_worked, new_has_room}
 use Rattle.fx_ring.proofs.ChainPlayed.{GoesOn, drawing, worked_on, room_left}
 use Rattle.fx_table.proofs.Calls.{looks_least}
@@ -52,7 +52,7 @@ module _ {P : Type 0} {V : P → PassView} {Fits : P → Type 0} {o : Opening} {
     {start w : PassView} {i chain capacity : ℕ} {pass then : P} {before now : List Completed} {closes files : CloseListView}
     (is : IsPlaying V Fits o catalogue submission requests start i pass before closes capacity) (inside : i + 1 ≤ length (runs_of requests))
     (next : chain ≡ (V pass).chain + 1) (drew : Draws o (V pass) (Some chain) w)
-    (played : PlaysChain o catalogue submission (i + 1) (run_of_chain (runs_of requests) (i + 1)) (player w closes) before (player (V then) files) now)
+    (played : PlaysChainExactly o catalogue submission (i + 1) (run_of_chain (runs_of requests) (i + 1)) (player w closes) before (player (V then) files) now)
   where
     abbrev since : List Event
     since = map (event_of w) played.2.actions ++ is.since

@@ -5,7 +5,7 @@ ghost use Rattle.fx_table.specs.declared.limits.TheConstants.{MAX_CHAINS};
 ghost use Rattle.fx_chain.specs.Accepted.{IsAccepted, IsChain, members_of};
 ghost use Rattle.fx_chain.specs.Completed.{all_completed};
 ghost use Rattle.fx_chain.specs.Operation.{all_asked};
-ghost use Rattle.fx_chain.specs.Performs.{PlaysChain, player};
+ghost use Rattle.fx_chain.specs.Performs.{PlaysChainExactly, player};
 ghost use Rattle.fx_chain.specs.Runs.{runs_of};
 ghost use Rattle.fx_ring.specs.Work.{InstallAtMost, IsEnoughFor, run_of_chain, worker_state};
 ghost use Rattle.fx_ring.specs.declared.ring.TheConstants.{MOST_SUBMISSIONS};
@@ -79,7 +79,7 @@ impl<'a, R: Wait, G: Gate> Submission<'a, R, G> {
             outcome.old.closes)
             (vec_capacity outcome.old.completions) }
         ensures fits { T.fits table.now pass.new }
-        ensures played { PlaysChain (T.opening table.now) self.now.catalogue.now
+        ensures played { PlaysChainExactly (T.opening table.now) self.now.catalogue.now
             (self.now.earlier + 1) chain
             (run_of_chain (runs_of (all_asked self.now.requests.now)) chain)
             (player (T.view pass.old) outcome.old.closes)
