@@ -3,21 +3,11 @@
  * It was written from the page and from no code. A step is one atomic step on a word, with what its pass does at once afterwards. Beside
  * the words it keeps the model of the table: which file is at a slot, which is removed, who holds what. Each event must be legal in
  * the model at its step. A clear has the steps of a take. */
-#include <stddef.h>
-#include <string.h>
-
 #include "lasting_table.h"
 
 const struct family *family;
 enum wrong wrong;
 int block;
-const char *fault;
-
-void want(bool holds, const char *otherwise) {
-    if (!holds && fault == NULL) {
-        fault = otherwise;
-    }
-}
 
 /* Events */
 
@@ -70,8 +60,8 @@ static void hold_until_release(struct pass *it, enum step step) {
 
 /* Drops a take or a mark from a node's word. If the word was 2, the file is closed. */
 static void drop(struct state *s, struct pass *it, enum step rest, enum step otherwise) {
-    int last = wrong == FREE_WORD_OF_A_CLOSED_FILE ? LAST - 1 : wrong == CLOSED_ONE_TOO_EARLY ? LAST + 1
-        : wrong == CLOSED_ONE_TOO_LATE ? LAST - 1 : LAST;
+    int last = wrong == free_word_of_a_closed_file ? LAST - 1 : wrong == closed_one_too_early ? LAST + 1
+        : wrong == closed_one_too_late ? LAST - 1 : LAST;
     int found = s->word[it->node];
     want(found > 0, "a node word falls below 0");
     s->word[it->node] = found - 1;
@@ -98,7 +88,7 @@ static void glance(struct state *s, struct pass *it) {
         begin_call(it, 0, IDLE);
     } else if (s->hot[it->slot]) {
         it->node = s->named[it->slot] - 1;
-        it->step = wrong == ANNOUNCED_AFTER_THE_SECOND_LOOK ? CONFIRM : ANNOUNCE;
+        it->step = wrong == announced_after_the_second_look ? CONFIRM : ANNOUNCE;
     } else {
         it->step = TAKE;
     }
@@ -106,7 +96,7 @@ static void glance(struct state *s, struct pass *it) {
 
 static void announce(struct state *s, struct pass *it, int who) {
     s->hold[who] = it->node + 1;
-    if (wrong == NO_SECOND_LOOK) {
+    if (wrong == no_second_look) {
         hold_file(s, it);
     }
     if (it->holds) {
@@ -117,8 +107,8 @@ static void announce(struct state *s, struct pass *it, int who) {
 }
 
 static void confirm(struct state *s, struct pass *it, int who) {
-    bool names = s->named[it->slot] == it->node + 1 && (s->hot[it->slot] || wrong == HOT_NOT_ASKED_AT_THE_SECOND_LOOK);
-    bool is_announced = wrong != ANNOUNCED_AFTER_THE_SECOND_LOOK;
+    bool names = s->named[it->slot] == it->node + 1 && (s->hot[it->slot] || wrong == hot_not_asked_at_the_second_look);
+    bool is_announced = wrong != announced_after_the_second_look;
     if (!names) {
         it->step = is_announced ? WITHDRAW : TAKE;
         return;
@@ -141,7 +131,7 @@ static bool empty_hold(struct state *s, const struct pass *it, int who, enum wro
 }
 
 static void take(struct state *s, struct pass *it) {
-    bool heats = s->takes[it->slot] >= family->cold_takes && wrong != SLOT_NEVER_HEATED;
+    bool heats = s->takes[it->slot] >= family->cold_takes && wrong != slot_never_heated;
     s->takes[it->slot]++;
     if (s->named[it->slot] != 0) {
         it->node = s->named[it->slot] - 1;
@@ -168,7 +158,7 @@ static void heat(struct state *s, struct pass *it) {
 /* A removal, and the retirement of what it removed */
 
 static void visit_from(struct pass *it, int who, int next) {
-    int end = wrong == LAST_PASS_NOT_VISITED ? family->passes - 1 : family->passes;
+    int end = wrong == last_pass_not_visited ? family->passes - 1 : family->passes;
     it->next = next + (next == who);
     it->step = VISIT;
     if (it->next >= end) {
@@ -188,7 +178,7 @@ static void retire_found(struct pass *it, int who) {
     it->slot = 0;
     it->takes = found.takes;
     it->marks = found.marks;
-    visit_from(it, who, found.was_hot && wrong != NO_VISITS && wrong != SCAN_BEFORE_THE_SWAP ? 0 : family->passes);
+    visit_from(it, who, found.was_hot && wrong != no_visits && wrong != scan_before_the_swap ? 0 : family->passes);
 }
 
 static void swap(struct state *s, struct pass *it, int who) {
@@ -213,11 +203,11 @@ static void swap(struct state *s, struct pass *it, int who) {
 
 /* A mark is an exchange: only a pass that still announces the node gets it. */
 static void mark_hold(struct state *s, struct pass *it, int who) {
-    bool marks = s->hold[it->next] == it->node + 1 || wrong == MARK_BY_A_STORE;
+    bool marks = s->hold[it->next] == it->node + 1 || wrong == mark_by_a_store;
     if (marks) {
         s->hold[it->next] = (it->node + 1) | MARK;
     }
-    it->marks += marks || wrong == FAILED_MARKS_COUNTED;
+    it->marks += marks || wrong == failed_marks_counted;
     visit_from(it, who, it->next + 1);
 }
 
@@ -230,8 +220,8 @@ static void visit(struct state *s, struct pass *it, int who) {
 }
 
 static void retire(struct state *s, struct pass *it) {
-    int closed = wrong == FREE_WORD_OF_A_CLOSED_FILE ? FREE : CLOSED;
-    int amount = BORN - closed - it->marks - (wrong == TAKES_LEFT_OUT_OF_A_RETIREMENT ? 0 : it->takes);
+    int closed = wrong == free_word_of_a_closed_file ? FREE : CLOSED;
+    int amount = BORN - closed - it->marks - (wrong == takes_left_out_of_a_retirement ? 0 : it->takes);
     want(s->word[it->node] >= amount, "a node word falls below 0");
     s->word[it->node] -= amount;
     if (s->word[it->node] != closed) {
@@ -239,7 +229,7 @@ static void retire(struct state *s, struct pass *it) {
         return;
     }
     close_file(s, it->node);
-    if (wrong == REST_BEFORE_THE_FILE_IS_OUT) {
+    if (wrong == rest_before_the_file_is_out) {
         s->word[it->node] = FREE;
     }
     it->step = REST;
@@ -248,7 +238,7 @@ static void retire(struct state *s, struct pass *it) {
 /* An installation */
 
 static void seek(struct state *s, struct pass *it, int who) {
-    int node = (wrong == BIRTH_IN_ANOTHER_BLOCK ? 0 : who) * block + it->nth;
+    int node = (wrong == birth_in_another_block ? 0 : who) * block + it->nth;
     if (s->word[node] == FREE) {
         it->node = node;
         it->nth = it->tried = it->steps = 0;
@@ -272,7 +262,7 @@ static void birth(struct state *s, struct pass *it) {
 
 static void ask(struct state *s, struct pass *it, bool has_place) {
     bool is_full = s->full == (family->in_range ? family->slots : 0)
-        && (s->changes == 0 || wrong == FULL_WHILE_A_CHANGE_IS_IN_FLIGHT);
+        && (s->changes == 0 || wrong == full_while_a_change_is_in_flight);
     bool is_changed = false;
     for (int who = 0; who < family->passes; who++) {
         is_changed |= is_in_change(&s->pass[who]);
@@ -301,7 +291,7 @@ static void peek(struct state *s, struct pass *it) {
     }
     it->takes = s->takes[it->slot];
     it->was_hot = s->hot[it->slot];
-    it->step = wrong == EXCHANGE_OUTSIDE_A_CHANGE ? EXCHANGE : BEGIN;
+    it->step = wrong == exchange_outside_a_change ? EXCHANGE : BEGIN;
 }
 
 static void exchange(struct state *s, struct pass *it) {
@@ -314,7 +304,7 @@ static void exchange(struct state *s, struct pass *it) {
 }
 
 static void end_exchange(struct state *s, struct pass *it) {
-    s->changes -= wrong != EXCHANGE_OUTSIDE_A_CHANGE;
+    s->changes -= wrong != exchange_outside_a_change;
     s->full += it->delta;
     if (it->delta) {
         begin_call(it, 0, IDLE);
@@ -327,7 +317,7 @@ static void end_exchange(struct state *s, struct pass *it) {
 
 bool is_in_change(const struct pass *it) {
     bool is_exchange = it->step == EXCHANGE || it->step == END_EXCHANGE;
-    return it->step == END || (it->step == SWAP && family->in_range) || (is_exchange && wrong != EXCHANGE_OUTSIDE_A_CHANGE);
+    return it->step == END || (it->step == SWAP && family->in_range) || (is_exchange && wrong != exchange_outside_a_change);
 }
 
 /* The first step of a call on a slot; a search may begin at each node of the pass's block. */
@@ -343,7 +333,7 @@ static bool begin_nth(struct state *s, struct pass *it, int who, int nth) {
     if ((calls & REMOVE) && nth < family->slots) {
         it->slot = nth;
         begin_call(it, REMOVE, family->in_range ? BEGIN : SWAP);
-        if (wrong == SCAN_BEFORE_THE_SWAP && s->named[nth] && s->hot[nth]) {
+        if (wrong == scan_before_the_swap && s->named[nth] && s->hot[nth]) {
             it->node = s->named[nth] - 1;
             visit_from(it, who, 0);
         }
@@ -367,8 +357,12 @@ static bool begin_nth(struct state *s, struct pass *it, int who, int nth) {
     return false;
 }
 
-bool take_step(struct state *s, int who, int nth) {
+bool take_step(void *state, int who, int nth) {
+    struct state *s = state;
     struct pass *it = &s->pass[who];
+    if (who >= family->passes) {
+        return false;
+    }
     if (it->step == IDLE) {
         return begin_nth(s, it, who, nth);
     }
@@ -383,13 +377,13 @@ bool take_step(struct state *s, int who, int nth) {
     case IDLE: break;
     case ANNOUNCE: announce(s, it, who); break;
     case CONFIRM: confirm(s, it, who); break;
-    case WITHDRAW: it->step = empty_hold(s, it, who, WITHDRAWAL_BY_A_STORE) ? DROP_OWED : TAKE; break;
+    case WITHDRAW: it->step = empty_hold(s, it, who, withdrawal_by_a_store) ? DROP_OWED : TAKE; break;
     case DROP_OWED: drop(s, it, REST_OF_LOOK, TAKE); break;
     case REST_OF_LOOK: rest(s, it); it->step = TAKE; break;
     case TAKE: take(s, it); break;
     case HEAT: heat(s, it); break;
     case GUARDED:
-        if (empty_hold(s, it, who, RELEASE_BY_A_STORE)) {
+        if (empty_hold(s, it, who, release_by_a_store)) {
             it->step = DROP_YIELDED;
         } else {
             it->holds = 0;

@@ -1,8 +1,7 @@
-/* The lasting table's words and passes as lasting_table.c changes them and lasting_orders.c checks them. */
-#include <stdbool.h>
-#include <stdint.h>
+/* The lasting table's words and passes as lasting_table.c changes them and lasting_rule.c checks them. */
+#include "step_table.h"
 
-enum { MOST_PASSES = 3, MOST_SLOTS = 2, MOST_NODES = 12 };
+enum { MOST_SLOTS = 2, MOST_NODES = 12 };
 
 /* The words of a node, where 64 is 2^32 + 1, and the mark of a hold word. */
 enum { FREE = 0, CLOSED = 1, LAST = 2, BORN = 64, MARK = 128 };
@@ -20,14 +19,15 @@ enum step {
     SEEK, BIRTH, BEGIN, SWAP, END, VISIT, MARK_HOLD, RETIRE, PEEK, EXCHANGE, END_EXCHANGE, ASK, REST_UNUSED
 };
 
-/* Wrong tables: each is the right one with one change. */
-enum wrong {
-    RIGHT, FREE_WORD_OF_A_CLOSED_FILE, REST_BEFORE_THE_FILE_IS_OUT, BLOCK_ONE_NODE_TOO_SMALL, BIRTH_IN_ANOTHER_BLOCK,
-    SCAN_BEFORE_THE_SWAP, MARK_BY_A_STORE, NO_SECOND_LOOK, ANNOUNCED_AFTER_THE_SECOND_LOOK, WITHDRAWAL_BY_A_STORE,
-    RELEASE_BY_A_STORE, FAILED_MARKS_COUNTED, HOT_NOT_ASKED_AT_THE_SECOND_LOOK, TAKES_LEFT_OUT_OF_A_RETIREMENT,
-    LAST_PASS_NOT_VISITED, NO_VISITS, CLOSED_ONE_TOO_EARLY, CLOSED_ONE_TOO_LATE, SLOT_NEVER_HEATED, EXCHANGE_OUTSIDE_A_CHANGE,
-    FULL_WHILE_A_CHANGE_IS_IN_FLIGHT, WRONG_TABLES
-};
+/* The right table and wrong ones: each is the right one with one change. */
+#define TABLES(X) \
+    X(right) X(free_word_of_a_closed_file) X(rest_before_the_file_is_out) X(block_one_node_too_small) \
+    X(birth_in_another_block) X(scan_before_the_swap) X(mark_by_a_store) X(no_second_look) \
+    X(announced_after_the_second_look) X(withdrawal_by_a_store) X(release_by_a_store) X(failed_marks_counted) \
+    X(hot_not_asked_at_the_second_look) X(takes_left_out_of_a_retirement) X(last_pass_not_visited) X(no_visits) \
+    X(closed_one_too_early) X(closed_one_too_late) X(slot_never_heated) X(exchange_outside_a_change) \
+    X(full_while_a_change_is_in_flight)
+enum wrong { TABLES(AS_MEMBER) WRONG_TABLES };
 
 struct family {
     const char *name;
@@ -65,14 +65,8 @@ extern const struct family *family;
 extern enum wrong wrong;
 /* The number of nodes of each pass's block. */
 extern int block;
-/* What the last step or check found wrong, or NULL. */
-extern const char *fault;
-
-/* Records a fault, unless `holds`. */
-void want(bool holds, const char *otherwise);
-
-/* Makes one step of a pass. An idle pass begins the `nth` call that it may make. Returns false if there are no `nth + 1` ways. */
-bool take_step(struct state *s, int who, int nth);
+/* Makes one step of a pass, as a `step_table` says. */
+bool take_step(void *state, int who, int nth);
 
 /* Returns whether a pass is in a change of the allocation range. */
 bool is_in_change(const struct pass *it);

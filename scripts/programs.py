@@ -12,9 +12,7 @@ from repository import BUILD, ROOT
 LEGAL, NOT_LEGAL, UNDECIDED = 0, 1, 6
 # what each library that is preloaded is compiled with beside the flags of all
 LIBRARY = ("-shared", "-fPIC")
-LASTING = (f"-I{ROOT}/model", f"{ROOT}/model/lasting_table.c")
-FLAGS = {"spoil.c": ("-static",), "step.c": (*LIBRARY, "-mno-red-zone"), "count.c": LIBRARY, "streams.c": LIBRARY,
-         "lasting_orders.c": LASTING}
+FLAGS = {"spoil.c": ("-static",), "step.c": (*LIBRARY, "-mno-red-zone"), "count.c": LIBRARY, "streams.c": LIBRARY}
 
 
 def run_bytes(command, given=b"", seconds=120, **how):

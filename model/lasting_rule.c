@@ -1,0 +1,137 @@
+/* The lasting table's families and wrong tables, and its rule: what every state must be between two steps of lasting_table.c.
+ *
+ * Passes make calls without end, and each call is chosen in every way. No word counts calls, so there are finitely many states. A block
+ * has as many nodes as slots and passes together, the fewest that suffice. */
+#include <stddef.h>
+#include <string.h>
+
+#include "lasting_table.h"
+
+enum { REQUESTS = LOOK | PUT | REMOVE };
+
+static const struct family families[] = {
+    {"two passes, one slot, hot after 1 take", 2, 1, 1, false, {REQUESTS, REQUESTS}},
+    {"two passes, one slot, hot after 2 takes", 2, 1, 2, false, {REQUESTS, REQUESTS}},
+    {"two passes, one slot, hot after 3 takes", 2, 1, 3, false, {REQUESTS, REQUESTS}},
+    {"two passes, one slot in the range", 2, 1, 1, true, {REQUESTS | PUT_ANY, REQUESTS | PUT_ANY}},
+    {"two passes, two slots in the range, one allocates", 2, 2, 1, true, {PUT_ANY, PUT | REMOVE}},
+    {"three passes, one slot in the range, that allocate and remove", 3, 1, 1, true, {PUT_ANY, PUT_ANY, REMOVE}},
+    {"three passes, one slot, hot after 1 take", 3, 1, 1, false, {LOOK | PUT, REMOVE, LOOK}},
+};
+
+static const char *const wrong_names[] = { TABLES(AS_NAME) };
+
+static bool has_announced(const struct pass *it) {
+    return it->step == CONFIRM || it->step == WITHDRAW || it->step == GUARDED;
+}
+
+/* The takes of a node's file that are still to be dropped. */
+static int takes_kept(const struct state *s, int node) {
+    int kept = 0;
+    for (int who = 0; who < family->passes; who++) {
+        const struct pass *it = &s->pass[who];
+        kept += it->holds == node + 1 && (it->step == COUNTED || it->step == HEAT);
+    }
+    return kept;
+}
+
+/* The marks that passes owe to a node. */
+static int marks_owed(const struct state *s, int node) {
+    int owed = 0;
+    for (int who = 0; who < family->passes; who++) {
+        const struct pass *it = &s->pass[who];
+        owed += s->hold[who] == ((node + 1) | MARK);
+        owed += (it->step == DROP_OWED || it->step == DROP_YIELDED) && it->node == node;
+    }
+    return owed;
+}
+
+/* The pass that is between a node's swap and its retirement, or the one that has the node's place, or NULL. */
+static const struct pass *worker_of(const struct state *s, int node, bool retires) {
+    for (int who = 0; who < family->passes; who++) {
+        const struct pass *it = &s->pass[who];
+        bool is_retiring = (it->call == RETIREMENT && it->step != REST) || (it->step == END && it->takes != UINT8_MAX);
+        bool has_place = it->step == REST || it->step == REST_OF_LOOK || it->step == REST_UNUSED;
+        if (it->node == node && (retires ? is_retiring : has_place)) {
+            return it;
+        }
+    }
+    return NULL;
+}
+
+static int slot_of(const struct state *s, int node) {
+    for (int slot = 0; slot < family->slots; slot++) {
+        if (s->named[slot] == node + 1) {
+            return slot;
+        }
+    }
+    return -1;
+}
+
+static void check_node(const struct state *s, int node) {
+    int word = s->word[node], kept = takes_kept(s, node), owed = marks_owed(s, node), slot = slot_of(s, node);
+    const struct pass *retiring = worker_of(s, node, true);
+    bool is_vacant = kept == 0 && owed == 0;
+    want((slot >= 0) == (s->file[node] == AT_SLOT), "a slot names a node whose file isn't there");
+    switch (s->file[node]) {
+    case NO_FILE:
+        want(is_vacant, "a take or a mark of a closed file is left");
+        want((word == FREE && s->place[node] == NOTHING) || (word == CLOSED && worker_of(s, node, false) != NULL),
+             "a node without a file has a wrong word or place");
+        break;
+    case PLACED:
+        want(is_vacant && word == BORN && s->place[node] == WITH_PASS, "a node that was born has a wrong word or place");
+        break;
+    case AT_SLOT:
+        want(word + s->takes[slot] == BORN + kept && owed == 0, "the word of a node at a slot is wrong");
+        want(s->takes[slot] <= family->cold_takes + family->passes, "a slot has too many takes");
+        break;
+    default:
+        if (retiring != NULL) {
+            want(word + retiring->takes + retiring->marks == BORN + kept + owed, "the word of a removed file's node is wrong");
+        } else {
+            want(word == CLOSED + kept + owed && !is_vacant, "a retired file is left behind, or its node's word is wrong");
+        }
+    }
+}
+
+static void check_pass(const struct state *s, int who) {
+    const struct pass *it = &s->pass[who];
+    bool is_look = it->call == LOOK, is_put = it->call == PUT && it->step != SEEK;
+    int most = is_look ? 8 : it->call == RELEASE ? 3 : it->call == REMOVE ? 3 : is_put ? 4 : 2 * family->passes;
+    want(it->call == PUT_ANY || it->step == SEEK || it->steps + (is_look ? 1 : 0) < most || it->step == IDLE, "a call has too many steps");
+    int hold = s->hold[who] & ~MARK;
+    want(hold == 0 || (has_announced(it) && hold == it->node + 1) || (it->step == GUARDED && hold == it->holds),
+         "a hold word names what its pass doesn't announce");
+}
+
+static void check_state(const void *state) {
+    const struct state *s = state;
+    int changes = 0, full = 0, untold = 0;
+    for (int node = 0; node < family->passes * block; node++) {
+        check_node(s, node);
+    }
+    for (int who = 0; who < family->passes; who++) {
+        const struct pass *it = &s->pass[who];
+        check_pass(s, who);
+        changes += is_in_change(it);
+        untold += it->step == END || it->step == END_EXCHANGE ? (int8_t)it->delta : 0;
+    }
+    for (int slot = 0; slot < family->slots; slot++) {
+        full += family->in_range && s->named[slot] != 0;
+    }
+    want(s->changes == changes && (int8_t)s->full + untold == full, "the control word is wrong");
+}
+
+static const char *begin_family(int which, int table, void *state) {
+    family = &families[which];
+    wrong = table;
+    block = family->slots + family->passes - (table == block_one_node_too_small);
+    memset(state, 0, sizeof(struct state));
+    return family->name;
+}
+
+const struct step_table the_table = {
+    "lasting table", sizeof(struct state), sizeof families / sizeof families[0], WRONG_TABLES, wrong_names, begin_family, take_step,
+    check_state, NULL
+};

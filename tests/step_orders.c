@@ -1,0 +1,162 @@
+/* Makes the steps of a table of model/ in every order, and checks every state that they reach. Then it makes the steps of wrong
+ * tables, each of which must be found.
+ *
+ * What may come next depends on a state alone, so of two orders that reach the same state only one is continued, and a family is done
+ * when no new state comes. The last line counts families and wrong tables. The exit status is 1 if a family isn't right, or a wrong
+ * table isn't found. */
+#include <stdio.h>
+#include <stdlib.h>
+#include <string.h>
+
+#include "step_table.h"
+
+const char *fault;
+
+void want(bool holds, const char *otherwise) {
+    if (!holds && fault == NULL) {
+        fault = otherwise;
+    }
+}
+
+/* The states that were reached: their fingerprints in a hash table, and those to go on from in a list. */
+
+struct state {
+    unsigned char bytes[MOST_STATE];
+};
+
+static struct { uint64_t *prints; size_t room, used; } seen;
+static struct { struct state *states; size_t room, next, count; } queue;
+
+static uint64_t print_of(const struct state *s, size_t size) {
+    uint64_t print = 0x9E3779B97F4A7C15u;
+    for (size_t at = 0; at < size; at++) {
+        print = (print ^ s->bytes[at]) * 0x100000001B3u;
+        print ^= print >> 29;
+    }
+    return print ? print : 1;
+}
+
+static void *room_for(void *old, size_t size) {
+    void *room = realloc(old, size);
+    if (room == NULL) {
+        fprintf(stderr, "step_orders: no memory\n");
+        exit(2);
+    }
+    return room;
+}
+
+static bool is_new(uint64_t print) {
+    if (seen.used * 10 >= seen.room * 7) {
+        uint64_t *old = seen.prints;
+        size_t count = seen.room;
+        seen.room = count ? 2 * count : 1 << 16;
+        seen.prints = memset(room_for(NULL, seen.room * sizeof *old), 0, seen.room * sizeof *old);
+        seen.used = 0;
+        for (size_t at = 0; at < count; at++) {
+            if (old[at]) {
+                is_new(old[at]);
+            }
+        }
+        free(old);
+    }
+    size_t at = print & (seen.room - 1);
+    while (seen.prints[at] && seen.prints[at] != print) {
+        at = (at + 1) & (seen.room - 1);
+    }
+    if (seen.prints[at]) {
+        return false;
+    }
+    seen.prints[at] = print;
+    seen.used++;
+    return true;
+}
+
+static void push(const struct state *s, size_t size) {
+    if (!is_new(print_of(s, size))) {
+        return;
+    }
+    if (queue.count == queue.room) {
+        /* what was gone on from makes room */
+        queue.count -= queue.next;
+        memmove(queue.states, queue.states + queue.next, queue.count * sizeof *s);
+        queue.room = 2 * queue.count + 4096;
+        queue.states = room_for(queue.states, queue.room * sizeof *s);
+        queue.next = 0;
+    }
+    queue.states[queue.count++] = *s;
+}
+
+static void forget_all(void) {
+    free(seen.prints);
+    free(queue.states);
+    memset(&seen, 0, sizeof seen);
+    memset(&queue, 0, sizeof queue);
+}
+
+/* Goes on from one state by every step of every pass. Returns how many there are. */
+static long go_on(const struct step_table *table, const struct state *s) {
+    long steps = 0;
+    for (int who = 0; who < MOST_PASSES; who++) {
+        struct state next = *s;
+        for (int nth = 0; fault == NULL && table->take_step(next.bytes, who, nth); nth++) {
+            if (fault == NULL) {
+                table->check(next.bytes);
+            }
+            push(&next, table->state_size);
+            next = *s;
+            steps++;
+        }
+    }
+    return steps;
+}
+
+/* Explores a family of a right or wrong table. Returns whether nothing is wrong with it, and prints the family if it is the right table's. */
+static bool explore(const struct step_table *table, int family, int wrong) {
+    struct state first = {{0}};
+    long steps = 0;
+    fault = NULL;
+    const char *name = table->begin(family, wrong, first.bytes);
+    push(&first, table->state_size);
+    while (queue.next < queue.count && fault == NULL) {
+        struct state s = queue.states[queue.next++];
+        steps += go_on(table, &s);
+    }
+    if (wrong && fault != NULL) {
+        printf("steps: %s, %s: found after %zu states: %s\n", table->name, table->wrong_names[wrong], seen.used, fault);
+    } else if (!wrong) {
+        printf("steps: %s, %s: %zu states, %ld steps%s%s\n", table->name, name, seen.used, steps, fault ? ": " : "", fault ? fault : "");
+    }
+    fflush(stdout);
+    forget_all();
+    return fault == NULL;
+}
+
+static bool is_found(const struct step_table *table, int wrong) {
+    for (int family = 0; family < table->families; family++) {
+        if (!explore(table, family, wrong)) {
+            return true;
+        }
+    }
+    printf("steps: %s, %s: NOT FOUND\n", table->name, table->wrong_names[wrong]);
+    return false;
+}
+
+static bool is_right(const struct step_table *table) {
+    int bad = 0, missed = 0;
+    for (int family = 0; family < table->families; family++) {
+        bad += !explore(table, family, 0);
+    }
+    if (table->missing != NULL && table->missing() != NULL) {
+        printf("steps: %s: %s\n", table->name, table->missing());
+        bad++;
+    }
+    for (int wrong = 1; wrong < table->wrong_tables; wrong++) {
+        missed += !is_found(table, wrong);
+    }
+    printf("steps: %s: %d families, %d wrong; %d wrong tables, %d not found\n", table->name, table->families, bad, table->wrong_tables - 1, missed);
+    return !bad && !missed;
+}
+
+int main(void) {
+    return is_right(&the_table) ? 0 : 1;
+}
