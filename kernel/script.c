@@ -1,4 +1,5 @@
 /* Reads a script by the rules of docs/SCRIPT.md. It says which line is invalid; scripts/faults.py explains why. */
+#define _GNU_SOURCE
 #include "script.h"
 
 #include <ctype.h>
@@ -37,37 +38,6 @@ int entry_of(const struct script *script, const char *name)
 	return -1;
 }
 
-/* Reads a number from 0 to 2,147,483,647 without a leading zero. */
-static int number_of(const char *word, unsigned *number)
-{
-	size_t digits = strspn(word, "0123456789");
-	if (!digits || word[digits] || digits > 10 || (word[0] == '0' && digits > 1))
-		return 0;
-	unsigned long long value = strtoull(word, NULL, 10);
-	*number = value;
-	return value <= 2147483647;
-}
-
-static int list_of(const char *word, struct command *command)
-{
-	command->list = memory_of((strlen(word) + 1) * sizeof(int));
-	for (;;) {
-		char entry[13] = "";
-		size_t size = strcspn(word, ",");
-		unsigned number;
-		int is_negative = word[0] == '-';
-		if (size >= sizeof entry)
-			return 0;
-		memcpy(entry, word, size);
-		if (!number_of(entry + is_negative, &number) || (is_negative && !number))
-			return 0;
-		command->list[command->length++] = is_negative ? -(int)number : (int)number;
-		if (!word[size])
-			return 1;
-		word += size + 1;
-	}
-}
-
 /* Reads a number from 0 to 18,446,744,073,709,551,615 without a leading zero. */
 static int tag_of(const char *word, unsigned long long *tag)
 {
@@ -79,21 +49,35 @@ static int tag_of(const char *word, unsigned long long *tag)
 	return !errno;
 }
 
-static int tags_of(const char *word, struct command *command)
+/* Reads one from 0 to 2,147,483,647. */
+static int number_of(const char *word, unsigned *number)
+{
+	unsigned long long value = 0;
+	int is_number = tag_of(word, &value) && value <= 2147483647;
+	*number = value;
+	return is_number;
+}
+
+static int list_of(char *word, struct command *command)
+{
+	command->list = memory_of((strlen(word) + 1) * sizeof(int));
+	for (char *entry; (entry = strsep(&word, ","));) {
+		int is_negative = entry[0] == '-';
+		unsigned number;
+		if (!number_of(entry + is_negative, &number) || (is_negative && !number))
+			return 0;
+		command->list[command->length++] = is_negative ? -(int)number : (int)number;
+	}
+	return 1;
+}
+
+static int tags_of(char *word, struct command *command)
 {
 	command->tags = memory_of((strlen(word) + 1) * sizeof *command->tags);
-	for (;;) {
-		char tag[22] = "";
-		size_t size = strcspn(word, ",");
-		if (size >= sizeof tag)
-			return 0;
-		memcpy(tag, word, size);
+	for (char *tag; (tag = strsep(&word, ","));)
 		if (!tag_of(tag, &command->tags[command->tag_count++]))
 			return 0;
-		if (!word[size])
-			return 1;
-		word += size + 1;
-	}
+	return 1;
 }
 
 static int is_name(const char *word)
@@ -218,17 +202,10 @@ static int take_command(struct script *script, char **words, int count, long lin
 static int words_of(char *line, char **words)
 {
 	int count = 0;
-	for (;;) {
-		size_t size = strcspn(line, " ");
-		int is_last = !line[size];
-		line[size] = 0;
+	for (char *word; (word = strsep(&line, " ")); count++)
 		if (count < MOST_WORDS)
-			words[count] = line;
-		count++;
-		if (is_last)
-			return count;
-		line += size + 1;
-	}
+			words[count] = word;
+	return count;
 }
 
 static int take_line(struct script *script, char *line, size_t size, long number)
