@@ -69,6 +69,11 @@ def rows():
         f"   1          10           6   {ANSWERS[1]}",
         f"   2           -           4   {ANSWERS[0]}",
         "", "kernel gave 1 of them", "16 workers gave 2 of them"], False
+    yield "a list that only memory cut short", question, Listing(2, True, BOTH.texts[1:]), {FREE: 10}, {FULL: 4, FREE: 6}, [
+        SHARED, "", "    " + HEAD,
+        f"   1          10           6   {ANSWERS[1]}",
+        f"   2           -           4   {ANSWERS[0]}",
+        "", "kernel gave 1 of 2", "16 workers gave 2 of 2"], False
 
 
 def complaints_of_litmus(fixcheck):
