@@ -35,8 +35,8 @@ MOST_JOBS = 4
 NEARLY = 0.75
 # the seconds that a measured processor second takes, before a crate of this run has ended
 CLOCK = 0.65 if PROCESSORS >= 4 else 0.9
-# the number of crates by which the estimate is scaled, and the part of its functions from which on a running one counts too
-RECENT, LEAST_PART = 3, 0.3
+# the number of crates by which the estimate is scaled
+RECENT = 3
 
 
 def memory():
@@ -92,20 +92,11 @@ class Job:
         done = DONE_OF.findall(self.said())
         return f"{self.name} {done[-1]} functions" if done else self.name
 
-    def part(self):
-        """Returns the part of its functions that is proved, from 0 to 1, or 0 if that isn't known."""
-        done = DONE_OF.findall(self.said())
-        count, of = map(int, done[-1].split(" of ")) if done else (0, 0)
-        return count / of if of else 0
-
     def left(self, whole):
-        """Returns the seconds that it still takes, if it takes `whole`, and whether it has taken longer: then by its functions, or else
-        as long again as it is late."""
+        """Returns the seconds that it still takes, if it takes `whole`, and whether it has taken longer: then as long again as it is
+        late."""
         passed = self.seconds()
-        if passed < whole:
-            return whole - passed, False
-        part = self.part()
-        return (passed * (1 - part) / part if part else passed - whole) + KEPT, True
+        return abs(whole - passed) + KEPT, passed >= whole
 
     def end(self):
         """Ends it, and the processes that it has started."""
@@ -139,10 +130,8 @@ class Lanes:
         sys.stderr.flush()
 
     def scale(self):
-        """Returns the seconds that a second of scripts/seconds.txt takes here, by the last crates of this run on a longest path, and by
-        those that are proved in part."""
-        parts = [(it, it.part()) for it in self.jobs if it.is_far and it.name not in self.kept]
-        last = self.ended[-RECENT:] + [(it.seconds(), part * self.seconds[it.name]) for it, part in parts if part >= LEAST_PART]
+        """Returns the seconds that a second of scripts/seconds.txt takes here, by the last crates of this run on a longest path."""
+        last = self.ended[-RECENT:]
         return sum(it for it, _ in last) / sum(it for _, it in last) if last else CLOCK
 
     def expected(self):
