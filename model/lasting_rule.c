@@ -131,6 +131,8 @@ static const char *begin_family(int which, int table, void *state) {
     return family->name;
 }
 
+_Static_assert(sizeof(struct state) <= MOST_STATE, "a state has room");
+
 const struct step_table the_table = {
     "lasting table", sizeof(struct state), sizeof families / sizeof families[0], WRONG_TABLES, wrong_names, begin_family, take_step,
     check_state, NULL
