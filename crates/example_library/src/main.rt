@@ -12,15 +12,14 @@ mod gone;
 mod load;
 mod replace;
 mod start;
-mod work;
 
 use full::open_until_full;
-use fx_base::{Catalogue, CloseList, NoMemory};
+use fx_base::{AddFault, Catalogue, CloseList, NoMemory};
 use fx_counted::CountedTable;
 use fx_table::FileTable;
 use gone::{Gone, read_while_replaced};
 use load::replace_under_load;
-use start::{Fault, one_file, two_files};
+use start::{one_file, two_files};
 use std::alloc::Global;
 use std::sync::Wait;
 use std::sync::atomic::{AtomicU32, Ordering};
@@ -31,14 +30,6 @@ const TAG: u64 = 7;
 
 // The number of chains. Each gives its pass numbers for 64 new files.
 const CHAINS: u32 = 20;
-
-// The results: the file that was replaced while it was held, the number of opens that found a slot, and the number of files that
-// were closed under load.
-struct Served {
-    gone: Option<Gone>,
-    opened: u32,
-    closed: u32,
-}
 
 // Makes a table of one file that two threads share, each by a pass.
 fn shared_table<T: FileTable>(
@@ -101,42 +92,28 @@ fn serve_under_load<T: FileTable, R: Threads + Wait + Sync>(
     Ok(closed.load(Ordering::SeqCst))
 }
 
-// Does the three things, the last one with a table of its own.
-fn serve<T: FileTable, R: Threads + Wait + Sync>(
+// Does the three things, the last one first and with a table of its own, and prints the results.
+fn serve<R: Threads + Wait + Sync + Print>(
     rt: &R,
     alloc: Global,
     catalogue: &Catalogue,
-) -> Result<Served, NoMemory>
+) -> Result<(), NoMemory>
     requires { 1 < length catalogue.now }
 {
-    let closed = serve_under_load::<T, R>(rt, alloc, catalogue)?;
-    let (gone, opened) = serve_by_name::<T, R>(rt, alloc, catalogue)?;
-    Ok(Served {
-        gone,
-        opened,
-        closed,
-    })
-}
-
-fn main(rt: HostRuntime) -> Result<(), Fault> {
-    let alloc = rt.alloc();
-    let catalogue = two_files(alloc)?;
     let mut by_reader = CloseList::with_room(alloc, 1)?;
     let mut by_writer = CloseList::with_room(alloc, 1)?;
-    let served = serve::<CountedTable, _>(&rt, alloc, &catalogue)?;
-    let Served {
-        gone,
-        opened,
-        closed,
-    } = served;
-    let Some(gone) = gone else {
+    let closed = serve_under_load::<CountedTable, R>(rt, alloc, catalogue)?;
+    let (gone, opened) = serve_by_name::<CountedTable, R>(rt, alloc, catalogue)?;
+    let Some(
+        Gone {
+            bytes,
+            released,
+            retired,
+        },
+    ) = gone
+    else {
         return Ok(());
     };
-    let Gone {
-        bytes,
-        released,
-        retired,
-    } = gone;
     if let Some(file) = released {
         by_reader.close(file);
     }
@@ -159,4 +136,9 @@ fn main(rt: HostRuntime) -> Result<(), Fault> {
     let _ = println!(rt; "files opened at any slot until no slot was free: {opened}");
     let _ = println!(rt; "files that were replaced and closed under load: {closed}");
     Ok(())
+}
+
+fn main(rt: HostRuntime) -> Result<(), AddFault> {
+    let catalogue = two_files(rt.alloc())?;
+    serve(&rt, rt.alloc(), &catalogue).map_err(|_refused| AddFault::NoMemory)
 }

@@ -7,27 +7,6 @@ use fx_base::{AddFault, Catalogue, Mark, NoMemory};
 use fx_plain::PlainTable;
 use std::alloc::Global;
 
-/// The reason why the program ends early.
-#[derive(Clone, Copy, Debug, PartialEq, Eq)]
-pub enum Fault {
-    /// A file was not added to the catalogue.
-    Add(AddFault),
-    /// Memory was refused.
-    Memory(NoMemory),
-}
-
-impl From<AddFault> for Fault {
-    fn from(fault: AddFault) -> Fault {
-        Fault::Add(fault)
-    }
-}
-
-impl From<NoMemory> for Fault {
-    fn from(refused: NoMemory) -> Fault {
-        Fault::Memory(refused)
-    }
-}
-
 /// Makes a catalogue of two files. The first has five bytes, the second none.
 pub fn two_files(alloc: Global) -> Result<Catalogue, AddFault>
     ensures { IfOk result (λ catalogue. length catalogue ≡ 2) }
