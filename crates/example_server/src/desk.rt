@@ -18,10 +18,12 @@ pub enum Job {
 pub struct Desk<'a> {
     pub catalogue: &'a Catalogue,
     jobs: Receiver<Job>,
-    served: AtomicU32,
-    closed: AtomicU32,
-    reported: AtomicU32,
-    refused: AtomicU32,
+    pub served: AtomicU32,
+    /// The requests that were refused, since an allocation failed.
+    pub refused: AtomicU32,
+    pub closed: AtomicU32,
+    /// The closed files that have a tag.
+    pub reported: AtomicU32,
 }
 
 impl<'a> Desk<'a> {
@@ -31,25 +33,15 @@ impl<'a> Desk<'a> {
             catalogue,
             jobs,
             served: AtomicU32::new(0),
+            refused: AtomicU32::new(0),
             closed: AtomicU32::new(0),
             reported: AtomicU32::new(0),
-            refused: AtomicU32::new(0),
         }
     }
 
     /// Returns the next request of the queue, or `None` after the last one.
     pub fn next<R: Wait>(&self, rt: &R) -> Option<Job> {
         self.jobs.recv(rt).ok()
-    }
-
-    /// Counts a request that was served.
-    pub fn count_served(&self) {
-        self.served.fetch_add(1, Ordering::SeqCst);
-    }
-
-    /// Counts a request that was refused, since an allocation failed.
-    pub fn count_refused(&self) {
-        self.refused.fetch_add(1, Ordering::SeqCst);
     }
 
     /// Counts the closed files of a list, and those of them that have a tag.
@@ -60,25 +52,5 @@ impl<'a> Desk<'a> {
                 self.reported.fetch_add(1, Ordering::SeqCst);
             }
         }
-    }
-
-    /// Returns the number of served requests.
-    pub fn served(&self) -> u32 {
-        self.served.load(Ordering::SeqCst)
-    }
-
-    /// Returns the number of refused requests.
-    pub fn refused(&self) -> u32 {
-        self.refused.load(Ordering::SeqCst)
-    }
-
-    /// Returns the number of closed files.
-    pub fn closed(&self) -> u32 {
-        self.closed.load(Ordering::SeqCst)
-    }
-
-    /// Returns the number of reported tags.
-    pub fn reported(&self) -> u32 {
-        self.reported.load(Ordering::SeqCst)
     }
 }

@@ -5,19 +5,18 @@
 ghost use Rattle.std.specs.Prelude.{◌≡◌, IfOk, length};
 
 mod desk;
-mod fault;
 mod feed;
 mod life;
 mod serve;
 
 use crossbeam_channel::{Sender, bounded};
 use desk::{Desk, Job};
-use fault::Fault;
 use feed::feed;
 use fx_base::{AddFault, Catalogue, NoMemory};
 use life::serve_all;
 use std::alloc::Global;
 use std::sync::Wait;
+use std::sync::atomic::Ordering;
 use std::thread::{Threads, join_mut};
 
 // The most requests that wait in the queue.
@@ -50,23 +49,25 @@ fn serve_clients<R: Threads + Wait + Sync>(
     served
 }
 
-fn main(rt: HostRuntime) -> Result<(), Fault> {
+fn main(rt: HostRuntime) -> Result<(), AddFault> {
     let alloc = rt.alloc();
     let catalogue = two_files(alloc)?;
     let (sender, receiver) = bounded(alloc, WAITING)?;
     let desk = Desk::new(&catalogue, receiver);
     let mut clients = Some(sender);
-    serve_clients(&rt, alloc, &desk, &mut clients)?;
+    if let Err(NoMemory) = serve_clients(&rt, alloc, &desk, &mut clients) {
+        return Err(AddFault::NoMemory);
+    }
     // A line that can't be written changes nothing.
     let _ = println!(&rt;
         "requests served: {}, refused: {}",
-        desk.served(),
-        desk.refused()
+        desk.served.load(Ordering::SeqCst),
+        desk.refused.load(Ordering::SeqCst)
     );
     let _ = println!(&rt;
         "files closed: {}, reported by their tags: {}",
-        desk.closed(),
-        desk.reported()
+        desk.closed.load(Ordering::SeqCst),
+        desk.reported.load(Ordering::SeqCst)
     );
     Ok(())
 }

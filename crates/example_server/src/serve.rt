@@ -8,6 +8,7 @@ use fx_base::{CloseList, Mark, NoMemory};
 use fx_table::{LookUp, SharedTable};
 use std::alloc::Global;
 use std::sync::Wait;
+use std::sync::atomic::Ordering;
 
 // The number of closed files after which a thread reports their tags.
 const ROOM: u32 = 64;
@@ -139,7 +140,7 @@ fn refuse_all<R: Wait>(rt: &R, desk: &Desk<'_>) {
         if desk.next(rt).is_none() {
             break;
         }
-        desk.count_refused();
+        desk.refused.fetch_add(1, Ordering::SeqCst);
     }
 }
 
@@ -162,10 +163,11 @@ pub fn serve<T: SharedTable, R: Wait>(
         let Some(job) = desk.next(rt) else {
             break;
         };
-        match answer(rt, alloc, desk, table, pass, job, &mut closes) {
-            Ok(()) => desk.count_served(),
-            Err(NoMemory) => desk.count_refused(),
-        }
+        let count = match answer(rt, alloc, desk, table, pass, job, &mut closes) {
+            Ok(()) => &desk.served,
+            Err(NoMemory) => &desk.refused,
+        };
+        count.fetch_add(1, Ordering::SeqCst);
     }
     desk.report(&closes);
 }
