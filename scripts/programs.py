@@ -12,7 +12,7 @@ from repository import BUILD, ROOT
 LEGAL, NOT_LEGAL, UNDECIDED = 0, 1, 6
 # what each library that is preloaded is compiled with beside the flags of all
 LIBRARY = ("-shared", "-fPIC")
-FLAGS = {"spoil.c": ("-static",), "step.c": (*LIBRARY, "-mno-red-zone"), "count.c": LIBRARY, "streams.c": LIBRARY}
+FLAGS = {"spoil.c": ("-static",), "step.c": (*LIBRARY, "-mno-red-zone"), "watch.c": LIBRARY}
 
 
 def run_bytes(command, given=b"", seconds=120, **how):

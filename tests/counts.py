@@ -1,4 +1,4 @@
-"""Runs a program and counts, by tests/count.c, the threads that it started, the bytes that it requested, its allocations and its
+"""Runs a program and counts, by tests/watch.c, the threads that it started, the bytes that it requested, its allocations and its
 writes. An allocation is a call that requests memory from the C library, from the start of main on. Also fails one allocation of a run
 after another, and checks each outcome."""
 import collections
@@ -10,7 +10,7 @@ from typing import NamedTuple
 from checks import Counted
 from programs import built, preloaded, run
 
-# the numbers of count.c, and how many writes it reports
+# the numbers of watch.c, and how many writes it reports
 NUMBERS, WRITES = 4, 64
 
 
@@ -29,7 +29,7 @@ def counted(command, script, failing=0):
     with tempfile.NamedTemporaryFile() as file:
         file.write(bytes(8 * (NUMBERS + WRITES)))
         file.flush()
-        how = preloaded("count", COUNTS=file.name, FAILING_ALLOCATION=str(failing))
+        how = preloaded("watch", COUNTS=file.name, FAILING_ALLOCATION=str(failing))
         ended = run(command, script, **how)
         file.seek(0)
         numbers = [int.from_bytes(file.read(8), sys.byteorder) for _ in range(NUMBERS + WRITES)]
@@ -59,7 +59,7 @@ class Failures(Counted):
         if shutil.which("cc") is None:
             print(f"{self.name}: there is no C compiler cc here, which builds what fails allocations")
             return False
-        built("count.c")
+        built("watch.c")
         return True
 
     def fail(self, name, command, given, kind_of, whole, wanted=()):

@@ -1,10 +1,17 @@
-/* Counts the threads that the program starts into which it is preloaded, the bytes of memory that it requests, its allocations and its
- * writes to standard output, and keeps them in the file that the variable COUNTS names, as numbers of 8 bytes: the threads, the
- * bytes, the allocations, the writes, and the size of each of the first 64 writes. So they are there however the program ends.
- * tests/counts.py reads them.
+/* Preloaded into a program, counts what it requests, and makes its allocations, reads and writes fail or transfer less than requested, as
+ * these variables say, if they are set:
  *
- * Allocations are the calls of malloc, calloc, realloc, posix_memalign and aligned_alloc from the start of main to its end. If the
- * variable FAILING_ALLOCATION is set, the allocation with that number, from 1 on, fails. */
+ *   COUNTS               the file that keeps the counts, as numbers of 8 bytes: the threads that the program starts, the bytes of memory
+ *                        that it requests, its allocations, its writes to standard output, and the size of each of the first 64
+ *   FAILING_ALLOCATION   the number of the allocation that fails, from 1 on
+ *   READ_BYTES           the most bytes that a read from standard input returns
+ *   FAILING_READ         the number of the read that fails, from 1 on, once
+ *   READ_ERROR           the errno with which it fails
+ *   WRITE_BYTES          the most bytes that a write to standard output takes
+ *   ROOM                 the bytes that all writes take; one without room fails with ENOSPC, as on a full disk
+ *
+ * Allocations are the calls of malloc, calloc, realloc, posix_memalign and aligned_alloc from the start of main to its end. The counts
+ * are there however the program ends: tests/counts.py reads them, and tests/check-examples has the streams fail. */
 #define _GNU_SOURCE
 #include <dlfcn.h>
 #include <errno.h>
@@ -38,18 +45,30 @@ struct counts {
 static struct counts none, *counts = &none;
 static Main *main_of_the_program;
 static _Atomic bool is_in_main;
-static uint64_t failing;
+static uint64_t failing, reads, read_bytes, failing_read, read_error, write_bytes, room;
 
-__attribute__((constructor)) static void map_counts(void)
+/* What a variable has, or the other number where there is none. */
+static uint64_t number(const char *variable, uint64_t other)
 {
+    const char *text = getenv(variable);
+    return text == NULL ? other : strtoull(text, NULL, 10);
+}
+
+__attribute__((constructor)) static void begin(void)
+{
+    failing = number("FAILING_ALLOCATION", 0);
+    read_bytes = number("READ_BYTES", UINT64_MAX);
+    failing_read = number("FAILING_READ", 0);
+    read_error = number("READ_ERROR", EIO);
+    write_bytes = number("WRITE_BYTES", UINT64_MAX);
+    room = number("ROOM", UINT64_MAX);
+    if (getenv("COUNTS") == NULL)
+        return;
     int file = open(getenv("COUNTS"), O_RDWR);
-    void *there = mmap(NULL, sizeof *counts, PROT_READ | PROT_WRITE, MAP_SHARED, file, 0);
-    if (file < 0 || there == MAP_FAILED)
+    counts = mmap(NULL, sizeof *counts, PROT_READ | PROT_WRITE, MAP_SHARED, file, 0);
+    if (file < 0 || counts == MAP_FAILED)
         _exit(77);
     close(file);
-    counts = there;
-    if (getenv("FAILING_ALLOCATION") != NULL)
-        failing = strtoull(getenv("FAILING_ALLOCATION"), NULL, 10);
 }
 
 static bool fails(size_t size)
@@ -90,12 +109,27 @@ int posix_memalign(void **made, size_t alignment, size_t size)
     return 0;
 }
 
+ssize_t read(int file, void *bytes, size_t size)
+{
+    if (file == STDIN_FILENO && ++reads == failing_read) {
+        errno = (int)read_error;
+        return -1;
+    }
+    return syscall(SYS_read, file, bytes, file == STDIN_FILENO && size > read_bytes ? read_bytes : size);
+}
+
 ssize_t write(int file, const void *bytes, size_t size)
 {
     if (file == STDOUT_FILENO) {
         uint64_t nth = atomic_fetch_add(&counts->writes, 1);
         if (nth < KEPT)
             atomic_store(&counts->given[nth], size);
+        size = size > write_bytes ? write_bytes : size;
+        if (size > room) {
+            errno = ENOSPC;
+            return -1;
+        }
+        room -= size;
     }
     return syscall(SYS_write, file, bytes, size);
 }
