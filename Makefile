@@ -107,7 +107,7 @@ texts:
 	@scripts/build-program check_cli fixcheck
 	@tests/check-verdicts bin/fixcheck
 	@tests/check-fixcheck bin/fixcheck bin/fixfiles 2000
-	@tests/check-outcomes bin/fixcheck bin/fixfiles
+	@tests/check-outcomes bin/fixcheck
 
 pictures:
 	@scripts/build-program check_cli fixcheck

@@ -1,9 +1,8 @@
 #!/usr/bin/env python3
 """Plays a script from standard input, as fixfiles does: a second fixfiles, slow, and written from docs/MODEL.md and docs/SCRIPT.md alone.
 
-tests/check-model compares it with rows that were derived by hand,
-tests/compare compares the program with it, and kernel/conform the kernel. model/orders.py decides whether this model prints a
-text in another order of chains.
+tests/compare compares the program with it, also on scripts whose texts were derived by hand, and kernel/conform the kernel.
+model/orders.py decides whether this model prints a text in another order of chains.
 """
 import re
 import sys

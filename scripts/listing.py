@@ -20,6 +20,18 @@ class Listing(NamedTuple):
     def alone(self):
         return [text for text, _ in self.texts]
 
+    def complaint(self, texts):
+        """Returns what is wrong with the list if these are all texts that there are, or None."""
+        listed = self.alone()
+        missing, more = texts - set(listed), set(listed) - texts
+        if missing:
+            return f"{len(missing)} texts aren't listed, as {min(missing)!r}"
+        if more:
+            return f"{len(more)} listed texts come of no order, as {min(more)!r}"
+        if len(listed) != len(texts):
+            return "a text is listed twice"
+        return None if self.count == len(listed) else f"{self.count} texts are counted, and {len(listed)} listed"
+
 
 def parsed(lines):
     """Parses the lines of a list. Lines that begin with `#` are skipped."""
@@ -59,3 +71,11 @@ def asked(fixcheck, script, most=MOST, *options):
     if found.are_all != (status == 0):
         raise Failed(f"fixcheck --all ended with status {status} after {said[:80]!r}")
     return found
+
+
+def asked_or_failed(fixcheck, script, most=MOST, *options):
+    """The same; if it prints no list, one whose text is its message."""
+    try:
+        return asked(fixcheck, script, most, *options)
+    except (Failed, ValueError) as failed:
+        return Listing(-1, False, [(str(failed), [])])

@@ -4,8 +4,8 @@ from limits import BAD_LIMITS, LIMITS, limits, lines
 from sweeps import KINDS, sweeps
 
 LEGAL, NOT_LEGAL, UNDECIDED = 0, 1, 6
-# of limits two are bad scripts; of sweeps two kinds are
-LEGAL_SIZES = LIMITS - BAD_LIMITS + sum(count for kind, count in KINDS.items() if kind not in ("fault_at", "unsubmitted_from"))
+# of limits two are bad scripts
+LEGAL_SIZES = LIMITS - BAD_LIMITS + sum(KINDS.values())
 # how many rows of parts there are
 PARTS = 6
 # this many states are too few for the part of two slots: an order of its ten accesses goes through eleven
@@ -16,8 +16,8 @@ FIVE_STATES, OPENS = 60, 7
 
 def sizes():
     """Scripts at the limits and between them with their texts, all of them legal."""
-    for name, script, text, fault in [*limits(), *sweeps()]:
-        if not fault:
+    for name, script, text, *fault in [*limits(), *sweeps()]:
+        if not any(fault):
             yield name, script.encode(), text
 
 

@@ -1,5 +1,5 @@
 """Makes scripts at the limits of the language and of the table, each with its text. Texts are derived by hand here, neither from the program
-nor from model/model.py. tests/check-limits plays them on the program, and tests/check-model on the model."""
+nor from model/model.py. tests/check-limits plays them on the program, and tests/compare on the program and the model."""
 
 SCRIPT_BYTES = 4_194_304
 LINE_BYTES = 10_000
@@ -102,14 +102,10 @@ def large_text(members):
 
 
 def large_submission(chains):
-    """So many chains of 16 members: five times an open at slot 0, a read of its file and a close, and then an open that the
-    next chain replaces."""
+    """A script of so many chains of 16 members: five times an open at slot 0, a read of its file and a close, and then an open that
+    the next chain replaces."""
     chain = linked(*["open a.txt at 0", "read 0 0 5", "close 0"] * 5, "open a.txt at 0")
-    places = [(c, m) for c in range(1, chains + 1) for m in range(1, MEMBERS + 1)]
-    text = [f"1.{c}.{m} {'5 68656c6c6f' if m % 3 == 2 else 0}" for c, m in places]
-    closed = [f"closed 1.{c}.{m}.0 a.txt" for c, m in places if m % 3 == 1]
-    script = lines("file a.txt 68656c6c6f", "sparse 1", *chain * chains, "submit")
-    return script, lines("sparse 0", *text, *closed[:-1], "teardown", closed[-1])
+    return lines("file a.txt 68656c6c6f", "sparse 1", *chain * chains, "submit")
 
 
 def longest_script():

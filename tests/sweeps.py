@@ -1,7 +1,7 @@
 """Makes scripts between the limits of the language and of the table: for each thing that has a size one script, or one for each size. For
 lists, tables, and the files that the end closes, that is every size up to the limit; for all others each power of two, one less and
-one more, up to the limit, and the limit. Each has the text that it must write: that of
-model/model.py, which the order of chains doesn't change. tests/check-limits plays them."""
+one more, up to the limit, and the limit. Each has the text that it must write: that of model/model.py, which the order of chains doesn't
+change. tests/check-limits plays them."""
 from limits import BYTES, CHAINS, ENTRIES, FILES, LARGEST_TAG, MEMBERS, SCRIPT_BYTES, SLOTS, lines, linked
 from model import play
 
@@ -13,9 +13,8 @@ EACH_SIZE = range(1, SLOTS + 1)
 WEIGHT = REQUESTS * ENTRIES
 # how many scripts there are of each kind: one, one for each such size, or one for each that `sizes` gives
 KINDS = {
-    **dict.fromkeys(("lists", "tagged_lists", "tables", "tagged_tables", "one_slot_free", "updates", "files", "reads", "openings"), 1),
-    **dict.fromkeys(("ends", "tagged_ends"), SLOTS), "catalogues": 22,
-    "chains": 27, "heavy_chains": 27, "requests": 39, "weights": 51, "waiting": 54, "fault_at": 61, "unsubmitted_from": 60,
+    **dict.fromkeys(("lists", "tables", "tagged_tables", "one_slot_free", "files", "reads", "openings"), 1), "ends": SLOTS, "catalogues": 22,
+    "chains": 27, "heavy_chains": 27, "requests": 39, "weights": 51, "waiting": 54,
 }
 # those of which each number of workers is tried: how many there are decides how a table is shared, and each has lists of its own
 BY_WORKERS = ("openings", "chains", "heavy_chains", "requests")
@@ -48,18 +47,14 @@ def tags(first, places=()):
     return " " + ",".join(str(first + it if has_file else 0) for it, has_file in enumerate(places)) if places else ""
 
 
-def lists(has_tags=False):
-    """A list of each size is registered, updated between submissions, and unregistered. Each third entry has no file. Each file may
-    have a tag of its own: those that the update replaces, and those that are left."""
+def lists():
+    """A list of each size is registered, updated between submissions, and unregistered. Each third entry has no file. In every second
+    list each file has a tag of its own: those that the update replaces, and those that are left."""
     for count in EACH_SIZE:
-        files = [it % 3 != 2 for it in range(count)]
+        files, has_tags = [it % 3 != 2 for it in range(count)], count % 2
         yield f"register {','.join('0' if it else '-1' for it in files)}{tags(7, files * has_tags)}"
         yield f"regupdate 0 {zeros(count)}{tags(LARGEST_TAG - count, [True] * count * has_tags)}"
         yield "unregister"
-
-
-def tagged_lists():
-    return lists(True)
 
 
 def tagged_tables():
@@ -71,12 +66,8 @@ def tagged_tables():
 
 
 def ends(count):
-    """A table of so many files is there at the end of the script."""
-    return A, f"register {zeros(count)}"
-
-
-def tagged_ends(count):
-    return A, f"register {zeros(count)}{tags(1, [True] * count)}"
+    """A table of so many files is there at the end of the script. They have tags if they are an odd number."""
+    return A, f"register {zeros(count)}{tags(1, [True] * count * (count % 2))}"
 
 
 def tables():
@@ -97,13 +88,6 @@ def one_slot_free():
         ranges += [(off + at, off, size) for off in (0, SLOTS - size) for at in (0, 1, size - 2, size - 1)]
     for slot, off, size in ranges:
         yield from (f"range {off} {size}", f"close {slot} link", "open a.txt any", "submit")
-
-
-def updates():
-    """Updates of 1 to 16 entries."""
-    yield "sparse 16"
-    for count in range(1, ENTRIES + 1):
-        yield from (f"update 0 {zeros(count)}", "submit")
 
 
 def files():
@@ -154,18 +138,7 @@ def weights(count):
 def waiting(count):
     """So many requests wait for their submit, which is refused where they are more chains than 1,023."""
     text = [f"submit refused too-many-chains {CHAINS + 1}"] if count > CHAINS else [f"1.{it + 1}.1 -6" for it in range(count)]
-    return lines(*["close 0"] * count, "submit"), lines(*text), ""
-
-
-def fault_at(line):
-    """Comments, and a command that there is none of in that line."""
-    return "#\n" * (line - 1) + "x", "", f"line {line}: unknown-command"
-
-
-def unsubmitted_from(line):
-    """A request that waits from that line on, and behind it as many as there is room for."""
-    room = (SCRIPT_BYTES - 2 * line) // len("close 0\n")
-    return "#\n" * (line - 1) + "close 0\n" * max(1, min(20_001, room)), "", f"line {line}: unsubmitted"
+    return lines(*["close 0"] * count, "submit"), lines(*text)
 
 
 def catalogues(count):
@@ -175,15 +148,13 @@ def catalogues(count):
 
 
 def sweeps():
-    """Each script: its name, the script, the text, and the line and the fault of a bad one."""
-    scripts = [(it.__name__, (A, *it())) for it in (lists, tables, tagged_tables, one_slot_free, updates, files, reads, openings, tagged_lists)]
-    by_size = [(ends, EACH_SIZE), (tagged_ends, EACH_SIZE), (catalogues, sizes(FILES)), (chains, sizes(CHAINS)), (heavy_chains, sizes(CHAINS)),
+    """Each script: its name, the script and the text."""
+    scripts = [(it.__name__, (A, *it())) for it in (lists, tables, tagged_tables, one_slot_free, files, reads, openings)]
+    by_size = [(ends, EACH_SIZE), (catalogues, sizes(FILES)), (chains, sizes(CHAINS)), (heavy_chains, sizes(CHAINS)),
                (requests, sizes(REQUESTS)), (weights, sizes(WEIGHT))]
     scripts += [(f"{made.__name__}_{count}", made(count)) for made, counts in by_size for count in counts]
     for name, script in scripts:
-        yield name, lines(*script), play(lines(*script).encode())[0], ""
-    # what is too long for the model, or bad
-    comments = SCRIPT_BYTES // len("#\n")
-    for made, most in ((waiting, SCRIPT_BYTES // len("close 0\n") - 1), (fault_at, comments), (unsubmitted_from, comments - len("close 0\n"))):
-        for count in sizes(most):
-            yield f"{made.__name__}_{count}", *made(count)
+        yield name, lines(*script), play(lines(*script).encode())[0]
+    # these are too long for the model
+    for count in sizes(SCRIPT_BYTES // len("close 0\n") - 1):
+        yield f"waiting_{count}", *waiting(count)
