@@ -43,15 +43,16 @@ def hard_links():
 
 
 def tags():
-    """Tagged files that a request closes, that an update replaces, and that are left. No text has a tag without its file."""
-    script = ["file a.txt 68656c6c6f", "register 0,0 7,0", "update 0 -1,-1", "submit", "regupdate 0 0,0 8,9", "regupdate 1 0 10"]
+    """Tagged files that a request closes, that an update replaces, and that are left. No text has a tag without its file. A call that
+    is refused is made again."""
+    script = ["file a.txt 68656c6c6f", *["register 0,0 7,0"] * 2, "update 0 -1,-1", "submit", *["regupdate 0 0,0 8,9"] * 2, "regupdate 1 0 10"]
     return lines(*script)
 
 
 def registrations():
-    """Each call between submissions, and a request among them."""
-    script = ["file a.txt 68656c6c6f", "file b.txt -", "register 0,-1,1", "range 1 2", "open a.txt any", "submit"]
-    script += ["regupdate 0 1,-2,0", "unregister", "sparse 2", "regupdate 1 0", "read 1 0 4", "submit"]
+    """Each call between submissions, and a request among them. A call that is refused is made again."""
+    script = ["file a.txt 68656c6c6f", "file b.txt -", *["register 0,-1,1"] * 2, "range 1 2", "open a.txt any", "submit"]
+    script += [*["regupdate 0 1,-2,0"] * 2, *["unregister"] * 2, *["sparse 2"] * 2, "regupdate 1 0", "read 1 0 4", "submit"]
     return lines(*script, "unregister", "register 1,1")
 
 

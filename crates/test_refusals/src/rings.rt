@@ -1,5 +1,5 @@
-//! The calls of a ring that allocate.
-use crate::setting::{new_ring, requests, ring_with, tagged_ring};
+//! The calls of a ring that allocate, and that no script makes so: `fixfiles` plays the calls between submissions.
+use crate::setting::{requests, ring_of_one_file};
 use crate::{ATTEMPTS, tell};
 use fx_base::NoMemory;
 use fx_chain::{Gate, OpenGate, Place};
@@ -48,91 +48,9 @@ fn end<R: Print>(rt: &R, alloc: Global, ring: Ring) {
     }
 }
 
-/// Registers a list of two files and an empty slot.
-pub(crate) fn register<R: Print>(rt: &R, alloc: Global) -> Option<()> {
-    let mut ring = new_ring(alloc)?;
-    for _ in 0..ATTEMPTS {
-        match ring.register(alloc, &[0, -1, 1]) {
-            Ok(()) => {
-                tell::done(rt, "register");
-                break;
-            }
-            Err(errno) => refused(rt, "register", errno, &ring),
-        }
-    }
-    end(rt, alloc, ring);
-    Some(())
-}
-
-/// Registers three empty slots.
-pub(crate) fn register_sparse<R: Print>(rt: &R, alloc: Global) -> Option<()> {
-    let mut ring = new_ring(alloc)?;
-    for _ in 0..ATTEMPTS {
-        match ring.register_sparse(alloc, 3) {
-            Ok(()) => {
-                tell::done(rt, "register_sparse");
-                break;
-            }
-            Err(errno) => refused(rt, "register_sparse", errno, &ring),
-        }
-    }
-    end(rt, alloc, ring);
-    Some(())
-}
-
-/// Replaces the file at slot 0, installs one at slot 1, and empties slot 2.
-pub(crate) fn update<R: Print>(rt: &R, alloc: Global) -> Option<()> {
-    let mut ring = ring_with(alloc, &[0, -1, 1], 1, 2)?;
-    for _ in 0..ATTEMPTS {
-        match ring.update(alloc, 0, &[1, 0, -1]) {
-            Ok((count, closes)) => {
-                tell::counted(rt, "update", count);
-                tell::closes(rt, &closes);
-                break;
-            }
-            Err(errno) => refused(rt, "update", errno, &ring),
-        }
-    }
-    end(rt, alloc, ring);
-    Some(())
-}
-
-/// Registers a list of two files with tags and an empty slot.
-pub(crate) fn register_tagged<R: Print>(rt: &R, alloc: Global) -> Option<()> {
-    let mut ring = new_ring(alloc)?;
-    for _ in 0..ATTEMPTS {
-        match ring.register_tagged(alloc, &[0, -1, 1], &[7, 0, 9]) {
-            Ok(()) => {
-                tell::done(rt, "register_tagged");
-                break;
-            }
-            Err(errno) => refused(rt, "register_tagged", errno, &ring),
-        }
-    }
-    end(rt, alloc, ring);
-    Some(())
-}
-
-/// Replaces the tagged file at slot 0, installs one without a tag at slot 1, and empties slot 2.
-pub(crate) fn update_tagged<R: Print>(rt: &R, alloc: Global) -> Option<()> {
-    let mut ring = tagged_ring(alloc)?;
-    for _ in 0..ATTEMPTS {
-        match ring.update_tagged(alloc, 0, &[1, 0, -1], &[8, 0, 0]) {
-            Ok((count, closes)) => {
-                tell::counted(rt, "update_tagged", count);
-                tell::closes(rt, &closes);
-                break;
-            }
-            Err(errno) => refused(rt, "update_tagged", errno, &ring),
-        }
-    }
-    end(rt, alloc, ring);
-    Some(())
-}
-
-/// Lists the completions of the tags of two closed files.
+/// Lists the completion of the tag of a closed file.
 pub(crate) fn tags<R: Print>(rt: &R, alloc: Global) -> Option<()> {
-    let closes = match tagged_ring(alloc)?.tear_down(alloc) {
+    let closes = match ring_of_one_file(alloc)?.tear_down(alloc) {
         Ok(closes) => closes,
         Err((ring, NoMemory)) => {
             ring.abandon();
@@ -142,40 +60,13 @@ pub(crate) fn tags<R: Print>(rt: &R, alloc: Global) -> Option<()> {
     for _ in 0..ATTEMPTS {
         match closes.tags(alloc) {
             Ok(tags) => {
-                tell::tags(rt, &tags);
+                let _ = println!(rt; "tags: {tags:?}");
                 break;
             }
-            Err(fault) => {
-                tell::refused(rt, "tags", fault);
-                tell::closes(rt, &closes);
-            }
+            Err(fault) => tell::refused(rt, "tags", fault),
         }
     }
     tell::closes(rt, &closes);
-    Some(())
-}
-
-/// Unregisters a table of two files.
-pub(crate) fn unregister<R: Print>(rt: &R, alloc: Global) -> Option<()> {
-    let mut ring = ring_with(alloc, &[0, -1, 1], 1, 2)?;
-    for _ in 0..ATTEMPTS {
-        match ring.unregister(alloc) {
-            Ok(closes) => {
-                tell::done(rt, "unregister");
-                tell::closes(rt, &closes);
-                break;
-            }
-            Err(errno) => refused(rt, "unregister", errno, &ring),
-        }
-    }
-    end(rt, alloc, ring);
-    Some(())
-}
-
-/// Tears a ring of two files down.
-pub(crate) fn tear_down<R: Print>(rt: &R, alloc: Global) -> Option<()> {
-    let ring = ring_with(alloc, &[0, -1, 1], 1, 2)?;
-    end(rt, alloc, ring);
     Some(())
 }
 
@@ -187,13 +78,12 @@ pub(crate) fn submit<T: FileTable, R: Threads + Wait + Print + Sync>(
     workers: u32,
 ) -> Option<()> {
     let requests = requests(alloc)?;
-    let mut ring = ring_with(alloc, &[0, -1], 1, 1)?;
+    let mut ring = ring_of_one_file(alloc)?;
     let calls = Calls(AtomicU32::new(0));
     for _ in 0..ATTEMPTS {
         match ring.submit::<T, Calls>(rt, alloc, requests.as_slice(), workers, &calls) {
             Ok(report) => {
-                tell::done(rt, "submit");
-                tell::report(rt, &report);
+                tell::report(rt, "submit", &report);
                 break;
             }
             Err(fault) => {
@@ -220,7 +110,7 @@ fn opened<T: FileTable, R: Print>(rt: &R, alloc: Global, ring: Ring) -> Result<O
 /// Submits the same chains on a ring whose table is open.
 pub(crate) fn submit_open<T: FileTable, R: Wait + Print>(rt: &R, alloc: Global) -> Option<()> {
     let requests = requests(alloc)?;
-    let ring = ring_with(alloc, &[0, -1], 1, 1)?;
+    let ring = ring_of_one_file(alloc)?;
     let mut ring = match opened::<T, R>(rt, alloc, ring) {
         Ok(ring) => ring,
         Err(ring) => {
@@ -231,8 +121,7 @@ pub(crate) fn submit_open<T: FileTable, R: Wait + Print>(rt: &R, alloc: Global) 
     for _ in 0..ATTEMPTS {
         match ring.submit(rt, alloc, requests.as_slice(), &OpenGate) {
             Ok(Some(report)) => {
-                tell::done(rt, "submit_open");
-                tell::report(rt, &report);
+                tell::report(rt, "submit_open", &report);
                 break;
             }
             Ok(None) => {

@@ -20,28 +20,10 @@ pub(crate) fn two_files(alloc: Global) -> Option<Catalogue> {
     Some(catalogue)
 }
 
-/// Creates a ring with these files and without a table.
-pub(crate) fn new_ring(alloc: Global) -> Option<Ring> {
-    Some(Ring::new(alloc, two_files(alloc)?))
-}
-
-/// Creates the same with a table of a list and this allocation range.
-pub(crate) fn ring_with(alloc: Global, list: &[i32], off: u32, len: u32) -> Option<Ring> {
-    let mut ring = new_ring(alloc)?;
-    if ring.register(alloc, list).is_err() || ring.alloc_range(off, len).is_err() {
-        ring.abandon();
-        return None;
-    }
-    Some(ring)
-}
-
-/// Creates a ring with a table of a file with tag 7, an empty slot, and a file with tag 9.
-pub(crate) fn tagged_ring(alloc: Global) -> Option<Ring> {
-    let mut ring = new_ring(alloc)?;
-    if ring
-        .register_tagged(alloc, &[0, -1, 1], &[7, 0, 9])
-        .is_err()
-    {
+/// Creates a ring with a table of two slots: the file at slot 0 has tag 7, and slot 1 is the allocation range.
+pub(crate) fn ring_of_one_file(alloc: Global) -> Option<Ring> {
+    let mut ring = Ring::new(alloc, two_files(alloc)?);
+    if ring.register_tagged(alloc, &[0, -1], &[7, 0]).is_err() || ring.alloc_range(1, 1).is_err() {
         ring.abandon();
         return None;
     }
@@ -74,26 +56,22 @@ pub(crate) fn table_of_two_files(alloc: Global) -> Option<PlainTable>
     None
 }
 
-fn request(op: Op, flags: &[SqeFlags]) -> Request {
-    let mut all = SqeFlags::from_bits_retain(0);
-    for flag in flags {
-        all.insert(*flag);
-    }
-    Request { op, flags: all }
-}
-
 /// Creates a chain that reads five bytes of slot 0 and closes it, and a chain that opens `b.txt` at any slot.
 pub(crate) fn requests(alloc: Global) -> Option<Vec<Request>> {
     let name = String::from_str(alloc, "b.txt").ok()?;
     let mut requests = Vec::with_capacity(alloc, 3).ok()?;
-    let read = Op::Read {
-        slot: 0,
-        off: 0,
-        len: 5,
-    };
-    requests.push_reserved(request(read, &[SqeFlags::FIXED_FILE, SqeFlags::IO_LINK]));
-    requests.push_reserved(request(Op::Close { slot: 0 }, &[]));
-    let target = Target::Any;
-    requests.push_reserved(request(Op::Open { name, target }, &[]));
+    requests.push_reserved(Request {
+        op: Op::Read {
+            slot: 0,
+            off: 0,
+            len: 5,
+        },
+        flags: SqeFlags::FIXED_FILE.union(SqeFlags::IO_LINK),
+    });
+    let (target, flags) = (Target::Any, SqeFlags::empty());
+    let close = Op::Close { slot: 0 };
+    requests.push_reserved(Request { op: close, flags });
+    let open = Op::Open { name, target };
+    requests.push_reserved(Request { op: open, flags });
     Some(requests)
 }

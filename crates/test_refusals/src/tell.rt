@@ -1,8 +1,7 @@
 //! The program's output. Only its end allocates, and nothing can be done if a write fails.
-use fx_base::{Catalogue, CloseList, Mark, TagCompletion};
+use fx_base::{Catalogue, CloseList};
 use fx_plain::PlainTable;
 use fx_ring::{Report, Ring};
-use fx_script::{Command, Script};
 use fx_table::FileTable;
 use std::alloc::Global;
 use std::fmt::Debug;
@@ -17,43 +16,10 @@ pub(crate) fn refused<R: Print, F: Debug + Drop>(rt: &R, call: &str, fault: F) {
     let _ = println!(rt; "{call}: {fault:?}");
 }
 
-/// Prints that the call succeeded, and the count that it returned.
-pub(crate) fn counted<R: Print>(rt: &R, call: &str, count: u32) {
-    let _ = println!(rt; "{call}: {count}");
-}
-
-/// Prints a text.
-pub(crate) fn text<R: Print>(rt: &R, text: &[u8]) {
-    let _ = print!(rt; "{}", std::str::from_utf8(text).unwrap_or("no text"));
-}
-
-/// Prints a file of a list or at a slot, by its mark and its entry.
-fn file<R: Print>(rt: &R, word: &str, mark: Mark, entry: u8) {
-    let _ = match mark {
-        Mark::Registered { k, i } => println!(rt; "{word} r{k}.{i} {entry}"),
-        Mark::Submitted {
-            submission: s,
-            chain: c,
-            member: m,
-            entry: e,
-        } => println!(rt; "{word} {s}.{c}.{m}.{e} {entry}"),
-    };
-}
-
-/// Prints the files that were closed, each with its tag if it has one.
+/// Prints the files that were closed.
 pub(crate) fn closes<R: Print>(rt: &R, closes: &CloseList) {
     for closed in closes.files() {
-        file(rt, "closed", closed.mark, closed.entry);
-        if closed.tag != 0 {
-            let _ = println!(rt; "with tag {}", closed.tag);
-        }
-    }
-}
-
-/// Prints completions of tags.
-pub(crate) fn tags<R: Print>(rt: &R, tags: &Vec<TagCompletion>) {
-    for tag in tags {
-        let _ = println!(rt; "tag {} {} {}", tag.user_data, tag.res, tag.flags);
+        let _ = println!(rt; "{closed:?}");
     }
 }
 
@@ -66,16 +32,11 @@ pub(crate) fn ring<R: Print>(rt: &R, ring: &Ring) {
     );
 }
 
-/// Prints the report of a submission.
-pub(crate) fn report<R: Print>(rt: &R, report: &Report) {
-    let _ = println!(rt; "submission {}", report.submission);
+/// Prints the report of a call.
+pub(crate) fn report<R: Print>(rt: &R, call: &str, report: &Report) {
+    done(rt, call);
     for completion in &report.completions {
-        let (place, res) = (completion.place, completion.res);
-        let got = std::str::from_utf8(completion.got.as_slice()).unwrap_or("no text");
-        let _ = println!(rt;
-            "{}.{}.{} {res} {got}",
-            place.submission, place.chain, place.member
-        );
+        let _ = println!(rt; "{completion:?}");
     }
     closes(rt, &report.closes);
 }
@@ -89,8 +50,7 @@ pub(crate) fn table<R: Print>(rt: &R, table: &PlainTable) {
     );
     for slot in 0..table.size() {
         if let (Some(mark), Some(entry)) = (table.mark_at(slot), table.entry_at(slot)) {
-            let _ = print!(rt; "slot {slot} ");
-            file(rt, "has", mark, entry);
+            let _ = println!(rt; "slot {slot} has {mark:?} {entry}");
         }
     }
 }
@@ -132,26 +92,6 @@ pub(crate) fn shared<T: FileTable, R: Print>(rt: &R, table: &T, passes: &Vec<T::
     let (start, len) = table.range();
     let (size, passes) = (table.size(), passes.len());
     let _ = println!(rt; "shared: {size} slots, range {start} {len}, {passes} passes");
-}
-
-/// Prints the catalogue and the commands of a script.
-pub(crate) fn script<R: Print>(rt: &R, script: &Script) {
-    catalogue(rt, script.catalogue(), "a.txt");
-    for command in script.commands() {
-        tell_command(rt, command);
-    }
-}
-
-// Prints a command of a script.
-fn tell_command<R: Print>(rt: &R, command: &Command) {
-    let _ = match command {
-        Command::Sparse(slots) => println!(rt; "Sparse({slots})"),
-        Command::Register(list, tags) => println!(rt; "Register({list:?}, {tags:?})"),
-        Command::Unregister => println!(rt; "Unregister"),
-        Command::Range(off, len) => println!(rt; "Range({off}, {len})"),
-        Command::Update(off, list, tags) => println!(rt; "Update({off}, {list:?}, {tags:?})"),
-        Command::Submit(requests) => println!(rt; "Submit({requests:?})"),
-    };
 }
 
 /// Prints the end, and whether an allocation fails there.
