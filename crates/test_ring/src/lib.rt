@@ -6,8 +6,6 @@
 #[cfg(test)]
 mod beside;
 #[cfg(test)]
-mod effects;
-#[cfg(test)]
 mod gates;
 #[cfg(test)]
 mod orders;

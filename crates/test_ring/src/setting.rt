@@ -7,10 +7,9 @@ mod scripts;
 mod waiting;
 
 pub(crate) use calls::Calls;
-pub(crate) use requests::{in_chain, open_at, read, update};
+pub(crate) use requests::{in_chain, open_at, read};
 pub(crate) use rings::{
-    PLAYERS, Players, TABLES, Table, end, one_file, registered_ring, ring_of_one_file, submit,
-    try_submit,
+    Players, TABLES, Table, end, one_file, registered_ring, ring_of_one_file, submit, try_submit,
 };
 pub(crate) use scripts::play;
 pub(crate) use waiting::wait_for;

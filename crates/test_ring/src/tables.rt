@@ -1,9 +1,10 @@
 //! One slot of each shared table, a pass that uses it, and a pass that replaces the file there, in every interleaving
 //! of their calls. Each call returns, whatever the other pass holds or has yet to retire: no clause says that a call
 //! which may wait returns. What it returns is in its contract.
-ghost use Rattle.std.specs.Prelude.{◌≡◌, ◌+◌, length, All, IfSome};
+ghost use Rattle.std.specs.Prelude.{◌≡◌, All, length};
 ghost use Rattle.fx_table.specs.Pass.{IsHoldOf, IsIdle, IsRetiredOf};
 
+use crate::setting::one_file;
 use fx_base::{Catalogue, Mark, OpenFile};
 use fx_baton::BatonTable;
 use fx_counted::CountedTable;
@@ -14,46 +15,27 @@ use std::process::Abort;
 use std::sync::Wait;
 use std::test::Fail;
 
-// Opens a table of one slot that two passes share.
-fn open_table<T: FileTable, R: Abort>(rt: &R, alloc: Global) -> (T, Vec<T::Pass>)
+// Opens a table of one slot, where the only file of a catalogue is, for two passes.
+fn open_table<T: FileTable, R: Abort>(rt: &R, alloc: Global, files: &Catalogue) -> (T, Vec<T::Pass>)
     ensures passes { (T.opening result.0).passes ≡ 2 }
+    ensures count { length result.1.items ≡ 2 }
     ensures ready { All (λ p. T.fits result.0 p × IsIdle (T.view p)) result.1.items }
 {
-    let Ok(plain) = PlainTable::sparse(alloc, 1) else {
+    let Ok(mut plain) = PlainTable::sparse(alloc, 1) else {
         panic!(rt; "a table")
     };
+    if let Err(_refused) = plain.prepare(1) {
+        plain.abandon();
+        panic!(rt; "memory for a number")
+    }
+    assert!(rt; !files.is_empty());
+    plain.put_back(0, files.open(0, Mark::Registered { k: 1, i: 0 }, 0));
     match T::open(alloc, plain, 1, 2) {
         Ok(opened) => opened,
         Err((plain, _)) => {
             plain.abandon();
             panic!(rt; "memory for a shared table")
         }
-    }
-}
-
-// Takes the last pass of the list.
-fn last_pass<T: FileTable, R: Abort>(rt: &R, table: &T, passes: &mut Vec<T::Pass>) -> T::Pass
-    requires { All (λ p. T.fits table.now p × IsIdle (T.view p)) passes.old.items }
-    ensures pass { T.fits table.now result × IsIdle (T.view result) }
-    ensures others { All (λ p. T.fits table.now p × IsIdle (T.view p)) passes.new.items }
-{
-    let Some(pass) = passes.pop() else {
-        panic!(rt; "a pass")
-    };
-    pass
-}
-
-// Returns a pass to the list. It is idle.
-fn give_back<T: FileTable, R: Abort>(rt: &R, table: &T, passes: &mut Vec<T::Pass>, pass: T::Pass)
-    requires list { All (λ p. T.fits table.now p × IsIdle (T.view p)) passes.old.items }
-    requires pass { T.fits table.now pass }
-    ensures list { All (λ p. T.fits table.now p × IsIdle (T.view p)) passes.new.items }
-    ensures count { length passes.new.items ≡ length passes.old.items + 1 }
-{
-    assert!(rt; table.is_idle(&pass));
-    match passes.push(pass) {
-        Ok(()) => {}
-        Err(_refused) => panic!(rt; "room for a pass"),
     }
 }
 
@@ -70,35 +52,21 @@ fn hold_of<T: FileTable, R: Wait + Abort>(rt: &R, table: &T, pass: &mut T::Pass)
     hold
 }
 
-// Installs a file at the slot, and returns the file that it replaces, to be retired.
-fn put<T: FileTable, R: Wait + Abort>(
-    rt: &R,
-    table: &T,
-    pass: &mut T::Pass,
-    catalogue: &Catalogue,
-) -> Option<Retired>
-    requires { T.fits table.now pass.old }
-    ensures fits { T.fits table.now pass.new }
-    ensures removed { IfSome result (IsRetiredOf (T.view pass.new)) }
-{
-    assert!(rt; table.is_idle(pass) && 0 < table.size() && 0 < table.numbers_left(pass));
-    assert!(rt; !catalogue.is_empty());
-    let file = catalogue.open(0, Mark::Registered { k: 1, i: 0 }, 0);
-    table.put(rt, pass, 0, file)
-}
-
-// Installs the second file at the slot, and returns the first one, to be retired.
+// Installs a file at the slot, and returns the file that was there, to be retired.
 fn replace<T: FileTable, R: Wait + Abort>(
     rt: &R,
     table: &T,
     pass: &mut T::Pass,
-    catalogue: &Catalogue,
+    files: &Catalogue,
 ) -> Retired
     requires { T.fits table.now pass.old }
     ensures fits { T.fits table.now pass.new }
     ensures removed { IsRetiredOf (T.view pass.new) result }
 {
-    let Some(retired) = put(rt, table, pass, catalogue) else {
+    assert!(rt; table.is_idle(pass) && 0 < table.size() && 0 < table.numbers_left(pass));
+    assert!(rt; !files.is_empty());
+    let file = files.open(0, Mark::Registered { k: 2, i: 0 }, 0);
+    let Some(retired) = table.put(rt, pass, 0, file) else {
         panic!(rt; "a file that is replaced")
     };
     retired
@@ -126,7 +94,7 @@ fn play_both<T: FileTable, R: Wait + Abort>(
     rt: &R,
     table: &T,
     used: Use,
-    catalogue: &Catalogue,
+    files: &Catalogue,
     b: &mut T::Pass,
     a: &mut T::Pass,
 )
@@ -139,29 +107,29 @@ fn play_both<T: FileTable, R: Wait + Abort>(
         Use::BeforeReplacement => {
             let hold = hold_of(rt, table, a);
             close(table.release(rt, a, hold));
-            let retired = replace(rt, table, b, catalogue);
+            let retired = replace(rt, table, b, files);
             close(table.retire(rt, b, retired));
         }
         Use::OverReplacement => {
             let hold = hold_of(rt, table, a);
-            let retired = replace(rt, table, b, catalogue);
+            let retired = replace(rt, table, b, files);
             close(table.release(rt, a, hold));
             close(table.retire(rt, b, retired));
         }
         Use::OverBoth => {
             let hold = hold_of(rt, table, a);
-            let retired = replace(rt, table, b, catalogue);
+            let retired = replace(rt, table, b, files);
             close(table.retire(rt, b, retired));
             close(table.release(rt, a, hold));
         }
         Use::BeforeRetirement => {
-            let retired = replace(rt, table, b, catalogue);
+            let retired = replace(rt, table, b, files);
             let hold = hold_of(rt, table, a);
             close(table.release(rt, a, hold));
             close(table.retire(rt, b, retired));
         }
         Use::OverRetirement => {
-            let retired = replace(rt, table, b, catalogue);
+            let retired = replace(rt, table, b, files);
             let hold = hold_of(rt, table, a);
             close(table.retire(rt, b, retired));
             close(table.release(rt, a, hold));
@@ -171,20 +139,19 @@ fn play_both<T: FileTable, R: Wait + Abort>(
 
 // Does the same, from the table's opening to its close.
 fn play_on<T: FileTable, R: Wait + Abort>(rt: &R, alloc: Global, used: Use) -> Result<(), Fail> {
-    let mut catalogue = Catalogue::new(alloc);
-    catalogue.add(String::from_str(alloc, "a.txt")?, Vec::new(alloc))?;
-    let (table, mut passes) = open_table::<T, _>(rt, alloc);
-    let mut a = last_pass(rt, &table, &mut passes);
-    let mut b = last_pass(rt, &table, &mut passes);
-    assert!(rt; passes.is_empty());
+    let files = one_file(alloc)?;
+    let (table, mut passes) = open_table::<T, _>(rt, alloc, &files);
+    let Some(mut a) = passes.pop() else {
+        unreachable!()
+    };
+    let Some(mut b) = passes.pop() else {
+        unreachable!()
+    };
     assert!(rt; table.draw(&mut b) == Some(1));
-    match put(rt, &table, &mut b, &catalogue) {
-        None => {}
-        Some(_retired) => panic!(rt; "an empty slot"),
-    }
-    play_both(rt, &table, used, &catalogue, &mut b, &mut a);
-    give_back(rt, &table, &mut passes, b);
-    give_back(rt, &table, &mut passes, a);
+    play_both(rt, &table, used, &files, &mut b, &mut a);
+    assert!(rt; table.is_idle(&b) && table.is_idle(&a));
+    passes.push_reserved(b);
+    passes.push_reserved(a);
     table.close(passes).abandon();
     Ok(())
 }

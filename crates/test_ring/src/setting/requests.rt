@@ -21,15 +21,6 @@ pub fn read(slot: u32, off: u32, len: u32) -> Request {
     }
 }
 
-/// Creates an update of the slots from `off` on.
-pub fn update(alloc: Global, off: u32, list: &[i32]) -> Result<Request, AllocError> {
-    let list = list.to_vec(alloc)?;
-    Ok(Request {
-        op: Op::Update { off, list },
-        flags: SqeFlags::empty(),
-    })
-}
-
 /// Links the request at position `at` of a submission, from 0, into chains of 16: each but the last of a chain is
 /// linked with the next one.
 pub fn in_chain(mut request: Request, at: u32) -> Request {

@@ -25,18 +25,6 @@ pub const TABLES: [Table; 2] = [Table::Words, Table::Baton];
 /// The players of a submission: a table, and a number of workers.
 pub type Players = (Table, u32);
 
-/// The players of a submission whose report doesn't depend on the order of its chains.
-pub const PLAYERS: [Players; 8] = [
-    (Table::Words, 1),
-    (Table::Words, 2),
-    (Table::Words, 3),
-    (Table::Words, 16),
-    (Table::Baton, 1),
-    (Table::Baton, 2),
-    (Table::Baton, 3),
-    (Table::Baton, 16),
-];
-
 /// Creates a catalogue with only `a.txt`, a file of 4,096 bytes.
 pub fn one_file(alloc: Global) -> Result<Catalogue, Fail> {
     let mut catalogue = Catalogue::new(alloc);
