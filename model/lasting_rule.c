@@ -50,7 +50,7 @@ static int marks_owed(const struct state *s, int node) {
 static const struct pass *worker_of(const struct state *s, int node, bool retires) {
     for (int who = 0; who < family->passes; who++) {
         const struct pass *it = &s->pass[who];
-        bool is_retiring = (it->call == RETIREMENT && it->step != REST) || (it->step == END && it->takes != UINT8_MAX);
+        bool is_retiring = (it->call == RETIREMENT && it->step != REST) || it->step == LOWER_LATE;
         bool has_place = it->step == REST || it->step == REST_OF_LOOK || it->step == REST_UNUSED;
         if (it->node == node && (retires ? is_retiring : has_place)) {
             return it;
@@ -98,7 +98,7 @@ static void check_node(const struct state *s, int node) {
 static void check_pass(const struct state *s, int who) {
     const struct pass *it = &s->pass[who];
     bool is_look = it->call == LOOK, is_put = it->call == PUT && it->step != SEEK;
-    int most = is_look ? 8 : it->call == RELEASE ? 3 : it->call == REMOVE ? 3 : is_put ? 4 : 2 * family->passes;
+    int most = is_look ? 8 : it->call == RELEASE ? 3 : it->call == REMOVE ? 3 : is_put ? 3 : 2 * family->passes;
     want(it->call == PUT_ANY || it->step == SEEK || it->steps + (is_look ? 1 : 0) < most || it->step == IDLE, "a call has too many steps");
     int hold = s->hold[who] & ~MARK;
     want(hold == 0 || (has_announced(it) && hold == it->node + 1) || (it->step == GUARDED && hold == it->holds),
@@ -107,20 +107,19 @@ static void check_pass(const struct state *s, int who) {
 
 static void check_state(const void *state) {
     const struct state *s = state;
-    int changes = 0, full = 0, untold = 0;
+    int uncounted = 0, full = 0;
     for (int node = 0; node < family->passes * block; node++) {
         check_node(s, node);
     }
     for (int who = 0; who < family->passes; who++) {
         const struct pass *it = &s->pass[who];
         check_pass(s, who);
-        changes += is_in_change(it);
-        untold += it->step == END || it->step == END_EXCHANGE ? (int8_t)it->delta : 0;
+        uncounted += is_in_change(it);
     }
     for (int slot = 0; slot < family->slots; slot++) {
         full += family->in_range && s->named[slot] != 0;
     }
-    want(s->changes == changes && (int8_t)s->full + untold == full, "the control word is wrong");
+    want((int8_t)s->full + uncounted == full, "the control word is wrong");
 }
 
 static const char *begin_family(int which, int table, void *state) {

@@ -167,7 +167,7 @@ static void visit_from(struct pass *it, int who, int next) {
     }
 }
 
-/* A swap, with the report of its change, is over: its pass retires what it found. */
+/* A swap, with the count of its slot, is over: its pass retires what it found. */
 static void retire_found(struct pass *it, int who) {
     struct pass found = *it;
     if (found.takes == UINT8_MAX) {
@@ -192,11 +192,21 @@ static void swap(struct state *s, struct pass *it, int who) {
         s->file[found - 1] = REMOVED;
         it->node = found - 1;
     }
-    it->delta = (it->call == PUT) - (found != 0);
     it->takes = found ? takes : UINT8_MAX;
     it->was_hot = was_hot;
-    it->step = END;
-    if (!family->in_range) {
+    bool is_late = it->call == PUT ? wrong == counted_before_it_is_full : wrong == counted_until_it_is_empty;
+    it->step = is_late ? LOWER_LATE : RAISE;
+    if (!family->in_range || is_late == (found == 0)) {
+        retire_found(it, who);
+    }
+}
+
+/* Adds a slot to the count of full slots: it was empty when a swap or an exchange wrote it. */
+static void raise_count(struct state *s, struct pass *it, int who) {
+    s->full++;
+    if (it->call == PUT_ANY) {
+        begin_call(it, 0, IDLE);
+    } else {
         retire_found(it, who);
     }
 }
@@ -255,14 +265,14 @@ static void birth(struct state *s, struct pass *it) {
     s->word[it->node] = BORN;
     s->file[it->node] = PLACED;
     s->place[it->node] = WITH_PASS;
-    it->step = it->call == PUT_ANY ? PEEK : family->in_range ? BEGIN : SWAP;
+    bool is_early = wrong == counted_before_it_is_full && family->in_range;
+    it->step = it->call == PUT_ANY ? PEEK : is_early ? RAISE_EARLY : SWAP;
 }
 
 /* An allocation: it asks whether the range is full, then goes over the range, and asks again. */
 
 static void ask(struct state *s, struct pass *it, bool has_place) {
-    bool is_full = s->full == (family->in_range ? family->slots : 0)
-        && (s->changes == 0 || wrong == full_while_a_change_is_in_flight);
+    bool is_full = s->full == (family->in_range ? family->slots : 0);
     bool is_changed = false;
     for (int who = 0; who < family->passes; who++) {
         is_changed |= is_in_change(&s->pass[who]);
@@ -291,23 +301,15 @@ static void peek(struct state *s, struct pass *it) {
     }
     it->takes = s->takes[it->slot];
     it->was_hot = s->hot[it->slot];
-    it->step = wrong == exchange_outside_a_change ? EXCHANGE : BEGIN;
+    it->step = EXCHANGE;
 }
 
 static void exchange(struct state *s, struct pass *it) {
-    it->delta = s->named[it->slot] == 0 && s->takes[it->slot] == it->takes && s->hot[it->slot] == it->was_hot;
+    bool wins = s->named[it->slot] == 0 && s->takes[it->slot] == it->takes && s->hot[it->slot] == it->was_hot;
     it->takes = it->was_hot = 0;
-    if (it->delta) {
+    if (wins) {
         install(s, it);
-    }
-    it->step = END_EXCHANGE;
-}
-
-static void end_exchange(struct state *s, struct pass *it) {
-    s->changes -= wrong != exchange_outside_a_change;
-    s->full += it->delta;
-    if (it->delta) {
-        begin_call(it, 0, IDLE);
+        it->step = RAISE;
     } else {
         peek_next(it);
     }
@@ -316,8 +318,7 @@ static void end_exchange(struct state *s, struct pass *it) {
 /* Steps */
 
 bool is_in_change(const struct pass *it) {
-    bool is_exchange = it->step == EXCHANGE || it->step == END_EXCHANGE;
-    return it->step == END || (it->step == SWAP && family->in_range) || (is_exchange && wrong != exchange_outside_a_change);
+    return it->step == RAISE || (it->step == SWAP && it->call == REMOVE && family->in_range);
 }
 
 /* The first step of a call on a slot; a search may begin at each node of the pass's block. */
@@ -332,7 +333,7 @@ static bool begin_nth(struct state *s, struct pass *it, int who, int nth) {
     nth -= calls & LOOK ? family->slots : 0;
     if ((calls & REMOVE) && nth < family->slots) {
         it->slot = nth;
-        begin_call(it, REMOVE, family->in_range ? BEGIN : SWAP);
+        begin_call(it, REMOVE, family->in_range && wrong != counted_until_it_is_empty ? LOWER : SWAP);
         if (wrong == scan_before_the_swap && s->named[nth] && s->hot[nth]) {
             it->node = s->named[nth] - 1;
             visit_from(it, who, 0);
@@ -400,15 +401,16 @@ bool take_step(void *state, int who, int nth) {
         break;
     case SEEK: seek(s, it, who); break;
     case BIRTH: birth(s, it); break;
-    case BEGIN: s->changes++; it->step = it->call == PUT_ANY ? EXCHANGE : SWAP; break;
+    case LOWER: s->full--; it->step = SWAP; break;
+    case RAISE_EARLY: s->full++; it->step = SWAP; break;
     case SWAP: swap(s, it, who); break;
-    case END: s->changes--; s->full += (int8_t)it->delta; retire_found(it, who); break;
+    case RAISE: raise_count(s, it, who); break;
+    case LOWER_LATE: s->full--; retire_found(it, who); break;
     case VISIT: visit(s, it, who); break;
     case MARK_HOLD: mark_hold(s, it, who); break;
     case RETIRE: retire(s, it); break;
     case PEEK: peek(s, it); break;
     case EXCHANGE: exchange(s, it); break;
-    case END_EXCHANGE: end_exchange(s, it); break;
     case ASK: ask(s, it, true); break;
     }
     return true;

@@ -16,7 +16,7 @@ enum { LOOK = 1, PUT = 2, REMOVE = 4, PUT_ANY = 8, RELEASE = 16, RETIREMENT = 32
 /* The next step of a pass. */
 enum step {
     IDLE, ANNOUNCE, CONFIRM, WITHDRAW, DROP_OWED, REST_OF_LOOK, TAKE, HEAT, GUARDED, COUNTED, DROP_YIELDED, REST,
-    SEEK, BIRTH, BEGIN, SWAP, END, VISIT, MARK_HOLD, RETIRE, PEEK, EXCHANGE, END_EXCHANGE, ASK, REST_UNUSED
+    SEEK, BIRTH, LOWER, SWAP, RAISE, VISIT, MARK_HOLD, RETIRE, PEEK, EXCHANGE, ASK, REST_UNUSED, RAISE_EARLY, LOWER_LATE
 };
 
 /* The right table and wrong ones: each is the right one with one change. */
@@ -25,8 +25,8 @@ enum step {
     X(birth_in_another_block) X(scan_before_the_swap) X(mark_by_a_store) X(no_second_look) \
     X(announced_after_the_second_look) X(withdrawal_by_a_store) X(release_by_a_store) X(failed_marks_counted) \
     X(hot_not_asked_at_the_second_look) X(takes_left_out_of_a_retirement) X(last_pass_not_visited) X(no_visits) \
-    X(closed_one_too_early) X(closed_one_too_late) X(slot_never_heated) X(exchange_outside_a_change) \
-    X(full_while_a_change_is_in_flight)
+    X(closed_one_too_early) X(closed_one_too_late) X(slot_never_heated) X(counted_before_it_is_full) \
+    X(counted_until_it_is_empty)
 enum wrong { TABLES(AS_MEMBER) WRONG_TABLES };
 
 struct family {
@@ -43,8 +43,8 @@ struct pass {
     uint8_t step, call, slot, node, takes, next, marks;
     /* The place of a search in the pass's block, and the nodes that it found taken. */
     uint8_t nth, tried;
-    /* The hot bit that a look at an empty slot found; the change of full slots that is still to be reported. */
-    uint8_t was_hot, delta;
+    /* The hot bit that a look at an empty slot found. */
+    uint8_t was_hot;
     /* The atomic steps of the call so far; 0 in an allocation, which may go on without end. */
     uint8_t steps;
     /* In the model: the node of the file that the pass holds, plus 1, or 0. */
@@ -56,8 +56,8 @@ struct state {
     uint8_t named[MOST_SLOTS], takes[MOST_SLOTS], hot[MOST_SLOTS];
     uint8_t hold[MOST_PASSES];
     uint8_t word[MOST_NODES], place[MOST_NODES], file[MOST_NODES];
-    /* The control word: the changes in flight, and the full slots that were reported, as a signed byte. */
-    uint8_t changes, full;
+    /* The control word: the full slots that are counted, as a signed byte. */
+    uint8_t full;
     struct pass pass[MOST_PASSES];
 };
 
@@ -68,5 +68,5 @@ extern int block;
 /* Makes one step of a pass, as a `step_table` says. */
 bool take_step(void *state, int who, int nth);
 
-/* Returns whether a pass is in a change of the allocation range. */
+/* Returns whether the control word counts one full slot too few, on the account of the pass. */
 bool is_in_change(const struct pass *it);

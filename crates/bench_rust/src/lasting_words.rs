@@ -17,8 +17,7 @@ const COLD_TAKES: u64 = 16;
 // A marked hold word.
 const MARK: u64 = 1 << 32;
 
-// One more pass in a change of the range, in the control word, and the bias that is added there to the full slots.
-const ONE_CHANGE: u64 = 1 << 32;
+// The bias that is added to the full slots in the control word.
 const BIAS: u64 = 65_536;
 
 /// A word on a cache line of its own.
@@ -165,16 +164,16 @@ impl LastingWords {
         word
     }
 
+    // Writes a slot's word. A slot of the range is taken off the count before it is emptied, and one that was empty is added to
+    // it afterwards.
     fn change(&self, slot: usize, word: u64) -> u64 {
-        if !self.in_range {
-            return self.slots[slot].0.swap(word, SeqCst);
+        if self.in_range && word == 0 {
+            self.control.0.fetch_sub(1, SeqCst);
         }
-        self.control.0.fetch_add(ONE_CHANGE, SeqCst);
         let found = self.slots[slot].0.swap(word, SeqCst);
-        let delta = u64::from(word >> 40 != 0).wrapping_sub(u64::from(found >> 40 != 0));
-        self.control
-            .0
-            .fetch_sub(ONE_CHANGE.wrapping_sub(delta), SeqCst);
+        if self.in_range && node_in(found).is_none() {
+            self.control.0.fetch_add(1, SeqCst);
+        }
         found
     }
 
@@ -183,14 +182,13 @@ impl LastingWords {
         if node_in(found).is_some() {
             return false;
         }
-        self.control.0.fetch_add(ONE_CHANGE, SeqCst);
         let is_mine = self.slots[slot]
             .0
             .compare_exchange(found, word, SeqCst, SeqCst)
             .is_ok();
-        self.control
-            .0
-            .fetch_sub(ONE_CHANGE - u64::from(is_mine), SeqCst);
+        if is_mine {
+            self.control.0.fetch_add(1, SeqCst);
+        }
         is_mine
     }
 

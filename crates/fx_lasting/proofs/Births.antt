@@ -7,10 +7,12 @@ use Rattle.fx_lasting.proofs.Words.{Births, Rests, SeeksKeep, BirthsKeep, RestsK
 use Rattle.fx_lasting.proofs.Words.{sum_set, length-set, block_for, block_start, Start, mul-le-mul_right, Agrees, zero, suc, first_log}
 use Rattle.fx_lasting.proofs.Histories.{grows_none, each_changed}
 use Rattle.fx_lasting.proofs.Frames.{busy, does_now}
-use Rattle.fx_lasting.proofs.Keeping.{Turn, turn_of, After, Homes, word_at, slot_word, Made, by_turn, its_log, its_work, in_range, tells, w, end}
+use Rattle.fx_lasting.proofs.Keeping.{Turn, turn_of, After, Homes, word_at, slot_word, Made, by_turn, its_log, its_work, in_range, tells, tells_less, w, end}
 use Rattle.fx_lasting.proofs.NodeSteps.{after, node_kept, own_keeps, guards_else}
 use Rattle.fx_lasting.proofs.Places.{node_words, node_here, node_else, node_slot, node_hold, node_control}
-use Rattle.fx_lasting.proofs.Calm.{read_after, Reads, read_kept}
+use Rattle.fx_lasting.proofs.Calm.{read_before, read_before_kept, Reads}
+use Rattle.fx_lasting.proofs.Choosing.{no_file, no_take, not_busy, holds_none}
+use Rattle.fx_lasting.proofs.Words.{HasNoFile, HoldAgrees, SearchAgrees, GuardAgrees, rested, IsInside, changed_at}
 use Rattle.fx_lasting.proofs.FreeNodes.{some_free}
 use Rattle.fx_lasting.proofs.Unheld.{NodeNow, in_phase}
 use Rattle.std.proofs.Common.{suc-mul}
@@ -46,7 +48,7 @@ module _ (turn : Turn) where
   free_zero l is = (in_phase turn l is).counts
 
   -- a pass that looks for a node
-  module _ (searches : (v.work ≡ Idle) ⊎ ((n : ℕ) × (v.work ≡ Searching n))) (installs : x.number ≤ v.start.installing) where
+  module _ (searches : HasNoFile v.work) (installs : x.number ≤ v.start.installing) where
     -- some node of its block is free
     one_free : (e : ℕ) × (e < nodes_of v.start) × (r.phase e ≡ free) × IsInBlock v.start x.number e
     one_free = let p = (in_range turn).0 in let h = (in_range turn).1 in
@@ -62,19 +64,18 @@ module _ (turn : Turn) where
       at = refl;
       fresh = refl;
       removed = refl;
-      taken = λ n. ⊎_elim (λ i. sym (ap (taking n) i)) (λ s. sym (ap (taking n) s.1)) searches;
-      owners = inr (⊎_elim (λ i. ap busy i) (λ s. ap busy s.1) searches);
-      held = o.held ∙ ⊎_elim (λ i. ap held_in i) (λ s. ap held_in s.1) searches;
+      taken = λ n. sym (no_take searches n);
+      owners = inr (not_busy searches);
+      held = o.held ∙ no_file searches;
       search = block;
       its = record {
-        hold = ⊎_elim (λ (i : v.work ≡ Idle). rw i at o.hold) (λ (s : (n : ℕ) × (v.work ≡ Searching n)). rw s.1 at o.hold) searches;
+        hold = holds_none searches o.hold;
         guarded = tt;
         sees = o.sees;
         heats = o.heats;
         work = (l, is);
       };
-      holds = λ n. let a = ⊎_elim (λ (i : v.work ≡ Idle). ap (λ (d : Work). if_file n (held_in d)) i)
-          (λ (s : (n : ℕ) × (v.work ≡ Searching n)). ap (λ (d : Work). if_file n (held_in d)) s.1) searches in omega arith;
+      holds = λ n. let a = ap (if_file n) (no_file searches) in omega arith;
     }
 
     -- the node that the pass settles on, after a load of this one
@@ -121,16 +122,18 @@ module _ (turn : Turn) where
       pub seek : (slots : ℕ) (carried : List (ℕ × Option Closed))
           → Made turn carried (word_of v.start n) (λ word. word) (Seeks (step slots (word_of v.start n) 0 0 none) (v, carried))
       seek slots carried = let e = choice in (
-        w turn (read_after turn (Searching e.0) v.glance r.history),
+        w turn (read_before turn (Searching e.0) v.glance r.history x.front),
         keeps,
         tt,
-        read_kept turn (Searching e.0) v.glance (word_of v.start n) (searching e.0 e.1.0 e.1.1 e.1.2),
+        read_before_kept turn (Searching e.0) v.glance x.front (word_of v.start n) (its_log turn).seen (its_log turn).own
+            (searching e.0 e.1.0 e.1.1 e.1.2),
         record {
           node = e.0;
           goes = record {
-            stepped = tells turn (read_after turn (Searching e.0) v.glance r.history) carried carried [] (grows_none x.number r.history) r.legal refl e.1.0;
+            stepped = tells_less turn (read_before turn (Searching e.0) v.glance r.history x.front) carried carried refl e.1.0;
             carried = refl;
           };
+          front = ap (λ (l : List Log). (first_log l).front) (sym one);
           block = subst (λ (p : ℕ). IsInBlock v.start p e.0) (sym (ap (λ (l : List Log). (first_log l).number) one)) e.1.2;
           here = λ is. ap (word_of v.start) (sym (e.1.3 is));
           other = λ not_so same. e.1.4 not_so (omega arith);
@@ -185,7 +188,7 @@ module _ (turn : Turn) where
               };
           known = does_now st.views id v (w turn born_after) (Placing n) here refl;
           held = o.held ∙ ap held_in works;
-          search = tt;
+          search = rw works at o.search;
           its_own = own_keeps turn n its.0 (placed id) r.history words₁ homes₁ r.debt (Placing n) v.glance same refl
               (node_hold turn n its.0 born x.number (in_range turn).1 ∙ h.0, h.1) tt (its.0, changed_here r.phase n (placed id) n refl);
           holds = λ m. let a = ap (λ (d : Work). if_file m (held_in d)) works in omega arith;
@@ -228,57 +231,71 @@ module _ (turn : Turn) where
     abbrev words₀ : List ℕ
     words₀ = node_words turn n its_node.0 0
 
-    abbrev rest_after : After turn
-    rest_after = after turn n its_node.0 free r.history words₀ homes₀ r.debt Idle v.glance
+    -- what the pass does afterwards: nothing, or it may place this node again
+    module _ (d : Work) (to : HasNoFile d) (search : SearchAgrees v.start x.number d) (again : (m : ℕ) → d ≡ Searching m → m ≡ n) where
+      abbrev rest_after : After turn
+      rest_after = after turn n its_node.0 free r.history words₀ homes₀ r.debt d v.glance
 
-    resting : Agrees v.start (end turn rest_after)
-    resting = let o = its_log turn in let q = its_node in let c = its_calm in let same = node_slot turn n q.0 0 in
-        node_kept turn n q.0 free r.history words₀ homes₀ r.debt Idle v.glance record {
-          words = length-set st.words (word_of v.start n) 0;
-          homes = length-set st.homes n (some None);
-          grows = grows_none x.number r.history;
-          legal = r.legal;
-          at = refl;
-          fresh = refl;
-          removed = λ m. r.removed m ∙ sym (each_changed (λ i z. removed_in m z ≡ removed_in m (r.phase i)) r.phase
-              (λ is. sym (ap (λ (i : ℕ). removed_in m (r.phase i)) is ∙ q.3 m)) (λ _. refl));
-          slot_words = same;
-          control_word = node_control turn n q.0 0;
-          node_words = λ m l other. node_else turn n q.0 0 m other;
-          home_else = λ m l other. set_else st.homes n m (some None) other;
-          owed_else = λ m other. refl;
-          taken_else = λ m other. sym (c.2 m);
-          free_else = λ m other bad. let a = c.1 in other (omega arith);
-          may = inr (inr q.1);
-          its_block = λ bad. absurd (q.7 bad);
-          at_slot = λ s f is. let bad : None ≡ Some f = sym q.2 ∙ ap file_in is in absurd (cc bad);
-          open_file = λ j u f other there holds is. let bad : None ≡ Some f = sym q.2 ∙ is in cc bad;
-          guards = λ p e other range. guards_else turn n q.0 free r.history words₀ homes₀ r.debt Idle v.glance same p e
-              (node_hold turn n q.0 0 p range.1) refl (λ may. q.4 p may);
-          node = let t = sum_set (taken_of n) st.views id v (w turn rest_after) here in let a = c.2 n in let b = q.5 in
-              rw (node_here turn n q.0 0) record {
-                counts = refl;
-                at_home = set_here st.homes n (some None) (let a = r.shape.homes in let b = q.0 in omega arith);
-                untaken = omega arith;
-                unowed = q.6;
-              };
-          known = tt;
-          held = o.held ∙ c.0;
-          search = tt;
-          its_own = own_keeps turn n q.0 free r.history words₀ homes₀ r.debt Idle v.glance same refl
-              (node_hold turn n q.0 0 x.number (in_range turn).1 ∙ c.3, c.4) tt tt;
-          holds = λ m. let a = ap (if_file m) c.0 in omega arith;
-        }
+      knows : WorkAgrees v.start (changed_at r.phase n free) id d × IsInside v.start d × GuardAgrees (slot_word words₀)
+          (changed_at r.phase n free) x.number (r.debt x.number) d × HoldAgrees 0 0 d
+      knows = ⊎_elim (λ (i : d ≡ Idle). rw i (tt, tt, tt, (refl, refl)))
+          (λ (z : (m : ℕ) × (d ≡ Searching m)). let same = again z.0 z.1 in let l : z.0 < nodes_of v.start = rw same its_node.0 in
+          rw z.1 ((l, changed_here r.phase n free z.0 same), l, tt, (refl, refl))) to
+
+      resting : Agrees v.start (end turn rest_after)
+      resting = let o = its_log turn in let q = its_node in let c = its_calm in let same = node_slot turn n q.0 0 in
+          node_kept turn n q.0 free r.history words₀ homes₀ r.debt d v.glance record {
+            words = length-set st.words (word_of v.start n) 0;
+            homes = length-set st.homes n (some None);
+            grows = grows_none x.number r.history;
+            legal = r.legal;
+            at = refl;
+            fresh = refl;
+            removed = λ m. r.removed m ∙ sym (each_changed (λ i z. removed_in m z ≡ removed_in m (r.phase i)) r.phase
+                (λ is. sym (ap (λ (i : ℕ). removed_in m (r.phase i)) is ∙ q.3 m)) (λ _. refl));
+            slot_words = same;
+            control_word = node_control turn n q.0 0;
+            node_words = λ m l other. node_else turn n q.0 0 m other;
+            home_else = λ m l other. set_else st.homes n m (some None) other;
+            owed_else = λ m other. refl;
+            taken_else = λ m other. no_take to m ∙ sym (c.2 m);
+            free_else = λ m other bad. let a = c.1 in other (omega arith);
+            may = inr (inr q.1);
+            its_block = λ bad. absurd (q.7 bad);
+            at_slot = λ s f is. let bad : None ≡ Some f = sym q.2 ∙ ap file_in is in absurd (cc bad);
+            open_file = λ j u f other there holds is. let bad : None ≡ Some f = sym q.2 ∙ is in cc bad;
+            guards = λ p e other range. guards_else turn n q.0 free r.history words₀ homes₀ r.debt d v.glance same p e
+                (node_hold turn n q.0 0 p range.1) refl (λ may. q.4 p may);
+            node = let t = sum_set (taken_of n) st.views id v (w turn rest_after) here in let a = c.2 n in let b = q.5 in
+                let e = no_take to n in rw (node_here turn n q.0 0) record {
+                  counts = refl;
+                  at_home = set_here st.homes n (some None) (let a = r.shape.homes in let b = q.0 in omega arith);
+                  untaken = omega arith;
+                  unowed = q.6;
+                };
+            known = tt;
+            held = o.held ∙ (c.0 ∙ sym (no_file to));
+            search = search;
+            its_own = own_keeps turn n q.0 free r.history words₀ homes₀ r.debt d v.glance same refl
+                (rw (node_hold turn n q.0 0 x.number (in_range turn).1 ∙ c.3, c.4) knows.3) knows.2 knows.0;
+            holds = λ m. let a = ap (if_file m) c.0 in let b = ap (if_file m) (no_file to) in omega arith;
+          }
+
+    after_rest : HasNoFile (rested v.work) × SearchAgrees v.start x.number (rested v.work) × ((m : ℕ) → rested v.work ≡ Searching m → m ≡ n)
+    after_rest = ⊎_elim (λ (e : v.work ≡ Emptying n). rw e (inl refl, tt, λ m bad. cc bad))
+        (λ (e : v.work ≡ Placing n). let block = rw e at (its_log turn).search in rw e (inr (n, refl), block, λ m is. let same : n ≡ m = cc is in sym same))
+        works
 
     pub rests : (slots : ℕ) (carried : List (ℕ × Option Closed)) → carried ≡ (n, None) ∷ []
         → Made turn carried (word_of v.start n) (λ _. 0) (λ _. Rests (step slots (word_of v.start n) 0 0 none) (v, carried) 0)
-    rests slots carried has = (
-      w turn rest_after,
+    rests slots carried has = let d = rested v.work in let to = after_rest in (
+      w turn (rest_after d to.0 to.1 to.2),
       gives,
       tt,
-      rw has resting,
+      rw has (resting d to.0 to.1 to.2),
       record {
-        stepped = tells turn rest_after carried (rest carried) [] (grows_none x.number r.history) r.legal refl tt;
+        stepped = tells turn (rest_after d to.0 to.1 to.2) carried (rest carried) [] (grows_none x.number r.history) r.legal refl
+            (knows d to.0 to.1 to.2).1;
         carried = refl;
       },
     )

@@ -3,23 +3,23 @@ use Rattle.fx_lasting.proofs.Words.{◌≡◌, ◌≢◌, ℕ, ◌+◌, ◌<◌,
 use Rattle.fx_lasting.proofs.Words.{range_of, NodeAgrees, SearchAgrees, Agrees, ControlCounts, slots_of, nodes_of, IsHistory, state_after_all}
 use Rattle.fx_lasting.proofs.Words.{held_in, held_of, taken_of, taking, Work, Glance, Change, ⊎_elim, ◌⊎◌, inr, control_place, word_of, hold_of}
 use Rattle.fx_lasting.proofs.Words.{count_in, name_in, HoldAgrees, GuardAgrees, WorkAgrees, sum_set, sum_by, get_elem?, length-set, set-get_or}
-use Rattle.fx_lasting.proofs.Words.{owed, seated}
+use Rattle.fx_lasting.proofs.Words.{owed, seated, [], IsSeenBy, part_of_pass}
 use Rattle.fx_lasting.proofs.Histories.{Grows}
 use Rattle.fx_lasting.proofs.Frames.{busy, owner_stays, owner_same, slot_same, node_same, control_same, Leaves, keeps_other, guards_same, covers_same}
 use Rattle.fx_lasting.proofs.Frames.{sees_same, heats_same}
 use Rattle.fx_lasting.proofs.Keeping.{Turn, After, Keeps, word_at, slot_word, step_kept, w, end, its_log, in_range}
 use Rattle.fx_lasting.proofs.Places.{hold_words, hold_here, hold_node, hold_slot, hold_else, hold_control}
 
-module _ (turn : Turn) (h' : List Event) (words' : List ℕ) (d : Work) (g : Glance) (c : Change) where
+module _ (turn : Turn) (h' front : List Event) (words' : List ℕ) (d : Work) (g : Glance) (c : Change) where
   open turn use {st, v, r, id, x, here, one}
 
   abbrev pub calm_after : After turn
   calm_after = record {
     h = h';
+    front = front;
     words = words';
     homes = st.homes;
     phase = r.phase;
-    node_of = r.node_of;
     next_number = r.next_number;
     debt = r.debt;
     over = r.over;
@@ -32,6 +32,8 @@ module _ (turn : Turn) (h' : List Event) (words' : List ℕ) (d : Work) (g : Gla
     pub words : length words' ≡ length st.words
     pub grows : Grows x.number r.history h'
     pub legal : IsHistory v.start h'
+    pub seen : IsSeenBy front h'
+    pub own : part_of_pass x.number h' ≡ part_of_pass x.number front
     pub at : (state_after_all v.start h').at ≡ (state_after_all v.start r.history).at
     pub fresh : (state_after_all v.start h').fresh ≡ (state_after_all v.start r.history).fresh
     pub removed : (state_after_all v.start h').removed ≡ (state_after_all v.start r.history).removed
@@ -53,8 +55,10 @@ module _ (turn : Turn) (h' : List Event) (words' : List ℕ) (d : Work) (g : Gla
         homes = refl;
         grows = s.grows;
         legal = s.legal;
-        slots = λ i l. slot_same (s.slot_words i l) (at_is i) refl (λ f there seat. (refl, refl)) (r.each_slot i l);
-        nodes = λ n l. node_same (slots_of v.start) n (omega arith) (λ m u. refl) (s.node_words n)
+        seen = s.seen;
+        own = s.own;
+        slots = λ i l. slot_same (s.slot_words i l) (at_is i) refl (λ f there seat. refl) (r.each_slot i l);
+        nodes = λ n l. node_same (slots_of v.start) r.node_of n (omega arith) (s.node_words n)
             (let t = sum_set (taken_of n) st.views id v (w turn calm_after) here in let e = s.taken n in omega arith)
             refl refl (r.phase n) (λ i f is there. (at_is i, ap count_in (s.slot_words i (inside n l i f is)))) (r.each_node n l);
         owners = λ n l. ⊎_elim (λ same. owner_same st.views id v (w turn calm_after) here same n (r.phase n) (r.each_owner n l))
@@ -92,7 +96,7 @@ module _ (turn : Turn) (new : ℕ) (d : Work) where
   own_words = hold_words turn x.number (in_range turn).0 (in_range turn).1 new
 
   abbrev pub own_after : (h' : List Event) → After turn
-  own_after h' = calm_after turn h' own_words d v.glance v.change
+  own_after h' = calm_after turn h' h' own_words d v.glance v.change
 
   pub record Own (h' : List Event) : Type 0 where
     pub grows : Grows x.number r.history h'
@@ -112,10 +116,12 @@ module _ (turn : Turn) (new : ℕ) (d : Work) where
 
   pub own_kept : {h' : List Event} → Own h' → Agrees v.start (end turn (own_after h'))
   own_kept {h'} s = let low = (in_range turn).0 in let high = (in_range turn).1 in let same = hold_slot turn x.number low high new in
-      let o = its_log turn in calm_kept turn h' own_words d v.glance v.change record {
+      let o = its_log turn in calm_kept turn h' h' own_words d v.glance v.change record {
         words = length-set st.words (hold_of v.start x.number) new;
         grows = s.grows;
         legal = s.legal;
+        seen = ([], refl);
+        own = refl;
         at = s.at;
         fresh = s.fresh;
         removed = s.removed;
@@ -141,8 +147,11 @@ module _ (turn : Turn) (new : ℕ) (d : Work) where
 module _ (turn : Turn) (d : Work) (g : Glance) where
   open turn use {st, v, r, id, x, here, one}
 
+  abbrev pub read_before : (h' front : List Event) → After turn
+  read_before h' front = calm_after turn h' front st.words d g v.change
+
   abbrev pub read_after : (h' : List Event) → After turn
-  read_after h' = calm_after turn h' st.words d g v.change
+  read_after h' = read_before h' h'
 
   pub record Reads (h' : List Event) : Type 0 where
     pub grows : Grows x.number r.history h'
@@ -158,26 +167,37 @@ module _ (turn : Turn) (d : Work) (g : Glance) where
     pub holds : (n : ℕ) → (state_after_all v.start h').holds n + held_of n v
         ≡ (state_after_all v.start r.history).holds n + held_of n (w turn (read_after h'))
 
-  pub read_kept : {h' : List Event} (i : ℕ) → Reads h' → Agrees v.start record {
-    words = set st.words i (word_at st.words i);
-    homes = st.homes;
-    views = set st.views id (w turn (read_after h'));
-  }
-  read_kept {h'} i s = rw (set-get_or st.words i 0) (calm_kept turn h' st.words d g v.change record {
+  -- the pass may see no more than before
+  pub read_before_kept : {h' : List Event} (front : List Event) (i : ℕ) → IsSeenBy front h' → part_of_pass x.number h' ≡ part_of_pass x.number front
+      → Reads h' → Agrees v.start record {
+        words = set st.words i (word_at st.words i);
+        homes = st.homes;
+        views = set st.views id (w turn (read_before h' front));
+      }
+  read_before_kept {h'} front i seen own s = rw (set-get_or st.words i 0) (calm_kept turn h' front st.words d g v.change record {
     words = refl;
     grows = s.grows;
     legal = s.legal;
+    seen = seen;
+    own = own;
     at = s.at;
     fresh = s.fresh;
     removed = s.removed;
     slot_words = λ s l. refl;
     node_words = λ n. refl;
     hold_words = λ p other more. refl;
-    control = control_same st.views id v (w turn (read_after h')) here refl refl refl r.control;
+    control = control_same st.views id v (w turn (read_before h' front)) here refl refl refl r.control;
     taken = s.taken;
     owners = s.owners;
     held = s.held;
     search = s.search;
-    its = s.its;
+    its = let i = s.its in record { hold = i.hold; guarded = i.guarded; sees = i.sees; heats = i.heats; work = i.work };
     holds = s.holds;
   })
+
+  pub read_kept : {h' : List Event} (i : ℕ) → Reads h' → Agrees v.start record {
+    words = set st.words i (word_at st.words i);
+    homes = st.homes;
+    views = set st.views id (w turn (read_after h'));
+  }
+  read_kept {h'} i s = read_before_kept h' i ([], refl) refl s

@@ -1,14 +1,12 @@
--- Steps on the control word keep the rule: begin, end and ask.
-use Rattle.fx_lasting.proofs.Words.{◌≡◌, ◌≢◌, ℕ, zero, suc, ◌+◌, ◌-◌, ◌/◌, ◌%◌, ◌^◌, ◌<◌, ◌≤◌, List, [], ◌∷◌, set, length, sym, refl, ap, ◌∙◌, subst}
+-- Steps on the control word keep the rule: lower, raise and ask.
+use Rattle.fx_lasting.proofs.Words.{◌≡◌, ◌≢◌, ℕ, zero, suc, ◌+◌, ◌-◌, ◌%◌, ◌^◌, ◌<◌, ◌≤◌, List, [], ◌∷◌, set, length, sym, refl, ap, ◌∙◌, subst}
 use Rattle.fx_lasting.proofs.Words.{arith, get_or-set_other, get_or-set_same, Option, IsSome, dite, some, none, some-injective, some-ne-none}
 use Rattle.fx_lasting.proofs.Words.{ℕ_discrete, get_elem?, keeps, step, sum_by, sum_by-cons, Closed, File, Full, ◌▷◌, Event, event_of, sum_set}
-use Rattle.fx_lasting.proofs.Words.{sum_at, sum_le_at, one_change, bias, range_of, Agrees, ControlCounts, WorkAgrees, lengths, in_change, added}
-use Rattle.fx_lasting.proofs.Words.{removed_by, changes_of, added_of, removed_of, full_in, control_place, slot_place, word_of, hold_of, slots_of}
-use Rattle.fx_lasting.proofs.Words.{state_after_all, IsHistory, Change, Outside, Same, Log, Start, View, Work, Shared, IsInside, Turns, Asks, Stepped}
-use Rattle.fx_lasting.proofs.Words.{BeginsKeep, EndsKeep, AsksKeep, length-set, inl, held_by, Idle, Announced, Counted, Guarded, Owing, Yielding}
-use Rattle.fx_lasting.proofs.Words.{Searching, Placing, Retiring, Emptying, State, Phase, Bool, true, false, ℤ, difference, HasToTell, HasPass, Allows, Sat}
-use Rattle.fx_lasting.proofs.Words.{InRange, begun, MayChange, end_amount_of, inr}
-use Rattle.fx_lasting.specs.declared.view.Change.TheVariants.{More, Less}
+use Rattle.fx_lasting.proofs.Words.{sum_le_at, bias, range_of, Agrees, ControlCounts, WorkAgrees, lengths, owing, owing_of}
+use Rattle.fx_lasting.proofs.Words.{full_in, control_place, slot_place, word_of, hold_of, slots_of}
+use Rattle.fx_lasting.proofs.Words.{state_after_all, IsHistory, Change, Outside, Inside, Log, Start, View, Work, Shared, IsInside, Turns, Asks, Stepped}
+use Rattle.fx_lasting.proofs.Words.{LowersKeep, RaisesKeep, AsksKeep, length-set, inl, held_by, Idle, Announced, Counted, Guarded, Owing, Yielding}
+use Rattle.fx_lasting.proofs.Words.{Searching, Placing, Retiring, Emptying, State, Phase}
 use Rattle.fx_lasting.proofs.Histories.{Grows, grows_none, grows_one, legal_more, part_mine, held_mine, same_shape}
 use Rattle.fx_lasting.proofs.Frames.{control_same, sees_same, heats_same, guards_same, covers_same}
 use Rattle.fx_lasting.proofs.Keeping.{Turn, turn_of, After, word_at, slot_word, Made, by_turn, its_log, its_work, in_range, tells, w, end}
@@ -26,10 +24,9 @@ total_gap {f} {g} (x ∷ xs) zero {v} e each = let p : f x ≡ f v = ap f (some-
 total_gap {f} {g} (x ∷ xs) (suc i) {v} e each = let a = each 0 x refl in let c = sum_by-cons f x xs in
     let d = sum_by-cons g x xs in let b = total_gap xs i e (λ j y d. each (suc j) y d) in omega arith
 
--- a pass has something to report in a change alone, and one slot at most
-pub at_most_one : (c : Change) → (in_change c ≤ 1) × (added c ≤ in_change c) × (removed_by c ≤ in_change c)
-at_most_one Outside = (omega arith, omega arith, omega arith)
-at_most_one _ = (omega arith, omega arith, omega arith)
+one_at_most : (c : Change) → owing c ≤ 1
+one_at_most Outside = omega arith
+one_at_most Inside = omega arith
 
 pub is_inside : (k : Start) (phase : ℕ → Phase) (seat : ℕ) (d : Work) → WorkAgrees k phase seat d → IsInside k d
 is_inside k phase seat Idle o = tt
@@ -44,23 +41,17 @@ is_inside k phase seat (Retiring f n t nx m) o = o.0
 is_inside k phase seat (Emptying n) o = o.0
 
 module _ (k : Start) (s : Shared) (r : Agrees k s) where
-  -- a seat without a pass is in no change
-  pub few_changes : (j : ℕ) (u : View) → get_elem? s.views j ≡ some u → changes_of u ≤ lengths u
-  few_changes j u there = go u.logs refl
+  -- a seat without a pass owes nothing
+  pub few_owing : (j : ℕ) (u : View) → get_elem? s.views j ≡ some u → owing_of u ≤ lengths u
+  few_owing j u there = go u.logs refl
     where
-      go : (l : List Log) → u.logs ≡ l → in_change u.change ≤ length u.logs
-      go [] is = let a = ap in_change ((r.each_view j u there).empty is).2 in omega arith
-      go (z ∷ l) is = let a = at_most_one u.change in let b = ap (length {A = Log}) is in omega arith
+      go : (l : List Log) → u.logs ≡ l → owing u.change ≤ length u.logs
+      go [] is = let a = ap owing ((r.each_view j u there).empty is).2 in omega arith
+      go (z ∷ l) is = let a = one_at_most u.change in let b = ap (length {A = Log}) is in omega arith
 
   pub few_full : full_in (state_after_all k r.history).at (range_of k).0 (range_of k).1 ≤ 256
   few_full = let a = full_few (state_after_all k r.history).at (range_of k).0 (range_of k).1 in
       let b = r.shape.range in let c = r.shape.slots in omega arith
-
-  pub few_removed : sum_by removed_of s.views ≤ sum_by changes_of s.views
-  few_removed = sum_le_at removed_of changes_of s.views (λ j u e. (at_most_one u.change).2)
-
-  pub few_added : sum_by added_of s.views ≤ sum_by changes_of s.views
-  few_added = sum_le_at added_of changes_of s.views (λ j u e. (at_most_one u.change).1)
 
 -- A step that leaves the pass at its work
 module _ (turn : Turn) where
@@ -110,16 +101,18 @@ module _ (turn : Turn) where
     read_else place other = get_or-set_other st.words control_place place y 0 other
 
     abbrev turn_after : After turn
-    turn_after = calm_after turn h' words' v.work v.glance c
+    turn_after = calm_after turn h' h' words' v.work v.glance c
 
     wrote : Quiet h' → ControlCounts at_now range (set st.views id (w turn turn_after)) y → Agrees v.start (end turn turn_after)
     wrote q counts = let o = its_log turn in let same : (s : ℕ) → s < slots_of v.start → slot_word words' s ≡ slot_word st.words s =
         λ s l. read_else (slot_place s) (λ bad. omega arith) in
         let own = guards_same turn turn_after x.number v.work (read_else (hold_of v.start x.number) (λ bad. let a = (in_range turn).0 in omega arith)) refl
-        (covers_same turn words' same x.number) o.hold o.guarded in calm_kept turn h' words' v.work v.glance c record {
+        (covers_same turn words' same x.number) o.hold o.guarded in calm_kept turn h' h' words' v.work v.glance c record {
           words = length-set st.words control_place y;
           grows = q.grows;
           legal = q.legal;
+          seen = ([], refl);
+          own = refl;
           at = ap (λ (z : State). z.at) q.state;
           fresh = ap (λ (z : State). z.fresh) q.state;
           removed = ap (λ (z : State). z.removed) q.state;
@@ -142,65 +135,49 @@ module _ (turn : Turn) where
           holds = λ n. let e = ap (λ (z : State). z.holds n) q.state in omega arith;
         }
 
-  -- fewer passes than there are numbers in half a word are in a change beside this one
-  few_others : sum_by changes_of st.views + 1 ≤ 1024 + in_change v.change
-  few_others = omega (arith, total_gap st.views id here (few_changes v.start st r), r.whole, r.shape.passes, ap (length {A = Log}) one)
+  -- fewer passes than the bias owe a slot beside this one
+  few_others : sum_by owing_of st.views + 1 ≤ 1024 + owing v.change
+  few_others = omega (arith, total_gap st.views id here (few_owing v.start st r), r.whole, r.shape.passes, ap (length {A = Log}) one)
 
   module _ (fits : word < 18446744073709551616) where
-    begin_counts : v.change ≡ Outside
-        → ControlCounts at_now range (set st.views id (w turn (turn_after ((word + one_change) % 2 ^ 64) Same r.history))) ((word + one_change) % 2 ^ 64)
-    begin_counts out = let w' = w turn (turn_after ((word + one_change) % 2 ^ 64) Same r.history) in
-        let a = sum_set changes_of st.views id v w' here in let b = sum_set added_of st.views id v w' here in
-        let d = sum_set removed_of st.views id v w' here in
-        let a' = ap in_change out in let b' = ap added out in let d' = ap removed_by out in let s = few_others in
-        let u = r.control.upper in let l = r.control.lower in
-        let sum : (word + 4294967296) % 2 ^ 64 ≡ word + 4294967296 = omega arith in
-        record { upper = omega arith; lower = omega arith }
+    lower_counts : v.change ≡ Outside → ControlCounts at_now range
+        (set st.views id (w turn (turn_after ((word + (2 ^ 64 - 1)) % 2 ^ 64) Inside r.history))) ((word + (2 ^ 64 - 1)) % 2 ^ 64)
+    lower_counts out = let w' = w turn (turn_after ((word + (2 ^ 64 - 1)) % 2 ^ 64) Inside r.history) in
+        let a = sum_set owing_of st.views id v w' here in let b = ap owing out in let s = few_others in let u = r.control.counts in
+        let diff : (word + (2 ^ 64 - 1)) % 2 ^ 64 ≡ word - 1 = sub_wraps {k = 1} (omega arith) fits (omega arith) in
+        record { counts = omega arith }
 
-    -- the difference is reported: amount is 2^32 less it
-    end_counts : (amount : ℕ) → in_change v.change ≡ 1 → amount + added v.change ≡ one_change + removed_by v.change
-        → ControlCounts at_now range (set st.views id (w turn (turn_after ((word + (2 ^ 64 - amount)) % 2 ^ 64) Outside r.history)))
-        ((word + (2 ^ 64 - amount)) % 2 ^ 64)
-    end_counts amount in_now amount_is = let w' = w turn (turn_after ((word + (2 ^ 64 - amount)) % 2 ^ 64) Outside r.history) in
-        let a = sum_set changes_of st.views id v w' here in let b = sum_set added_of st.views id v w' here in
-        let d = sum_set removed_of st.views id v w' here in
-        let s = few_others in let u = r.control.upper in let l = r.control.lower in let ff = few_full v.start st r in
-        let fr = few_removed v.start st r in let fa = few_added v.start st r in
-        let o1 = sum_at added_of st.views id v here in let l1 = sum_at removed_of st.views id v here in
-        let f1 = sum_at changes_of st.views id v here in
-        let x1 = at_most_one v.change in
-        let big : amount ≤ word = omega arith in
-        let diff : (word + (2 ^ 64 - amount)) % 2 ^ 64 ≡ word - amount = sub_wraps big fits (omega arith) in
-        record { upper = omega arith; lower = omega arith }
+    raise_counts : v.change ≡ Inside → ControlCounts at_now range
+        (set st.views id (w turn (turn_after ((word + 1) % 2 ^ 64) Outside r.history))) ((word + 1) % 2 ^ 64)
+    raise_counts inside = let w' = w turn (turn_after ((word + 1) % 2 ^ 64) Outside r.history) in
+        let a = sum_set owing_of st.views id v w' here in let b = ap owing inside in let u = r.control.counts in
+        let few = few_full v.start st r in let sum : (word + 1) % 2 ^ 64 ≡ word + 1 = omega arith in
+        record { counts = omega arith }
 
-  -- a word that says so: nobody is in a change, and every slot of the range is full
+  -- a word that says so: it counts as many full slots as the range has, and never more than there are
   says_so : word ≡ bias + range.1 → (slot : ℕ) → range.0 ≤ slot → slot < range.0 + range.1 → IsSome (at_now slot)
-  says_so is = let a = few_added v.start st r in let b = few_removed v.start st r in
-      let u = r.control.upper in let l = r.control.lower in let few = r.shape.range in let few' = r.shape.slots in
-      let up : word / 4294967296 ≡ 0 = omega arith in let low : word % 4294967296 ≡ 65536 + range.1 = omega arith in
-      full_all at_now range.0 range.1 (omega arith)
+  says_so is = let u = r.control.counts in let a = full_few at_now range.0 range.1 in full_all at_now range.0 range.1 (omega arith)
 
   goes_on : (y : ℕ) (c : Change) (carried : List (ℕ × Option Closed)) → Stepped (v, carried) [] v.work v.glance c (w turn (turn_after y c r.history), carried)
   goes_on y c carried = tells turn (turn_after y c r.history) carried carried [] (grows_none x.number r.history) r.legal refl its_inside
 
-  begin : (slots : ℕ) (carried : List (ℕ × Option Closed)) → word < 18446744073709551616 → v.change ≡ Outside
-      → Made turn carried control_place (λ word. (word + one_change) % 2 ^ 64) (Turns Same (step slots control_place one_change 0 none) (v, carried))
-  begin slots carried fits out = let y = (word + one_change) % 2 ^ 64 in (
-    w turn (turn_after y Same r.history),
+  lower : (slots : ℕ) (carried : List (ℕ × Option Closed)) → word < 18446744073709551616 → v.change ≡ Outside
+      → Made turn carried control_place (λ word. (word + (2 ^ 64 - 1)) % 2 ^ 64) (Turns Inside (step slots control_place 1 0 none) (v, carried))
+  lower slots carried fits out = let y = (word + (2 ^ 64 - 1)) % 2 ^ 64 in (
+    w turn (turn_after y Inside r.history),
     keeps,
     tt,
-    wrote y Same r.history no_event (begin_counts fits out),
-    record { stepped = goes_on y Same carried; carried = refl },
+    wrote y Inside r.history no_event (lower_counts fits out),
+    record { stepped = goes_on y Inside carried; carried = refl },
   )
 
-  ending : (slots amount : ℕ) (carried : List (ℕ × Option Closed)) → word < 18446744073709551616 → in_change v.change ≡ 1
-      → amount + added v.change ≡ one_change + removed_by v.change
-      → Made turn carried control_place (λ word. (word + (2 ^ 64 - amount)) % 2 ^ 64) (Turns Outside (step slots control_place amount 0 none) (v, carried))
-  ending slots amount carried fits in_now amount_is = let y = (word + (2 ^ 64 - amount)) % 2 ^ 64 in (
+  raise : (slots : ℕ) (carried : List (ℕ × Option Closed)) → word < 18446744073709551616 → v.change ≡ Inside
+      → Made turn carried control_place (λ word. (word + 1) % 2 ^ 64) (Turns Outside (step slots control_place 1 0 none) (v, carried))
+  raise slots carried fits inside = let y = (word + 1) % 2 ^ 64 in (
     w turn (turn_after y Outside r.history),
     keeps,
     tt,
-    wrote y Outside r.history no_event (end_counts fits amount in_now amount_is),
+    wrote y Outside r.history no_event (raise_counts fits inside),
     record { stepped = goes_on y Outside carried; carried = refl },
   )
 
@@ -231,35 +208,16 @@ module _ (turn : Turn) where
         record { full = λ is. absurd (not_so is); not_full = λ _. record { stepped = goes_on word v.change carried; carried = refl } },
       ))
 
-pub begins_keep : BeginsKeep (Turns Same)
-begins_keep k slots id i m x has out place = by_turn slots (λ _. Unit {0}) (λ _. control_place) (λ word. (word + one_change) % 2 ^ 64)
-    (λ i. Turns Same (step slots i one_change 0 none) m) has tt place
-    (λ st r here _ fits. begin (turn_of m x has.1 id st r here) slots m.1 fits out)
+pub lowers_keep : LowersKeep (Turns Inside)
+lowers_keep k slots id i m x has out place = by_turn slots (λ _. Unit {0}) (λ _. control_place) (λ word. (word + (2 ^ 64 - 1)) % 2 ^ 64)
+    (λ i. Turns Inside (step slots i 1 0 none) m) has tt place
+    (λ st r here _ fits. lower (turn_of m x has.1 id st r here) slots m.1 fits out)
 
-pub ends_keep : EndsKeep (Turns Outside)
-ends_keep k slots id i amount m x has in_now amount_is place = by_turn slots (λ _. Unit {0}) (λ _. control_place)
-    (λ word. (word + (2 ^ 64 - amount)) % 2 ^ 64) (λ i. Turns Outside (step slots i amount 0 none) m) has tt place
-    (λ st r here _ fits. ending (turn_of m x has.1 id st r here) slots amount m.1 fits in_now amount_is)
+pub raises_keep : RaisesKeep (Turns Outside)
+raises_keep k slots id i m x has inside place = by_turn slots (λ _. Unit {0}) (λ _. control_place) (λ word. (word + 1) % 2 ^ 64)
+    (λ i. Turns Outside (step slots i 1 0 none) m) has tt place
+    (λ st r here _ fits. raise (turn_of m x has.1 id st r here) slots m.1 fits inside)
 
 pub asks_keep : AsksKeep Asks
 asks_keep k slots id i m x has place = by_turn slots (λ _. Unit {0}) (λ _. control_place) (λ word. word)
     (λ i. Asks (step slots i 0 0 none) m) has tt place (λ st r here _ fits. ask (turn_of m x has.1 id st r here) slots m.1)
-
--- the amount that a pass with this difference subtracts
-amount_told : (c : Change) {delta : ℤ} {amount : ℕ} → in_change c ≡ 1 → difference c ≡ delta → amount ≡ end_amount_of delta
-    → amount + added c ≡ one_change + removed_by c
-amount_told Outside one d e = absurd (omega arith)
-amount_told Same one d e = let f = e ∙ ap end_amount_of (sym d) in omega arith
-amount_told More one d e = let f = e ∙ ap end_amount_of (sym d) in omega arith
-amount_told Less one d e = let f = e ∙ ap end_amount_of (sym d) in omega arith
-
-pub ends_by : {k : Start} (slots id : ℕ) {i amount : ℕ} {delta : ℤ} {m : Sat} {x : Log} → HasPass k m x → HasToTell true delta m.0.change
-    → amount ≡ end_amount_of delta → i ≡ control_place
-    → Allows (Agrees k) slots id m i (λ word. (word + (2 ^ 64 - amount)) % 2 ^ 64) (Turns Outside (step slots i amount 0 none) m)
-ends_by {k} slots id {i} {amount} {delta} {m} {x} its tells is place =
-    ends_keep k slots id i amount m x its tells.0 (amount_told m.0.change tells.0 tells.1 is) place
-
--- a pass that began a change where it had to may change the slot
-pub may_change : (k : Start) {slot : ℕ} (began : Bool) {c : Change} → InRange k slot began → c ≡ begun began → MayChange k slot c
-may_change k true range is = inl (range, is)
-may_change k false range is = inr (range, is)

@@ -38,15 +38,6 @@ tally_at f (suc n) p low high is = dite (ℕ_discrete p (suc n))
     (λ same. let b = ap one_if (sym (ap f same) ∙ is) in omega arith)
     (λ other. let a = tally_at f n p low (omega arith) is in omega arith)
 
--- two that count
-pub tally_two : (f : ℕ → Bool) (n p q : ℕ) → 0 < p → p ≤ n → 0 < q → q ≤ n → p ≢ q → f p ≡ true → f q ≡ true → 2 ≤ tally f n
-tally_two f zero p q a b c d ne x y = absurd (omega arith)
-tally_two f (suc n) p q a b c d ne x y = dite (ℕ_discrete p (suc n))
-    (λ same. let z = tally_at f n q c (omega arith) y in let w = ap one_if (sym (ap f same) ∙ x) in omega arith)
-    (λ other. dite (ℕ_discrete q (suc n))
-    (λ same. let z = tally_at f n p a (omega arith) x in let w = ap one_if (sym (ap f same) ∙ y) in omega arith)
-    (λ not_q. let z = tally_two f n p q a (omega arith) c (omega arith) ne x y in omega arith))
-
 -- a debt of one pass becomes another one
 pub owed_changed : (debt : ℕ → ℕ) (n p value : ℕ) → 0 < p → p ≤ n → (node : ℕ)
     → owed (changed_at debt p value) n node + one_if (eqb (debt p) (node + 1)) ≡ owed debt n node + one_if (eqb value (node + 1))
@@ -58,11 +49,6 @@ owed_changed debt n p value low high node =
 -- who owes to a node
 pub owed_at : (debt : ℕ → ℕ) (n p node : ℕ) → 0 < p → p ≤ n → debt p ≡ node + 1 → 1 ≤ owed debt n node
 owed_at debt n p node low high is = tally_at (λ q. eqb (debt q) (node + 1)) n p low high (eq-eqb (debt p) (node + 1) is)
-
-pub owed_two : (debt : ℕ → ℕ) (n p q node : ℕ) → 0 < p → p ≤ n → 0 < q → q ≤ n → p ≢ q → debt p ≡ node + 1 → debt q ≡ node + 1
-    → 2 ≤ owed debt n node
-owed_two debt n p q node a b c d ne x y = tally_two (λ q. eqb (debt q) (node + 1)) n p q a b c d ne
-    (eq-eqb (debt p) (node + 1) x) (eq-eqb (debt q) (node + 1) y)
 
 bit_true : (b : Bool) → one_if b ≡ 1 → b ≡ true
 bit_true true is = refl

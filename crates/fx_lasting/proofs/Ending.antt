@@ -1,34 +1,36 @@
 -- The end, when one seat has all passes again, and does nothing: everything is settled, and each file is at its slot.
 use Rattle.fx_lasting.proofs.Words.{◌≡◌, ℕ, suc, ◌<◌, ◌≤◌, map, sym, ap, ◌∙◌, subst, arith, Option, Some, None, sum_by, dite, some, dec_le, get_elem?}
-use Rattle.fx_lasting.proofs.Words.{Closed, State, IsSettled, File, sum_zero_at, ℕ_discrete, Does, OwnerAgrees, NodeAgrees, HoldAgrees, Agrees}
-use Rattle.fx_lasting.proofs.Words.{Shared, slots_of, nodes_of, word_of, hold_of, state_after_all, start_of, held_in, held_of, if_file, taken_of}
-use Rattle.fx_lasting.proofs.Words.{taking, owed, count_in, Phase, free, placed, seated, leaving, retired, emptied, removed_in, Start, View, Work}
-use Rattle.fx_lasting.proofs.Words.{Idle, IsSeated, action_of, refl}
+use Rattle.fx_lasting.proofs.Words.{Closed, State, IsSettled, File, sum_zero_at, ℕ_discrete, Does, OwnerAgrees, NodeAgrees, Agrees}
+use Rattle.fx_lasting.proofs.Words.{Shared, slots_of, nodes_of, word_of, state_after_all, start_of, held_of, if_file, taken_of}
+use Rattle.fx_lasting.proofs.Words.{owed, count_in, Phase, free, placed, seated, leaving, retired, emptied, removed_in, Start, View, Work}
+use Rattle.fx_lasting.proofs.Words.{HasNoFile, IsSeated, action_of, refl}
+use Rattle.fx_lasting.proofs.Choosing.{no_file, no_take, not_busy, holds_none}
+use Rattle.fx_lasting.proofs.Frames.{busy}
 use Rattle.fx_plain.proofs.AtRest.{inside_behind, opens_inside}
 use Rattle.fx_lasting.proofs.Counts.{owed_found}
 use Rattle.fx_lasting.proofs.Histories.{same_shape}
 use Rattle.fx_lasting.proofs.Keeping.{word_at, slot_word, find_pass}
 
 -- no pass does anything
-module _ {k : Start} {s : Shared} (r : Agrees k s) (all_idle : (i : ℕ) (u : View) → get_elem? s.views i ≡ some u → u.work ≡ Idle) where
+module _ {k : Start} {s : Shared} (r : Agrees k s) (all_idle : (i : ℕ) (u : View) → get_elem? s.views i ≡ some u → HasNoFile u.work) where
   abbrev end : State
   end = state_after_all k r.history
 
   -- no pass works with a node
-  nobody : (i : ℕ) {w : Work} → Does s.views i w → w ≡ Idle
-  nobody i d = sym d.2 ∙ all_idle i d.0 d.1
+  nobody : (i : ℕ) {w : Work} → Does s.views i w → busy w ≡ 0
+  nobody i d = sym (ap busy d.2) ∙ not_busy (all_idle i d.0 d.1)
 
   unheld : (n : ℕ) → end.holds n ≡ 0
-  unheld n = r.holds n ∙ sum_zero_at (held_of n) s.views (λ i u e. ap (λ (d : Work). if_file n (held_in d)) (all_idle i u e))
+  unheld n = r.holds n ∙ sum_zero_at (held_of n) s.views (λ i u e. ap (if_file n) (no_file (all_idle i u e)))
 
   untaken : (n : ℕ) → sum_by (taken_of n) s.views ≡ 0
-  untaken n = sum_zero_at (taken_of n) s.views (λ i u e. ap (taking n) (all_idle i u e))
+  untaken n = sum_zero_at (taken_of n) s.views (λ i u e. no_take (all_idle i u e) n)
 
   unowed : (n : ℕ) → owed r.debt k.passes n ≡ 0
   unowed n = dite (ℕ_discrete (owed r.debt k.passes n) 0) (λ none. none) (λ some_owed. absurd (
       let z = owed_found r.debt k.passes n (omega (arith, some_owed)) in let y = find_pass r z.1 z.2 in
       let h = ((r.each_view y.0 y.1 y.3).logs y.2 y.4).hold in
-      let i = subst (HoldAgrees (word_at s.words (hold_of k y.2.number)) (r.debt y.2.number)) (all_idle y.0 y.1 y.3) h in
+      let i = holds_none (all_idle y.0 y.1 y.3) h in
       let e = ap r.debt y.5 in omega (arith, z.3, i.1, e)))
 
   abbrev Node : ℕ → Phase → Type 0
@@ -36,7 +38,7 @@ module _ {k : Start} {s : Shared} (r : Agrees k s) (all_idle : (i : ℕ) (u : Vi
       (sum_by (taken_of n) s.views) (owed r.debt k.passes n) (get_elem? s.homes n)
 
   removed_none : (m n : ℕ) (ph : Phase) → Node n ph → OwnerAgrees s.views n ph → removed_in m ph ≡ None
-  removed_none m n (leaving i t nx z f) a o = let bad = nobody i o in absurd (cc bad)
+  removed_none m n (leaving i t nx z f) a o = let bad = nobody i o in absurd (omega arith)
   removed_none m n (retired f) a o = let w = a.somebody in let h = untaken n in let q = unowed n in absurd (omega arith)
   removed_none m n free a o = refl
   removed_none m n (placed i) a o = refl
@@ -59,15 +61,15 @@ module _ {k : Start} {s : Shared} (r : Agrees k s) (all_idle : (i : ℕ) (u : Vi
   home_by : {n : ℕ} (ph : Phase) → Node n ph → OwnerAgrees s.views n ph
       → (x : Option Closed) × (get_elem? s.homes n ≡ some (some x)) × AtItsSlot n x
   home_by {n} free a o = (None, a.at_home, λ file e. absurd (cc e))
-  home_by {n} (placed i) a o = let bad = nobody i o in absurd (cc bad)
+  home_by {n} (placed i) a o = let bad = nobody i o in absurd (omega arith)
   home_by {n} (seated slot f) a o = (
     Some f.identity,
     a.file.at_home,
     λ other e. (slot, f, a.inside, a.there, cc e, a.file.its_node),
   )
-  home_by {n} (leaving i t nx z f) a o = let bad = nobody i o in absurd (cc bad)
+  home_by {n} (leaving i t nx z f) a o = let bad = nobody i o in absurd (omega arith)
   home_by {n} (retired f) a o = let w = a.somebody in let h = untaken n in let q = unowed n in absurd (omega arith)
-  home_by {n} (emptied i) a o = let bad = nobody i o in absurd (cc bad)
+  home_by {n} (emptied i) a o = let bad = nobody i o in absurd (omega arith)
 
   pub home_file : {n : ℕ} → n < nodes_of k → (x : Option Closed) × (get_elem? s.homes n ≡ some (some x)) × AtItsSlot n x
   home_file {n} l = home_by (r.phase n) (r.each_node n l) (r.each_owner n l)

@@ -6,7 +6,7 @@ use Rattle.fx_lasting.proofs.Words.{ControlCounts, HoldAgrees, GuardAgrees, Does
 use Rattle.fx_lasting.proofs.Words.{HasFile, IsVacant, name_in, count_in, word_of, hold_of, slots_of, nodes_of, state_after_all, held_in, Nodes}
 use Rattle.fx_lasting.proofs.Words.{block_for, block_start, Start, tally, Phase, free, placed, seated, leaving, retired, emptied, owner, Glance, Log}
 use Rattle.fx_lasting.proofs.Words.{View, Work, Idle, Announced, Counted, Guarded, Owing, Yielding, Searching, Placing, Retiring, Emptying, Nothing}
-use Rattle.fx_lasting.proofs.Words.{Hot, Cold, Heating, taken_of, owed, sum_by, suc, changes_of, added_of, removed_of, in_change, added, removed_by}
+use Rattle.fx_lasting.proofs.Words.{Hot, Cold, Heating, taken_of, owed, sum_by, suc, owing_of, owing}
 use Rattle.fx_lasting.proofs.Words.{full_in}
 use Rattle.fx_lasting.proofs.Keeping.{Turn, After, Keeps, w, word_at, slot_word}
 
@@ -63,25 +63,23 @@ module _ (views : List View) (id : ℕ) (v w : View) (here : get_elem? views id 
       → full_in at' range.0 range.1 ≡ full_in at range.0 range.1 → word' ≡ word → w.change ≡ v.change
       → ControlCounts at range views word → ControlCounts at' range (set views id w) word'
   control_same full same change ok =
-      let a = sum_set changes_of views id v w here in let b = sum_set added_of views id v w here in let c = sum_set removed_of views id v w here in
-      let d = ap in_change change in let e = ap added change in let f = ap removed_by change in
-      let u = ok.upper in let l = ok.lower in rw same record { upper = omega arith; lower = omega arith }
+      let a = sum_set owing_of views id v w here in let d = ap owing change in let u = ok.counts in rw same record { counts = omega arith }
 
 -- a file whose number and place have not changed
-pub file_same : {node_of node_of' : Nodes} {next next' n : ℕ} {home home' : Home} {f : File} → next ≤ next'
-    → ((m : ℕ) → m < next → node_of' m ≡ node_of m) → home' ≡ home → HasFile node_of next n home f → HasFile node_of' next' n home' f
-file_same {f = f} later numbers homed o = let u = o.used in record {
+pub file_same : {node_of : Nodes} {next next' n : ℕ} {home home' : Home} {f : File} → next ≤ next' → home' ≡ home → HasFile node_of next n home f
+    → HasFile node_of next' n home' f
+file_same later homed o = let u = o.used in record {
   at_home = homed ∙ o.at_home;
-  its_node = numbers f.number o.used ∙ o.its_node;
+  its_node = o.its_node;
   used = omega arith;
 }
 
 -- a node of which nothing has changed
-module _ {at at' : ℕ → Option File} (size : ℕ) {takes_at takes_at' : ℕ → ℕ} {node_of node_of' : Nodes} {next next' : ℕ} (n : ℕ)
-    {word word' taken taken' owing owing' : ℕ} {home home' : Home} (later : next ≤ next') (numbers : (m : ℕ) → m < next → node_of' m ≡ node_of m)
-    (worded : word' ≡ word) (counted : taken' ≡ taken) (owed : owing' ≡ owing) (homed : home' ≡ home) where
+module _ {at at' : ℕ → Option File} (size : ℕ) {takes_at takes_at' : ℕ → ℕ} (node_of : Nodes) {next next' : ℕ} (n : ℕ)
+    {word word' taken taken' owing owing' : ℕ} {home home' : Home} (later : next ≤ next') (worded : word' ≡ word) (counted : taken' ≡ taken)
+    (owed : owing' ≡ owing) (homed : home' ≡ home) where
   vacant_same : {first : ℕ} {lies : Home} → IsVacant at size takes_at node_of next n word taken owing home first lies
-      → IsVacant at' size takes_at' node_of' next' n word' taken' owing' home' first lies
+      → IsVacant at' size takes_at' node_of next' n word' taken' owing' home' first lies
   vacant_same o = record {
     counts = worded ∙ o.counts;
     at_home = homed ∙ o.at_home;
@@ -91,45 +89,44 @@ module _ {at at' : ℕ → Option File} (size : ℕ) {takes_at takes_at' : ℕ �
 
   pub node_same : (ph : Phase) → ((s : ℕ) (f : File) → ph ≡ seated s f → at s ≡ Some f → (at' s ≡ at s) × (takes_at' s ≡ takes_at s))
       → NodeAgrees at size takes_at node_of next n word taken owing home ph
-      → NodeAgrees at' size takes_at' node_of' next' n word' taken' owing' home' ph
+      → NodeAgrees at' size takes_at' node_of next' n word' taken' owing' home' ph
   node_same free same o = vacant_same o
   node_same (placed j) same o = vacant_same o
   node_same (seated s f) same o = let z = same s f refl o.there in let a = o.counts in let b = z.1 in record {
-    file = file_same later numbers homed o.file;
+    file = file_same later homed o.file;
     counts = omega arith;
     unowed = owed ∙ o.unowed;
     inside = o.inside;
     there = z.0 ∙ o.there;
   }
   node_same (leaving j t nx m f) same o = let a = o.counts in record {
-    file = file_same later numbers homed o.file;
+    file = file_same later homed o.file;
     counts = omega arith;
     few_takes = o.few_takes;
     few_marks = o.few_marks;
     few_visits = o.few_visits;
   }
   node_same (retired f) same o = let a = o.counts in let b = o.somebody in record {
-    file = file_same later numbers homed o.file;
+    file = file_same later homed o.file;
     counts = omega arith;
     somebody = omega arith;
   }
   node_same (emptied j) same o = vacant_same o
 
 -- a slot whose word and file stay
-pub slot_same : {k : Start} {node_of node_of' : Nodes} {phase phase' : ℕ → Phase} {over over' : ℕ → Bool} {slot word word' : ℕ}
+pub slot_same : {k : Start} {node_of : Nodes} {phase phase' : ℕ → Phase} {over over' : ℕ → Bool} {slot word word' : ℕ}
     {there there' : Option File} → word' ≡ word → there' ≡ there → tally over' k.passes ≡ tally over k.passes
-    → ((f : File) → there ≡ Some f → phase (node_of f.number) ≡ seated slot f
-    → (node_of' f.number ≡ node_of f.number) × (phase' (node_of f.number) ≡ phase (node_of f.number)))
-    → SlotAgrees k node_of phase over slot there word → SlotAgrees k node_of' phase' over' slot there' word'
-slot_same {k} {node_of} {node_of'} {phase} {phase'} {over} {over'} {slot} {word} {word'} {there} same_word same_file as_many same so =
+    → ((f : File) → there ≡ Some f → phase (node_of f.number) ≡ seated slot f → phase' (node_of f.number) ≡ phase (node_of f.number))
+    → SlotAgrees k node_of phase over slot there word → SlotAgrees k node_of phase' over' slot there' word'
+slot_same {k} {node_of} {phase} {phase'} {over} {over'} {slot} {word} {word'} {there} same_word same_file as_many same so =
     rw (same_word, same_file) (go there refl so)
   where
     go : (found : Option File) → there ≡ found → SlotAgrees k node_of phase over slot found word
-        → SlotAgrees k node_of' phase' over' slot found word
+        → SlotAgrees k node_of phase' over' slot found word
     go None is o = record { names = o.names; seat = tt; takes = let t = o.takes in omega arith }
-    go (Some f) is o = let z = same f is o.seat.1 in record {
-      names = (let a = o.names.0 in let b = z.0 in omega arith, o.names.1);
-      seat = rw z.0 (o.seat.0, z.1 ∙ o.seat.1);
+    go (Some f) is o = record {
+      names = o.names;
+      seat = (o.seat.0, same f is o.seat.1 ∙ o.seat.1);
       takes = let t = o.takes in omega arith;
     }
 

@@ -1,8 +1,8 @@
 -- The control word when a slot changes.
-use Rattle.fx_lasting.proofs.Words.{◌≡◌, ◌≢◌, ℕ, zero, suc, ◌+◌, ◌<◌, ◌≤◌, List, set, sym, refl, ap, ◌⊎◌, inl, inr, arith, Option, Some, None, IsSome}
-use Rattle.fx_lasting.proofs.Words.{subst, dite, some, ℕ_discrete, get_elem?, changed_at, File, sum_set, in_change, added, removed_by, changes_of}
-use Rattle.fx_lasting.proofs.Words.{added_of, removed_of, if_full, full_in, ControlCounts, turned, Change, Outside, Same, View, changed, changed_here}
-use Rattle.fx_lasting.proofs.Words.{changed_else}
+use Rattle.fx_lasting.proofs.Words.{◌≡◌, ◌≢◌, ℕ, zero, suc, ◌+◌, ◌<◌, ◌≤◌, List, set, sym, refl, ap, ◌∙◌, arith, Option, Some, None, IsSome, Bool, true}
+use Rattle.fx_lasting.proofs.Words.{false, cond, nat_lt, lt-ltb, le-ltb, dec_le, subst, dite, some, ℕ_discrete, get_elem?, changed_at, File, sum_set}
+use Rattle.fx_lasting.proofs.Words.{owing, owing_of, if_full, full_in, ControlCounts, is_in, uncounted, View, changed_here, changed_else}
+use Rattle.std.specs.Prelude.{is_some, not}
 
 pub full_else : (at : ℕ → Option File) (s : ℕ) (new : Option File) (off len : ℕ) → ((i : ℕ) → i < len → off + i ≢ s)
     → full_in (changed_at at s new) off len ≡ full_in at off len
@@ -44,36 +44,55 @@ full_all at off (suc len) e slot low high = let a = full_few at off len in let b
     (λ same. subst (λ (i : ℕ). IsSome (at i)) (sym same) (some_full (at (off + len)) (omega arith)))
     (λ else. full_all at off len (omega arith) slot low (omega arith))
 
--- a slot in the range and a pass in a change, or both outside
-abbrev pub Stands : ℕ × ℕ → ℕ → Change → Type 0
-Stands range s change = (((range.0 ≤ s) × (s < range.0 + range.1)) × (change ≡ Same))
-    ⊎ (((s < range.0) ⊎ (range.0 + range.1 ≤ s)) × (change ≡ Outside))
+-- what the count of full slots has of a slot with this file
+abbrev pub counted : Bool → Option File → ℕ
+counted b found = cond b (if_full found) 0
 
-changed_so : (old new : ℕ) → old ≤ 1 → new ≤ 1
-    → (in_change (changed old new) ≡ 1) × (added (changed old new) + old ≡ removed_by (changed old new) + new)
-changed_so zero zero a b = (refl, refl)
-changed_so (suc o) zero a b = (refl, omega arith)
-changed_so _ _ a b = (refl, omega arith)
+-- a slot before the range, and one after its first slot
+before : (range : ℕ × ℕ) (s : ℕ) → s < range.0 → is_in range s ≡ false
+before range s low = ap (λ (b : Bool). cond b false (nat_lt s (range.0 + range.1))) (lt-ltb s range.0 low)
 
--- the report that a pass then owes makes up for the full slots that the range gains
-turned_counts : (at : ℕ → Option File) (range : ℕ × ℕ) (s : ℕ) (old new : Option File) (c : Change) → at s ≡ old → Stands range s c
-    → (in_change (turned c (if_full old) (if_full new)) ≡ in_change c)
-    × (full_in (changed_at at s new) range.0 range.1 + added c + removed_by (turned c (if_full old) (if_full new))
-    ≡ full_in at range.0 range.1 + removed_by c + added (turned c (if_full old) (if_full new)))
-turned_counts at range s old new Same was (inl inside) = let n = changed_so (if_full old) (if_full new) (full_one old) (full_one new) in
-    let g = full_here at s new range.0 range.1 inside.0.0 inside.0.1 in let p : if_full (at s) ≡ if_full old = ap if_full was in (n.0, omega arith)
-turned_counts at range s old new Outside was (inr outside) =
-    let g = full_else at s new range.0 range.1 (λ i l bad. omega (arith, outside.0)) in (refl, omega arith)
-turned_counts at range s old new _ was (inl inside) = absurd (cc inside.1)
-turned_counts at range s old new _ was (inr outside) = absurd (cc outside.1)
+not_before : (range : ℕ × ℕ) (s : ℕ) → range.0 ≤ s → is_in range s ≡ nat_lt s (range.0 + range.1)
+not_before range s high = ap (λ (b : Bool). cond b false (nat_lt s (range.0 + range.1))) (le-ltb s range.0 high)
+
+-- a slot of the range
+pub in_range_so : (range : ℕ × ℕ) (s : ℕ) → range.0 ≤ s → s < range.0 + range.1 → is_in range s ≡ true
+in_range_so range s low high = not_before range s low ∙ lt-ltb s (range.0 + range.1) high
+
+module _ (at : ℕ → Option File) (range : ℕ × ℕ) (s : ℕ) (new : Option File) where
+  abbrev Swapped : Bool → Type 0
+  Swapped b = full_in (changed_at at s new) range.0 range.1 + counted b (at s) ≡ full_in at range.0 range.1 + counted b new
+
+  full_swap : Swapped (is_in range s)
+  full_swap = dite (dec_le (suc s) range.0)
+      (λ low. subst Swapped (sym (before range s (omega (arith, low))))
+      (let g = full_else at s new range.0 range.1 (λ i l bad. omega (arith, low, bad)) in omega arith))
+      (λ high. dite (dec_le (suc s) (range.0 + range.1))
+      (λ inside. subst Swapped (sym (in_range_so range s (omega (arith, high)) (omega (arith, inside))))
+      (let g = full_here at s new range.0 range.1 (omega (arith, high)) (omega (arith, inside)) in omega arith))
+      (λ past. subst Swapped (sym (not_before range s (omega (arith, high)) ∙ le-ltb s (range.0 + range.1) (omega (arith, past))))
+      (let g = full_else at s new range.0 range.1 (λ i l bad. omega (arith, past, l, bad)) in omega arith)))
+
+-- the account of a pass that fills the slot, and of one that took it off the count and empties it
+pub fills : (b : Bool) (old : Option File) (f : File) → owing (uncounted b (not (is_some old))) + counted b old ≡ counted b (Some f)
+fills true None f = refl
+fills true (Some g) f = refl
+fills false None f = refl
+fills false (Some g) f = refl
+
+pub empties : (b : Bool) (old : Option File) → owing (uncounted b (not (is_some old))) + counted b old ≡ owing (uncounted b true)
+empties true None = refl
+empties true (Some g) = refl
+empties false None = refl
+empties false (Some g) = refl
+
+pub counted_none : (b : Bool) → counted b None ≡ 0
+counted_none true = refl
+counted_none false = refl
 
 pub control_swap : (at : ℕ → Option File) {range : ℕ × ℕ} {views : List View} (id : ℕ) {v : View} (w : View) {word : ℕ} (s : ℕ)
-    (old new : Option File) → get_elem? views id ≡ some v → at s ≡ old → Stands range s v.change
-    → w.change ≡ turned v.change (if_full old) (if_full new) → ControlCounts at range views word
+    (old new : Option File) → get_elem? views id ≡ some v → at s ≡ old
+    → owing w.change + counted (is_in range s) old ≡ owing v.change + counted (is_in range s) new → ControlCounts at range views word
     → ControlCounts (changed_at at s new) range (set views id w) word
-control_swap at {range} {views} id {v} w s old new here was stands is ok =
-    let a = sum_set changes_of views id v w here in let b = sum_set added_of views id v w here in let c = sum_set removed_of views id v w here in
-    let turn = turned_counts at range s old new v.change was stands in
-    let d = ap in_change is in let e = ap added is in let f = ap removed_by is in
-    let u = ok.upper in let l = ok.lower in
-    record { upper = omega arith; lower = omega arith }
+control_swap at {range} {views} id {v} w s old new here was balance ok = let a = sum_set owing_of views id v w here in
+    let g = full_swap at range s new in let e = ap (counted (is_in range s)) was in let u = ok.counts in record { counts = omega arith }

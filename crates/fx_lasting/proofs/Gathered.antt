@@ -3,7 +3,7 @@ use Rattle.fx_lasting.proofs.Words.{◌≡◌, ◌≢◌, ℕ, ◌+◌, ◌≤�
 use Rattle.fx_lasting.proofs.Words.{take, drop, map, length, reverse, Closed, Sat, new_log, pass_of, view_of, IsPassOf, IsSeatOf, IsBetweenCalls}
 use Rattle.fx_lasting.proofs.Words.{LastingPass, Log, Start, View, IsNewPass, dealt, numbers_of, block_start, slots_of, some, get_elem?}
 use Rattle.fx_lasting.proofs.Words.{Contains, sum_by, Contents, state_of, IsSettled, contains_head, contains_map, Agrees, LogAgrees, logs_in, Shared}
-use Rattle.fx_lasting.proofs.Words.{opening_of, state_after_all, first_log, Event, Idle, IsAtWork, IsInBlock, IsHistory}
+use Rattle.fx_lasting.proofs.Words.{opening_of, state_after_all, first_log, Event, HasNoFile, inl, IsAtWork, IsInBlock, IsHistory}
 use Rattle.atomic_table.specs.declared.shared.Seat.{Seat}
 use Rattle.fx_lasting.specs.Cuts.{without_first, first_alone}
 use Rattle.fx_lasting.specs.Tables.{first_passes, as_first}
@@ -86,7 +86,7 @@ module _ {id : TableId} (k : Start) {p : ℕ} (low : 1 ≤ p) (high : p ≤ k.pa
     record {
       seated = seated;
       calm = ap (λ (m : Sat). m.0.glance) me;
-      knows = subst (IsBetweenCalls k.passes x.idle x.guarded x.next_visit) (sym (ap (λ (m : Sat). m.0.work) me)) new.flag;
+      knows = subst (IsBetweenCalls k.passes x.idle x.guarded x.next_visit x.next_node) (sym (ap (λ (m : Sat). m.0.work) me)) new.flag;
       front = rw me record { legal = legal; mine = refl };
     },
     ap (λ (m : Sat). record (pass_of m.0) { numbers_left = 0 }) me,
@@ -106,7 +106,7 @@ module _ (id : TableId) (k : Start) where
 
   module _ (ps : List LastingPass) (each : (p : LastingPass) → Contains ps p → Is p) (count : length ps ≡ k.passes)
       {s : Shared} (r : Agrees k s) (seat : ℕ) {v : View} (at : get_elem? s.views seat ≡ some v) (logs_are : v.logs ≡ logs_in (reverse ps))
-      (idle : v.work ≡ Idle) where
+      (idle : HasNoFile v.work) where
     these_logs : v.logs ≡ map log_of (reverse ps)
     these_logs = logs_are ∙ each_log (λ p. p.seat.me.0.logs) log_of (reverse ps) (λ p h. its_log p (each p (contains_reverse ps p h)))
 
@@ -116,8 +116,9 @@ module _ (id : TableId) (k : Start) where
     whole_here : length v.logs ≡ sum_by lengths s.views
     whole_here = all_logs ∙ sym r.whole
 
-    pub all_idle : (i : ℕ) (u : View) → get_elem? s.views i ≡ some u → u.work ≡ Idle
-    all_idle = each_seat (λ (u : View). u.logs) s.views seat v at whole_here (λ u. u.work ≡ Idle) idle (λ i u e none. ((r.each_view i u e).empty none).0)
+    pub all_idle : (i : ℕ) (u : View) → get_elem? s.views i ≡ some u → HasNoFile u.work
+    all_idle = each_seat (λ (u : View). u.logs) s.views seat v at whole_here (λ u. HasNoFile u.work) idle
+        (λ i u e none. inl ((r.each_view i u e).empty none).0)
 
     pub known : (p : LastingPass) → Contains ps p → LogAgrees k r.history s.words r.phase r.debt r.over v.work v.glance (log_of p)
     known p h = (r.each_view seat v at).logs (log_of p) (rw these_logs (contains_mapped log_of (reverse ps) p (contains_reversed ps p h)))

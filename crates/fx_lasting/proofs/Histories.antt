@@ -1,5 +1,5 @@
 -- Histories that grow by one event.
-use Rattle.fx_lasting.proofs.Words.{◌≡◌, ◌≢◌, ℕ, List, ◌∷◌, sym, refl, ap, ◌∙◌, eq-eqb, ne_eqb, held_after, held_by, IsSeenBy, part_of_pass, Event}
+use Rattle.fx_lasting.proofs.Words.{◌≡◌, ◌≢◌, ℕ, List, [], ◌∷◌, ◌++◌, sym, refl, ap, ◌∙◌, eq-eqb, ne_eqb, held_after, held_by, IsSeenBy, part_of_pass, Event}
 use Rattle.fx_lasting.proofs.Words.{start_of, range_of, slots_of, state_after_all, Start, ReleasesItsOwn, map, action_of, IsHistory, changed_at, cond}
 use Rattle.fx_lasting.proofs.Words.{by_equality}
 use Rattle.fx_plain.specs.Step.{Allows}
@@ -38,6 +38,11 @@ grows_one p h e by = grows_more by (grows_none p h)
 pub legal_more : (k : Start) {h : List Event} {e : Event} → IsHistory k h → Allows (state_after_all k h) e.action
     → ReleasesItsOwn (held_by h e.pass) e.action → IsHistory k (e ∷ h)
 legal_more k legal may own = record { leads = ((legal.leads.0, may), refl); releases = (legal.releases, own) }
+
+-- the beginning of a legal history is legal
+pub legal_before : (k : Start) (h since : List Event) → IsHistory k (since ++ h) → IsHistory k h
+legal_before k h [] legal = legal
+legal_before k h (e ∷ since) legal = legal_before k h since record { leads = (legal.leads.0.0, refl); releases = legal.releases.0 }
 
 -- no history changes the size or the range
 pub same_shape : (k : Start) (h : List Event) → ((state_after_all k h).size ≡ slots_of k) × ((state_after_all k h).range ≡ range_of k)

@@ -1,5 +1,5 @@
 -- A node is that of one file while the file is held.
-use Rattle.fx_lasting.proofs.Words.{◌≡◌, ◌≢◌, ℕ, ◌+◌, Option, Some, None, ap, subst, arith, File, sum_by, get_elem?, Agrees, Names, IsSeated}
+use Rattle.fx_lasting.proofs.Words.{◌≡◌, ◌≢◌, ℕ, ◌+◌, Option, Some, None, ap, sym, ◌∙◌, subst, arith, File, node_of_number, sum_by, get_elem?, Agrees, Names, IsSeated}
 use Rattle.fx_lasting.proofs.Words.{NodeAgrees, WorkAgrees, HoldsAt, slots_of, word_of, state_after_all, taken_of, owed, count_in, name_in}
 use Rattle.fx_lasting.proofs.Words.{Phase, Shared, Start, Work, Counted, Guarded, seated, leaving, retired, file_in}
 use Rattle.fx_table.specs.declared.values.Doing.TheVariants.{Holding}
@@ -21,7 +21,7 @@ module _ (k : Start) (s : Shared) (r : Agrees k s) where
       subst (λ (n : ℕ). HoldsAt k r.phase f n) its (subst (λ (g : File). HoldsAt k r.phase g n) same w)
   is_open seat _ e w = absurd (cc e)
 
-  holds_at : {f : File} {hold : Hold} → IsHeldBy s f hold → HoldsAt k r.phase f hold.node
+  pub holds_at : {f : File} {hold : Hold} → IsHeldBy s f hold → HoldsAt k r.phase f hold.node
   holds_at (seat, v, there, holds) = is_open seat v.work holds (r.each_view seat v there).work
 
   one_file : (f g : File) (x y : Hold) → IsHeldBy s f x → IsHeldBy s g y → x.node ≡ y.node → f ≡ g
@@ -35,11 +35,11 @@ module _ (k : Start) (s : Shared) (r : Agrees k s) where
       let here = (holds_at held).1 in let there : r.phase hold.node ≡ seated slot h = rw node at seat.1 in
       let both : file_in (seated slot h) ≡ Some f = rw there at here in cc (both, e)
 
-  abbrev Node : ℕ → Phase → Type 0
+  abbrev pub Node : ℕ → Phase → Type 0
   Node n = NodeAgrees (state_after_all k r.history).at (slots_of k) (λ i. count_in (slot_word s.words i)) r.node_of r.next_number n
       (word_at s.words (word_of k n)) (sum_by (taken_of n) s.views) (owed r.debt k.passes n) (get_elem? s.homes n)
 
-  of_phase : (n : ℕ) (f : File) (ph : Phase) → file_in ph ≡ Some f → Node n ph → node_word_in k s n ≢ 0
+  pub of_phase : (n : ℕ) (f : File) (ph : Phase) → file_in ph ≡ Some f → Node n ph → node_word_in k s n ≢ 0
   of_phase n f (seated slot g) e o = let a = o.counts in let b = few_takes k s r slot o.inside in
       let c = few_cold k.passes in let p = r.shape.passes in λ zero. omega arith
   of_phase n f (leaving seat takes next marks g) e o = let a = o.counts in let b = o.few_takes in let c = o.few_marks in
@@ -47,9 +47,20 @@ module _ (k : Start) (s : Shared) (r : Agrees k s) where
   of_phase n f (retired g) e o = let a = o.counts in λ zero. omega arith
   of_phase n f _ e o = absurd (cc e)
 
+  -- the number of an open file says its node
+  pub on_node : (n : ℕ) (f : File) (ph : Phase) → file_in ph ≡ Some f → Node n ph → node_of_number k f.number ≡ n
+  on_node n f ph e o = sym (r.numbering f.number) ∙ go ph e o
+    where
+      go : (ph : Phase) → file_in ph ≡ Some f → Node n ph → r.node_of f.number ≡ n
+      go (seated slot g) e o = let same : g ≡ f = cc e in rw (← same) o.file.its_node
+      go (leaving seat takes next marks g) e o = let same : g ≡ f = cc e in rw (← same) o.file.its_node
+      go (retired g) e o = let same : g ≡ f = cc e in rw (← same) o.file.its_node
+      go _ e o = absurd (cc e)
+
   pub nodes_are_of_one_file : HoldsNameFiles k s r
   nodes_are_of_one_file = record {
     one = one_file;
+    its_number = λ f hold held. let its = holds_at held in sym (on_node hold.node f _ its.1 (r.each_node hold.node its.0));
     there = λ f g hold slot held inside is at. let a = r.each_slot slot inside in of_slot f g hold slot _ held a.names a.seat is at;
     none = λ f hold held. let its = holds_at held in of_phase hold.node f _ its.1 (r.each_node hold.node its.0);
   }

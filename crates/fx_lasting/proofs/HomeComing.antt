@@ -3,7 +3,7 @@ use Rattle.fx_lasting.proofs.Words.{◌≡◌, ◌≢◌, ℕ, ◌+◌, ◌<◌,
 use Rattle.fx_lasting.proofs.Words.{ℕ_discrete, dec_le, Closed, State, IsSettled, state_of, numbered, changed_here, changed_else}
 use Rattle.fx_lasting.proofs.Words.{zero, suc, Bool, cond, nat_lt, List, length, set, subst, lt-ltb, le-ltb, slice_index, some, get_elem?, set_here}
 use Rattle.fx_lasting.proofs.Words.{set_else, get_or, node_in, slot_place, length-set, stands_at, at_index, some-injective, File, Names, name_in}
-use Rattle.fx_lasting.proofs.Words.{Agrees, slots_of, nodes_of, state_after_all, LastingTable, Start, View, Idle, eq-eqb, ne_eqb, ◌-◌}
+use Rattle.fx_lasting.proofs.Words.{Agrees, slots_of, nodes_of, state_after_all, LastingTable, Start, View, HasNoFile, eq-eqb, ne_eqb, ◌-◌}
 use Rattle.atomic_table.specs.Table.{Final, Seen}
 use Rattle.fx_plain.specs.Contents.{Contents}
 use Rattle.fx_plain.specs.Step.{changed_at}
@@ -225,7 +225,7 @@ module _ (t : LastingTable) {id : ℕ} {v : View} {words : List ℕ} (xs : List 
   abbrev size : ℕ
   size = slots_of k
 
-  all_idle : (i : ℕ) (u : View) → get_elem? final.0.views i ≡ some u → u.work ≡ Idle
+  all_idle : (i : ℕ) (u : View) → get_elem? final.0.views i ≡ some u → HasNoFile u.work
   all_idle = idle final.0 r final.1.1
 
   -- the node of a slot's file

@@ -5,9 +5,9 @@ use Rattle.fx_lasting.proofs.Words.{Action, sum_by, sum_set, sum_at, sum_of, sum
 use Rattle.fx_lasting.proofs.Words.{IsSeenBy, at_set, Allows, stepped, Act, Valid, carried_after, SlotAgrees, NodeAgrees, OwnerAgrees, WorkAgrees}
 use Rattle.fx_lasting.proofs.Words.{LogAgrees, ViewAgrees, lengths, Agrees, ControlCounts, HoldAgrees, GuardAgrees, GlanceAgrees, Heats, SearchAgrees}
 use Rattle.fx_lasting.proofs.Words.{count_in, control_place, slot_place, word_of, hold_of, Shared, slots_of, nodes_of, range_of, state_after_all}
-use Rattle.fx_lasting.proofs.Words.{IsHistory, held_in, held_of, taken_of, logs_of, owed, Nodes, Sat, Stepped, IsInside, event_of, HasPass, Phase}
+use Rattle.fx_lasting.proofs.Words.{IsHistory, held_in, held_of, taken_of, logs_of, owed, Sat, Stepped, IsInside, event_of, HasPass, Phase}
 use Rattle.fx_lasting.proofs.Words.{free, removed_in, Change, Glance, Log, Start, View, Work, found_sum, found_by, at_index}
-use Rattle.fx_lasting.proofs.Histories.{Grows}
+use Rattle.fx_lasting.proofs.Histories.{Grows, legal_before}
 use mathlib.Core.Option as maybe
 
 abbrev pub Homes : Type 0
@@ -113,10 +113,11 @@ module _ (turn : Turn) where
   -- The words, the places and the rule's own names after a step
   pub record After : Type 0 where
     pub h : List Event
+    -- what the pass has seen of it
+    pub front : List Event
     pub words : List ℕ
     pub homes : Homes
     pub phase : ℕ → Phase
-    pub node_of : Nodes
     pub next_number : ℕ
     pub debt : ℕ → ℕ
     pub over : ℕ → ℕ → Bool
@@ -126,7 +127,7 @@ module _ (turn : Turn) where
 
   module _ (a : After) where
     abbrev pub w : View
-    w = now v (logged x a.h) a.work a.glance a.change
+    w = now v (logged x a.front) a.work a.glance a.change
 
     abbrev pub views' : List View
     views' = set st.views id w
@@ -148,13 +149,15 @@ module _ (turn : Turn) where
       pub homes : length a.homes ≡ length st.homes
       pub grows : Grows x.number r.history a.h
       pub legal : IsHistory v.start a.h
+      pub seen : IsSeenBy a.front a.h
+      pub own : part_of_pass x.number a.h ≡ part_of_pass x.number a.front
       pub slots : (s : ℕ) → s < slots_of v.start
-          → SlotAgrees v.start a.node_of a.phase (a.over s) s ((state_after_all v.start a.h).at s) (slot_word a.words s)
+          → SlotAgrees v.start r.node_of a.phase (a.over s) s ((state_after_all v.start a.h).at s) (slot_word a.words s)
       pub nodes : (n : ℕ) → n < nodes_of v.start → NodeAgrees (state_after_all v.start a.h).at (slots_of v.start)
-          (λ s. count_in (slot_word a.words s)) a.node_of a.next_number n (word_at a.words (word_of v.start n))
+          (λ s. count_in (slot_word a.words s)) r.node_of a.next_number n (word_at a.words (word_of v.start n))
           (sum_by (taken_of n) views') (owed a.debt v.start.passes n) (get_elem? a.homes n) (a.phase n)
       pub owners : (n : ℕ) → n < nodes_of v.start → OwnerAgrees views' n (a.phase n)
-      pub removed : (number : ℕ) → (state_after_all v.start a.h).removed number ≡ removed_in number (a.phase (a.node_of number))
+      pub removed : (number : ℕ) → (state_after_all v.start a.h).removed number ≡ removed_in number (a.phase (r.node_of number))
       pub unborn : (n : ℕ) → nodes_of v.start ≤ n → a.phase n ≡ free
       pub fresh : (number : ℕ) → a.next_number ≤ number → (state_after_all v.start a.h).fresh number ≡ true
       pub others : (j : ℕ) (u : View) (z : Log) → j ≢ id → get_elem? st.views j ≡ some u → Contains u.logs z → z.number ≢ x.number
@@ -193,10 +196,10 @@ module _ (turn : Turn) where
               (s.others j u z other there at (not_there r here one other there z at) (its_range r j there at)
               ((r.each_view j u there).logs z at) (r.each_view j u there).work).work
 
-      its_own : LogAgrees v.start a.h a.words a.phase a.debt a.over a.work a.glance (logged x a.h)
-      its_own = let seen : IsSeenBy a.h a.h = ([], refl) in record {
-        seen = seen;
-        own = refl;
+      its_own : LogAgrees v.start a.h a.words a.phase a.debt a.over a.work a.glance (logged x a.front)
+      its_own = record {
+        seen = s.seen;
+        own = s.own;
         held = s.held;
         search = s.search;
         hold = s.its.hold;
@@ -210,7 +213,8 @@ module _ (turn : Turn) where
         shape = let a = r.shape in assumption (s.words ∙ a.words, s.homes ∙ a.homes);
         history = a.h;
         phase = a.phase;
-        node_of = a.node_of;
+        node_of = r.node_of;
+        numbering = r.numbering;
         next_number = a.next_number;
         debt = a.debt;
         over = a.over;
@@ -224,7 +228,7 @@ module _ (turn : Turn) where
         each_view = λ j u e. ⊎_elim (λ (t : (j ≡ id) × (w ≡ u)).
             subst (λ (z : ℕ × View). ViewAgrees v.start a.h a.words a.phase a.debt a.over z.0 z.1) (λ i. (sym t.0 i, t.1 i)) record {
               logs = λ z h. subst (LogAgrees v.start a.h a.words a.phase a.debt a.over a.work a.glance)
-                  (sym (contains_only (logged x a.h) z h)) its_own;
+                  (sym (contains_only (logged x a.front) z h)) its_own;
               work = s.its.work;
               empty = λ none. absurd (omega (arith, ap (length {A = Log}) none));
               start = inr refl;
@@ -245,15 +249,32 @@ module _ (turn : Turn) where
       }
 
   -- the effect of the step on its pass
-  pub tells : (a : After) (carried homes : List (ℕ × Option Closed)) (actions : List Action) → Grows x.number r.history a.h
-      → IsHistory v.start a.h → part_of_pass x.number a.h ≡ map (event_of x) actions ++ part_of_pass x.number r.history
+  pub tells : (a : After) (carried homes : List (ℕ × Option Closed)) (actions : List Action) → Grows x.number r.history a.front
+      → IsHistory v.start a.front → part_of_pass x.number a.front ≡ map (event_of x) actions ++ part_of_pass x.number r.history
       → IsInside v.start a.work → Stepped (v, carried) actions a.work a.glance a.change (w a, homes)
   tells a carried homes actions grows legal own inside = let o = its_log in rw one record {
-    one = (logged x a.h, refl);
+    one = (logged x a.front, refl);
     number = refl;
     seen = grows.seen x.front o.seen;
     legal = legal;
     own = own ∙ ap (λ (l : List Event). map (event_of x) actions ++ l) o.own;
+    steps = refl;
+    work = refl;
+    inside = inside;
+    glance = refl;
+    change = refl;
+    start = refl;
+  }
+
+  -- the effect of a step after which the pass has seen what it had seen
+  pub tells_less : (a : After) (carried homes : List (ℕ × Option Closed)) → a.front ≡ x.front → IsInside v.start a.work
+      → Stepped (v, carried) [] a.work a.glance a.change (w a, homes)
+  tells_less a carried homes same inside = let o = its_log in rw one record {
+    one = (logged x a.front, refl);
+    number = refl;
+    seen = ([], same);
+    legal = rw same (legal_before v.start x.front o.seen.0 (subst (IsHistory v.start) o.seen.1 r.legal));
+    own = ap (part_of_pass x.number) same;
     steps = refl;
     work = refl;
     inside = inside;

@@ -3,6 +3,7 @@ pub mod Counts
 pub mod Histories
 pub mod Keeping
 pub mod Frames
+pub mod Choosing
 pub mod Places
 pub mod NodeSteps
 pub mod Unheld
@@ -35,3 +36,4 @@ pub mod Retiring
 pub mod Visiting
 pub mod WordBounds
 pub mod Holds
+pub mod Choices

@@ -4,11 +4,12 @@ use Rattle.fx_lasting.proofs.Words.{Closed, File, Event, Look, ◌▷◌, WorkAg
 use Rattle.fx_lasting.proofs.Words.{state_after_all, slots_of, nodes_of, held_in, if_file, taking, event_of, seated, file_in, Work, Glance, Idle}
 use Rattle.fx_lasting.proofs.Words.{Announced, Guarded, Hot, Cold, Heating, Nothing, Glances, Confirms, GlancesKeep, ConfirmsKeep, Goes, Shows, IsHot}
 use Rattle.fx_lasting.proofs.Words.{hot_in, name_in, slot_place, step, inl, inr, ⊎_elim, ◌⊎◌, dite, ℕ_discrete, one_more_at, Bool, true, false}
-use Rattle.fx_lasting.proofs.Words.{hold_of, IsHistory, Start, IsInside}
+use Rattle.fx_lasting.proofs.Words.{hold_of, IsHistory, Start, IsInside, HasNoFile}
 use Rattle.fx_lasting.proofs.Histories.{grows_none, grows_one, legal_more, part_mine, held_mine, same_shape}
 use Rattle.fx_lasting.proofs.Frames.{busy}
 use Rattle.fx_lasting.proofs.Keeping.{Turn, turn_of, After, word_at, slot_word, Made, by_turn, its_log, its_work, tells, w}
 use Rattle.fx_lasting.proofs.Calm.{read_after, Reads, read_kept}
+use Rattle.fx_lasting.proofs.Choosing.{no_file, no_take, not_busy, holds_none}
 use Rattle.fx_lasting.proofs.Places.{slot_back}
 
 module _ (turn : Turn) (s : ℕ) (inside : s < slots_of turn.v.start) where
@@ -61,10 +62,13 @@ module _ (turn : Turn) (s : ℕ) (inside : s < slots_of turn.v.start) where
   heats_all calm e = λ i l is. ⊎_elim (λ h. inl h) (λ z. absurd (calm i z)) ((its_log turn).heats i l is)
 
   -- a load that adds nothing to the history
-  module _ (d : Work) (works : v.work ≡ d) (g : Glance) (calm : (t : ℕ) → v.glance ≢ Heating t)
+  module _ (d : Work) (works : (v.work ≡ d) ⊎ (HasNoFile v.work × (d ≡ Idle))) (g : Glance) (calm : (t : ℕ) → v.glance ≢ Heating t)
       (sees : GlanceAgrees v.start (slot_word st.words) (λ i. r.over i x.number) g) (knows : IsInside v.start d) where
     abbrev pub quiet_after : After turn
     quiet_after = read_after turn d g r.history
+
+    same_held : held_in v.work ≡ held_in d
+    same_held = ⊎_elim (λ e. ap held_in e) (λ z. no_file z.0 ∙ sym (ap held_in z.1)) works
 
     pub quiet : Reads turn d g r.history
     quiet = let o = its_log turn in record {
@@ -73,18 +77,18 @@ module _ (turn : Turn) (s : ℕ) (inside : s < slots_of turn.v.start) where
       at = refl;
       fresh = refl;
       removed = refl;
-      taken = λ n. sym (ap (taking n) works);
-      owners = inl (sym works);
-      held = o.held ∙ ap held_in works;
-      search = rw works at o.search;
+      taken = λ n. ⊎_elim (λ e. sym (ap (taking n) e)) (λ z. ap (taking n) z.1 ∙ sym (no_take z.0 n)) works;
+      owners = ⊎_elim (λ e. inl (sym e)) (λ z. inr (not_busy z.0)) works;
+      held = o.held ∙ same_held;
+      search = ⊎_elim (λ (e : v.work ≡ d). rw e at o.search) (λ z. rw z.1 tt) works;
       its = record {
-        hold = rw works at o.hold;
-        guarded = rw works at o.guarded;
+        hold = ⊎_elim (λ (e : v.work ≡ d). rw e at o.hold) (λ z. rw z.1 (holds_none z.0 o.hold)) works;
+        guarded = ⊎_elim (λ (e : v.work ≡ d). rw e at o.guarded) (λ z. rw z.1 tt) works;
         sees = sees;
         heats = heats_all calm g;
-        work = subst (WorkAgrees v.start r.phase id) works (its_work turn);
+        work = ⊎_elim (λ (e : v.work ≡ d). subst (WorkAgrees v.start r.phase id) e (its_work turn)) (λ z. rw z.1 tt) works;
       };
-      holds = λ n. let a = ap (λ (e : Work). if_file n (held_in e)) works in omega arith;
+      holds = λ n. let a = ap (if_file n) same_held in omega arith;
     }
 
     pub goes_quiet : (carried : List (ℕ × Option Closed)) → Goes (v, carried) [] d g (w turn quiet_after, carried)
@@ -100,22 +104,28 @@ module _ (turn : Turn) (s : ℕ) (inside : s < slots_of turn.v.start) where
   legal₀ : there ≡ None → IsHistory v.start h₀
   legal₀ is = legal_more v.start r.legal (size_so, sym is) tt
 
-  found_empty : v.work ≡ Idle → v.glance ≡ Nothing → there ≡ None → Reads turn Idle Nothing h₀
-  found_empty works nothing is = let o = its_log turn in let h = rw works at o.hold in record {
+  found_empty : HasNoFile v.work → v.glance ≡ Nothing → there ≡ None → Reads turn Idle Nothing h₀
+  found_empty works nothing is = let o = its_log turn in record {
     grows = grows_one x.number r.history _ refl;
     legal = legal₀ is;
     at = refl;
     fresh = refl;
     removed = refl;
-    taken = λ n. sym (ap (taking n) works);
-    owners = inl (sym works);
+    taken = λ n. sym (no_take works n);
+    owners = inr (not_busy works);
     held = held_mine (event_of x (Look s None)) r.history refl;
     search = tt;
-    its = record { hold = h; guarded = tt; sees = tt; heats = heats_all (λ t e. cc (sym nothing ∙ e)) Nothing; work = tt };
-    holds = λ n. let a = ap (λ (e : Work). if_file n (held_in e)) works in omega arith;
+    its = record {
+      hold = holds_none works o.hold;
+      guarded = tt;
+      sees = tt;
+      heats = heats_all (λ t e. cc (sym nothing ∙ e)) Nothing;
+      work = tt;
+    };
+    holds = λ n. let a = ap (if_file n) (no_file works) in omega arith;
   }
 
-  pub glance : (slots : ℕ) (carried : List (ℕ × Option Closed)) → v.work ≡ Idle → v.glance ≡ Nothing
+  pub glance : (slots : ℕ) (carried : List (ℕ × Option Closed)) → HasNoFile v.work → v.glance ≡ Nothing
       → Made turn carried (slot_place s) (λ word. word) (Glances (step slots (slot_place s) 0 0 none) (v, carried))
   glance slots carried works nothing = let calm : (t : ℕ) → v.glance ≢ Heating t = λ t e. cc (sym nothing ∙ e) in ⊎_elim
       (λ (none_named : name_in word ≡ 0). let e = found_empty works nothing (unnamed none_named) in (
@@ -134,26 +144,26 @@ module _ (turn : Turn) (s : ℕ) (inside : s < slots_of turn.v.start) where
       ))
       (λ (z : (n : ℕ) × (name_in word ≡ n + 1)). let o = named z.1 in ⊎_elim
       (λ cold. let sees : GlanceAgrees v.start (slot_word st.words) (λ i. r.over i x.number) (Cold s) = (inside, not_over cold calm) in (
-        w turn (quiet_after Idle works (Cold s) calm sees tt),
+        w turn (quiet_after Idle (inr (works, refl)) (Cold s) calm sees tt),
         keeps,
         tt,
-        read_kept turn Idle (Cold s) (slot_place s) (quiet Idle works (Cold s) calm sees tt),
+        read_kept turn Idle (Cold s) (slot_place s) (quiet Idle (inr (works, refl)) (Cold s) calm sees tt),
         record {
           empty = λ is. absurd (let a = z.1 in omega arith);
-          cold = λ n is _. rw (slot_back s) (goes_quiet Idle works (Cold s) calm sees tt carried);
+          cold = λ n is _. rw (slot_back s) (goes_quiet Idle (inr (works, refl)) (Cold s) calm sees tt carried);
           hot = λ n is hot. absurd (cold hot);
         },
       ))
       (λ hot. let sees : GlanceAgrees v.start (slot_word st.words) (λ i. r.over i x.number) (Hot s z.0) = (inside, o.3, inl (z.1, hot)) in (
-        w turn (quiet_after Idle works (Hot s z.0) calm sees tt),
+        w turn (quiet_after Idle (inr (works, refl)) (Hot s z.0) calm sees tt),
         keeps,
         tt,
-        read_kept turn Idle (Hot s z.0) (slot_place s) (quiet Idle works (Hot s z.0) calm sees tt),
+        read_kept turn Idle (Hot s z.0) (slot_place s) (quiet Idle (inr (works, refl)) (Hot s z.0) calm sees tt),
         record {
           empty = λ is. absurd (let a = z.1 in omega arith);
           cold = λ n is cold. absurd (cold hot);
           hot = λ n is _. let same : z.0 ≡ n = (let a = z.1 in omega arith) in
-              rw (← same, slot_back s) (goes_quiet Idle works (Hot s z.0) calm sees tt carried, o.3);
+              rw (← same, slot_back s) (goes_quiet Idle (inr (works, refl)) (Hot s z.0) calm sees tt carried, o.3);
         },
       )) hot_cases)
       name_cases
@@ -213,14 +223,14 @@ module _ (turn : Turn) (s : ℕ) (inside : s < slots_of turn.v.start) where
           },
         ))
         (λ not_so. let sees : GlanceAgrees v.start (slot_word st.words) (λ i. r.over i x.number) (Cold s) = (inside, moved_on not_so) in let l = subst (WorkAgrees v.start r.phase id) works (its_work turn) in (
-          w turn (quiet_after (Announced n) works (Cold s) calm_hot sees l),
+          w turn (quiet_after (Announced n) (inl works) (Cold s) calm_hot sees l),
           keeps,
           tt,
-          read_kept turn (Announced n) (Cold s) (slot_place s) (quiet (Announced n) works (Cold s) calm_hot sees l),
+          read_kept turn (Announced n) (Cold s) (slot_place s) (quiet (Announced n) (inl works) (Cold s) calm_hot sees l),
           record {
             holds = λ i k saw' works' names is_hot. let same : n ≡ k = cc (sym saw ∙ saw') in absurd (not_so (rw same (names, is_hot)));
             moved = λ i k saw' works' _. let at : s ≡ i = cc (sym saw ∙ saw') in let same : n ≡ k = cc (sym saw ∙ saw') in
-                rw (← at, ← same) (goes_quiet (Announced n) works (Cold s) calm_hot sees l carried);
+                rw (← at, ← same) (goes_quiet (Announced n) (inl works) (Cold s) calm_hot sees l carried);
           },
         ))
         still_so

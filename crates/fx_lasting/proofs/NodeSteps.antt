@@ -1,5 +1,5 @@
 -- A step on one node, at which no slot changes: on its word and place, or on the hold word of a pass that names it.
-use Rattle.fx_lasting.proofs.Words.{◌≡◌, ◌≢◌, ℕ, ◌+◌, ◌<◌, ◌≤◌, List, set, length, sym, refl, ap, ◌∙◌, subst, arith, Option, Some, Bool, some}
+use Rattle.fx_lasting.proofs.Words.{◌≡◌, ◌≢◌, ℕ, ◌+◌, ◌<◌, ◌≤◌, List, [], set, length, sym, refl, ap, ◌∙◌, subst, arith, Option, Some, Bool, some}
 use Rattle.fx_lasting.proofs.Words.{get_elem?, held_by, changed_at, File, Event, range_of, NodeAgrees, OwnerAgrees, WorkAgrees, SearchAgrees, Agrees}
 use Rattle.fx_lasting.proofs.Words.{full_in, slots_of, nodes_of, IsHistory, state_after_all, held_in, held_of, taken_of, taking, owed, Phase, free}
 use Rattle.fx_lasting.proofs.Words.{seated, owner, file_in, removed_in, View, Work, ⊎_elim, ◌⊎◌, inr, control_place, word_of, hold_of, count_in}
@@ -16,10 +16,10 @@ module _ (turn : Turn) (q : ℕ) (its : q < nodes_of turn.v.start) (ph : Phase) 
   abbrev pub after : After turn
   after = record {
     h = h';
+    front = h';
     words = words';
     homes = homes';
     phase = changed_at r.phase q ph;
-    node_of = r.node_of;
     next_number = r.next_number;
     debt = debt';
     over = r.over;
@@ -120,19 +120,18 @@ module _ (turn : Turn) (q : ℕ) (its : q < nodes_of turn.v.start) (ph : Phase) 
       homes = s.homes;
       grows = s.grows;
       legal = s.legal;
+      seen = ([], refl);
+      own = refl;
       slots = λ i l. slot_same (s.slot_words i l) (at_is i) refl
-          (λ f there seat. (
-            refl,
-            each_changed (λ m z. z ≡ r.phase m) r.phase
-                (λ same. let e = ap r.phase (sym same) ∙ seat in s.at_slot i f e ∙ (sym e ∙ ap r.phase (sym same))) (λ _. refl),
-          ))
+          (λ f there seat. each_changed (λ m z. z ≡ r.phase m) r.phase
+          (λ same. let e = ap r.phase (sym same) ∙ seat in s.at_slot i f e ∙ (sym e ∙ ap r.phase (sym same))) (λ _. refl))
           (r.each_slot i l);
       nodes = λ n l. each_changed (λ n z. NodeAgrees (state_after_all v.start h').at (slots_of v.start)
           (λ i. count_in (slot_word words' i)) r.node_of r.next_number n (word_at words' (word_of v.start n))
           (sum_by (taken_of n) (set st.views id (w turn after))) (owed debt' v.start.passes n) (get_elem? homes' n) z) r.phase
-          (λ same. rw same (node_same (slots_of v.start) q (omega arith) (λ m u. refl) refl refl refl refl ph
+          (λ same. rw same (node_same (slots_of v.start) r.node_of q (omega arith) refl refl refl refl ph
           (λ i f is there. (at_is i, ap count_in (s.slot_words i (inside i f is)))) s.node))
-          (λ other. node_same (slots_of v.start) n (omega arith) (λ m u. refl) (s.node_words n l other)
+          (λ other. node_same (slots_of v.start) r.node_of n (omega arith) (s.node_words n l other)
           (let t = sum_set (taken_of n) st.views id v (w turn after) here in let e = s.taken_else n other in omega arith)
           (s.owed_else n other) (s.home_else n l other) (r.phase n)
           (λ i f is there. (at_is i, ap count_in (s.slot_words i (inside_else n l i f is)))) (r.each_node n l));

@@ -6,7 +6,9 @@ use Rattle.fx_lasting.proofs.Words.{LogAgrees, ViewAgrees, Agrees, new_logs, wor
 use Rattle.fx_lasting.proofs.Words.{state_after_all, new_log, Phase, free, seated, Log, Start, View, Idle, Nothing, length-map, at_map, first_view}
 use Rattle.fx_lasting.proofs.Words.{contains_map, once_is, counted_once, range_with_len, one_if, removed_in, length-map-range_with_len, owed, ne_eqb}
 use Rattle.fx_lasting.proofs.Words.{false, Contains, eqb, sum_of, word_for, node_for, home_for, OpensWith, first_file, bit_here}
+use Rattle.fx_lasting.proofs.Words.{node_of_number}
 use Rattle.std.proofs.Common.{not}
+use Rattle.std.proofs.Math.Nat.{mod-eq_of_lt}
 use Rattle.atomic_table.specs.Table.{opening}
 use Rattle.fx_lasting.proofs.Counts.{tally_none, tally_same}
 use Rattle.fx_lasting.proofs.FullSlots.{full_few}
@@ -40,21 +42,25 @@ module _ (k : Start) (words : List ℕ) (homes : List (Option Closed)) (o : Open
   more_nodes : slots_of k ≤ nodes_of k
   more_nodes = omega arith
 
+  -- its node is the slot's
+  its_node : (slot : ℕ) → slot < slots_of k → (f : File) → first_file k slot ≡ Some f → node_of_number k f.number ≡ slot
+  its_node slot l f is = let e = its_number slot f is in let m = more_nodes in mod-eq_of_lt {n = f.number} {m = nodes_of k} (omega arith) ∙ e
+
   slot_opens : (slot : ℕ) → slot < slots_of k
-      → SlotAgrees k (λ n. n) (first_phase k) (λ p. false) slot (first_file k slot) (slice_index words (slot_place slot))
+      → SlotAgrees k (node_of_number k) (first_phase k) (λ p. false) slot (first_file k slot) (slice_index words (slot_place slot))
   slot_opens slot l = rw (o.slot_words slot l) (go (first_file k slot) refl)
     where
-      go : (found : Option File) → first_file k slot ≡ found → SlotAgrees k (λ n. n) (first_phase k) (λ p. false) slot found (word_for found)
+      go : (found : Option File) → first_file k slot ≡ found → SlotAgrees k (node_of_number k) (first_phase k) (λ p. false) slot found (word_for found)
       go None is = record { names = refl; seat = tt; takes = omega arith }
       go (Some f) is = let small = o.entries slot f is in let e = its_number slot f is in let m = more_nodes in
-          let z = takes_made f.number f.identity.entry in record {
-            names = (name_made f.number f.identity.entry small, entry_made f.number f.identity.entry small);
-            seat = (omega arith, ap (first_phase k) e ∙ (low_phase l ∙ ap (phase_for slot) is));
+          let z = takes_made f.number f.identity.entry in let on = its_node slot l f is in record {
+            names = (name_made f.number f.identity.entry small ∙ ap (λ (n : ℕ). n + 1) (e ∙ sym on), entry_made f.number f.identity.entry small);
+            seat = (rw on (omega arith), ap (first_phase k) on ∙ (low_phase l ∙ ap (phase_for slot) is));
             takes = omega arith;
           }
 
   abbrev Node : ℕ → Phase → Type 0
-  Node n ph = NodeAgrees s.at (slots_of k) (λ i. count_in (slice_index words (slot_place i))) (λ m. m) (slots_of k) n (slice_index words (word_of k n))
+  Node n ph = NodeAgrees s.at (slots_of k) (λ i. count_in (slice_index words (slot_place i))) (node_of_number k) (slots_of k) n (slice_index words (word_of k n))
       0 (owed (λ p. 0) k.passes n) (get_elem? (map some homes) n) ph
 
   node_opens : (n : ℕ) → n < nodes_of k → Node n (first_phase k n)
@@ -78,7 +84,7 @@ module _ (k : Start) (words : List ℕ) (homes : List (Option Closed)) (o : Open
           let q = its_number n f is in record {
             file = record {
               at_home = at_map some homes n (Some f.identity) (o.files n low ∙ ap (λ (f : Option File). some (home_for f)) is);
-              its_node = q;
+              its_node = its_node n low f is;
               used = omega arith;
             };
             counts = omega arith;
@@ -140,7 +146,8 @@ module _ (k : Start) (words : List ℕ) (homes : List (Option Closed)) (o : Open
     shape = let a = length-map homes some in assumption (o, a ∙ o.homes_length);
     history = [];
     phase = first_phase k;
-    node_of = λ n. n;
+    node_of = node_of_number k;
+    numbering = λ number. refl;
     next_number = slots_of k;
     debt = λ q. 0;
     over = λ i q. false;
@@ -148,7 +155,7 @@ module _ (k : Start) (words : List ℕ) (homes : List (Option Closed)) (o : Open
     each_slot = slot_opens;
     each_node = node_opens;
     each_owner = λ n l. owner_opens n;
-    removed = λ number. removed_opens number number;
+    removed = λ number. removed_opens number (node_of_number k number);
     unborn = λ n l. let m = more_nodes in high_phase (omega arith);
     fresh = λ number l. ap not (le-ltb number (slots_of k) l);
     each_view = view_opens;
@@ -156,6 +163,5 @@ module _ (k : Start) (words : List ℕ) (homes : List (Option Closed)) (o : Open
     passes = λ p. let a = counted_once (λ (y : Log). y.number) new_log (λ n. refl) p k.passes in omega arith;
     whole = let a = length-map-range_with_len new_log 1 k.passes in omega arith;
     authors = λ p none. refl;
-    control = let a = o.control in let b = full_few (first_file k) (range_of k).0 (range_of k).1 in let c = o.range in let d = o.slots in
-        record { upper = omega arith; lower = omega arith };
+    control = let a = o.control in let b = full_few (first_file k) (range_of k).0 (range_of k).1 in record { counts = omega arith };
   }

@@ -3,7 +3,7 @@ use Rattle.fx_lasting.proofs.Words.{◌≡◌, ◌≤◌, ℕ, ◌+◌, List, []
 use Rattle.fx_lasting.proofs.Words.{IsAtWork, Log, first_log, ◌∷◌, ◌-◌, ◌<◌, ⊎_elim, inl, dite, ℕ_discrete, eq-eqb, ne_eqb, Option, Some, None, Closed, File}
 use Rattle.fx_lasting.proofs.Words.{◌▷◌, Release, Close, Look, Idle, Owing, Yielding, Counted, Cold, TakesOut, LettingGo, Takes, glance_after}
 use Rattle.fx_lasting.proofs.Words.{LetsMarkGo, LetsFileGo, HasPlace, IsReleasing, HasToLetGo, nodes_of, name_in, node_in, At}
-use Rattle.fx_lasting.proofs.Words.{Glance, Work, Start, IsHistory, pass_in, event_of, part_of_pass, IsInside}
+use Rattle.fx_lasting.proofs.Words.{Glance, Work, Start, IsHistory, pass_in, event_of, part_of_pass, IsInside, rested}
 use Rattle.std.proofs.Common.{append_assoc}
 use mathlib.Core.List.{map-append}
 use Rattle.fx_table.proofs.Calls.{seen_further}
@@ -122,8 +122,9 @@ out_place {f = f} {n = n} empty out = record {
 }
 
 pub out_and_home : {m m' m'' : Sat} {xs : List Action} {f : File} {n : ℕ} → TakesOut m xs f n m'
-    → Runs m' [] Idle m'.0.glance m'.0.change 1 m'' → Runs m (xs ▷ Close f) Idle m.0.glance m.0.change 2 m''
-out_and_home out home = does_then (runs_one out.stepped) home
+    → Runs m' [] (rested m'.0.work) m'.0.glance m'.0.change 1 m'' → Runs m (xs ▷ Close f) Idle m.0.glance m.0.change 2 m''
+out_and_home {m' = m'} {m'' = m''} out home = does_then (runs_one out.stepped)
+    (subst (λ (w : Work). Runs m' [] (rested w) m'.0.glance m'.0.change 1 m'') out.stepped.work home)
 
 -- a pass lets a mark or a file go
 module _ {st : At} {m m' : Sat} {n found : ℕ} (did : LettingGo st m found m') where

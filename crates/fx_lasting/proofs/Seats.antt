@@ -1,11 +1,14 @@
 -- A seat is split off, and one is joined back.
 use Rattle.fx_lasting.proofs.Words.{◌≡◌, ℕ, List, length, sym, refl, ap, ◌∙◌, subst, arith, ⊎_elim, length-append, sum_by, sum_by-append, eqb}
-use Rattle.fx_lasting.proofs.Words.{count_in, WorkAgrees, LogAgrees, NodeAgrees, Agrees, in_change, added, removed_by, Shared, Outside, Log, Start}
+use Rattle.fx_lasting.proofs.Words.{count_in, WorkAgrees, LogAgrees, NodeAgrees, Agrees, owing, Shared, Outside, Log, Start}
 use Rattle.fx_lasting.proofs.Words.{View, Work, Idle, Nothing, Glance, Change, SplitsKeep, JoinsKeep, together, spent, one_if, held_in, if_file}
-use Rattle.fx_lasting.proofs.Words.{taking, owed, get_elem?, state_after_all, slots_of, word_of}
+use Rattle.fx_lasting.proofs.Words.{taking, owed, get_elem?, state_after_all, slots_of, word_of, some, set, set_here, set_else, at_set, stands_at, sum_set}
+use Rattle.fx_lasting.proofs.Words.{HasNoFile, ViewAgrees, taken_of, held_of, logs_of, lengths, zero, suc, [], ◌∷◌, ◌≢◌}
+use Rattle.std.proofs.lemmas.List.{set-set}
 use Rattle.fx_lasting.specs.Cuts.{without_first, first_alone}
 use Rattle.fx_table.proofs.Seats.{AreReseated, split, joined}
-use Rattle.fx_lasting.proofs.Frames.{busy, owner_map}
+use Rattle.fx_lasting.proofs.Choosing.{no_file, no_take, not_busy, holds_none}
+use Rattle.fx_lasting.proofs.Frames.{busy, owner_map, owner_stays, control_same}
 use Rattle.fx_lasting.proofs.Keeping.{word_at, slot_word}
 
 -- a seat that does nothing, in no change
@@ -35,6 +38,7 @@ module _ (k : Start) (s : Shared) (r : Agrees k s) (views : List View) (a : AreR
     history = r.history;
     phase = r.phase;
     node_of = r.node_of;
+    numbering = r.numbering;
     next_number = r.next_number;
     debt = r.debt;
     over = r.over;
@@ -60,14 +64,94 @@ module _ (k : Start) (s : Shared) (r : Agrees k s) (views : List View) (a : AreR
     passes = λ p. by_log (λ y. one_if (eqb y.number p)) ∙ r.passes p;
     whole = a.by_logs (length {A = Log}) refl (λ xs ys. length-append xs ys) ∙ r.whole;
     authors = r.authors;
-    control = let u = r.control.upper in let l = r.control.lower in let b = by_change in_change refl in let c = by_change added refl in
-        let d = by_change removed_by refl in record { upper = omega arith; lower = omega arith };
+    control = let u = r.control.counts in let b = by_change owing refl in record { counts = omega arith };
   }
 
 pub splits_keep : SplitsKeep without_first first_alone
 splits_keep k id v idle still out s r at = reseated k s r _ (split logs start k IsIdle s.views id v at (idle, still, out)
     (λ l. record v { logs = l }) (λ l. refl) (λ l. (idle, still, out)) (λ l. refl) (r.each_view id v at).start)
 
+-- a pass that has chosen a node may forget it
+module _ (k : Start) (s : Shared) (r : Agrees k s) (id : ℕ) (v : View) (here : get_elem? s.views id ≡ some v) (free_of : HasNoFile v.work) where
+  abbrev forgot : View
+  forgot = record v { work = Idle }
+
+  abbrev views' : List View
+  views' = set s.views id forgot
+
+  its_log : (x : Log) → LogAgrees k r.history s.words r.phase r.debt r.over v.work v.glance x
+      → LogAgrees k r.history s.words r.phase r.debt r.over Idle v.glance x
+  its_log x o = record {
+    seen = o.seen;
+    own = o.own;
+    held = o.held ∙ no_file free_of;
+    search = tt;
+    hold = holds_none free_of o.hold;
+    guarded = tt;
+    sees = o.sees;
+    heats = o.heats;
+  }
+
+  forgotten : Agrees k record { words = s.words; homes = s.homes; views = views' }
+  forgotten = record {
+    shape = let h = r.shape in assumption (h.words, h.homes);
+    history = r.history;
+    phase = r.phase;
+    node_of = r.node_of;
+    numbering = r.numbering;
+    next_number = r.next_number;
+    debt = r.debt;
+    over = r.over;
+    legal = r.legal;
+    each_slot = r.each_slot;
+    each_node = λ n l. subst (λ (t : ℕ). NodeAgrees (state_after_all k r.history).at (slots_of k) (λ i. count_in (slot_word s.words i)) r.node_of
+        r.next_number n (word_at s.words (word_of k n)) t (owed r.debt k.passes n) (get_elem? s.homes n) (r.phase n))
+        (let t = sum_set (taken_of n) s.views id v forgot here in let e = no_take free_of n in omega arith) (r.each_node n l);
+    each_owner = λ n l. owner_stays s.views id v forgot here n (λ bad. let e = not_busy free_of in omega arith) (r.phase n) (r.each_owner n l);
+    removed = r.removed;
+    unborn = r.unborn;
+    fresh = r.fresh;
+    each_view = λ j u e. ⊎_elim (λ (t : (j ≡ id) × (forgot ≡ u)).
+        subst (λ (z : ℕ × View). ViewAgrees k r.history s.words r.phase r.debt r.over z.0 z.1) (λ i. (sym t.0 i, t.1 i)) record {
+          logs = λ x h. its_log x ((r.each_view id v here).logs x h);
+          work = tt;
+          empty = λ none. let e = (r.each_view id v here).empty none in (refl, e.1, e.2);
+          start = (r.each_view id v here).start;
+        }) (λ t. r.each_view j u t.1) (at_set s.views id j forgot u e);
+    holds = λ n. let t = sum_set (held_of n) s.views id v forgot here in let e = ap (if_file n) (no_file free_of) in let h = r.holds n in omega arith;
+    passes = λ p. let t = sum_set (logs_of p) s.views id v forgot here in let h = r.passes p in omega arith;
+    whole = let t = sum_set lengths s.views id v forgot here in let h = r.whole in omega arith;
+    authors = r.authors;
+    control = control_same s.views id v forgot here refl refl refl r.control;
+  }
+
+-- writes at two places, in the other order
+module _ {A : Type 0} where
+  set_apart : (l : List A) (i j : ℕ) (a b : A) → i ≢ j → set (set l i a) j b ≡ set (set l j b) i a
+  set_apart [] i j a b other = refl
+  set_apart (x ∷ l) zero zero a b other = absurd (other refl)
+  set_apart (x ∷ l) zero (suc j) a b other = refl
+  set_apart (x ∷ l) (suc i) zero a b other = refl
+  set_apart (x ∷ l) (suc i) (suc j) a b other = ap (λ (m : List A). x ∷ m) (set_apart l i j a b (λ e. other (ap suc e)))
+
 pub joins_keep : JoinsKeep together spent
-joins_keep k id v begun idle still out other w w_idle w_still w_out s r at apart there = reseated k s r _ (joined logs start k IsIdle s.views id v at
-    (idle, still, out) other w (together v w) spent apart there (w_idle, w_still, w_out) (idle, still, out) refl begun (refl, refl, refl) refl)
+joins_keep k id v begun free_of still out other w w_free w_still w_out s r at apart there =
+    let both = together v w in
+    let w_at : get_elem? s.views other ≡ some w = sym (set_else s.views id other both apart) ∙ there in
+    let v₁ = forgot k s r id v at free_of in
+    let views₁ = set s.views id v₁ in
+    let r₁ = forgotten k s r id v at free_of in
+    let w_at₁ : get_elem? views₁ other ≡ some w = set_else s.views id other v₁ apart ∙ w_at in
+    let w₁ = forgot k _ r₁ other w w_at₁ w_free in
+    let views₂ = set views₁ other w₁ in
+    let r₂ = forgotten k _ r₁ other w w_at₁ w_free in
+    let ne : id ≢ other = λ same. apart (sym same) in
+    let at₂ : get_elem? views₂ id ≡ some v₁ = set_else views₁ other id w₁ ne ∙ set_here s.views id v₁ (stands_at s.views id v at).0 in
+    let there₂ : get_elem? (set views₂ id both) other ≡ some w₁ =
+    set_else views₂ id other both apart ∙ set_here views₁ other w₁ (stands_at views₁ other w w_at₁).0 in
+    let same : set (set views₂ id both) other spent ≡ set (set s.views id both) other spent =
+    ap (λ (l : List View). set l other spent) (set_apart views₁ other id w₁ both apart)
+    ∙ (set-set (set views₁ id both) other w₁ spent ∙ ap (λ (l : List View). set l other spent) (set-set s.views id v₁ both)) in
+    subst (λ (l : List View). Agrees k record { words = s.words; homes = s.homes; views = l }) same (reseated k _ r₂ _
+    (joined logs start k IsIdle views₂ id v₁ at₂ (refl, still, out) other w₁ both spent apart there₂ (refl, w_still, w_out) (refl, still, out) refl
+    begun (refl, refl, refl) refl))

@@ -1,23 +1,27 @@
 -- An installation, a clear, a take and an exchange keep the rule.
 use Rattle.fx_lasting.proofs.Words.{◌≡◌, ◌≢◌, ℕ, ◌+◌, ◌^◌, ◌<◌, List, [], ◌∷◌, set, sym, refl, ap, ◌∙◌, subst, arith, Option, Some, None, none, some}
-use Rattle.fx_lasting.proofs.Words.{keeps, gives, rest, get_elem?, false, inl, inr, ◌⊎◌, dite, ℕ_discrete, eqb, Closed, File, numbered, Event, Action}
+use Rattle.fx_lasting.proofs.Words.{keeps, gives, rest, get_elem?, false, inl, inr, ◌⊎◌, eqb, Closed, File, numbered, Event, Action}
 use Rattle.fx_lasting.proofs.Words.{Put, Clear, Take, Allocate, ◌▷◌, State, with_removed, changed_at, changed_here, changed_else, event_of, held_by}
 use Rattle.fx_lasting.proofs.Words.{Agrees, NodeAgrees, OwnerAgrees, WorkAgrees, IsHistory, state_after_all, slots_of, nodes_of, slot_place, word_of}
 use Rattle.fx_lasting.proofs.Words.{count_in, name_in, slot_word_of, name_made, entry_made, taken_of, taking, held_in, owed, sum_by, sum_set, Phase}
-use Rattle.fx_lasting.proofs.Words.{placed, seated, free, removed_in, Change, Idle, Placing, Removes, Installs, Exchanges, Stepped, MayChange}
-use Rattle.fx_lasting.proofs.Words.{IsInRange, ClearsKeep, TakesOutKeep, InstallsKeep, ExchangesKeep, turned, if_full, Same, step, set_here, set_else}
-use Rattle.fx_lasting.proofs.Words.{length-set, exchanged, IsInside, retiring, takes_made, ne_eqb, dec_le, suc, leaving, retired, emptied}
+use Rattle.fx_lasting.proofs.Words.{placed, seated, removed_in, Change, Idle, Placing, Removes, Installs, Exchanges, Stepped, IsOffCount}
+use Rattle.fx_lasting.proofs.Words.{IsInRange, ClearsKeep, TakesOutKeep, InstallsKeep, ExchangesKeep, account, owing, uncounted, is_in, range_of, Outside, Bool, true, step, set_here, set_else}
+use Rattle.fx_lasting.proofs.Words.{length-set, exchanged, IsInside, retiring, takes_made}
+use Rattle.fx_lasting.proofs.Words.{◌*◌, ◌≤◌, HasNoFile}
+use Rattle.std.proofs.lemmas.Nat.{mod-mul-add}
+use Rattle.std.proofs.Math.Nat.{le-mul_of_pos_right}
 use prog.Atomic.{either}
 use Rattle.fx_lasting.proofs.Histories.{grows_one, legal_more, part_mine, held_mine, each_changed, same_shape}
 use Rattle.fx_lasting.proofs.Frames.{busy, owner_stays, node_same}
 use Rattle.fx_lasting.proofs.Keeping.{Turn, turn_of, After, word_at, slot_word, Made, by_turn, its_log, its_work, in_range, tells, w, end, Homes}
-use Rattle.fx_lasting.proofs.FullSlots.{control_swap}
+use Rattle.fx_lasting.proofs.FullSlots.{control_swap, counted, counted_none, empties, fills, in_range_so}
 use Rattle.fx_lasting.proofs.Peeking.{goes_still, still}
 use Rattle.fx_lasting.proofs.Calm.{read_after, read_kept}
 use Rattle.fx_lasting.proofs.Places.{slot_words, slot_here, slot_else, slot_back}
 use Rattle.fx_lasting.proofs.Looking.{unnamed}
 use Rattle.fx_lasting.proofs.Swaps.{found, old_at, found_so, NotOf, not_old, old_named, d, swap_after, Swap, swap_kept}
-use Rattle.fx_lasting.proofs.Unheld.{NodeNow, in_phase}
+use Rattle.fx_lasting.proofs.Unheld.{in_phase}
+use Rattle.fx_lasting.proofs.Choosing.{no_file, no_take, not_busy, holds_none}
 
 -- the action empties a slot, whatever it is for
 abbrev pub IsRemoval : (ℕ → Option File → Action) → Type 0
@@ -44,7 +48,7 @@ taken turn s inside = (
 )
 
 module _ (act : ℕ → Option File → Action) (does : IsRemoval act) (turn : Turn) (s : ℕ) (inside : s < slots_of turn.v.start)
-    (works : turn.v.work ≡ Idle) (stands : MayChange turn.v.start s turn.v.change) where
+    (free_of : HasNoFile turn.v.work) (off : IsOffCount turn.v.start s turn.v.change) where
   open turn use {st, v, r, id, x, here, one}
 
   abbrev old : Option File
@@ -54,13 +58,13 @@ module _ (act : ℕ → Option File → Action) (does : IsRemoval act) (turn : T
   h₁ = event_of x (act s old) ∷ r.history
 
   abbrev c₁ : Change
-  c₁ = turned v.change (if_full old) 0
+  c₁ = account (range_of v.start) s old
 
   abbrev removal : After turn
-  removal = swap_after turn s inside old refl h₁ 0 None st.homes r.phase r.node_of r.next_number c₁
+  removal = swap_after turn s inside old refl h₁ 0 None st.homes r.phase r.next_number c₁
 
-  removes : Swap turn s inside old refl h₁ 0 None st.homes r.phase r.node_of r.next_number c₁
-  removes = let o = its_log turn in let h = rw works at o.hold in let e = does turn s inside in record {
+  removes : Swap turn s inside old refl h₁ 0 None st.homes r.phase r.next_number c₁
+  removes = let o = its_log turn in let h = holds_none free_of o.hold in let e = does turn s inside in record {
     grows = grows_one x.number r.history _ refl;
     legal = e.0;
     fresh = (state_after_all v.start r.history).fresh;
@@ -69,25 +73,27 @@ module _ (act : ℕ → Option File → Action) (does : IsRemoval act) (turn : T
     held = e.2;
     homes = refl;
     later = omega arith;
-    numbers = λ m l. refl;
     removed_else = λ m. refl;
     names = refl;
     no_takes = refl;
     seat = tt;
     seat_apart = λ f is. absurd (cc is);
     kept = λ n. inl refl;
-    nodes = λ n l apart. node_same (slots_of v.start) n (omega arith) (λ m u. refl) refl
-        (let t = sum_set (taken_of n) st.views id v (w turn removal) here in let a = ap (taking n) works in let b = untaken n in omega arith)
+    nodes = λ n l apart. node_same (slots_of v.start) r.node_of n (omega arith) refl
+        (let t = sum_set (taken_of n) st.views id v (w turn removal) here in let a = no_take free_of n in let b = untaken n in omega arith)
         refl refl (r.phase n) (λ i f is there. let other : i ≢ s = λ same. apart f (ap (λ (j : ℕ). (state_after_all v.start r.history).at j) (sym same) ∙ there)
         (sym (in_phase turn l is).file.its_node) in
         (ap (λ (z : State). z.at i) e.1 ∙ changed_else (state_after_all v.start r.history).at s None i other, ap count_in (slot_else turn s inside 0 i other)))
         (r.each_node n l);
     old_home = λ f is. refl;
-    owners = λ n l apart. owner_stays st.views id v (w turn removal) here n (λ bad. let a = ap busy works in omega arith) (r.phase n) (r.each_owner n l);
-    idle_hands = (ap held_in works, λ n. ap (taking n) works, h.0, h.1);
-    control = control_swap (state_after_all v.start r.history).at id (w turn removal) s old None here refl stands refl r.control;
+    owners = λ n l apart. owner_stays st.views id v (w turn removal) here n (λ bad. let a = not_busy free_of in omega arith) (r.phase n) (r.each_owner n l);
+    idle_hands = (no_file free_of, no_take free_of, h.0, h.1);
+    control = control_swap (state_after_all v.start r.history).at id (w turn removal) s old None here refl balance r.control;
   }
     where
+      balance : owing c₁ + counted (is_in (range_of v.start) s) old ≡ owing v.change + counted (is_in (range_of v.start) s) None
+      balance = let a = empties (is_in (range_of v.start) s) old in let b = ap owing off in let c = counted_none (is_in (range_of v.start) s) in omega arith
+
       untaken : (n : ℕ) → taking n (d turn s inside old refl) ≡ 0
       untaken n = go old
         where
@@ -97,7 +103,7 @@ module _ (act : ℕ → Option File → Action) (does : IsRemoval act) (turn : T
 
   pub removal_made : (slots : ℕ) (carried : List (ℕ × Option Closed))
       → Made turn carried (slot_place s) (λ _. 0) (Removes act (step slots (slot_place s) 0 0 none) (v, carried))
-  removal_made slots carried = let e = does turn s inside in let kept = swap_kept turn s inside old refl h₁ 0 None st.homes r.phase r.node_of r.next_number c₁ removes in (
+  removal_made slots carried = let e = does turn s inside in let kept = swap_kept turn s inside old refl h₁ 0 None st.homes r.phase r.next_number c₁ removes in (
     w turn removal,
     keeps,
     tt,
@@ -117,26 +123,35 @@ module _ (act : ℕ → Option File → Action) (does : IsRemoval act) (turn : T
           (let n = (old_at turn s inside old refl is).0 in let e = old_named turn s inside old refl is in omega arith)
 
 pub clears_keep : ClearsKeep (Removes Clear)
-clears_keep k slots id i s m x has works inside stands place = by_turn slots (λ k. (s < slots_of k) × MayChange k s m.0.change)
-    (λ _. slot_place s) (λ _. 0) (λ i. Removes Clear (step slots i 0 0 none) m) has (inside, stands) place
+clears_keep k slots id i s m x has works inside off place = by_turn slots (λ k. (s < slots_of k) × IsOffCount k s m.0.change)
+    (λ _. slot_place s) (λ _. 0) (λ i. Removes Clear (step slots i 0 0 none) m) has (inside, off) place
     (λ st r here is fits. removal_made Clear cleared (turn_of m x has.1 id st r here) s is.0 works is.1 slots m.1)
 
 pub takes_out_keep : TakesOutKeep (Removes Take)
-takes_out_keep k slots id i s m x has works inside stands place = by_turn slots (λ k. (s < slots_of k) × MayChange k s m.0.change)
-    (λ _. slot_place s) (λ _. 0) (λ i. Removes Take (step slots i 0 0 none) m) has (inside, stands) place
+takes_out_keep k slots id i s m x has works inside off place = by_turn slots (λ k. (s < slots_of k) × IsOffCount k s m.0.change)
+    (λ _. slot_place s) (λ _. 0) (λ i. Removes Take (step slots i 0 0 none) m) has (inside, off) place
     (λ st r here is fits. removal_made Take taken (turn_of m x has.1 id st r here) s is.0 works is.1 slots m.1)
+
+-- a number that none had before, and which says the node
+new_number : (turn : Turn) {n : ℕ} → turn.v.work ≡ Placing n → (m : ℕ) × (turn.r.next_number ≤ m) × (turn.r.node_of m ≡ n)
+new_number turn {n} works = let r = turn.r in let nodes = nodes_of turn.v.start in
+    let l = (subst (WorkAgrees turn.v.start r.phase turn.id) works (its_work turn)).0 in (
+      r.next_number * nodes + n,
+      omega (arith, le-mul_of_pos_right {m = nodes} r.next_number (omega (arith, l))),
+      r.numbering (r.next_number * nodes + n) ∙ mod-mul-add r.next_number nodes n l,
+    )
 
 -- The slot gets the file that a pass places, under a number that none had before.
 module _ (turn : Turn) (s : ℕ) (inside : s < slots_of turn.v.start) (old : Option File) (was : (state_after_all turn.v.start turn.r.history).at s ≡ old)
-    (n : ℕ) (file : Closed) (works : turn.v.work ≡ Placing n) (small : file.entry < 2 ^ 8) (stands : MayChange turn.v.start s turn.v.change)
-    (a : Action) where
+    (n : ℕ) (file : Closed) (works : turn.v.work ≡ Placing n) (small : file.entry < 2 ^ 8) (out : turn.v.change ≡ Outside)
+    (number : ℕ) (late : turn.r.next_number ≤ number) (on_n : turn.r.node_of number ≡ n) (a : Action) where
   open turn use {st, v, r, id, x, here, one}
 
   abbrev before : State
   before = state_after_all v.start r.history
 
   abbrev new_file : File
-  new_file = numbered r.next_number file
+  new_file = numbered number file
 
   abbrev h₂ : List Event
   h₂ = event_of x a ∷ r.history
@@ -153,14 +168,11 @@ module _ (turn : Turn) (s : ℕ) (inside : s < slots_of turn.v.start) (old : Opt
   abbrev phase₁ : ℕ → Phase
   phase₁ = changed_at r.phase n (seated s new_file)
 
-  abbrev node_of₁ : ℕ → ℕ
-  node_of₁ = changed_at r.node_of r.next_number n
-
   abbrev c₂ : Change
-  c₂ = turned v.change (if_full old) 1
+  c₂ = account (range_of v.start) s old
 
   abbrev pub installed : After turn
-  installed = swap_after turn s inside old was h₂ new_word (Some new_file) homes₁ phase₁ node_of₁ (r.next_number + 1) c₂
+  installed = swap_after turn s inside old was h₂ new_word (Some new_file) homes₁ phase₁ (number + 1) c₂
 
   -- what the action does
   pub record Effect : Type 0 where
@@ -168,37 +180,13 @@ module _ (turn : Turn) (s : ℕ) (inside : s < slots_of turn.v.start) (old : Opt
     pub state : state_after_all v.start h₂ ≡ record before {
       at = changed_at before.at s (Some new_file);
       removed = with_removed before.removed old;
-      fresh = changed_at before.fresh r.next_number false;
+      fresh = changed_at before.fresh number false;
     }
     pub held : held_by h₂ x.number ≡ held_by r.history x.number
 
-  on_n : node_of₁ r.next_number ≡ n
-  on_n = changed_here r.node_of r.next_number n r.next_number refl
-
-  numbers₁ : (m : ℕ) → m < r.next_number → node_of₁ m ≡ r.node_of m
-  numbers₁ m l = changed_else r.node_of r.next_number n m (λ same. omega arith)
-
-  -- no file of the next number was removed
-  none_next : removed_in r.next_number (r.phase (r.node_of r.next_number)) ≡ None
-  none_next = dite (dec_le (suc (r.node_of r.next_number)) (nodes_of v.start))
-      (λ l. go (r.phase (r.node_of r.next_number)) (r.each_node (r.node_of r.next_number) (omega (arith, l))))
-      (λ g. ap (removed_in r.next_number) (r.unborn (r.node_of r.next_number) (omega (arith, g))))
-    where
-      go : (ph : Phase) → NodeNow turn (r.node_of r.next_number) ph → removed_in r.next_number ph ≡ None
-      go (leaving j t nx m f) o = let u = o.file.used in rw (ne_eqb f.number r.next_number (λ e. omega arith)) refl
-      go (retired f) o = let u = o.file.used in rw (ne_eqb f.number r.next_number (λ e. omega arith)) refl
-      go free o = refl
-      go (placed j) o = refl
-      go (seated i f) o = refl
-      go (emptied j) o = refl
-
-  removed_same : (m : ℕ) → removed_in m (phase₁ (node_of₁ m)) ≡ removed_in m (r.phase (r.node_of m))
-  removed_same m = dite (ℕ_discrete m r.next_number)
-      (λ same. ap (removed_in m) (changed_here r.phase n (seated s new_file) (node_of₁ m) (ap node_of₁ same ∙ on_n))
-      ∙ sym (subst (λ (i : ℕ). removed_in i (r.phase (r.node_of i)) ≡ None) (sym same) none_next))
-      (λ other. ap (λ (q : ℕ). removed_in m (phase₁ q)) (changed_else r.node_of r.next_number n m other)
-      ∙ each_changed (λ q z. removed_in m z ≡ removed_in m (r.phase q)) r.phase
-      (λ at. sym (ap (λ (q : ℕ). removed_in m (r.phase q)) at ∙ ap (removed_in m) its.1)) (λ _. refl))
+  removed_same : (m : ℕ) → removed_in m (phase₁ (r.node_of m)) ≡ removed_in m (r.phase (r.node_of m))
+  removed_same m = each_changed (λ q z. removed_in m z ≡ removed_in m (r.phase q)) r.phase
+      (λ at. sym (ap (λ (q : ℕ). removed_in m (r.phase q)) at ∙ ap (removed_in m) its.1)) (λ _. refl)
 
   untaken : (m : ℕ) → taking m (d turn s inside old was) ≡ 0
   untaken m = go old
@@ -218,8 +206,8 @@ module _ (turn : Turn) (s : ℕ) (inside : s < slots_of turn.v.start) (old : Opt
     no_count = let e = takes_made n file.entry in omega arith
 
     abbrev Node₁ : ℕ → Phase → Type 0
-    Node₁ m = NodeAgrees (state_after_all v.start h₂).at (slots_of v.start) (λ i. count_in (slot_word (slot_words turn s inside new_word) i)) node_of₁
-        (r.next_number + 1) m (word_at st.words (word_of v.start m)) (sum_by (taken_of m) (set st.views id (w turn installed)))
+    Node₁ m = NodeAgrees (state_after_all v.start h₂).at (slots_of v.start) (λ i. count_in (slot_word (slot_words turn s inside new_word) i)) r.node_of
+        (number + 1) m (word_at st.words (word_of v.start m)) (sum_by (taken_of m) (set st.views id (w turn installed)))
         (owed r.debt v.start.passes m) (get_elem? homes₁ m)
 
     node_here₁ : Node₁ n (seated s new_file)
@@ -237,29 +225,31 @@ module _ (turn : Turn) (s : ℕ) (inside : s < slots_of turn.v.start) (old : Opt
         }
 
     node_else₁ : {m : ℕ} → m < nodes_of v.start → m ≢ n → NotOf r.node_of m old → Node₁ m (r.phase m)
-    node_else₁ {m} l other apart = node_same (slots_of v.start) m (omega arith) numbers₁ refl (total_now m) refl
+    node_else₁ {m} l other apart = node_same (slots_of v.start) r.node_of m (omega arith) refl (total_now m) refl
         (set_else st.homes n m (some (Some file)) other) (r.phase m)
         (λ i f is there. let away : i ≢ s = λ same. apart f (sym was ∙ (ap before.at (sym same) ∙ there)) (sym (in_phase turn l is).file.its_node) in
         (ap (λ (z : State). z.at i) does.state ∙ changed_else before.at s (Some new_file) i away, ap count_in (slot_else turn s inside new_word i away)))
         (r.each_node m l)
 
-    installs : Swap turn s inside old was h₂ new_word (Some new_file) homes₁ phase₁ node_of₁ (r.next_number + 1) c₂
+    balance : owing c₂ + counted (is_in (range_of v.start) s) old ≡ owing v.change + counted (is_in (range_of v.start) s) (Some new_file)
+    balance = let a = fills (is_in (range_of v.start) s) old new_file in let b = ap owing out in omega arith
+
+    installs : Swap turn s inside old was h₂ new_word (Some new_file) homes₁ phase₁ (number + 1) c₂
     installs = let o = its_log turn in let h = rw works at o.hold in let apart = not_old turn s inside old was its.1 (λ g bad. cc bad) in record {
       grows = grows_one x.number r.history _ refl;
       legal = does.legal;
-      fresh = changed_at before.fresh r.next_number false;
+      fresh = changed_at before.fresh number false;
       leads = does.state;
-      fresh_on = λ number l. changed_else before.fresh r.next_number false number (λ same. omega arith) ∙ r.fresh number (omega arith);
+      fresh_on = λ m l. changed_else before.fresh number false m (λ same. omega (arith, l, same)) ∙ r.fresh m (omega (arith, late, l));
       held = does.held;
       homes = length-set st.homes n (some (Some file));
-      later = omega arith;
-      numbers = numbers₁;
+      later = omega (arith, late);
       removed_else = removed_same;
       names = (name_made n file.entry small ∙ ap (λ (i : ℕ). i + 1) (sym on_n), entry_made n file.entry small);
       no_takes = no_count;
       seat = rw on_n (its.0, changed_here r.phase n (seated s new_file) n refl);
-      seat_apart = λ f is. let e : r.next_number ≡ f.number = (let z : new_file ≡ f = cc is in ap (λ (y : File). y.number) z) in
-          subst (λ (i : ℕ). NotOf r.node_of (node_of₁ i) old) e (rw on_n apart);
+      seat_apart = λ f is. let e : number ≡ f.number = (let z : new_file ≡ f = cc is in ap (λ (y : File). y.number) z) in
+          subst (λ (i : ℕ). NotOf r.node_of (r.node_of i) old) e (rw on_n apart);
       kept = λ m. each_changed (λ m ph. (ph ≡ r.phase m) ⊎ (r.phase m ≡ placed id)) r.phase
           (λ same. inr (ap r.phase same ∙ its.1)) (λ other. inl refl);
       nodes = λ m l apart. each_changed Node₁ r.phase (λ same. subst (λ (i : ℕ). Node₁ i (seated s new_file)) (sym same) node_here₁)
@@ -268,11 +258,11 @@ module _ (turn : Turn) (s : ℕ) (inside : s < slots_of turn.v.start) (old : Opt
       owners = λ m l apart. each_changed (OwnerAgrees (set st.views id (w turn installed))) r.phase (λ same. tt)
           (λ other. owner_stays st.views id v (w turn installed) here m (λ bad. let b = ap busy works in other (omega arith)) (r.phase m) (r.each_owner m l));
       idle_hands = (ap held_in works, λ m. ap (taking m) works, h.0, h.1);
-      control = control_swap before.at id (w turn installed) s old (Some new_file) here was stands refl r.control;
+      control = control_swap before.at id (w turn installed) s old (Some new_file) here was balance r.control;
     }
 
     pub installation_agrees : Agrees v.start (end turn installed)
-    installation_agrees = swap_kept turn s inside old was h₂ new_word (Some new_file) homes₁ phase₁ node_of₁ (r.next_number + 1) c₂ installs
+    installation_agrees = swap_kept turn s inside old was h₂ new_word (Some new_file) homes₁ phase₁ (number + 1) c₂ installs
 
     pub installation_tells : (carried homes : List (ℕ × Option Closed))
         → Stepped (v, carried) ([] ▷ a) (retiring v.start (found turn s inside) old) v.glance c₂ (w turn installed, homes)
@@ -289,19 +279,19 @@ file_carried [] = None
 file_carried (c ∷ cs) = c.1
 
 module _ (turn : Turn) (s : ℕ) (inside : s < slots_of turn.v.start) (n : ℕ) (file : Closed) (works : turn.v.work ≡ Placing n)
-    (small : file.entry < 2 ^ 8) (stands : MayChange turn.v.start s turn.v.change) (slots : ℕ) (carried : List (ℕ × Option Closed))
-    (carries : carried ≡ (n, Some file) ∷ []) where
+    (small : file.entry < 2 ^ 8) (out : turn.v.change ≡ Outside) (slots : ℕ) (carried : List (ℕ × Option Closed))
+    (carries : carried ≡ (n, Some file) ∷ []) (number : ℕ) (late : turn.r.next_number ≤ number) (on_n : turn.r.node_of number ≡ n) where
   open turn use {st, v, r, id, x, here, one}
 
   abbrev put_old : Option File
   put_old = (state_after_all v.start r.history).at s
 
   abbrev put_action : Action
-  put_action = Put s (numbered r.next_number file) put_old
+  put_action = Put s (numbered number file) put_old
 
-  putting : Effect turn s inside put_old refl n file works small stands put_action
+  putting : Effect turn s inside put_old refl n file works small out number late on_n put_action
   putting = record {
-    legal = legal_more v.start r.legal (let z = (same_shape v.start r.history).0 in (omega arith, r.fresh r.next_number (omega arith), refl)) tt;
+    legal = legal_more v.start r.legal (let z = (same_shape v.start r.history).0 in (omega arith, r.fresh number late, refl)) tt;
     state = refl;
     held = held_mine (event_of x put_action) r.history refl;
   }
@@ -309,17 +299,18 @@ module _ (turn : Turn) (s : ℕ) (inside : s < slots_of turn.v.start) (n : ℕ) 
   pub install_made : Made turn carried (slot_place s) (λ _. slot_word_of n file.entry)
       (Installs (step slots (slot_place s) (slot_word_of n file.entry) 0 none) (v, carried))
   install_made = (
-    w turn (installed turn s inside put_old refl n file works small stands put_action),
+    w turn (installed turn s inside put_old refl n file works small out number late on_n put_action),
     gives,
     tt,
-    rw carries (installation_agrees turn s inside put_old refl n file works small stands put_action putting),
+    rw carries (installation_agrees turn s inside put_old refl n file works small out number late on_n put_action putting),
     record {
       replaced = put_old;
       names = found_so turn s inside put_old refl;
       stepped = λ m other works' carries'. let same_f : file ≡ other = cc (ap file_carried (sym carries ∙ carries')) in
           rw (← same_f, slot_back s) (
-            r.next_number,
-            installation_tells turn s inside put_old refl n file works small stands put_action putting
+            number,
+            sym (r.numbering number) ∙ (on_n ∙ (let same : n ≡ m = cc (sym works ∙ works') in same)),
+            installation_tells turn s inside put_old refl n file works small out number late on_n put_action putting
                 carried (rest carried),
           );
       carried = refl;
@@ -327,8 +318,8 @@ module _ (turn : Turn) (s : ℕ) (inside : s < slots_of turn.v.start) (n : ℕ) 
   )
 
 module _ (turn : Turn) (slots s n old_word : ℕ) (file : Closed) (carried : List (ℕ × Option Closed)) (works : turn.v.work ≡ Placing n)
-    (carries : carried ≡ (n, Some file) ∷ []) (small : file.entry < 2 ^ 8) (same : turn.v.change ≡ Same) (in_range : IsInRange turn.v.start s)
-    (empty : name_in old_word ≡ 0) where
+    (carries : carried ≡ (n, Some file) ∷ []) (small : file.entry < 2 ^ 8) (out : turn.v.change ≡ Outside) (in_range : IsInRange turn.v.start s)
+    (empty : name_in old_word ≡ 0) (number : ℕ) (late : turn.r.next_number ≤ number) (on_n : turn.r.node_of number ≡ n) where
   open turn use {st, v, r, id, x, here, one}
 
   abbrev word : ℕ
@@ -336,9 +327,6 @@ module _ (turn : Turn) (slots s n old_word : ℕ) (file : Closed) (carried : Lis
 
   within : s < slots_of v.start
   within = let a = r.shape.range in let b = in_range.1 in omega arith
-
-  stands₁ : MayChange v.start s v.change
-  stands₁ = inl (in_range, same)
 
   abbrev Goal : ℕ → Type 0
   Goal y = Made turn carried (slot_place s) (λ _. y) (Exchanges (step slots (slot_place s) old_word (slot_word_of n file.entry) none) (v, carried))
@@ -357,30 +345,31 @@ module _ (turn : Turn) (slots s n old_word : ℕ) (file : Closed) (carried : Lis
     at_none = unnamed turn s within (ap name_in is ∙ empty)
 
     abbrev alloc : Action
-    alloc = Allocate s (numbered r.next_number file)
+    alloc = Allocate s (numbered number file)
 
-    allocating : Effect turn s within None at_none n file works small stands₁ alloc
+    allocating : Effect turn s within None at_none n file works small out number late on_n alloc
     allocating = record {
       legal = legal_more v.start r.legal (let z = (same_shape v.start r.history).0 in let y = (same_shape v.start r.history).1 in
           let p = ap (λ (p : ℕ × ℕ). p.0) y in let q = ap (λ (p : ℕ × ℕ). p.1) y in let low = in_range.0 in let high = in_range.1 in let l = within in
-          (omega arith, (omega arith, omega arith), at_none, r.fresh r.next_number (omega arith))) tt;
+          (omega arith, (omega arith, omega arith), at_none, r.fresh number late)) tt;
       state = refl;
       held = held_mine (event_of x alloc) r.history refl;
     }
 
     won : Goal (slot_word_of n file.entry)
     won = (
-      w turn (installed turn s within None at_none n file works small stands₁ alloc),
+      w turn (installed turn s within None at_none n file works small out number late on_n alloc),
       gives,
       tt,
-      rw carries (installation_agrees turn s within None at_none n file works small stands₁ alloc allocating),
+      rw carries (installation_agrees turn s within None at_none n file works small out number late on_n alloc allocating),
       record {
         wins = λ m other works' carries' _. let same_f : file ≡ other = cc (ap file_carried (sym carries ∙ carries')) in (
-          r.next_number,
+          number,
+          sym (r.numbering number) ∙ (on_n ∙ (let same : n ≡ m = cc (sym works ∙ works') in same)),
           rw (← same_f, slot_back s)
-              (subst (λ (c : Change). Stepped (v, carried) ([] ▷ alloc) Idle v.glance c (w turn (installed turn s within None at_none n file works small stands₁ alloc), rest carried))
-              (ap (λ (c : Change). turned c 0 1) same)
-              (installation_tells turn s within None at_none n file works small stands₁ alloc allocating carried (rest carried))),
+              (subst (λ (b : Bool). Stepped (v, carried) ([] ▷ alloc) Idle v.glance (uncounted b true) (w turn (installed turn s within None at_none n file works small out number late on_n alloc), rest carried))
+              (in_range_so (range_of v.start) s in_range.0 in_range.1)
+              (installation_tells turn s within None at_none n file works small out number late on_n alloc allocating carried (rest carried))),
           refl,
         );
         loses = λ other. absurd (other is);
@@ -388,17 +377,18 @@ module _ (turn : Turn) (slots s n old_word : ℕ) (file : Closed) (carried : Lis
     )
 
 pub installs_keep : InstallsKeep Installs
-installs_keep k slots id i s n new file m x has works carries small inside stands place made = rw made (by_turn slots
-    (λ k. (s < slots_of k) × MayChange k s m.0.change) (λ _. slot_place s) (λ _. slot_word_of n file.entry)
-    (λ i. Installs (step slots i (slot_word_of n file.entry) 0 none) m) has (inside, stands) place
-    (λ st r here is fits. install_made (turn_of m x has.1 id st r here) s is.0 n file works small is.1 slots m.1 carries))
+installs_keep k slots id i s n new file m x has works carries small inside out place made = rw made (by_turn slots
+    (λ k. s < slots_of k) (λ _. slot_place s) (λ _. slot_word_of n file.entry)
+    (λ i. Installs (step slots i (slot_word_of n file.entry) 0 none) m) has inside place
+    (λ st r here is fits. let turn = turn_of m x has.1 id st r here in let new = new_number turn works in
+    install_made turn s is n file works small out slots m.1 carries new.0 new.1 new.2))
 
 pub exchanges_keep : ExchangesKeep Exchanges
-exchanges_keep k slots id i s n old new file m x has works carries small same in_range place empty made = rw made (by_turn slots
+exchanges_keep k slots id i s n old new file m x has works carries small out in_range place empty made = rw made (by_turn slots
     (λ k. IsInRange k s) (λ _. slot_place s) (λ word. either (eqb word old) (slot_word_of n file.entry) word)
     (λ i. Exchanges (step slots i old (slot_word_of n file.entry) none) m) has in_range place
-    (λ st r here is fits. let turn = turn_of m x has.1 id st r here in
+    (λ st r here is fits. let turn = turn_of m x has.1 id st r here in let new = new_number turn works in
     exchanged (word_at st.words (slot_place s)) old (slot_word_of n file.entry)
-    (Goal turn slots s n old file m.1 works carries small same is empty)
-    (won turn slots s n old file m.1 works carries small same is empty)
-    (lost turn slots s n old file m.1 works carries small same is empty)))
+    (Goal turn slots s n old file m.1 works carries small out is empty new.0 new.1 new.2)
+    (won turn slots s n old file m.1 works carries small out is empty new.0 new.1 new.2)
+    (lost turn slots s n old file m.1 works carries small out is empty new.0 new.1 new.2)))

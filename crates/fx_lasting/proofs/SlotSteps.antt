@@ -1,5 +1,5 @@
 -- A step on the word of a slot, whose file stays there.
-use Rattle.fx_lasting.proofs.Words.{◌≡◌, ◌≢◌, ℕ, ◌+◌, ◌<◌, ◌≤◌, List, set, sym, refl, ap, ◌∙◌, subst, arith, Option, Some, None, Bool, held_by, File}
+use Rattle.fx_lasting.proofs.Words.{◌≡◌, ◌≢◌, ℕ, ◌+◌, ◌<◌, ◌≤◌, List, [], set, sym, refl, ap, ◌∙◌, subst, arith, Option, Some, None, Bool, held_by, File}
 use Rattle.fx_lasting.proofs.Words.{Event, NodeAgrees, SearchAgrees, SlotAgrees, Names, Agrees, slots_of, nodes_of, IsHistory, state_after_all}
 use Rattle.fx_lasting.proofs.Words.{held_in, held_of, taken_of, taking, Phase, free, placed, seated, leaving, retired, emptied, Work, Glance, ⊎_elim}
 use Rattle.fx_lasting.proofs.Words.{◌⊎◌, inr, dite, ℕ_discrete, slot_place, word_of, count_in, name_in, entry_in, IsHot, cold_takes, tally, born}
@@ -19,10 +19,10 @@ module _ (turn : Turn) (s : ℕ) (inside : s < slots_of turn.v.start) (new : ℕ
   abbrev pub slot_after : After turn
   slot_after = record {
     h = h';
+    front = h';
     words = words';
     homes = st.homes;
     phase = r.phase;
-    node_of = r.node_of;
     next_number = r.next_number;
     debt = r.debt;
     over = over';
@@ -115,7 +115,7 @@ module _ (turn : Turn) (s : ℕ) (inside : s < slots_of turn.v.start) (new : ℕ
         (get_elem? st.homes n)
 
     same_else : (n : ℕ) → n < nodes_of v.start → (ph : Phase) → r.phase n ≡ ph → ((f : File) → ph ≢ seated s f) → Node n ph
-    same_else n l ph is else = node_same (slots_of v.start) n (omega arith) (λ m u. refl) (slot_node turn s inside new n)
+    same_else n l ph is else = node_same (slots_of v.start) r.node_of n (omega arith) (slot_node turn s inside new n)
         (let t = sum_set (taken_of n) st.views id v (w turn slot_after) here in let e = p.taken n l (λ f at. else f (sym is ∙ at)) in omega arith)
         refl refl ph (λ i f at there. (at_is i, ap count_in (slot_else turn s inside new i (λ same. else f (at ∙ ap (λ (j : ℕ). seated j f) same)))))
         (subst (NodeAgrees (state_after_all v.start r.history).at (slots_of v.start) (λ s. count_in (slot_word st.words s)) r.node_of
@@ -149,9 +149,11 @@ module _ (turn : Turn) (s : ℕ) (inside : s < slots_of turn.v.start) (new : ℕ
       homes = refl;
       grows = p.grows;
       legal = p.legal;
+      seen = ([], refl);
+      own = refl;
       slots = λ i l. dite (ℕ_discrete i s) (λ same. rw same slot_now)
           (λ other. slot_same (slot_else turn s inside new i other) (at_is i)
-          (tally_same (over' i) (r.over i) v.start.passes (λ q low high. p.over_else i q other)) (λ f there seat. (refl, refl)) (r.each_slot i l));
+          (tally_same (over' i) (r.over i) v.start.passes (λ q low high. p.over_else i q other)) (λ f there seat. refl) (r.each_slot i l));
       nodes = λ n l. node_now n l (r.phase n) refl;
       owners = λ n l. ⊎_elim (λ same. owner_same st.views id v (w turn slot_after) here same n (r.phase n) (r.each_owner n l))
           (λ none. owner_stays st.views id v (w turn slot_after) here n (λ bad. omega arith) (r.phase n) (r.each_owner n l)) p.owners;

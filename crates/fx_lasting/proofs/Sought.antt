@@ -1,6 +1,6 @@
 -- The search of a pass's block.
 use Rattle.fx_lasting.proofs.Words.{◌≡◌, ◌≢◌, ℕ, ◌+◌, ◌<◌, ◌≤◌, ◌⊎◌, inl, inr, ⊎_elim, sym, refl, ap, ◌∙◌, subst, arith, [], dite, ℕ_discrete, dec_le}
-use Rattle.fx_lasting.proofs.Words.{eq-eqb, ne_eqb, next_of, IsInBlock, Start, Sat, Idle, Searching, Runs, Seeks, word_of, IsAtWork, step, none}
+use Rattle.fx_lasting.proofs.Words.{eq-eqb, ne_eqb, next_of, IsInBlock, Start, Sat, HasNoFile, Searching, Runs, Seeks, word_of, IsAtWork, step, none}
 use Rattle.fx_lasting.proofs.Words.{block_for, block_start, slots_of}
 use Rattle.fx_lasting.proofs.Words.{pass_in}
 use Rattle.fx_lasting.proofs.Running.{does_then, runs_goes, runs_within, still_at_work, number_is}
@@ -13,6 +13,9 @@ IsAhead start len count node e = ((node ≡ start + count) × ((e < start) ⊎ (
 pub record Sought (k : Start) (p len start count node : ℕ) (m m' : Sat) : Type 0 where
   pub inside : IsInBlock k p node
   pub before : count ≡ 0 → (node ≡ start) × (m' ≡ m)
+  -- a pass that has chosen a node finds it by its first load, and sees no more of the history
+  pub first_load : (n : ℕ) → m.0.work ≡ Searching n → (count ≡ 0) × (start ≡ n)
+  pub front : (pass_in m').front ≡ (pass_in m).front
   pub free : 0 < count → (e : ℕ) × IsInBlock k p e × IsAhead start len count node e × Runs m [] (Searching e) m.0.glance m.0.change count m'
 
 -- the node after one of a block
@@ -56,14 +59,14 @@ none_ahead {first} {len} {start} {count} {node} {e} all few low high a = ⊎_eli
     (λ (w : (node + len ≡ start + count) × (e < start) × (node ≤ e)). omega (arith, w.0, w.1, w.2, few)) a
 
 -- the seat of a pass that searches
-module _ {k : Start} {p len start count node : ℕ} {m m' : Sat} (at : IsAtWork k p m) (idle : m.0.work ≡ Idle)
+module _ {k : Start} {p len start count node : ℕ} {m m' : Sat} (at : IsAtWork k p m) (idle : HasNoFile m.0.work)
     (so_far : Sought k p len start count node m m') where
   pub sought_at : IsAtWork k p m'
   sought_at = dite (ℕ_discrete count 0) (λ none_yet. subst (IsAtWork k p) (sym (so_far.before none_yet).1) at)
       (λ some. still_at_work at (so_far.free (omega (arith, some))).3)
 
-  pub sought_work : (m'.0.work ≡ Idle) ⊎ ((n : ℕ) × (m'.0.work ≡ Searching n))
-  sought_work = dite (ℕ_discrete count 0) (λ none_yet. inl (ap (λ (z : Sat). z.0.work) (so_far.before none_yet).1 ∙ idle))
+  pub sought_work : HasNoFile m'.0.work
+  sought_work = dite (ℕ_discrete count 0) (λ none_yet. subst (λ (z : Sat). HasNoFile z.0.work) (sym (so_far.before none_yet).1) idle)
       (λ some. let f = so_far.free (omega (arith, some)) in inr (f.0, f.3.work))
 
   -- after one more load
@@ -91,6 +94,9 @@ module _ {k : Start} {p len start count node : ℕ} {m m' : Sat} (at : IsAtWork 
     pub sought_here : found ≡ 0 → Runs m [] (Searching node) m.0.glance m.0.change (count + 1) m''
     sought_here is = let same = did.here is in runs_on (omega (arith, same, same_place))
 
+    pub front_kept : (pass_in m'').front ≡ (pass_in m).front
+    front_kept = did.front ∙ so_far.front
+
     -- another one is
     pub sought_more : {first : ℕ} → found ≢ 0 → first ≡ block_start (slots_of k) k.passes p → len ≡ block_for (slots_of k) k.passes
         → IsInBlock k p start → count < len → Sought k p len start (count + 1) (next_of first len node) m m''
@@ -116,5 +122,8 @@ module _ {k : Start} {p len start count node : ℕ} {m m' : Sat} (at : IsAtWork 
         record {
           inside = (omega (arith, is, next_l), omega (arith, is, long, next_h));
           before = λ bad. absurd (omega arith);
+          first_load = λ n chosen. let f = so_far.first_load n chosen in let b = so_far.before f.0 in
+              let stays = did.stays n (ap (λ (z : Sat). z.0.work) b.1 ∙ chosen) not_so in absurd (other (stays ∙ (sym f.1 ∙ sym b.0)));
+          front = front_kept;
           free = λ _. (did.node, its_block, ahead_next low high node_low node_high e_low e_high other more ahead, runs_on refl);
         }

@@ -1,5 +1,5 @@
 -- A swap of a slot's word: a file leaves the slot, if there was one, and the slot gets another or none.
-use Rattle.fx_lasting.proofs.Words.{◌≡◌, ◌≢◌, ℕ, suc, ◌-◌, ◌^◌, ◌<◌, ◌≤◌, List, set, length, sym, refl, ap, ◌∙◌, subst, arith, Option, Some, None}
+use Rattle.fx_lasting.proofs.Words.{◌≡◌, ◌≢◌, ℕ, suc, ◌-◌, ◌^◌, ◌<◌, ◌≤◌, List, [], set, length, sym, refl, ap, ◌∙◌, subst, arith, Option, Some, None}
 use Rattle.fx_lasting.proofs.Words.{get_elem?, Bool, true, false, inl, inr, ⊎_elim, ◌⊎◌, dite, ℕ_discrete, dec_le, eq-eqb, ne_eqb, File, Event}
 use Rattle.fx_lasting.proofs.Words.{State, held_by, with_removed, changed_at, changed_here, changed_else, Agrees, NodeAgrees, OwnerAgrees, WorkAgrees}
 use Rattle.fx_lasting.proofs.Words.{SlotAgrees, Names, IsSeated, HoldAgrees, GuardAgrees, MayBeUnmarked, SearchAgrees, ControlCounts, Nodes}
@@ -77,7 +77,7 @@ module _ (turn : Turn) (s : ℕ) (inside : s < slots_of turn.v.start) where
     abbrev gone_as : File → Phase
     gone_as f = leaving id (count_in found) (first_visit v.start.passes found) 0 f
 
-    module _ (h' : List Event) (new_word : ℕ) (new : Option File) (homes' : Homes) (phase₁ : ℕ → Phase) (node_of' : Nodes) (next' : ℕ) (c : Change) where
+    module _ (h' : List Event) (new_word : ℕ) (new : Option File) (homes' : Homes) (phase₁ : ℕ → Phase) (next' : ℕ) (c : Change) where
       abbrev over' : ℕ → ℕ → Bool
       over' = changed_at r.over s (λ p. false)
 
@@ -92,10 +92,10 @@ module _ (turn : Turn) (s : ℕ) (inside : s < slots_of turn.v.start) where
       abbrev pub swap_after : After turn
       swap_after = record {
         h = h';
+        front = h';
         words = slot_words turn s inside new_word;
         homes = homes';
         phase = phase';
-        node_of = node_of';
         next_number = next';
         debt = r.debt;
         over = over';
@@ -108,7 +108,7 @@ module _ (turn : Turn) (s : ℕ) (inside : s < slots_of turn.v.start) where
       after = state_after_all v.start h'
 
       abbrev Node : ℕ → Phase → Type 0
-      Node n = NodeAgrees after.at (slots_of v.start) (λ i. count_in (slot_word (slot_words turn s inside new_word) i)) node_of' next' n
+      Node n = NodeAgrees after.at (slots_of v.start) (λ i. count_in (slot_word (slot_words turn s inside new_word) i)) r.node_of next' n
           (word_at st.words (word_of v.start n)) (sum_by (taken_of n) (set st.views id (w turn swap_after))) (owed r.debt v.start.passes n)
           (get_elem? homes' n)
 
@@ -120,15 +120,13 @@ module _ (turn : Turn) (s : ℕ) (inside : s < slots_of turn.v.start) where
         pub fresh_on : (number : ℕ) → next' ≤ number → fresh number ≡ true
         pub held : held_by h' x.number ≡ held_by r.history x.number
         pub homes : length homes' ≡ length st.homes
-        -- numbers stay on their nodes, but for one that is used from now on
         pub later : r.next_number ≤ next'
-        pub numbers : (m : ℕ) → m < r.next_number → node_of' m ≡ r.node_of m
-        pub removed_else : (m : ℕ) → removed_in m (phase₁ (node_of' m)) ≡ removed_in m (r.phase (r.node_of m))
+        pub removed_else : (m : ℕ) → removed_in m (phase₁ (r.node_of m)) ≡ removed_in m (r.phase (r.node_of m))
         -- the new file of the slot
-        pub names : Names node_of' new_word new
+        pub names : Names r.node_of new_word new
         pub no_takes : count_in new_word ≡ 0
-        pub seat : IsSeated v.start node_of' phase₁ s new
-        pub seat_apart : (f : File) → new ≡ Some f → NotOf r.node_of (node_of' f.number) old
+        pub seat : IsSeated v.start r.node_of phase₁ s new
+        pub seat_apart : (f : File) → new ≡ Some f → NotOf r.node_of (r.node_of f.number) old
         -- the phases change at most where the pass was placing
         pub kept : (n : ℕ) → (phase₁ n ≡ r.phase n) ⊎ (r.phase n ≡ placed id)
         pub nodes : (n : ℕ) → n < nodes_of v.start → NotOf r.node_of n old → Node n (phase₁ n)
@@ -168,7 +166,7 @@ module _ (turn : Turn) (s : ℕ) (inside : s < slots_of turn.v.start) where
             let e = p.idle_hands.1 (r.node_of f.number) in
             let z = by_retiring (λ q. taking (r.node_of f.number) q ≡ 0) refl (λ g at. refl) in
             let many = r.shape.passes in record {
-              file = file_same p.later p.numbers (p.old_home f is) o.file;
+              file = file_same p.later (p.old_home f is) o.file;
               counts = omega arith;
               few_takes = omega arith;
               few_marks = first_some;
@@ -237,31 +235,30 @@ module _ (turn : Turn) (s : ℕ) (inside : s < slots_of turn.v.start) where
         }
 
         -- what was removed
-        removed_now : (m : ℕ) → after.removed m ≡ removed_in m (phase' (node_of' m))
+        removed_now : (m : ℕ) → after.removed m ≡ removed_in m (phase' (r.node_of m))
         removed_now m = ap (λ (z : State). z.removed m) p.leads ∙ go old refl
           where
-            go : (o : Option File) → old ≡ o → with_removed state.removed o m ≡ removed_in m (gone o phase₁ (node_of' m))
+            go : (o : Option File) → old ≡ o → with_removed state.removed o m ≡ removed_in m (gone o phase₁ (r.node_of m))
             go None is = r.removed m ∙ sym (p.removed_else m)
             go (Some f) is = dite (ℕ_discrete m f.number)
-                (λ same. changed_here state.removed f.number (Some f) m same ∙ sym (ap (removed_in m) (changed_here phase₁ (r.node_of f.number) (gone_as f) (node_of' m)
-                (ap node_of' same ∙ p.numbers f.number (in_phase turn (old_at is).0 (old_at is).1).file.used)) ∙ rw (eq-eqb f.number m (sym same)) refl))
+                (λ same. changed_here state.removed f.number (Some f) m same ∙ sym (ap (removed_in m) (changed_here phase₁ (r.node_of f.number) (gone_as f) (r.node_of m)
+                (ap r.node_of same)) ∙ rw (eq-eqb f.number m (sym same)) refl))
                 (λ other. changed_else state.removed f.number (Some f) m other ∙ (r.removed m ∙ (sym (p.removed_else m)
                 ∙ sym (each_changed (λ k z. removed_in m z ≡ removed_in m (phase₁ k)) phase₁
                 (λ at. rw (ne_eqb f.number m (λ e. other (sym e))) (sym (ap (λ (k : ℕ). removed_in m (phase₁ k)) at
                 ∙ ap (removed_in m) (⊎_elim (λ e. e ∙ (old_at is).1) (λ bad. let z : placed id ≡ seated s f = sym bad ∙ (old_at is).1 in absurd (cc z))
                 (p.kept (r.node_of f.number)))))) (λ _. refl)))))
 
-        seat_now : (o : Option File) → new ≡ o → IsSeated v.start node_of' phase₁ s o → IsSeated v.start node_of' phase' s o
+        seat_now : (o : Option File) → new ≡ o → IsSeated v.start r.node_of phase₁ s o → IsSeated v.start r.node_of phase' s o
         seat_now None is z = tt
         seat_now (Some f) is z = (z.0, else_phase (p.seat_apart f is) ∙ z.1)
 
         slot_other : (i : ℕ) → i < slots_of v.start → i ≢ s
-            → SlotAgrees v.start node_of' phase' (over' i) i (after.at i) (slot_word (slot_words turn s inside new_word) i)
+            → SlotAgrees v.start r.node_of phase' (over' i) i (after.at i) (slot_word (slot_words turn s inside new_word) i)
         slot_other i l other = slot_same (slot_else turn s inside new_word i other) (at_else i other)
             (tally_same (over' i) (r.over i) v.start.passes (λ q low high. ap (λ (f : ℕ → Bool). f q) (changed_else r.over s (λ p. false) i other)))
             (λ f there seat. let its = subst (IsSeated v.start r.node_of r.phase i) there (r.each_slot i l).seat in
-            let o = in_phase turn its.0 its.1 in let same = p.numbers f.number o.file.used in
-            (same, same_phase its.1 (not_old its.1 (λ g bad. other (cc bad))) (λ bad. cc bad) ∙ sym its.1))
+            same_phase its.1 (not_old its.1 (λ g bad. other (cc bad))) (λ bad. cc bad) ∙ sym its.1)
             (r.each_slot i l)
 
         pub swap_kept : Agrees v.start (end turn swap_after)
@@ -270,6 +267,8 @@ module _ (turn : Turn) (s : ℕ) (inside : s < slots_of turn.v.start) where
           homes = p.homes;
           grows = p.grows;
           legal = p.legal;
+          seen = ([], refl);
+          own = refl;
           slots = λ i l. dite (ℕ_discrete i s) (λ same. rw (same, slot_here turn s inside new_word, at_here) record {
             names = p.names;
             seat = seat_now new refl p.seat;

@@ -1,16 +1,16 @@
 -- A pass that looks for an empty slot: what its steps leave, one after another.
 use Rattle.fx_lasting.proofs.Words.{◌≡◌, ℕ, ◌+◌, ◌<◌, ◌≤◌, true, [], ◌∷◌, sym, ap, ◌∙◌, subst, arith, Some, none, step, rest, Closed, ◌▷◌}
-use Rattle.fx_lasting.proofs.Words.{numbered, Allocate, Sat, Work, Glance, Change, Placing, Idle, Outside, Same, Runs, Goes, Turns, Exchanges, slot_of}
-use Rattle.fx_lasting.proofs.Words.{At, Stepped, LastingTable, InRange, Start, Asks, Searching, Bool, false, bias, range_of}
+use Rattle.fx_lasting.proofs.Words.{numbered, Allocate, Sat, Work, Glance, Change, Placing, Idle, Outside, Inside, Runs, Goes, Exchanges, slot_of}
+use Rattle.fx_lasting.proofs.Words.{At, Stepped, LastingTable, IsInRange, List, Action, Start, Asks, Searching, Bool, false, bias, range_of}
+use Rattle.fx_lasting.specs.Passes.{node_of_number}
 use Rattle.fx_lasting.specs.Tries.{IsPlacing, HasAllocated, StillPlaces}
-use Rattle.fx_lasting.specs.declared.view.Change.TheVariants.{More}
 use Rattle.fx_lasting.proofs.Running.{runs_one, runs_then, runs_goes, runs_within, turns_then, does_then}
 
 -- a slot of the range is one of the table
-pub in_size : (t : LastingTable) (slot : ℕ) → InRange t.table.shared.key slot true → slot < t.size
+pub in_size : (t : LastingTable) (slot : ℕ) → IsInRange t.table.shared.key slot → slot < t.size
 in_size t slot r = omega (arith, t.range_inside, ap (λ (z : ℕ × ℕ). z.0) t.same_range, ap (λ (z : ℕ × ℕ). z.1) t.same_range, r.1)
 
-pub in_range : (t : LastingTable) (slot : ℕ) → t.range_start ≤ slot → slot < t.range_start + t.range_len → InRange t.table.shared.key slot true
+pub in_range : (t : LastingTable) (slot : ℕ) → t.range_start ≤ slot → slot < t.range_start + t.range_len → IsInRange t.table.shared.key slot
 in_range t slot low high = let a = ap (λ (z : ℕ × ℕ). z.0) t.same_range in let b = ap (λ (z : ℕ × ℕ). z.1) t.same_range in
     (omega (arith, a, low), omega (arith, a, b, high))
 
@@ -19,66 +19,59 @@ pub peeked : {m m' : Sat} {n : ℕ} {file : Closed} → IsPlacing n file m → G
     → Runs m [] (Placing n) m.0.glance m.0.change 1 m'
 peeked {m} {m'} p goes = subst (λ (w : Work). Runs m [] w m.0.glance m.0.change 1 m') p.work (runs_goes goes)
 
--- a pass outside a change comes back outside
-back_outside : {m m' : Sat} {w : Work} {n : ℕ} → m.0.change ≡ Outside → Runs m [] w m.0.glance Outside n m' → Runs m [] w m.0.glance m.0.change n m'
-back_outside {m} {m'} {w} {n} out r = subst (λ (c : Change). Runs m [] w m.0.glance c n m') (sym out) r
+-- a pass that owed nothing owes nothing again
+back_outside : {m m' : Sat} {xs : List Action} {w : Work} {n : ℕ} → m.0.change ≡ Outside → Runs m xs w m.0.glance Outside n m'
+    → Runs m xs w m.0.glance m.0.change n m'
+back_outside {m} {m'} {xs} {w} {n} out r = subst (λ (c : Change). Runs m xs w m.0.glance c n m') (sym out) r
 
-module _ {m m₁ m₂ m₃ : Sat} {n i slots found old new begun : ℕ} {file : Closed} (p : IsPlacing n file m) (out : m.0.change ≡ Outside)
-    (goes : Goes m [] m.0.work m.0.glance m₁) {st : At} (turns : Turns Same st m₁ begun m₂)
-    (tries : Exchanges (step slots i old new none) m₂ found m₃) where
-  -- the pass has begun a change
-  pub in_change_now : Runs m [] (Placing n) m.0.glance Same 2 m₂
-  in_change_now = turns_then (peeked p goes) (runs_one turns.stepped)
-
-  pub still_there : m₂.1 ≡ (n, Some file) ∷ []
-  still_there = turns.carried ∙ (goes.carried ∙ p.place)
+module _ {m m₁ m₂ : Sat} {n i slots found old new : ℕ} {file : Closed} (p : IsPlacing n file m) (out : m.0.change ≡ Outside)
+    (goes : Goes m [] m.0.work m.0.glance m₁) (tries : Exchanges (step slots i old new none) m₁ found m₂) where
+  pub still_there : m₁.1 ≡ (n, Some file) ∷ []
+  still_there = goes.carried ∙ p.place
 
   -- the slot has another word now
-  module _ (lost : found ≡ old → ⊥) where
-    pub lost_run : Runs m [] (Placing n) m.0.glance m₂.0.change 3 m₃
-    lost_run = turns_then in_change_now (runs_goes (tries.loses lost))
-
-    pub lost_still : {m₄ : Sat} → Runs m₃ [] m₃.0.work m₃.0.glance Outside 1 m₄ → m₄.1 ≡ m₃.1 → StillPlaces n 4 m m₄
-    lost_still ended same = (back_outside out (turns_then lost_run ended), same ∙ ((tries.loses lost).carried ∙ (turns.carried ∙ goes.carried)))
+  pub lost_still : (found ≡ old → ⊥) → StillPlaces n 3 m m₂
+  lost_still lost = let goes' = tries.loses lost in (
+    runs_within (omega arith) (does_then (peeked p goes) (subst (λ (w : Work). Runs m₁ [] w m₁.0.glance m₁.0.change 1 m₂) (peeked p goes).work
+        (runs_goes goes'))),
+    goes'.carried ∙ goes.carried,
+  )
 
   -- the file is at the slot
   module _ (won : found ≡ old) {slot : ℕ} (here : slot_of i ≡ slot) where
-    abbrev wins : (number : ℕ) × Stepped m₂ ([] ▷ Allocate (slot_of i) (numbered number file)) Idle m₂.0.glance More m₃
-        × (m₃.1 ≡ rest m₂.1)
-    wins = tries.wins n file in_change_now.work still_there won
+    abbrev wins : (number : ℕ) × (node_of_number m₁.0.start number ≡ n) × Stepped m₁ ([] ▷ Allocate (slot_of i) (numbered number file)) Idle m₁.0.glance Inside m₂
+        × (m₂.1 ≡ rest m₁.1)
+    wins = tries.wins n file (peeked p goes).work still_there won
 
-    pub won_run : Runs m ([] ▷ Allocate slot (numbered wins.0 file)) Idle m.0.glance More 3 m₃
-    won_run = runs_then in_change_now (subst (λ (z : ℕ × Glance). Runs m₂ ([] ▷ Allocate z.0 (numbered wins.0 file)) Idle z.1 More 1 m₃)
-        (λ j. (here j, in_change_now.glance j)) (runs_one wins.1))
+    pub won_run : Runs m ([] ▷ Allocate slot (numbered wins.0 file)) Idle m.0.glance Inside 2 m₂
+    won_run = runs_then (peeked p goes) (subst (λ (z : ℕ × Glance). Runs m₁ ([] ▷ Allocate z.0 (numbered wins.0 file)) Idle z.1 Inside 1 m₂)
+        (λ j. (here j, (peeked p goes).glance j)) (runs_one wins.2))
 
-    pub won_so : {m₄ : Sat} → Runs m₃ [] m₃.0.work m₃.0.glance Outside 1 m₄ → m₄.1 ≡ m₃.1 → HasAllocated file slot 4 m m₄
-    won_so {m₄} ended same = (
+    pub won_so : {m₃ : Sat} → Runs m₂ [] m₂.0.work m₂.0.glance Outside 1 m₃ → m₃.1 ≡ m₂.1 → HasAllocated n file slot 3 m m₃
+    won_so ended same = (
       wins.0,
-      subst (λ (c : Change). Runs m ([] ▷ Allocate slot (numbered wins.0 file)) Idle m.0.glance c 4 m₄) (sym out) (turns_then won_run ended),
-      same ∙ (wins.2 ∙ ap rest still_there),
+      subst (λ (k : Start). node_of_number k wins.0 ≡ n) (peeked p goes).start wins.1,
+      back_outside out (turns_then won_run ended),
+      same ∙ (wins.3 ∙ ap rest still_there),
     )
 
 -- some slots in a row
 pub still_then : {m m' m'' : Sat} {n a b : ℕ} → StillPlaces n a m m' → StillPlaces n b m' m'' → StillPlaces n (a + b) m m''
 still_then one two = (does_then one.0 two.0, two.1 ∙ one.1)
 
-pub allocated_then : {m m' m'' : Sat} {n a b slot : ℕ} {file : Closed} → StillPlaces n a m m' → HasAllocated file slot b m' m''
-    → HasAllocated file slot (a + b) m m''
-allocated_then one two = (two.0, does_then one.0 two.1, two.2)
+pub allocated_then : {m m' m'' : Sat} {n a b slot : ℕ} {file : Closed} → StillPlaces n a m m' → HasAllocated n file slot b m' m''
+    → HasAllocated n file slot (a + b) m m''
+allocated_then {n = n} one two =
+    (two.0, subst (λ (k : Start). node_of_number k two.0 ≡ n) one.0.start two.1, does_then one.0 two.2, two.3)
 
 pub still_within : {m m' : Sat} {n a b : ℕ} → a ≤ b → StillPlaces n a m m' → StillPlaces n b m m'
 still_within few one = (runs_within few one.0, one.1)
 
-pub allocated_within : {m m' : Sat} {a b slot : ℕ} {file : Closed} → a ≤ b → HasAllocated file slot a m m' → HasAllocated file slot b m m'
-allocated_within few one = (one.0, runs_within few one.1, one.2)
+pub allocated_within : {m m' : Sat} {n a b slot : ℕ} {file : Closed} → a ≤ b → HasAllocated n file slot a m m' → HasAllocated n file slot b m m'
+allocated_within few one = (one.0, one.1, runs_within few one.2, one.3)
 
 pub still_placing : {m m' : Sat} {n a : ℕ} {file : Closed} → IsPlacing n file m → StillPlaces n a m m' → IsPlacing n file m'
 still_placing p s = record { work = s.0.work; place = s.1 ∙ p.place }
-
--- a pass that has begun a change
-pub turns_run : {m m₁ m₂ : Sat} {n begun : ℕ} {file : Closed} → IsPlacing n file m → Goes m [] m.0.work m.0.glance m₁ → {st : At}
-    → Turns Same st m₁ begun m₂ → Runs m [] (Placing n) m.0.glance Same 2 m₂
-turns_run p goes turns = turns_then (peeked p goes) (runs_one turns.stepped)
 
 -- the word that says that the range is full
 pub full_of : (t : LastingTable) {k : Start} → k ≡ t.table.shared.key → bias + t.range_len ≡ bias + (range_of k).1

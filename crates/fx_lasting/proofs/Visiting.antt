@@ -346,10 +346,6 @@ module _ (turn : Turn) (f : File) (n t nx m : ℕ) (works : turn.v.work ≡ Reti
       },
     )
 
--- a pass that is to be visited is not one of the others
-abbrev MayVisit : ℕ → ℕ → ℕ → Start → Type 0
-MayVisit pass nx own k = (nx ≤ pass) × (pass ≤ k.passes)
-
 -- the number of a pass that is visited isn't 0, since marks were counted before it
 more_than_none : (turn : Turn) (f : File) (n t nx m : ℕ) → turn.v.work ≡ Retiring f n t nx m → {pass : ℕ} → nx ≤ pass → 0 < pass
 more_than_none turn f n t nx m works low = let a = (node turn f n t nx m works).few_marks in omega arith

@@ -6,19 +6,20 @@ pub use Rattle.fx_base.specs.declared.open_file.Closed.{Closed}
 pub use Rattle.fx_lasting.specs.Agrees.{HoldAgrees, MayBeUnmarked, GuardAgrees, GlanceAgrees, Heats, LogAgrees, ViewAgrees, Agrees, NodeAgrees, Does}
 pub use Rattle.fx_lasting.specs.Agrees.{OwnerAgrees, HoldsAt, WorkAgrees, SearchAgrees, NamesNode, Nodes, Names, IsSeated, SlotAgrees, Home, HasFile}
 pub use Rattle.fx_lasting.specs.Agrees.{IsVacant}
-pub use Rattle.fx_lasting.specs.AtWork.{IsAtWork, IsReleasing, HasPlace, InRange, begun, difference, HasToTell}
-pub use Rattle.fx_lasting.specs.Control.{in_change, added, removed_by, changes_of, added_of, removed_of, if_full, full_in, ControlCounts}
+pub use Rattle.fx_lasting.specs.AtWork.{IsAtWork, IsReleasing, HasPlace}
+pub use Rattle.fx_lasting.specs.Control.{owing, owing_of, is_in, uncounted, account, if_full, full_in, ControlCounts}
 pub use Rattle.fx_lasting.specs.Counts.{tally, owed}
 pub use Rattle.fx_lasting.specs.Ends.{LetsMarkGo, LetsFileGo, Guards, TakesAt}
 pub use Rattle.fx_lasting.specs.Cuts.{new_logs, first_view, together, spent}
-pub use Rattle.fx_lasting.specs.Laws.{HasToLetGo, IsOutOfRange}
+pub use Rattle.fx_lasting.specs.Laws.{HasToLetGo, IsOffCount}
 pub use Rattle.fx_lasting.specs.Laws.{ClearsKeep, TakesOutKeep, ExchangesKeep, HasPass, GlancesKeep, AnnouncesKeep, ConfirmsKeep, WithdrawsKeep}
-pub use Rattle.fx_lasting.specs.Laws.{TakesOnceKeep, HeatsKeep, MayChange, SplitsKeep, JoinsKeep, BeginsKeep, EndsKeep, AsksKeep, PeeksKeep}
+pub use Rattle.fx_lasting.specs.Laws.{TakesOnceKeep, HeatsKeep, SplitsKeep, JoinsKeep, LowersKeep, RaisesKeep, AsksKeep, PeeksKeep}
 pub use Rattle.fx_lasting.specs.Laws.{InstallsKeep, StepsDownKeep, LettingGoKeeps, SeeksKeep, BirthsKeep, RestsKeep, VisitsKeep, MarksKeep}
 pub use Rattle.fx_lasting.specs.Laws.{RetiresKeep, IsInRange}
 pub use Rattle.fx_lasting.specs.Layout.{control_place, slot_place, hold_place, node_place, block_for, block_start}
 pub use Rattle.fx_lasting.specs.Opens.{word_for, node_for, home_for, first_file, OpensWith}
 pub use Rattle.fx_lasting.specs.Parts.{hot_bit, count_in, hot_in, IsHot, cold_takes, born, closed_word, retire_amount_of, announced, mark}
+pub use Rattle.fx_lasting.specs.Passes.{node_of_number, HasNoFile}
 pub use Rattle.fx_lasting.specs.Passes.{Shared, Sat, start_of, slots_of, range_of, nodes_of, IsInBlock, word_of, hold_of, logs_of, lengths}
 pub use Rattle.fx_lasting.specs.Passes.{state_after_all, IsHistory, new_log, first_log, held_in, if_file, held_of, taking, taken_of}
 pub use Rattle.fx_lasting.specs.Phases.{Phase, owner, file_in, if_numbered, removed_in, free, placed, seated, leaving, retired, emptied}
@@ -27,14 +28,14 @@ pub use Rattle.fx_lasting.specs.Tables.{hold_at, retired_at, doing_in, numbers_o
 pub use Rattle.fx_lasting.specs.Tables.{opening_of_table, IsPassOfTable}
 pub use Rattle.fx_lasting.specs.declared.pass.LastingPass.{LastingPass}
 pub use Rattle.fx_lasting.specs.declared.table.LastingTable.{LastingTable}
-pub use Rattle.fx_lasting.specs.Tells.{LetsGo, At}
+pub use Rattle.fx_lasting.specs.Tells.{LetsGo, At, rested}
 pub use Rattle.fx_lasting.specs.Visits.{Visited, HasVisited, HasMarked}
 pub use Rattle.fx_lasting.specs.Searches.{next_of}
 pub use Rattle.fx_lasting.specs.Tells.{Announces, Shows, Confirms, Withdraws, glance_after, Takes, HeatTells, StepsDown, TakesOut, slot_of, pass_at}
 pub use Rattle.fx_lasting.specs.Tells.{event_of, pass_in, IsInside, Stepped, Goes, Glances, Exchanges, LettingGo, Seeks, Births, Rests, Visits, Marks}
-pub use Rattle.fx_lasting.specs.Tells.{Retires, changed, turned, first_visit, retiring, Found, Installs, Removes, Turns, Asks, Peeks}
+pub use Rattle.fx_lasting.specs.Tells.{Retires, first_visit, retiring, Found, Installs, Removes, Turns, Asks, Peeks}
 pub use Rattle.fx_lasting.specs.declared.view.Change.{Change}
-pub use Rattle.fx_lasting.specs.declared.view.Change.TheVariants.{Outside, Same}
+pub use Rattle.fx_lasting.specs.declared.view.Change.TheVariants.{Outside, Inside}
 pub use Rattle.fx_lasting.specs.declared.view.Glance.{Glance}
 pub use Rattle.fx_lasting.specs.declared.view.Glance.TheVariants.{None as Nothing, Hot, Cold, Heating}
 pub use Rattle.fx_lasting.specs.declared.view.Log.{Log}

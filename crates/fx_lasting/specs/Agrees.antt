@@ -19,7 +19,7 @@ use Rattle.fx_lasting.specs.Parts.{IsHot, count_in, cold_takes, born, closed_wor
 use Rattle.fx_lasting.specs.Passes.{Shared, slots_of, range_of, nodes_of, IsInBlock}
 use Rattle.fx_lasting.specs.Passes.{word_of}
 use Rattle.fx_lasting.specs.Passes.{hold_of, state_after_all, IsHistory, held_in, held_of, taken_of}
-use Rattle.fx_lasting.specs.Passes.{logs_of, lengths}
+use Rattle.fx_lasting.specs.Passes.{logs_of, lengths, node_of_number}
 use Rattle.fx_lasting.specs.Phases.{Phase, free, placed, seated, leaving, retired, emptied, file_in}
 use Rattle.fx_lasting.specs.Phases.{removed_in}
 use Rattle.fx_lasting.specs.declared.view.Change.TheVariants.{Outside}
@@ -143,9 +143,10 @@ WorkAgrees k phase seat (Retiring f node takes next marks) =
     IsIn k phase node (leaving seat takes next marks f)
 WorkAgrees k phase seat (Emptying node) = IsIn k phase node (emptied seat)
 
--- a pass looks for a free node in its own block
+-- a pass looks for a free node in its own block, and installs its files there
 abbrev pub SearchAgrees : Start → ℕ → Work → Type 0
 SearchAgrees k pass (Searching node) = IsInBlock k pass node
+SearchAgrees k pass (Placing node) = IsInBlock k pass node
 SearchAgrees k pass _ = Unit {0}
 
 -- a hold word names the node, and nothing is owed; or it is marked, and so much is owed
@@ -223,6 +224,7 @@ pub record Agrees (k : Start) (s : Shared) : Type 0 where
   pub phase : ℕ → Phase
   -- on which node a number is, and from where on no number is used
   pub node_of : Nodes
+  pub numbering : (number : ℕ) → node_of number ≡ node_of_number k number
   pub next_number : ℕ
   -- which node a pass owes a mark to, plus 1, or 0
   pub debt : ℕ → ℕ

@@ -1,9 +1,9 @@
 -- The bounds of a lasting table's words.
-use Rattle.std.specs.Prelude.{◌≡◌, ℕ, ◌+◌, ◌/◌, ◌%◌, ◌^◌, ◌<◌, ◌≤◌, slice_index}
+use Rattle.std.specs.Prelude.{◌≡◌, ℕ, ◌+◌, ◌^◌, ◌<◌, ◌≤◌, slice_index}
 use mathlib.Core.Option.{some}
 use lib.ListN.{get_elem?}
 use Rattle.fx_plain.specs.declared.event.File.{File}
-use Rattle.fx_words.specs.Words.{name_in, one_change}
+use Rattle.fx_words.specs.Words.{name_in}
 use Rattle.fx_lasting.specs.Agrees.{Agrees}
 use Rattle.fx_lasting.specs.Layout.{control_place, slot_place}
 use Rattle.fx_lasting.specs.Parts.{count_in, cold_takes}
@@ -37,10 +37,9 @@ pub record AreBounded (k : Start) (s : Shared) : Type 0 where
   pub leaving : (seat node takes next marks : ℕ) (v : View) (f : File)
       → get_elem? s.views seat ≡ some v → v.work ≡ Retiring f node takes next marks
       → 2 < node_word_in k s node
-  -- each pass is in at most one change, and has at most one of at most 256 full slots to report
-  pub changes : control_word_in s / one_change ≤ 1024
-  pub least : 64512 ≤ control_word_in s % one_change
-  pub most : control_word_in s % one_change ≤ 66816
+  -- of at most 256 full slots, the word counts at most one too few for each pass
+  pub least : 64512 ≤ control_word_in s
+  pub most : control_word_in s ≤ 65792
 
 -- the bounds hold between any two steps
 abbrev pub WordsAreBounded : Type 0

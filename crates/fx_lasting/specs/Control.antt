@@ -1,38 +1,33 @@
--- The control word: how many slots of the allocation range are full, and how many passes are about
--- to change that.
-use Rattle.std.specs.Prelude.{◌≡◌, ℕ, zero, suc, ◌+◌, ◌/◌, ◌%◌, List, Option, Some, None, sum_by}
+-- The control word: how many slots of the allocation range are full.
+use Rattle.std.specs.Prelude.{◌≡◌, ℕ, zero, suc, ◌+◌, nat_lt, if◌then◌else◌, Bool, true, false}
+use Rattle.std.specs.Prelude.{List, Option, Some, None, is_some, not, sum_by}
 use Rattle.fx_plain.specs.declared.event.File.{File}
-use Rattle.fx_words.specs.Words.{one_change, bias}
+use Rattle.fx_words.specs.Words.{bias}
 use Rattle.fx_lasting.specs.declared.view.Change.{Change}
-use Rattle.fx_lasting.specs.declared.view.Change.TheVariants.{Outside, More, Less}
+use Rattle.fx_lasting.specs.declared.view.Change.TheVariants.{Outside, Inside}
 use Rattle.fx_lasting.specs.declared.view.View.{View}
 
--- 1 between begin and end, and else 0
-abbrev pub in_change : Change → ℕ
-in_change Outside = 0
-in_change _ = 1
+-- 1 for a pass on whose account the word counts one full slot too few, and else 0
+abbrev pub owing : Change → ℕ
+owing Outside = 0
+owing Inside = 1
 
--- the full slots that a pass has added since its last report
-abbrev pub added : Change → ℕ
-added More = 1
-added _ = 0
+abbrev pub owing_of : View → ℕ
+owing_of v = owing v.change
 
--- the full slots that it has removed since then
-abbrev pub removed_by : Change → ℕ
-removed_by Less = 1
-removed_by _ = 0
+-- whether a slot is in the range of a first slot and a number of slots
+abbrev pub is_in : ℕ × ℕ → ℕ → Bool
+is_in range slot = if nat_lt slot range.0 then false else nat_lt slot (range.0 + range.1)
 
--- the changes of a view's pass
-abbrev pub changes_of : View → ℕ
-changes_of v = in_change v.change
+-- the account of a pass that took a slot off the count, or filled it, if it is in the range and was
+-- empty
+abbrev pub uncounted : Bool → Bool → Change
+uncounted true true = Inside
+uncounted _ _ = Outside
 
--- what a view's pass has added
-abbrev pub added_of : View → ℕ
-added_of v = added v.change
-
--- what a view's pass has removed
-abbrev pub removed_of : View → ℕ
-removed_of v = removed_by v.change
+-- the account of a pass that has written the slot's word, in which it found this file
+abbrev pub account : ℕ × ℕ → ℕ → Option File → Change
+account range slot found = uncounted (is_in range slot) (not (is_some found))
 
 -- 1 for a slot with a file, and else 0
 abbrev pub if_full : Option File → ℕ
@@ -44,10 +39,7 @@ abbrev pub full_in : (ℕ → Option File) → ℕ → ℕ → ℕ
 full_in at off zero = 0
 full_in at off (suc len) = full_in at off len + if_full (at (off + len))
 
--- The upper half counts the passes in a change. The lower half, less the bias, and what these
--- passes have yet to report are the full slots of the range
+-- the word, less the bias, and what passes have still to add are the full slots of the range
 pub record ControlCounts (at : ℕ → Option File) (range : ℕ × ℕ)
     (views : List View) (word : ℕ) : Type 0 where
-  pub upper : word / one_change ≡ sum_by changes_of views
-  pub lower : word % one_change + sum_by added_of views
-      ≡ bias + full_in at range.0 range.1 + sum_by removed_of views
+  pub counts : word + sum_by owing_of views ≡ bias + full_in at range.0 range.1

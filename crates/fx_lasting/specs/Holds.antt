@@ -8,7 +8,7 @@ use Rattle.fx_table.specs.declared.values.Hold.{Hold}
 use Rattle.fx_words.specs.Words.{name_in}
 use Rattle.fx_lasting.specs.Agrees.{Agrees}
 use Rattle.fx_lasting.specs.Bounds.{slot_word_in, node_word_in}
-use Rattle.fx_lasting.specs.Passes.{Shared, slots_of, state_after_all}
+use Rattle.fx_lasting.specs.Passes.{Shared, slots_of, node_of_number, state_after_all}
 use Rattle.fx_lasting.specs.Tables.{doing_in}
 use Rattle.fx_lasting.specs.declared.view.Start.{Start}
 use Rattle.fx_lasting.specs.declared.view.View.{View}
@@ -22,6 +22,9 @@ IsHeldBy s f hold = (seat : ℕ) × (v : View) × (get_elem? s.views seat ≡ so
 pub record HoldsNameFiles (k : Start) (s : Shared) (r : Agrees k s) : Type 0 where
   -- holds of one node are of one file
   pub one : (f g : File) (x y : Hold) → IsHeldBy s f x → IsHeldBy s g y → x.node ≡ y.node → f ≡ g
+  -- the file's number says the node
+  pub its_number : (f : File) (hold : Hold) → IsHeldBy s f hold
+      → hold.node ≡ node_of_number k f.number
   -- it is the file of the slot whose word names the node
   pub there : (f g : File) (hold : Hold) (slot : ℕ) → IsHeldBy s f hold → slot < slots_of k
       → name_in (slot_word_in s slot) ≡ hold.node + 1

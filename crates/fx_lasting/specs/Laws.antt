@@ -2,21 +2,21 @@
 -- place of its word as a premise.
 use Rattle.std.specs.Prelude.{◌≡◌, ◌≢◌, ℕ, ◌+◌, ◌-◌, ◌%◌, ◌^◌, ◌<◌, ◌≤◌, ◌==◌, ◌⊎◌, [], ◌∷◌, Some}
 use Rattle.std.specs.Prelude.{None}
-use Rattle.std.specs.Prelude.{bit_or}
+use Rattle.std.specs.Prelude.{bit_or, true}
 use mathlib.Core.Option.{none}
 use prog.Atomic.{either}
 use Rattle.atomic_table.specs.Table.{step, Splits, Joins, Allows}
 use Rattle.fx_base.specs.Identity.{Identity}
 use Rattle.fx_plain.specs.declared.event.File.{File}
-use Rattle.fx_words.specs.Words.{name_in, one_change, slot_word_of}
+use Rattle.fx_words.specs.Words.{name_in, slot_word_of}
 use Rattle.fx_lasting.specs.Agrees.{Agrees}
-use Rattle.fx_lasting.specs.Control.{in_change, added, removed_by}
+use Rattle.fx_lasting.specs.Control.{is_in, uncounted}
 use Rattle.fx_lasting.specs.Layout.{control_place, slot_place}
 use Rattle.fx_lasting.specs.Parts.{hot_bit, born, announced, mark, retire_amount_of}
-use Rattle.fx_lasting.specs.Passes.{Sat, slots_of, range_of, word_of, hold_of, IsInBlock}
+use Rattle.fx_lasting.specs.Passes.{Sat, HasNoFile, slots_of, range_of, word_of, hold_of, IsInBlock}
 use Rattle.fx_lasting.specs.Tells.{At}
 use Rattle.fx_lasting.specs.declared.view.Change.{Change}
-use Rattle.fx_lasting.specs.declared.view.Change.TheVariants.{Outside, Same}
+use Rattle.fx_lasting.specs.declared.view.Change.TheVariants.{Outside, Inside}
 use Rattle.fx_lasting.specs.declared.view.Glance.TheVariants.{None as Nothing, Hot, Cold, Heating}
 use Rattle.fx_lasting.specs.declared.view.Log.{Log}
 use Rattle.fx_lasting.specs.declared.view.Start.{Start}
@@ -35,9 +35,9 @@ Kind = At → Sat → ℕ → Sat → Type 0
 abbrev pub HasPass : Start → Sat → Log → Type 0
 HasPass k m x = (m.0.start ≡ k) × (m.0.logs ≡ x ∷ [])
 
--- the pass does nothing at all
+-- the pass has no file, and looks nothing up
 abbrev pub DoesNothing : Sat → Type 0
-DoesNothing m = (m.0.work ≡ Idle) × (m.0.glance ≡ Nothing)
+DoesNothing m = HasNoFile m.0.work × (m.0.glance ≡ Nothing)
 
 -- the pass is about to let the file of the node go
 abbrev pub HasToLetGo : Work → ℕ → Type 0
@@ -98,8 +98,7 @@ LettingGoKeeps tells = (k : Start) (slots id i node : ℕ) (m : Sat) (x : Log) �
 -- a pass loads the word of a node of its block, to find a free one
 abbrev pub SeeksKeep : Kind → Type 0
 SeeksKeep tells = (k : Start) (slots id i node : ℕ) (m : Sat) (x : Log) → HasPass k m x
-    → (m.0.work ≡ Idle) ⊎ ((n : ℕ) × (m.0.work ≡ Searching n))
-    → x.number ≤ k.installing → IsInBlock k x.number node → i ≡ word_of k node
+    → HasNoFile m.0.work → x.number ≤ k.installing → IsInBlock k x.number node → i ≡ word_of k node
     → Allows (Agrees k) slots id m i (λ word. word) (tells (step slots i 0 0 none) m)
 
 -- a pass stores the first word of a file in that of a node that is free
@@ -145,14 +144,9 @@ RetiresKeep tells = (k : Start) (slots id i node takes next marks amount : ℕ) 
 abbrev pub IsInRange : Start → ℕ → Type 0
 IsInRange k slot = let range = range_of k in (range.0 ≤ slot) × (slot < range.0 + range.1)
 
--- the slot is not in it
-abbrev pub IsOutOfRange : Start → ℕ → Type 0
-IsOutOfRange k slot = let range = range_of k in (slot < range.0) ⊎ (range.0 + range.1 ≤ slot)
-
--- a pass changes a slot of the range in a change, and another one outside
-abbrev pub MayChange : Start → ℕ → Change → Type 0
-MayChange k slot change =
-    (IsInRange k slot × (change ≡ Same)) ⊎ (IsOutOfRange k slot × (change ≡ Outside))
+-- the slot is off the count, if it is in the range
+abbrev pub IsOffCount : Start → ℕ → Change → Type 0
+IsOffCount k slot change = change ≡ uncounted (is_in (range_of k) slot) true
 
 -- the first pass of an idle seat goes to a seat of its own
 abbrev pub SplitsKeep : (View → View) → (View → View) → Type 0
@@ -163,24 +157,22 @@ SplitsKeep left right = (k : Start) (id : ℕ) (v : View)
 -- an idle seat takes in the passes of another
 abbrev pub JoinsKeep : (View → View → View) → View → Type 0
 JoinsKeep both spent = (k : Start) (id : ℕ) (v : View)
-    → v.start ≡ k → v.work ≡ Idle → v.glance ≡ Nothing → v.change ≡ Outside
-    → (other : ℕ) (w : View) → w.work ≡ Idle → w.glance ≡ Nothing → w.change ≡ Outside
+    → v.start ≡ k → HasNoFile v.work → v.glance ≡ Nothing → v.change ≡ Outside
+    → (other : ℕ) (w : View) → HasNoFile w.work → w.glance ≡ Nothing → w.change ≡ Outside
     → Joins (Agrees k) id v other w (both v w) spent
 
--- a pass outside a change adds 2^32 to the control word
-abbrev pub BeginsKeep : Kind → Type 0
-BeginsKeep tells = (k : Start) (slots id i : ℕ) (m : Sat) (x : Log) → HasPass k m x
+-- a pass subtracts 1 from the control word
+abbrev pub LowersKeep : Kind → Type 0
+LowersKeep tells = (k : Start) (slots id i : ℕ) (m : Sat) (x : Log) → HasPass k m x
     → m.0.change ≡ Outside → i ≡ control_place
-    → Allows (Agrees k) slots id m i (λ word. (word + one_change) % 2 ^ 64)
-    (tells (step slots i one_change 0 none) m)
+    → Allows (Agrees k) slots id m i (λ word. (word + (2 ^ 64 - 1)) % 2 ^ 64)
+    (tells (step slots i 1 0 none) m)
 
--- a pass in a change subtracts 2^32 from it, less the difference that the pass made
-abbrev pub EndsKeep : Kind → Type 0
-EndsKeep tells = (k : Start) (slots id i amount : ℕ) (m : Sat) (x : Log) → HasPass k m x
-    → in_change m.0.change ≡ 1 → amount + added m.0.change ≡ one_change + removed_by m.0.change
-    → i ≡ control_place
-    → Allows (Agrees k) slots id m i (λ word. (word + (2 ^ 64 - amount)) % 2 ^ 64)
-    (tells (step slots i amount 0 none) m)
+-- a pass adds the slot that the word counts too few on its account
+abbrev pub RaisesKeep : Kind → Type 0
+RaisesKeep tells = (k : Start) (slots id i : ℕ) (m : Sat) (x : Log) → HasPass k m x
+    → m.0.change ≡ Inside → i ≡ control_place
+    → Allows (Agrees k) slots id m i (λ word. (word + 1) % 2 ^ 64) (tells (step slots i 1 0 none) m)
 
 -- a pass loads the control word, and reads whether every slot of the range is full
 abbrev pub AsksKeep : Kind → Type 0
@@ -197,28 +189,28 @@ PeeksKeep tells = (k : Start) (slots id i : ℕ) (m : Sat) (x : Log) → HasPass
 abbrev pub InstallsKeep : Kind → Type 0
 InstallsKeep tells = (k : Start) (slots id i slot n new : ℕ) (file : Identity) (m : Sat) (x : Log)
     → HasPass k m x → m.0.work ≡ Placing n → m.1 ≡ (n, Some file) ∷ []
-    → file.entry < 2 ^ 8 → slot < slots_of k → MayChange k slot m.0.change
+    → file.entry < 2 ^ 8 → slot < slots_of k → m.0.change ≡ Outside
     → i ≡ slot_place slot → new ≡ slot_word_of n file.entry
     → Allows (Agrees k) slots id m i (λ _. new) (tells (step slots i new 0 none) m)
 
 -- an idle pass swaps 0 into a slot's word, for an update
 abbrev pub ClearsKeep : Kind → Type 0
 ClearsKeep tells = (k : Start) (slots id i slot : ℕ) (m : Sat) (x : Log) → HasPass k m x
-    → m.0.work ≡ Idle → slot < slots_of k → MayChange k slot m.0.change → i ≡ slot_place slot
+    → HasNoFile m.0.work → slot < slots_of k → IsOffCount k slot m.0.change → i ≡ slot_place slot
     → Allows (Agrees k) slots id m i (λ _. 0) (tells (step slots i 0 0 none) m)
 
 -- an idle pass swaps 0 into a slot's word, for a close
 abbrev pub TakesOutKeep : Kind → Type 0
 TakesOutKeep tells = (k : Start) (slots id i slot : ℕ) (m : Sat) (x : Log) → HasPass k m x
-    → m.0.work ≡ Idle → slot < slots_of k → MayChange k slot m.0.change → i ≡ slot_place slot
+    → HasNoFile m.0.work → slot < slots_of k → IsOffCount k slot m.0.change → i ≡ slot_place slot
     → Allows (Agrees k) slots id m i (λ _. 0) (tells (step slots i 0 0 none) m)
 
--- a pass in a change exchanges a word that names no file, at a slot of the range, for the word of
+-- a pass exchanges a word that names no file, at a slot of the range, for the word of
 -- the file that it places
 abbrev pub ExchangesKeep : Kind → Type 0
 ExchangesKeep tells = (k : Start) (slots id i slot n old new : ℕ) (file : Identity) (m : Sat)
     (x : Log) → HasPass k m x → m.0.work ≡ Placing n → m.1 ≡ (n, Some file) ∷ []
-    → file.entry < 2 ^ 8 → m.0.change ≡ Same → IsInRange k slot → i ≡ slot_place slot
+    → file.entry < 2 ^ 8 → m.0.change ≡ Outside → IsInRange k slot → i ≡ slot_place slot
     → name_in old ≡ 0 → new ≡ slot_word_of n file.entry
     → Allows (Agrees k) slots id m i (λ word. either (word == old) new word)
     (tells (step slots i old new none) m)

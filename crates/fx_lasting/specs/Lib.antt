@@ -11,6 +11,7 @@ pub mod Cuts
 pub mod Laws
 pub mod Bounds
 pub mod Holds
+pub mod Choices
 pub mod Opens
 pub mod AtWork
 pub mod Ends

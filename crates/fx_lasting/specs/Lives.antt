@@ -9,7 +9,7 @@ use Rattle.fx_plain.specs.State.{IsSettled}
 use Rattle.fx_table.specs.Opening.{HasSameFiles}
 use Rattle.fx_lasting.specs.Agrees.{Agrees}
 use Rattle.fx_lasting.specs.Cuts.{new_logs, first_view}
-use Rattle.fx_lasting.specs.Passes.{Shared, state_after_all}
+use Rattle.fx_lasting.specs.Passes.{Shared, HasNoFile, state_after_all}
 use Rattle.fx_lasting.specs.declared.pass.LastingPass.{LastingPass}
 use Rattle.fx_lasting.specs.declared.table.LastingTable.{LastingTable}
 use Rattle.fx_lasting.specs.declared.view.Change.TheVariants.{Outside}
@@ -17,7 +17,6 @@ use Rattle.fx_lasting.specs.declared.view.Glance.TheVariants.{None as Nothing}
 use Rattle.fx_lasting.specs.declared.view.Log.{Log}
 use Rattle.fx_lasting.specs.declared.view.Start.{Start}
 use Rattle.fx_lasting.specs.declared.view.View.{View}
-use Rattle.fx_lasting.specs.declared.view.Work.TheVariants.{Idle}
 
 -- the view of a seat that has the new passes from p to the last
 abbrev pub dealt : Start → ℕ → View
@@ -45,14 +44,14 @@ pub record IsIdleSeatOf (t : LastingTable) (seat : Seat (Option Identity) View) 
   pub table : seat.table_id ≡ t.table.shared.table_id
   pub places : seat.me.1 ≡ []
   pub start : seat.me.0.start ≡ t.table.shared.key
-  pub work : seat.me.0.work ≡ Idle
+  pub work : HasNoFile seat.me.0.work
   pub glance : seat.me.0.glance ≡ Nothing
   pub change : seat.me.0.change ≡ Outside
 
 -- in every last state all passes are idle
 abbrev pub AllAreIdle : Start → ℕ → View → Type 0
 AllAreIdle k id v = (s : Shared) → Agrees k s → get_elem? s.views id ≡ some v
-    → (seat : ℕ) (u : View) → get_elem? s.views seat ≡ some u → u.work ≡ Idle
+    → (seat : ℕ) (u : View) → get_elem? s.views seat ≡ some u → HasNoFile u.work
 
 -- the files of the table are those of some last state
 pub record Leaves (k : Start) (id : ℕ) (v : View) (left : Contents) : Type 0 where

@@ -1,5 +1,6 @@
 -- Views of passes, and their sums.
-use Rattle.std.specs.Prelude.{ℕ, ◌+◌, ◌<◌, ◌≤◌, ◌==◌, not, nat_lt, List, [], ◌∷◌, map, Option}
+use Rattle.std.specs.Prelude.{◌≡◌, ℕ, ◌+◌, ◌%◌, ◌<◌, ◌≤◌, ◌⊎◌, ◌==◌, not, nat_lt, List}
+use Rattle.std.specs.Prelude.{[], ◌∷◌, map, Option}
 use Rattle.std.specs.Prelude.{Some, None}
 use Rattle.std.specs.Prelude.{length, count_by, if◌then◌else◌}
 use Rattle.atomic_table.specs.Table.{State as TableState, Me}
@@ -14,7 +15,8 @@ use Rattle.fx_lasting.specs.declared.view.Log.{Log}
 use Rattle.fx_lasting.specs.declared.view.Start.{Start}
 use Rattle.fx_lasting.specs.declared.view.View.{View}
 use Rattle.fx_lasting.specs.declared.view.Work.{Work}
-use Rattle.fx_lasting.specs.declared.view.Work.TheVariants.{Counted, Guarded, Yielding}
+use Rattle.fx_lasting.specs.declared.view.Work.TheVariants.{Idle, Counted, Guarded, Yielding}
+use Rattle.fx_lasting.specs.declared.view.Work.TheVariants.{Searching}
 
 -- the table as steps see it: a place has an open file or none
 abbrev pub Shared : Type 0
@@ -40,6 +42,10 @@ range_of k = (state_of k.plain.value).range
 -- how many nodes it has
 abbrev pub nodes_of : Start → ℕ
 nodes_of k = nodes_for (slots_of k) k.passes k.installing
+
+-- the node of a file: an installation draws the file's number so that the number says the node
+abbrev pub node_of_number : Start → ℕ → ℕ
+node_of_number k number = number % nodes_of k
 
 -- the node is one of the pass's block
 abbrev pub IsInBlock : Start → ℕ → ℕ → Type 0
@@ -75,6 +81,10 @@ held_in (Counted f node) = Some f
 held_in (Guarded f node) = Some f
 held_in (Yielding f node) = Some f
 held_in _ = None
+
+-- the pass does nothing, or has chosen the node of its next file
+abbrev pub HasNoFile : Work → Type 0
+HasNoFile w = (w ≡ Idle) ⊎ ((node : ℕ) × (w ≡ Searching node))
 
 -- 1 where the file has the number, and else 0
 abbrev pub if_file : ℕ → Option File → ℕ

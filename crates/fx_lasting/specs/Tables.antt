@@ -19,7 +19,8 @@ use Rattle.fx_lasting.specs.declared.view.Glance.TheVariants.{None as Nothing}
 use Rattle.fx_lasting.specs.declared.view.Start.{Start}
 use Rattle.fx_lasting.specs.declared.view.View.{View}
 use Rattle.fx_lasting.specs.declared.view.Work.{Work}
-use Rattle.fx_lasting.specs.declared.view.Work.TheVariants.{Idle, Counted, Guarded, Retiring}
+use Rattle.fx_lasting.specs.declared.view.Work.TheVariants.{Idle, Searching, Counted, Guarded}
+use Rattle.fx_lasting.specs.declared.view.Work.TheVariants.{Retiring}
 use Rattle.fx_lasting.specs.declared.pass.LastingPass.{LastingPass}
 use Rattle.fx_lasting.specs.declared.table.LastingTable.{LastingTable}
 
@@ -74,16 +75,17 @@ view_of p = pass_of p.seat.me.0
 abbrev pub steps_taken : LastingPass → ℕ
 steps_taken p = (first_log p.seat.me.0.logs).steps
 
--- between two calls a pass is idle, holds a file by a take or by its hold word, or has one to
--- retire and has visited no hold word yet; its fields say which
-abbrev pub IsBetweenCalls : ℕ → Bool → Bool → ℕ → Work → Type 0
-IsBetweenCalls passes idle guarded visit Idle = idle ≡ true
-IsBetweenCalls passes idle guarded visit (Counted f node) = (idle ≡ false) × (guarded ≡ false)
-IsBetweenCalls passes idle guarded visit (Guarded f node) = (idle ≡ false) × (guarded ≡ true)
-IsBetweenCalls passes idle guarded visit (Retiring f node takes next marks) =
-    (idle ≡ false) × (visit ≡ next) × (marks ≡ 0) × (takes < 2 ^ 31)
-    × ((next ≡ 1) ⊎ (next ≡ passes + 1))
-IsBetweenCalls passes idle guarded visit _ = ⊥
+-- between two calls a pass is idle, has chosen the node of its next file, holds a file by a take or
+-- by its hold word, or has one to retire and has visited no hold word yet; its fields say which
+abbrev pub IsBetweenCalls : ℕ → Bool → Bool → ℕ → ℕ → Work → Type 0
+IsBetweenCalls passes idle guarded visit next Idle = idle ≡ true
+IsBetweenCalls passes idle guarded visit next (Searching node) = (idle ≡ true) × (next ≡ node)
+IsBetweenCalls passes idle guarded visit next (Counted f node) = (idle ≡ false) × (guarded ≡ false)
+IsBetweenCalls passes idle guarded visit next (Guarded f node) = (idle ≡ false) × (guarded ≡ true)
+IsBetweenCalls passes idle guarded visit next (Retiring f node takes first marks) =
+    (idle ≡ false) × (visit ≡ first) × (marks ≡ 0) × (takes < 2 ^ 31)
+    × ((first ≡ 1) ⊎ (first ≡ passes + 1))
+IsBetweenCalls passes idle guarded visit next _ = ⊥
 
 -- a seat of the table, with one pass that is in no change and has no place
 pub record IsSeatOf (id : TableId) (k : Start) (p : LastingPass) : Type 0 where
@@ -97,7 +99,8 @@ pub record IsSeatOf (id : TableId) (k : Start) (p : LastingPass) : Type 0 where
 pub record IsPassOf (id : TableId) (k : Start) (p : LastingPass) : Type 0 where
   pub seated : IsSeatOf id k p
   pub calm : p.seat.me.0.glance ≡ Nothing
-  pub knows : IsBetweenCalls k.passes p.idle p.guarded p.next_visit p.seat.me.0.work
+  pub knows : IsBetweenCalls k.passes p.idle p.guarded p.next_visit p.next_node
+      p.seat.me.0.work
   pub front : IsFront (opening_of k) (pass_of p.seat.me.0)
 
 -- the opening of the table

@@ -1,5 +1,5 @@
 -- Each kind of step: its effect on the pass that makes it.
-use Rattle.std.specs.Prelude.{◌≡◌, ◌≢◌, ℕ, zero, suc, ◌+◌, ◌-◌, ◌*◌, ◌/◌, ◌<◌, ◌==◌, nat_lt}
+use Rattle.std.specs.Prelude.{◌≡◌, ◌≢◌, ℕ, ◌+◌, ◌-◌, ◌*◌, ◌/◌, ◌<◌, ◌==◌, nat_lt}
 use Rattle.std.specs.Prelude.{if◌then◌else◌}
 use Rattle.std.specs.Prelude.{List, []}
 use Rattle.std.specs.Prelude.{◌∷◌, ◌++◌, map, Option, Some, None}
@@ -14,12 +14,12 @@ use Rattle.fx_plain.specs.declared.event.Action.TheVariants.{Look, Release, Put,
 use Rattle.fx_plain.specs.declared.event.Action.TheVariants.{Close}
 use Rattle.fx_words.specs.Words.{name_in, entry_in, bias}
 use Rattle.fx_lasting.specs.Parts.{hot_in, IsHot, count_in, cold_takes, announced}
-use Rattle.fx_lasting.specs.Control.{if_full}
+use Rattle.fx_lasting.specs.Control.{account}
 use Rattle.fx_lasting.specs.Passes.{Sat, slots_of, nodes_of, range_of, IsInBlock, word_of}
-use Rattle.fx_lasting.specs.Passes.{IsHistory}
+use Rattle.fx_lasting.specs.Passes.{IsHistory, node_of_number}
 use Rattle.fx_lasting.specs.Passes.{first_log, state_after_all}
 use Rattle.fx_lasting.specs.declared.view.Change.{Change}
-use Rattle.fx_lasting.specs.declared.view.Change.TheVariants.{Outside, Same, More, Less}
+use Rattle.fx_lasting.specs.declared.view.Change.TheVariants.{Inside}
 use Rattle.fx_lasting.specs.declared.view.Glance.{Glance}
 use Rattle.fx_lasting.specs.declared.view.Glance.TheVariants.{None as Nothing, Hot, Cold, Heating}
 use Rattle.fx_lasting.specs.declared.view.Log.{Log}
@@ -172,6 +172,7 @@ pub record LettingGo (st : At) (m : Sat) (found : ℕ) (m' : Sat) : Type 0 where
 pub record Seeks (st : At) (m : Sat) (found : ℕ) (m' : Sat) : Type 0 where
   pub node : ℕ
   pub goes : Goes m [] (Searching node) m.0.glance m'
+  pub front : (pass_in m').front ≡ (pass_in m).front
   pub block : IsInBlock m.0.start (pass_in m).number node
   pub here : found ≡ 0 → st.word ≡ word_of m.0.start node
   pub other : found ≢ 0 → st.word ≢ word_of m.0.start node
@@ -182,9 +183,14 @@ pub record Births (st : At) (m : Sat) (found : ℕ) (m' : Sat) : Type 0 where
   pub goes : (node : ℕ) → m.0.work ≡ Searching node
       → Stepped m [] (Placing node) m.0.glance m.0.change m' × (m'.1 ≡ (node, None) ∷ m.1)
 
+-- what a pass does after a rest: a node that it placed in vain is free, and still its choice
+abbrev pub rested : Work → Work
+rested (Placing node) = Searching node
+rested _ = Idle
+
 -- Rest: the place is home, without a file
 pub record Rests (st : At) (m : Sat) (found : ℕ) (m' : Sat) : Type 0 where
-  pub stepped : Stepped m [] Idle m.0.glance m.0.change m'
+  pub stepped : Stepped m [] (rested m.0.work) m.0.glance m.0.change m'
   pub carried : m'.1 ≡ rest m.1
 
 -- Visit, of a hold word: one that doesn't name the node isn't marked
@@ -213,20 +219,6 @@ pub record Retires (st : At) (m : Sat) (found : ℕ) (m' : Sat) : Type 0 where
   pub closes : (f : File) (node takes next marks : ℕ) → m.0.work ≡ Retiring f node takes next marks
       → found ≡ st.first + 1 → TakesOut m [] f node m'
 
--- the report of a pass in a change, when a slot had `old` files and has `new` now
-abbrev pub changed : ℕ → ℕ → Change
-changed zero zero = Same
-changed zero (suc new) = More
-changed (suc old) zero = Less
-changed (suc old) (suc new) = Same
-
--- only a pass in a change has to report
-abbrev pub turned : Change → ℕ → ℕ → Change
-turned Outside old new = Outside
-turned Same old new = changed old new
-turned More old new = More
-turned Less old new = Less
-
 -- where the visits of a retirement begin: a file of a slot that wasn't hot is held by takes alone
 abbrev pub first_visit : ℕ → ℕ → ℕ
 first_visit passes found = if hot_in found == 1 then 1 else passes + 1
@@ -242,13 +234,16 @@ abbrev pub Found : ℕ → Option File → Type 0
 Found found None = name_in found ≡ 0
 Found found (Some f) = (name_in found ≢ 0) × Shows found f
 
--- Swap, to the word of the file that the pass places: the file has a number that none had before
+-- Swap, to the word of the file that the pass places: the file has a number that none had before,
+-- and which says its node
 pub record Installs (st : At) (m : Sat) (found : ℕ) (m' : Sat) : Type 0 where
   pub replaced : Option File
   pub names : Found found replaced
   pub stepped : (n : ℕ) (file : Identity) → m.0.work ≡ Placing n → m.1 ≡ (n, Some file) ∷ []
-      → (number : ℕ) × Stepped m ([] ▷ Put (slot_of st.word) (numbered number file) replaced)
-      (retiring m.0.start found replaced) m.0.glance (turned m.0.change (if_full replaced) 1) m'
+      → (number : ℕ) × (node_of_number m.0.start number ≡ n)
+      × Stepped m ([] ▷ Put (slot_of st.word) (numbered number file) replaced)
+      (retiring m.0.start found replaced) m.0.glance
+      (account (range_of m.0.start) (slot_of st.word) replaced) m'
   pub carried : m'.1 ≡ rest m.1
 
 -- Swap, to an empty slot's word, by a clear or by a take
@@ -257,10 +252,10 @@ pub record Removes (action : ℕ → Option File → Action)
   pub file : Option File
   pub names : Found found file
   pub stepped : Stepped m ([] ▷ action (slot_of st.word) file) (retiring m.0.start found file)
-      m.0.glance (turned m.0.change (if_full file) 0) m'
+      m.0.glance (account (range_of m.0.start) (slot_of st.word) file) m'
   pub carried : m'.1 ≡ m.1
 
--- Begin and End
+-- Lower and Raise
 pub record Turns (change : Change) (st : At) (m : Sat) (found : ℕ) (m' : Sat) : Type 0 where
   pub stepped : Stepped m [] m.0.work m.0.glance change m'
   pub carried : m'.1 ≡ m.1
@@ -278,6 +273,7 @@ pub record Peeks (st : At) (m : Sat) (found : ℕ) (m' : Sat) : Type 0 where
 pub record Exchanges (st : At) (m : Sat) (found : ℕ) (m' : Sat) : Type 0 where
   pub wins : (n : ℕ) (file : Identity) → m.0.work ≡ Placing n → m.1 ≡ (n, Some file) ∷ []
       → found ≡ st.first
-      → (number : ℕ) × Stepped m ([] ▷ Allocate (slot_of st.word) (numbered number file)) Idle
-      m.0.glance More m' × (m'.1 ≡ rest m.1)
+      → (number : ℕ) × (node_of_number m.0.start number ≡ n)
+      × Stepped m ([] ▷ Allocate (slot_of st.word) (numbered number file)) Idle m.0.glance Inside m'
+      × (m'.1 ≡ rest m.1)
   pub loses : found ≢ st.first → Goes m [] m.0.work m.0.glance m'

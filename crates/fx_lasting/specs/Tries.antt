@@ -10,7 +10,7 @@ use Rattle.fx_table.specs.Opening.{Opening, size_of}
 use Rattle.fx_table.specs.Pass.{PassView}
 use Rattle.fx_table.specs.declared.values.Doing.TheVariants.{Idle as DoesNothing}
 use Rattle.fx_lasting.specs.Ends.{Does}
-use Rattle.fx_lasting.specs.Passes.{Sat}
+use Rattle.fx_lasting.specs.Passes.{Sat, node_of_number}
 use Rattle.fx_lasting.specs.declared.tried.TriedPut.{TriedPut}
 use Rattle.fx_lasting.specs.declared.tried.TriedPut.TheVariants.{At, Full as AllFull, Again}
 use Rattle.fx_lasting.specs.declared.view.Work.TheVariants.{Idle, Placing}
@@ -20,10 +20,10 @@ pub record IsPlacing (node : ℕ) (file : Identity) (m : Sat) : Type 0 where
   pub work : m.0.work ≡ Placing node
   pub place : m.1 ≡ (node, Some file) ∷ []
 
--- the file is at the slot, which was empty before
-abbrev pub HasAllocated : Identity → ℕ → ℕ → Sat → Sat → Type 0
-HasAllocated file slot most m m' =
-    (number : ℕ) × Does m ([] ▷ Allocate slot (numbered number file)) Idle most m' × (m'.1 ≡ [])
+-- the file is at the slot, which was empty before, on the node
+abbrev pub HasAllocated : ℕ → Identity → ℕ → ℕ → Sat → Sat → Type 0
+HasAllocated node file slot most m m' = (number : ℕ) × (node_of_number m.0.start number ≡ node)
+    × Does m ([] ▷ Allocate slot (numbered number file)) Idle most m' × (m'.1 ≡ [])
 
 -- the file is still to be installed
 abbrev pub StillPlaces : ℕ → ℕ → Sat → Sat → Type 0
@@ -31,8 +31,8 @@ StillPlaces node most m m' = Does m [] (Placing node) most m' × (m'.1 ≡ m.1)
 
 -- a try at one slot
 abbrev pub Tries : ℕ → Identity → ℕ → Sat → Bool → Sat → Type 0
-Tries node file slot m true m' = HasAllocated file slot 4 m m'
-Tries node file slot m false m' = StillPlaces node 4 m m'
+Tries node file slot m true m' = HasAllocated node file slot 3 m m'
+Tries node file slot m false m' = StillPlaces node 3 m m'
 
 -- the result of one try over the range
 abbrev pub TriedSo : Opening → PassView → Identity → TriedPut → PassView → Type 0

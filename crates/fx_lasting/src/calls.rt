@@ -8,6 +8,7 @@ ghost use Rattle.fx_table.specs.Opening.{size_of};
 ghost use Rattle.fx_table.specs.Pass.{IsIdle, IsHoldOf, IsRetiredOf};
 ghost use Rattle.fx_table.specs.declared.values.LookFault.TheVariants.{Spent};
 ghost use Rattle.fx_words.specs.Words.{name_in};
+ghost use Rattle.fx_lasting.specs.Choices.{UsesChoice};
 ghost use Rattle.fx_lasting.specs.Layout.{block_for};
 ghost use Rattle.fx_lasting.specs.Parts.{count_in};
 ghost use Rattle.fx_lasting.specs.Tables.{view_of, steps_taken, retired_at, opening_of_table, IsPassOfTable, IsSeatOfTable};
@@ -127,8 +128,9 @@ impl LastingTable {
     }
 
     /// Installs a file at a slot below `size`, under a number that no file has had, for an idle pass (`is_idle`) that
-    /// installs files (`numbers_left`). It makes at most four atomic steps more than the pass's block has nodes. Returns
-    /// the file that it replaced, to be retired, or `None` (io_uring_prep_openat(3), `io_uring_prep_openat_direct`).
+    /// installs files (`numbers_left`), on the node that it has chosen, if it has (`next_node`). It makes at most three atomic
+    /// steps more than the pass's block has nodes. Returns the file that it replaced, to be retired, or `None`
+    /// (io_uring_prep_openat(3), `io_uring_prep_openat_direct`).
     #[inline(always)]
     pub fn put(&self, pass: &mut LastingPass, slot: u32, file: OpenFile) -> Option<Retired>
         requires fits { IsPassOfTable self.now pass.old }
@@ -138,18 +140,18 @@ impl LastingTable {
         ensures fits { IsPassOfTable self.now pass.new }
         ensures placed { Placed (opening_of_table self.now) (view_of pass.old) slot file result
             (view_of pass.new) }
+        ensures used { UsesChoice self.now.table.shared.key pass.old (view_of pass.new) }
         ensures steps { let block = block_for self.now.size self.now.passes in
-            steps_taken pass.new ≤ steps_taken pass.old + (block + 4) }
+            steps_taken pass.new ≤ steps_taken pass.old + (block + 3) }
     {
         let node = self.seek(&mut pass.seat, pass.number, pass.next_node);
         let word = slot_word(node, file.entry());
         self.put_in(&mut pass.seat, node, file);
-        let began = self.begin(&mut pass.seat, slot);
         let shared = &self.table.shared;
         let found = shared.swap::<Installing>(&mut pass.seat, slot_place(slot), word);
         let replaced = removed_in(found);
-        let delta = if replaced.is_none() { 1 } else { 0 };
-        self.end(&mut pass.seat, began, delta);
+        let inside = self.is_in_range(slot);
+        self.raise(&mut pass.seat, inside, replaced.is_none());
         pass.next_node = node;
         pass.next_visit = self.first_visit(found);
         pass.idle = replaced.is_none();
@@ -169,12 +171,12 @@ impl LastingTable {
             (view_of pass.new) }
         ensures steps { steps_taken pass.new ≤ steps_taken pass.old + 3 }
     {
-        let began = self.begin(&mut pass.seat, slot);
+        let inside = self.is_in_range(slot);
+        self.lower(&mut pass.seat, inside);
         let shared = &self.table.shared;
         let found = shared.swap::<Clearing>(&mut pass.seat, slot_place(slot), 0);
         let removed = removed_in(found);
-        let delta = if removed.is_none() { 0 } else { -1 };
-        self.end(&mut pass.seat, began, delta);
+        self.raise(&mut pass.seat, inside, removed.is_none());
         pass.next_visit = self.first_visit(found);
         pass.idle = removed.is_none();
         removed
@@ -195,12 +197,12 @@ impl LastingTable {
             (view_of pass.new) }
         ensures steps { steps_taken pass.new ≤ steps_taken pass.old + 3 }
     {
-        let began = self.begin(&mut pass.seat, slot);
+        let inside = self.is_in_range(slot);
+        self.lower(&mut pass.seat, inside);
         let shared = &self.table.shared;
         let found = shared.swap::<TakingOut>(&mut pass.seat, slot_place(slot), 0);
         let removed = removed_in(found);
-        let delta = if removed.is_none() { 0 } else { -1 };
-        self.end(&mut pass.seat, began, delta);
+        self.raise(&mut pass.seat, inside, removed.is_none());
         pass.next_visit = self.first_visit(found);
         pass.idle = removed.is_none();
         removed.ok_or(Empty)

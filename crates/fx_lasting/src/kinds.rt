@@ -219,20 +219,20 @@ impl Play<Option<OpenFile>, View> for TakingOut {
     ghost then = { Removes Take };
 }
 
-/// Begin: the pass is about to change a slot of the range.
-pub struct Beginning;
+/// Lower: the control word counts one full slot less, before the pass empties that slot.
+pub struct Lowering;
 
-impl Play<Option<OpenFile>, View> for Beginning {
-    ghost use Rattle.fx_lasting.specs.declared.view.Change.TheVariants.{Same};
+impl Play<Option<OpenFile>, View> for Lowering {
+    ghost use Rattle.fx_lasting.specs.declared.view.Change.TheVariants.{Inside};
     ghost use Rattle.fx_lasting.specs.Tells.{Turns};
 
-    ghost then = { Turns Same };
+    ghost then = { Turns Inside };
 }
 
-/// End: the pass reports how its change has changed the number of full slots.
-pub struct Ending;
+/// Raise: the control word counts one full slot more, after the pass filled that slot.
+pub struct Raising;
 
-impl Play<Option<OpenFile>, View> for Ending {
+impl Play<Option<OpenFile>, View> for Raising {
     ghost use Rattle.fx_lasting.specs.declared.view.Change.TheVariants.{Outside};
     ghost use Rattle.fx_lasting.specs.Tells.{Turns};
 

@@ -2,16 +2,17 @@
 //! other passes are.
 ghost use Rattle.std.specs.Prelude.{◌≡◌, ℕ};
 ghost use Rattle.fx_lasting.specs.Bounds.{WordsAreBounded};
+ghost use Rattle.fx_lasting.specs.Choices.{ChosenNodesAreFree};
 ghost use Rattle.fx_lasting.specs.Holds.{NodesAreOfOneFile};
 ghost use Rattle.fx_lasting.specs.Layout.{PlacesAreInside, PlacesAreApart};
 ghost use Rattle.fx_lasting.specs.Opens.{OpeningKeeps};
 ghost use Rattle.fx_lasting.specs.declared.layout.TheConstants.{MOST_PASSES, MOST_INSTALLING};
-ghost use Rattle.fx_lasting.specs.Laws.{GlancesKeep, AnnouncesKeep, ConfirmsKeep, WithdrawsKeep, TakesOnceKeep, HeatsKeep, StepsDownKeep, LettingGoKeeps, SeeksKeep, BirthsKeep, RestsKeep, VisitsKeep, MarksKeep, RetiresKeep, BeginsKeep, EndsKeep, AsksKeep, PeeksKeep, SplitsKeep, JoinsKeep, ClearsKeep, TakesOutKeep, InstallsKeep, ExchangesKeep};
+ghost use Rattle.fx_lasting.specs.Laws.{GlancesKeep, AnnouncesKeep, ConfirmsKeep, WithdrawsKeep, TakesOnceKeep, HeatsKeep, StepsDownKeep, LettingGoKeeps, SeeksKeep, BirthsKeep, RestsKeep, VisitsKeep, MarksKeep, RetiresKeep, LowersKeep, RaisesKeep, AsksKeep, PeeksKeep, SplitsKeep, JoinsKeep, ClearsKeep, TakesOutKeep, InstallsKeep, ExchangesKeep};
 
 use crate::kinds::{
-    Announcing, Asking, Beginning, Birth, Clearing, Confirming, Deal, Ending, Exchanging, Gather,
-    Glancing, HeatingUp, Installing, Letting, Marking, OneHistory, Peeking, Resting, Retire,
-    Seeking, SteppingDown, Taking, TakingOut, Visiting, Withdrawing,
+    Announcing, Asking, Birth, Clearing, Confirming, Deal, Exchanging, Gather, Glancing, HeatingUp,
+    Installing, Letting, Lowering, Marking, OneHistory, Peeking, Raising, Resting, Retire, Seeking,
+    SteppingDown, Taking, TakingOut, Visiting, Withdrawing,
 };
 use crate::view::{Start, View};
 use atomic_table::{Join, Play, Split, TableRule};
@@ -28,7 +29,7 @@ pub fn opening_keeps_rule()
     ensures { OpeningKeeps ⟦<OneHistory as TableRule<Option<OpenFile>, View, Start>>⟧.holds ⟦<OneHistory as TableRule<Option<OpenFile>, View, Start>>⟧.first }
 {}
 
-/// A pass that does nothing and loads a slot's word keeps the rule.
+/// A pass that has no file and loads a slot's word keeps the rule.
 pub fn glance_keeps_rule()
     ensures { GlancesKeep ⟦<Glancing as Play<Option<OpenFile>, View>>⟧.then }
 {}
@@ -80,7 +81,7 @@ pub fn birth_keeps_rule()
     ensures { BirthsKeep ⟦<Birth as Play<Option<OpenFile>, View>>⟧.then }
 {}
 
-/// A pass that stores 0 in the word of a node whose file is closed keeps the rule.
+/// A pass that stores 0 in the word of a node whose file is closed, or which it placed in vain, keeps the rule.
 pub fn rest_keeps_rule()
     ensures { RestsKeep ⟦<Resting as Play<Option<OpenFile>, View>>⟧.then }
 {}
@@ -101,14 +102,14 @@ pub fn retire_keeps_rule()
     ensures { RetiresKeep ⟦<Retire as Play<Option<OpenFile>, View>>⟧.then }
 {}
 
-/// A pass outside a change that adds 2^32 to the control word keeps the rule.
-pub fn begin_keeps_rule()
-    ensures { BeginsKeep ⟦<Beginning as Play<Option<OpenFile>, View>>⟧.then }
+/// A pass that subtracts 1 from the control word, before it empties a slot of the range, keeps the rule.
+pub fn lower_keeps_rule()
+    ensures { LowersKeep ⟦<Lowering as Play<Option<OpenFile>, View>>⟧.then }
 {}
 
-/// A pass in a change that subtracts 2^32 from the control word, less the difference that it made, keeps the rule.
-pub fn end_keeps_rule()
-    ensures { EndsKeep ⟦<Ending as Play<Option<OpenFile>, View>>⟧.then }
+/// A pass that adds the slot to the control word that the word counts too few on its account keeps the rule.
+pub fn raise_keeps_rule()
+    ensures { RaisesKeep ⟦<Raising as Play<Option<OpenFile>, View>>⟧.then }
 {}
 
 /// A pass that loads the control word keeps the rule. Where the word says so, every slot of the range is full.
@@ -155,17 +156,22 @@ pub fn exchange_keeps_rule()
 {}
 
 /// While the rule holds, no word overflows. A slot has at most the takes of a cold one, and one more for each pass. The word of a node
-/// is above 2 until its file is retired, so no drop finds 2 before that. At most 1,024 changes are in flight, and the
-/// lower half of the control word is between 64,512 and 66,816.
+/// is above 2 until its file is retired, so no drop finds 2 before that. The control word is between 64,512 and 65,792.
 pub fn words_are_bounded()
     ensures { WordsAreBounded }
 {}
 
 /// While the rule holds, a node is that of one file as long as the file is held: holds of one node are of one file, which
-/// is the file of the slot whose word names the node. A node whose word is 0, as that which a search finds, is that of no
-/// file which is held.
+/// is the file of the slot whose word names the node. The number of a held file, modulo the number of nodes, is its node. A
+/// node whose word is 0, as that which a search finds, is that of no file which is held.
 pub fn nodes_are_of_one_file()
     ensures { NodesAreOfOneFile }
+{}
+
+/// While the rule holds, the node that a pass has chosen for its next file (`LastingTable::next_node`) is free: its word is 0, no
+/// slot's word names it, it is that of no file that is at a slot, held, or removed and not closed. No other pass has chosen it.
+pub fn chosen_nodes_are_free()
+    ensures { ChosenNodesAreFree }
 {}
 
 /// Each word of a table of `size` slots, with `passes` passes and `nodes` nodes, has its place inside the table's memory.

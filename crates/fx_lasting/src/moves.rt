@@ -3,7 +3,8 @@ ghost use Rattle.std.specs.Prelude.{◌≡◌, ℕ, ◌∷◌, [], Some, None};
 ghost use Rattle.fx_base.specs.declared.open_file.Closed.{Closed};
 ghost use Rattle.fx_lasting.specs.AtWork.{IsAtWork, HasPlace};
 ghost use Rattle.fx_lasting.specs.Ends.{Does};
-ghost use Rattle.fx_lasting.specs.declared.view.Work.TheVariants.{Idle, Searching, Placing};
+ghost use Rattle.fx_lasting.specs.Tells.{rested};
+ghost use Rattle.fx_lasting.specs.declared.view.Work.TheVariants.{Searching, Placing};
 
 use crate::kinds::{Birth, Resting};
 use crate::layout::node_place;
@@ -38,7 +39,7 @@ impl LastingTable {
         requires place { (file : Closed) × HasPlace node (Some file) seat.old.me }
         ensures table { seat.new.table_id ≡ seat.old.table_id }
         ensures file { (file : Closed) → HasPlace node (Some file) seat.old.me → result ≡ file }
-        ensures rests { Does seat.old.me [] Idle 1 seat.new.me }
+        ensures rests { Does seat.old.me [] (rested seat.old.me.0.work) 1 seat.new.me }
         ensures empty { seat.new.me.1 ≡ [] }
     {
         let shared = &self.table.shared;

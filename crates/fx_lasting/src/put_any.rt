@@ -2,13 +2,15 @@
 ghost use Rattle.std.specs.Prelude.{◌≡◌, ℕ, ◌+◌, ◌*◌, ◌<◌, ◌≤◌, true, IfSome, None};
 ghost use Rattle.fx_table.specs.Calls.{Allocated};
 ghost use Rattle.fx_table.specs.Pass.{IsIdle};
-ghost use Rattle.fx_lasting.specs.AtWork.{IsAtWork, InRange};
+ghost use Rattle.fx_lasting.specs.AtWork.{IsAtWork};
+ghost use Rattle.fx_lasting.specs.Choices.{AllocatesChoice, TriesChoice};
+ghost use Rattle.fx_lasting.specs.Laws.{IsInRange};
 ghost use Rattle.fx_lasting.specs.Layout.{block_for};
 ghost use Rattle.fx_lasting.specs.Tables.{view_of, steps_taken, opening_of_table, IsPassOfTable};
 ghost use Rattle.fx_lasting.specs.Tries.{IsPlacing, Tries, HasAllocated, StillPlaces, TriedSo};
 ghost use Rattle.fx_lasting.specs.declared.view.Change.TheVariants.{Outside};
 
-use crate::kinds::{Asking, Beginning, Exchanging, Peeking};
+use crate::kinds::{Asking, Exchanging, Peeking};
 use crate::layout::{CONTROL, slot_place};
 use crate::parts::says_full;
 use crate::pass::LastingPass;
@@ -17,14 +19,14 @@ use crate::tried::TriedPut;
 use crate::view::View;
 use atomic_table::Seat;
 use fx_base::{Closed, OpenFile};
-use fx_words::{begin_amount, node_of, slot_word};
+use fx_words::{node_of, slot_word};
 use std::sync::Wait;
 use std::thread;
 
 impl LastingTable {
     /// Installs a file at an empty slot of the allocation range, under a number that no file has had, for an idle pass
-    /// (`is_idle`) that installs files (`numbers_left`), and returns the slot (io_uring_prep_openat(3),
-    /// "IORING_FILE_INDEX_ALLOC"). It tries again while other passes change the range, and yields its thread between
+    /// (`is_idle`) that installs files (`numbers_left`), on the node that it has chosen, if it has (`next_node`), and returns
+    /// the slot (io_uring_prep_openat(3), "IORING_FILE_INDEX_ALLOC"). It tries again while other passes change the range, and yields its thread between
     /// two tries.
     ///
     /// # Errors
@@ -41,6 +43,7 @@ impl LastingTable {
         ensures fits { IsPassOfTable self.now pass.new }
         ensures allocated { Allocated (opening_of_table self.now) (view_of pass.old) file result
             (view_of pass.new) }
+        ensures used { AllocatesChoice self.now.table.shared.key pass.old result pass.new }
     {
         let mut left = file;
         for _ in rt.forever() {
@@ -55,7 +58,7 @@ impl LastingTable {
     }
 
     /// Tries once to install a file at an empty slot of the allocation range, under a number that no file has had, for an
-    /// idle pass (`is_idle`) that installs files (`numbers_left`). It never waits: it makes at most four atomic steps for
+    /// idle pass (`is_idle`) that installs files (`numbers_left`). It never waits: it makes at most three atomic steps for
     /// each slot of the range, and three more than the pass's block has nodes. Returns the slot, or the file if every
     /// slot of the range had a file at one moment (ENFILE), or if neither was found; then nothing has changed.
     pub fn try_put_any(&self, pass: &mut LastingPass, file: OpenFile) -> TriedPut
@@ -65,8 +68,9 @@ impl LastingTable {
         ensures fits { IsPassOfTable self.now pass.new }
         ensures tried { TriedSo (opening_of_table self.now) (view_of pass.old) file result
             (view_of pass.new) }
+        ensures used { TriesChoice self.now.table.shared.key pass.old result pass.new }
         ensures steps { let block = block_for self.now.size self.now.passes in
-            steps_taken pass.new ≤ steps_taken pass.old + (block + 4 * self.now.range_len + 3) }
+            steps_taken pass.new ≤ steps_taken pass.old + (block + 3 * self.now.range_len + 3) }
     {
         let word = self.table.shared.load::<Asking>(&mut pass.seat, CONTROL);
         if says_full(word, self.range_len) {
@@ -75,11 +79,9 @@ impl LastingTable {
         let node = self.seek(&mut pass.seat, pass.number, pass.next_node);
         let identity = file.identity();
         self.put_in(&mut pass.seat, node, file);
+        pass.next_node = node;
         match self.scan(&mut pass.seat, node, identity) {
-            Some(slot) => {
-                pass.next_node = node;
-                TriedPut::At(slot)
-            }
+            Some(slot) => TriedPut::At(slot),
             None => TriedPut::Again(self.take_out(&mut pass.seat, node)),
         }
     }
@@ -93,9 +95,9 @@ impl LastingTable {
         ensures table { seat.new.table_id ≡ seat.old.table_id }
         ensures slot { IfSome result (λ slot. slot < self.now.size) }
         ensures found { IfSome result
-            (λ slot. HasAllocated file slot (4 * self.now.range_len) seat.old.me seat.new.me) }
+            (λ slot. HasAllocated node file slot (3 * self.now.range_len) seat.old.me seat.new.me) }
         ensures none { result ≡ None
-            → StillPlaces node (4 * self.now.range_len) seat.old.me seat.new.me }
+            → StillPlaces node (3 * self.now.range_len) seat.old.me seat.new.me }
     {
         for slot in self.range_start..self.range_start + self.range_len {
             if self.try_slot(seat, node, file, slot) {
@@ -105,7 +107,7 @@ impl LastingTable {
         None
     }
 
-    // Tries to install the file at the slot, in at most four steps. Returns whether the slot was empty and now has the
+    // Tries to install the file at the slot, in at most three steps. Returns whether the slot was empty and now has the
     // file.
     fn try_slot(
         &self,
@@ -118,7 +120,7 @@ impl LastingTable {
         requires at { (number : ℕ) × IsAtWork self.now.table.shared.key number seat.old.me }
         requires placing { IsPlacing node file seat.old.me }
         requires change { seat.old.me.0.change ≡ Outside }
-        requires range { InRange self.now.table.shared.key slot true }
+        requires range { IsInRange self.now.table.shared.key slot }
         ensures table { seat.new.table_id ≡ seat.old.table_id }
         ensures tries { Tries node file slot seat.old.me result seat.new.me }
     {
@@ -128,14 +130,12 @@ impl LastingTable {
         if node_of(old).is_some() {
             return false;
         }
-        shared.fetch_add::<Beginning>(seat, CONTROL, begin_amount());
         let new = slot_word(node, file.entry);
         let found = shared.compare_exchange::<Exchanging>(seat, place, old, new);
         if found != old {
-            self.end(seat, true, 0);
             return false;
         }
-        self.end(seat, true, 1);
+        self.raise(seat, true, true);
         true
     }
 }

@@ -1,13 +1,16 @@
 //! The search for a free node of a pass's own block. One is always free, and none of them goes away while the pass looks.
-ghost use Rattle.std.specs.Prelude.{◌≡◌, ◌+◌, ◌<◌, ◌≤◌, []};
+ghost use Rattle.std.specs.Prelude.{◌≡◌, ℕ, ◌+◌, ◌<◌, ◌≤◌, []};
+ghost use Rattle.fx_table.specs.Pass.{IsIdle};
 ghost use Rattle.fx_lasting.specs.AtWork.{IsAtWork};
+ghost use Rattle.fx_lasting.specs.Choices.{HasChosen};
 ghost use Rattle.fx_lasting.specs.Ends.{Does};
 ghost use Rattle.fx_lasting.specs.Layout.{block_for, block_start};
 ghost use Rattle.fx_lasting.specs.declared.layout.TheConstants.{MOST_NODES};
-ghost use Rattle.fx_lasting.specs.Passes.{IsInBlock, nodes_of};
+ghost use Rattle.fx_lasting.specs.Passes.{HasNoFile, IsInBlock, nodes_of};
 ghost use Rattle.fx_lasting.specs.Searches.{next_of};
 ghost use Rattle.fx_lasting.specs.Tables.{view_of, steps_taken, IsPassOfTable};
-ghost use Rattle.fx_lasting.specs.declared.view.Work.TheVariants.{Idle, Searching};
+ghost use Rattle.fx_lasting.specs.Tells.{pass_in};
+ghost use Rattle.fx_lasting.specs.declared.view.Work.TheVariants.{Searching};
 
 use crate::kinds::Seeking;
 use crate::layout::{block_for, block_start, node_place};
@@ -18,7 +21,8 @@ use atomic_table::Seat;
 use fx_base::OpenFile;
 
 impl LastingTable {
-    // Finds a free node of the pass's block, from `start` on, in at most as many steps as the block has nodes.
+    // Finds a free node of the pass's block, from `start` on, in at most as many steps as the block has nodes: `start` itself, if
+    // the pass has chosen it.
     pub(crate) fn seek(
         &self,
         seat: &mut Seat<Option<OpenFile>, View>,
@@ -27,13 +31,16 @@ impl LastingTable {
     ) -> u32
         requires table { seat.old.table_id ≡ self.now.table.shared.table_id }
         requires at { IsAtWork self.now.table.shared.key number seat.old.me }
-        requires idle { seat.old.me.0.work ≡ Idle }
+        requires idle { HasNoFile seat.old.me.0.work }
+        requires chosen { (node : ℕ) → seat.old.me.0.work ≡ Searching node → start ≡ node }
         requires block { IsInBlock self.now.table.shared.key number start }
         requires installs { number ≤ self.now.installing }
         ensures table { seat.new.table_id ≡ seat.old.table_id }
         ensures places { seat.new.me.1 ≡ seat.old.me.1 }
+        ensures front { (pass_in seat.new.me).front ≡ (pass_in seat.old.me).front }
         ensures found { Does seat.old.me [] (Searching result)
             (block_for self.now.size self.now.passes) seat.new.me }
+        ensures kept { (node : ℕ) → seat.old.me.0.work ≡ Searching node → result ≡ node }
         ensures block { IsInBlock self.now.table.shared.key number result }
     {
         let first = block_start(self.size, self.passes, number);
@@ -50,42 +57,26 @@ impl LastingTable {
         unreachable!()
     }
 
-    /// Returns the node that the next installation of an idle pass (`is_idle`) will use, in at most as many loads as the
-    /// pass's block has nodes. It is a free node of that block, and only this pass takes nodes of its block, so it stays
-    /// free until then. No contract says that it is free, or that the next installation uses it (this project's own).
+    /// Returns the node of the next file that an idle pass (`is_idle`) installs, in at most as many steps as the pass's block
+    /// has nodes. No open file is on it (`chosen_nodes_are_free`), until the pass installs a file there, looks up or empties a
+    /// slot. For a pass that isn't idle it returns the node where the pass's next search begins (this project's own).
     pub fn next_node(&self, pass: &mut LastingPass) -> u32
         requires fits { IsPassOfTable self.now pass.old }
         requires numbers { 0 < (view_of pass.old).numbers_left }
         ensures fits { IsPassOfTable self.now pass.new }
         ensures same { view_of pass.new ≡ view_of pass.old }
-        ensures steps { steps_taken pass.new ≡ steps_taken pass.old }
+        ensures chosen { IsIdle (view_of pass.old) → HasChosen pass.new result }
+        ensures steps { steps_taken pass.new
+            ≤ steps_taken pass.old + block_for self.now.size self.now.passes }
         ensures block { IsInBlock self.now.table.shared.key pass.new.number result }
         ensures inside { result < nodes_of self.now.table.shared.key }
     {
-        let first = block_start(self.size, self.passes, pass.number);
-        let len = block_for(self.size, self.passes);
-        let node = self.free_from(pass.number, first, len, pass.next_node);
-        pass.next_node = node;
-        node
-    }
-
-    // Returns the first node of the pass's block that is free, from `start` on.
-    fn free_from(&self, number: u32, first: u32, len: u32, start: u32) -> u32
-        requires number { (1 ≤ number) × (number ≤ self.now.installing) }
-        requires first { first ≡ block_start self.now.size self.now.passes number }
-        requires len { len ≡ block_for self.now.size self.now.passes }
-        requires block { IsInBlock self.now.table.shared.key number start }
-        ensures block { IsInBlock self.now.table.shared.key number result }
-    {
-        let mut node = start;
-        for _ in 0..len {
-            let place = node_place(self.size, self.passes, node);
-            if self.table.shared.peek(place) == 0 {
-                return node;
-            }
-            node = node_after(first, len, node);
+        if pass.idle {
+            let node = self.seek(&mut pass.seat, pass.number, pass.next_node);
+            pass.next_node = node;
+            return node;
         }
-        node
+        pass.next_node
     }
 }
 

@@ -62,17 +62,13 @@ pub enum Glance {
     Heating(u32),
 }
 
-/// The change of a pass that is about to change a slot of the allocation range: the difference in the number of full
-/// slots since its last report, as contracts see it. No value of it is made.
+/// The account of a pass with the control word, which counts the full slots of the allocation range, as contracts see it. No value
+/// of it is made.
 pub enum Change {
-    /// The pass is not about to change a slot of the range.
+    /// The control word counts what the pass did.
     Outside,
-    /// As many slots are full.
-    Same,
-    /// One slot more is full.
-    More,
-    /// One slot less is full.
-    Less,
+    /// The control word counts one full slot too few: the pass is about to empty that slot, or has still to add it.
+    Inside,
 }
 
 /// The knowledge of a seat at the table, as contracts see it. No value of it is made.
@@ -85,6 +81,6 @@ pub struct View {
     pub work: Work,
     /// The progress of its look-up.
     pub glance: Glance,
-    /// The difference that it has to report of the full slots.
+    /// Its account with the control word.
     pub change: Change,
 }

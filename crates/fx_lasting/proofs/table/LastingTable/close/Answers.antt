@@ -1,11 +1,17 @@
-use Rattle.fx_lasting.proofs.Words.{Contains, List, [], ◌∷◌, ap, IsIdleSeatOf, view_of, LastingPass, IsPassOfTable}
+use Rattle.fx_lasting.proofs.Words.{Contains, List, [], ◌∷◌, ap, sym, subst, IsIdleSeatOf, view_of, LastingPass, IsPassOfTable}
 use Rattle.std.proofs.lemmas.List.Elements.{All-contains, Contains-append_left}
 use Rattle.fx_table.proofs.Members.{each_all}
 use Rattle.fx_table.proofs.Dealing.{IsReady, fits}
-use Rattle.fx_table.proofs.Gathering.{gathered}
+use Rattle.fx_table.proofs.Gathering.{gathered, last_of}
+use Rattle.fx_table.specs.Pass.{IsIdle}
 use Rattle.fx_lasting.proofs.Gathered.{all_idle, closes}
 use Rattle.fx_lasting.proofs.Passing.{idle_seat}
 use Rattle.fx_lasting.proofs.table.LastingTable.close.Goals as goal
+
+pub gather-seat-requires-clause-seat : goal.gather-seat-requires-clause-seat
+gather-seat-requires-clause-seat c =
+    let ready = last_of (λ (p : LastingPass). IsPassOfTable c.args.self p × IsIdle (view_of p)) _ _ _ c.in-Some.ensures.items c.requires.ready in
+    subst (IsIdleSeatOf c.args.self) (sym c.into_seat.ensures) (idle_seat c.args.self ready.0 ready.1)
 
 pub gather-seat-requires-clause-passes : goal.gather-seat-requires-clause-passes
 gather-seat-requires-clause-passes c =

@@ -31,7 +31,7 @@ returns-then-try_slot-clause-found c = let s = c.loop-slot.invariant.still in
 pub loop-slot-preserved : goal.loop-slot-preserved
 loop-slot-preserved c = let s = c.loop-slot.invariant.still in record {
   table = c.try_slot.ensures.table ∙ c.loop-slot.invariant.table;
-  still = (s.0 + 4, omega (arith, s.1), still_then s.2 (rw c.if-try_slot.false at c.try_slot.ensures.tries));
+  still = (s.0 + 3, omega (arith, s.1), still_then s.2 (rw c.if-try_slot.false at c.try_slot.ensures.tries));
 }
 
 pub returns-clause-none : goal.returns-clause-none

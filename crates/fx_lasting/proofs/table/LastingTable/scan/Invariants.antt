@@ -5,5 +5,5 @@ use Rattle.fx_lasting.proofs.table.LastingTable.scan.Given as goal
 abbrev pub invariant-loop-slot : goal.invariant-loop-slot
 invariant-loop-slot l = record {
   table : l.seat.table_id ≡ l.initial.seat.table_id;
-  still : (most : ℕ) × (most + 4 * l.self.range_start ≤ 4 * l.slot) × StillPlaces l.node most l.initial.seat.me l.seat.me;
+  still : (most : ℕ) × (most + 3 * l.self.range_start ≤ 3 * l.slot) × StillPlaces l.node most l.initial.seat.me l.seat.me;
 }

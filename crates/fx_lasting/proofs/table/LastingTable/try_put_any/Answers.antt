@@ -1,9 +1,10 @@
 use Rattle.fx_lasting.proofs.Words.{◌∷◌, Closed, inr, refl, ap, ◌∙◌, sym, subst, arith, HasPlace, Some, Work, numbered}
-use Rattle.fx_lasting.proofs.Words.{Runs, [], ◌▷◌, Full}
-use Rattle.fx_table.specs.Calls.{no_use, one_number}
+use Rattle.fx_lasting.proofs.Words.{Runs, [], ◌▷◌, Full, rested, ℕ, ◌≡◌, node_of_number, Searching, Start, opening_of, view_of, pass_of}
+use Rattle.fx_table.specs.Calls.{Adds, no_use, one_number}
+use Rattle.fx_table.specs.declared.values.Doing.{Doing}
 use Rattle.fx_lasting.proofs.ControlSteps.{asks_keep}
 use Rattle.fx_lasting.proofs.Running.{still_at_work, runs_goes, does_then}
-use Rattle.fx_lasting.proofs.Passing.{adds_so, at_rest, still_pass, its_idle, its_flag, may_install}
+use Rattle.fx_lasting.proofs.Passing.{adds_so, at_rest, still_pass, its_idle, its_flag, its_choice, may_install}
 use Rattle.fx_lasting.proofs.Trying.{full_of, asked_not, until_put}
 use Rattle.fx_lasting.proofs.table.LastingTable.try_put_any.Goals as goal
 
@@ -14,15 +15,18 @@ load-word-requires c = let s = c.requires.fits.seated in
 pub returns-then-says_full : goal.returns-then-says_full
 returns-then-says_full c =
     let t = c.args.self.now in
-    let m = c.args.pass.now.seat.me in
     let fits = c.requires.fits in
     let s = fits.seated in
     let goes = c.load-word.ensures.2.full (c.says_full.ensures.0 c.if-says_full.true ∙ full_of t s.at.pass.0) in
-    let run = at_rest fits (subst (λ (w : Work). Runs m ([] ▷ Full) w m.0.glance m.0.change 1 c.load-word.new.seat.me) (its_idle fits c.requires.idle)
-    (runs_goes goes)) in
+    let run = at_rest fits (runs_goes goes) in
     record {
-      fits = still_pass s _ run refl c.load-word.ensures.0 (goes.carried ∙ s.places) s.block (its_flag fits c.requires.idle);
-      tried = (refl, adds_so s run no_use);
+      fits = still_pass s _ run refl c.load-word.ensures.0 (goes.carried ∙ s.places) s.block fits.knows;
+      tried = (
+        refl,
+        subst (λ (d : Doing). Adds (opening_of t.table.shared.key) (view_of c.args.pass.now) ([] ▷ Full) d no_use
+            (pass_of c.load-word.new.seat.me.0)) c.requires.idle (adds_so s run no_use),
+      );
+      used = λ n chosen. goes.stepped.work ∙ chosen;
       steps = let few = run.steps in omega arith;
     }
 
@@ -34,8 +38,14 @@ seek-node-requires-clause-at c =
 pub seek-node-requires-clause-idle : goal.seek-node-requires-clause-idle
 seek-node-requires-clause-idle c =
     let s = c.requires.fits.seated in
-    (asked_not c.args.self.now s.at.pass.0 c.load-word.ensures.2 c.says_full.ensures.1 c.if-says_full.false).stepped.work
-    ∙ its_idle c.requires.fits c.requires.idle
+    rw (asked_not c.args.self.now s.at.pass.0 c.load-word.ensures.2 c.says_full.ensures.1 c.if-says_full.false).stepped.work
+    (its_idle c.requires.fits c.requires.idle)
+
+pub seek-node-requires-clause-chosen : goal.seek-node-requires-clause-chosen
+seek-node-requires-clause-chosen c n chosen =
+    let s = c.requires.fits.seated in
+    let goes = asked_not c.args.self.now s.at.pass.0 c.load-word.ensures.2 c.says_full.ensures.1 c.if-says_full.false in
+    its_choice c.requires.fits n (sym goes.stepped.work ∙ chosen)
 
 pub seek-node-requires-clause-installs : goal.seek-node-requires-clause-installs
 seek-node-requires-clause-installs c = omega (arith, may_install c.requires.fits.seated c.requires.numbers, c.args.self.now.key.1)
@@ -77,18 +87,22 @@ returns-in-Some c =
     let s = fits.seated in
     let goes = asked_not t s.at.pass.0 c.load-word.ensures.2 c.says_full.ensures.1 c.if-says_full.false in
     let found = c.in-Some.ensures.found in
-    let run = at_rest fits (does_then (until_put goes c.seek-node.ensures.found c.put_in.ensures.born) found.1) in
+    let before = until_put goes c.seek-node.ensures.found c.put_in.ensures.born in
+    let run = at_rest fits (does_then before found.2) in
+    let adds = adds_so s run one_number in
     record {
-      fits = still_pass s _ run refl (c.scan.ensures.table ∙ (c.put_in.ensures.table ∙ (c.seek-node.ensures.table ∙ c.load-word.ensures.0))) found.2
+      fits = still_pass s _ run refl (c.scan.ensures.table ∙ (c.put_in.ensures.table ∙ (c.seek-node.ensures.table ∙ c.load-word.ensures.0))) found.3
           c.seek-node.ensures.block (its_flag fits c.requires.idle);
       tried = (
         omega (arith, c.in-Some.ensures.slot, t.same_size),
         (
           numbered found.0 c.identity-identity.result,
           record { identity = c.identity-identity.ensures; same = λ e. absurd (cc e) },
-          adds_so s run one_number,
+          adds,
         ),
       );
+      used = λ n chosen. rw adds.own (subst (λ (k : Start). node_of_number k found.0 ≡ c.seek-node.result) (before.start ∙ s.at.pass.0) found.1
+          ∙ c.seek-node.ensures.kept n (goes.stepped.work ∙ chosen));
       steps = let few = run.steps in omega arith;
     }
 
@@ -110,13 +124,17 @@ returns-in-None c =
     let s = fits.seated in
     let goes = asked_not t s.at.pass.0 c.load-word.ensures.2 c.says_full.ensures.1 c.if-says_full.false in
     let still = c.scan.ensures.none c.in-None.is in
-    let run = at_rest fits (does_then (does_then (until_put goes c.seek-node.ensures.found c.put_in.ensures.born) still.0) c.take_out.ensures.rests) in
+    let before = does_then (until_put goes c.seek-node.ensures.found c.put_in.ensures.born) still.0 in
+    let m = c.scan.new.seat.me in
+    let run = at_rest fits (does_then before (subst (λ (w : Work). Runs m [] (rested w) m.0.glance m.0.change 1 c.take_out.new.seat.me)
+    still.0.work c.take_out.ensures.rests)) in
     let place : HasPlace c.seek-node.result (Some c.args.file) c.scan.new.seat.me =
     record { work = inr still.0.work; place = still.1 ∙ c.put_in.ensures.place } in
     record {
       fits = still_pass s _ run refl
           (c.take_out.ensures.table ∙ (c.scan.ensures.table ∙ (c.put_in.ensures.table ∙ (c.seek-node.ensures.table ∙ c.load-word.ensures.0))))
-          c.take_out.ensures.empty s.block (its_flag fits c.requires.idle);
+          c.take_out.ensures.empty c.seek-node.ensures.block (its_flag fits c.requires.idle, refl);
       tried = (c.take_out.ensures.file c.args.file place, adds_so s run no_use);
+      used = λ n chosen. run.work ∙ ap (λ (i : ℕ). Searching i) (c.seek-node.ensures.kept n (goes.stepped.work ∙ chosen));
       steps = let few = run.steps in omega arith;
     }

@@ -1,5 +1,0 @@
-use Rattle.fx_lasting.proofs.ControlSteps.{begins_keep}
-use Rattle.fx_lasting.proofs.laws.begin_keeps_rule.Goals as goal
-
-pub returns : goal.returns
-returns c = begins_keep

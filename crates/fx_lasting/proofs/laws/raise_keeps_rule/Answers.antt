@@ -1,0 +1,5 @@
+use Rattle.fx_lasting.proofs.ControlSteps.{raises_keep}
+use Rattle.fx_lasting.proofs.laws.raise_keeps_rule.Goals as goal
+
+pub returns : goal.returns
+returns c = raises_keep
