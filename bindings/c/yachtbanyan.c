@@ -1,6 +1,7 @@
 /* The C part of libyachtbanyan: the pointers to values. A value's tag, which the core keeps with the value's file and returns to
  * exactly one call, is its pointer. A hold names a node of the table, and `by_node` has the pointer of the value whose file has that
- * node: it is written before the core installs the file, and the core gives a node again only when its file is closed. */
+ * node. It is written before the core installs the file: the core chooses the node, which no open file has (fx_lasting::laws,
+ * chosen_nodes_are_free), and installs the file on it (fx_server, PutsAt and PutsAny). */
 #include "yachtbanyan.h"
 #include "core.h"
 #include <sched.h>

@@ -6,9 +6,9 @@
 //!
 //! The arguments below name what they rest on. Clauses of the core's worker (`fx_server::TableWorker`): `looked` (the look-up found a file
 //! of the slot, and the worker holds it), `released`, `placed`, `allocated` and `removed` (which file is returned to be closed, by its
-//! tag), `chosen`. Laws of every history (`fx_plain::laws`): `no_close_while_held`, `closed_at_most_once`. A law of every state of the
-//! table (`fx_lasting::laws`): `nodes_are_of_one_file`, `words_are_bounded`. And two facts that no clause says: the word of the chosen
-//! node is 0, and the next installation uses that node.
+//! tag, and that a file is on the node that was chosen for it), `chosen`. Laws of every history (`fx_plain::laws`):
+//! `no_close_while_held`, `closed_at_most_once`. Laws of every state of the table (`fx_lasting::laws`): `nodes_are_of_one_file`,
+//! `chosen_nodes_are_free`.
 mod core;
 #[cfg(yachtbanyan_stand_in)]
 mod stand_in;
@@ -207,8 +207,8 @@ impl<T> Access<T> {
         let answer = unsafe { core::yacht_core_look(looker.seat.0.as_ptr(), slot, &mut freed) };
         let found = if answer >= 0 {
             looker.busy.store(true, Ordering::Relaxed);
-            // The address was written before the file was installed (`chosen`), and stays while the file is
-            // held (`nodes_are_of_one_file`).
+            // The address was written before the file was installed on this node (`placed`, `allocated`), and stays while the file
+            // is held: nobody chooses the node until then (`chosen_nodes_are_free`, `nodes_are_of_one_file`).
             let value = self.values.by_node[answer as usize].load(Ordering::Relaxed);
             Ok(Held {
                 value,
@@ -233,8 +233,8 @@ impl<T> Access<T> {
         let address = Box::into_raw(value);
         // SAFETY: the handle is this worker's, and it installs.
         let node = unsafe { core::yacht_core_next(self.installer()) };
-        // The node's word is 0 (no clause), so it is that of no file at a slot (`words_are_bounded`) and of no held file
-        // (`nodes_are_of_one_file`): until the installation nobody reads the place.
+        // The seat has chosen this node (`chosen`), so no open file is on it, and no other seat chooses it
+        // (`chosen_nodes_are_free`): until this seat's installation, its next call, nobody reads the place.
         self.by_node(node).store(address, Ordering::Relaxed);
         address as usize as u64
     }

@@ -17,6 +17,7 @@ use Rattle.fx_table.specs.declared.values.Hold.{Hold}
 use Rattle.fx_table.specs.declared.values.LookFault.{LookFault as TableFault}
 use Rattle.fx_table.specs.declared.values.LookFault.TheVariants as fault
 use Rattle.fx_table.specs.declared.values.Retired.{Retired}
+use Rattle.fx_lasting.specs.Choices.{HasChosen, UsesChoice, KeepsChoice}
 use Rattle.fx_lasting.specs.Passes.{nodes_of}
 use Rattle.fx_lasting.specs.declared.layout.TheConstants.{MOST_PASSES, MOST_INSTALLING}
 use Rattle.fx_lasting.specs.Tables.{view_of, opening_of_table, IsPassOfTable}
@@ -107,10 +108,10 @@ Finds w slot (Err Busy) freed w' = (freed ≡ None) × IsBusy w w'
 abbrev pub LooksUp : TableWorker → ℕ → LookAnswer → TableWorker → Type 0
 LooksUp w slot look w' = Finds w slot look.found look.freed w'
 
--- the node of the next file is chosen; the pass stays as it is
+-- the node of the next file is chosen; the caller sees no other change of the pass
 abbrev pub Chooses : TableWorker → Result ℕ PutFault → TableWorker → Type 0
 Chooses w (Ok node) w' = (w'.held ≡ None) × (node < nodes_of (its_table w).table.shared.key)
-    × (its_pass w' ≡ its_pass w)
+    × (its_pass w' ≡ its_pass w) × HasChosen w'.pass node
 Chooses w (Err put.Busy) w' = IsBusy w w'
 Chooses w (Err put.NoSlot) w' = ⊥
 Chooses w (Err put.NoBlock) w' = HasNoBlock w w'
@@ -134,12 +135,14 @@ abbrev pub RetiresAny : Opening → PassView → Option Retired → Removal → 
 RetiresAny o v None removal v' = (removal ≡ Nothing) × (v' ≡ v)
 RetiresAny o v (Some retired) removal v' = RetiresAs o v retired removal v'
 
--- a file with this tag is put at a slot, and what was there is retired
+-- a file with this tag is put at a slot, on the node that was chosen, if one was, and what was
+-- there is retired
 pub record PutsAt (w : TableWorker) (slot tag : ℕ) (removal : Removal) (w' : TableWorker)
     : Type 0 where
   pub retired : Option Retired
   pub between : PassView
   pub placed : Placed (its_opening w) (its_pass w) slot (file_with tag) retired between
+  pub used : UsesChoice (its_table w).table.shared.key w.pass between
   pub retires : RetiresAny (its_opening w) between retired removal (its_pass w')
 
 abbrev pub Puts : TableWorker → ℕ → ℕ → Result Removal PutFault → TableWorker → Type 0
@@ -148,16 +151,18 @@ Puts w slot tag (Err put.Busy) w' = IsBusy w w'
 Puts w slot tag (Err put.NoSlot) w' = HasNoSlot w slot w'
 Puts w slot tag (Err put.NoBlock) w' = HasNoBlock w w'
 
--- one round of an installation: the file is at the slot, or every slot had a file at one step, or
--- nothing was done
+-- one round of an installation: the file is at the slot, on the node that was chosen, if one was;
+-- or every slot had a file at one step, or nothing was done, and the choice stays
 abbrev pub PutsAny : TableWorker → ℕ → PutAny → TableWorker → Type 0
-PutsAny w tag (any.At slot) w' = (slot < size_of (its_opening w)) × ((new : File)
+PutsAny w tag (any.At slot) w' = (slot < size_of (its_opening w))
+    × UsesChoice (its_table w).table.shared.key w.pass (its_pass w') × ((new : File)
     × IsNewFile (its_opening w) (its_pass w) (file_with tag) new
     × Adds (its_opening w) (its_pass w) ([] ▷ Allocate slot new) DoesNothing one_number
     (its_pass w'))
-PutsAny w tag any.Full w' =
-    Adds (its_opening w) (its_pass w) ([] ▷ Full) DoesNothing no_use (its_pass w')
-PutsAny w tag any.Again w' = Adds (its_opening w) (its_pass w) [] DoesNothing no_use (its_pass w')
+PutsAny w tag any.Full w' = KeepsChoice w.pass w'.pass
+    × Adds (its_opening w) (its_pass w) ([] ▷ Full) DoesNothing no_use (its_pass w')
+PutsAny w tag any.Again w' = KeepsChoice w.pass w'.pass
+    × Adds (its_opening w) (its_pass w) [] DoesNothing no_use (its_pass w')
 PutsAny w tag any.Busy w' = IsBusy w w'
 PutsAny w tag any.NoBlock w' = HasNoBlock w w'
 

@@ -89,8 +89,8 @@ impl TableWorker {
         self.shared.table.nodes()
     }
 
-    /// Chooses the node of the worker's next file, which the next `put`, or the next `put_any` that installs one, uses. It is free
-    /// until then.
+    /// Chooses the node of the worker's next file. The next `put`, or the next `put_any` that installs one, uses it, if no `look` or
+    /// `take` comes between. No open file is on it until then (`fx_lasting::laws::chosen_nodes_are_free`).
     ///
     /// # Errors
     /// `Busy`, `NoBlock`, in this order.
