@@ -8,6 +8,8 @@ mod beside;
 #[cfg(test)]
 mod gates;
 #[cfg(test)]
+mod lasting;
+#[cfg(test)]
 mod orders;
 #[cfg(test)]
 mod refused;
