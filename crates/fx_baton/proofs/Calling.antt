@@ -9,7 +9,6 @@ use Rattle.fx_baton.proofs.Words.{next_is_its_own}
 use Rattle.fx_table.proofs.Removing.{new_here}
 use Rattle.fx_table.proofs.Tasks.{idle_task, holding_task, retiring_task}
 use Rattle.fx_table.specs.Tasks.{activity_of, retiring}
-use Rattle.fx_table.specs.declared.values.Doing.TheVariants as doing
 use Rattle.fx_table.specs.Pass.{IsFileHold, retired_of}
 use Rattle.fx_table.specs.Calls.{IsNewFile, Adds, no_use, one_number, ReleasesFile, RetiresFile, one_look, HasRetired, Released}
 use Rattle.fx_baton.specs.Turns.{holds_now, actions_of, doing_of, events_of, use_of, table_of_slots}
@@ -22,6 +21,7 @@ use Rattle.fx_baton.specs.declared.view.Call.TheVariants.{Look as LookCall, Rele
 use Rattle.fx_baton.specs.declared.view.Call.TheVariants.{Full as FullCall, Clear as ClearCall, Take as TakeCall, Retire as RetireCall}
 use Rattle.fx_baton.proofs.CallsAreTurns.{look_turn, slot_turn, full_turn, letting_go_turn, file_released, retire_turn, file_retired, is_held}
 use Rattle.fx_baton.proofs.CallsAreTurns.{UsesOwn, uses_next}
+use Rattle.fx_table.specs.declared.values.Doing.TheVariants as doing
 
 module _ {id : TableId} {k : Start} {u : PassView} {p : BatonPass} where
   -- the table may be lent

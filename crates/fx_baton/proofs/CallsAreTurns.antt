@@ -11,7 +11,7 @@ use Rattle.fx_table.specs.Tasks.{retiring}
 use Rattle.fx_baton.specs.Turns.{by, holds_now}
 use Rattle.fx_plain.proofs.Cells.{changed_here, changed_else}
 use Rattle.fx_table.proofs.FileLemmas.{none_file, stays_put, apart_from, leaving_file, removed_file, still_there, now_removed, not_closed}
-use Rattle.fx_baton.proofs.Counts.{flag_set, flag_back, one_true}
+use Rattle.fx_baton.proofs.StepsKeepRule.{flag_set, flag_back, one_true}
 
 retires : (o : Option File) → ((n : ℕ) → holds_by n (retiring o 0) ≡ 0) × (file_held (retiring o 0) ≡ None) × (file_in_hand (retiring o 0) ≡ o)
 retires None = (λ n. refl, refl, refl)

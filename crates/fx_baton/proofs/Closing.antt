@@ -1,18 +1,21 @@
--- When all passes have come back, their events are one history.
+-- The history of all passes, once they have come back; and that of the only pass, without closing the table.
 use Rattle.fx_baton.proofs.Words.{◌≡◌, ℕ, ◌<◌, ◌≤◌, cond, List, [], ◌∷◌, map, length, reverse, sym, refl, ap, ◌∙◌, subst, arith, eqb, ⊎_elim, some}
 use Rattle.fx_baton.proofs.Words.{get_elem?, None, Contains, sum_by, count_by, TableId, State, IsSettled, state_of, node_at, removed_at, is_retired}
 use Rattle.fx_baton.proofs.Words.{is_leaving, Node, IsSeenBy, part_of_pass, pass_of_chain, state_at, HasSameFiles, PassView, HasDrawnInTurn}
 use Rattle.fx_baton.proofs.Words.{ClosesTable, times_drawn, Idle, contains_map, contains_mapped, contains_reverse, contains_reversed, sum_map, Log}
 use Rattle.fx_baton.proofs.Words.{View, Start, BatonPass, Shared, opening_of, logs_of, holds_by, removals_by, leaving_count, IsLog, IsHome, IsAway}
 use Rattle.fx_baton.proofs.Words.{IsKept, first_front, first_own, view_of, IsPassOf, logs_in, drawn_inside, drawn_few, all_are_drawn, found_by}
-use Rattle.fx_baton.proofs.Words.{sum_zero_at, one_if, once_is}
+use Rattle.fx_baton.proofs.Words.{sum_zero_at, one_if, once_is, ◌++◌, step, keeps, Allows, contains_head, contains_only, Seated, file_held}
 use Rattle.fx_plain.specs.declared.node.Node.TheVariants.{Leaving, Retired}
-use Rattle.std.proofs.lemmas.List.{length-reverse, length-map}
+use Rattle.std.proofs.lemmas.List.{length-reverse, length-map, append-nil}
 use Rattle.fx_table.proofs.Gathering.{logs_are as each_log, sum_gathered, each_seat, only_here}
-use Rattle.fx_table.proofs.Settling.{IsWhole, closes_table}
+use Rattle.fx_table.proofs.Settling.{IsWhole, closes_table, settles as settles_whole}
 use Rattle.fx_table.specs.Numbers.{once}
 use Rattle.std.proofs.lemmas.Option.{none-some}
 use Rattle.fx_baton.proofs.Passing.{ends_there}
+use Rattle.fx_table.specs.Settling.{IsSettledSoFar}
+use Rattle.fx_baton.specs.Settling.{Observes}
+use Rattle.fx_baton.proofs.TurnsKeepRule.{unmoved}
 
 module _ (id : TableId) (k : Start) where
   abbrev pub Is : BatonPass → Type 0
@@ -105,3 +108,28 @@ module _ (id : TableId) (k : Start) where
     closes some_passes = closes_table (opening_of k) r.history (map view_of ps) r.contents (whole some_passes)
         (subst (λ (z : State). HasSameFiles z (state_of r.contents)) r.legal.leads.1 record { size = refl; range = refl; files = λ slot. refl })
         settled
+
+-- The history of a table with one pass, which is idle, without closing the table.
+-- any seat may look, and nothing changes
+pub may_observe : {k : Start} (slots id : ℕ) {me : Seated} → me.0.start ≡ k
+    → Allows (IsKept k) slots id me 0 (λ n. n) (Observes (step slots 0 0 0 mathlib.Core.Option.none) me)
+may_observe {k} slots id {me} start s r wide at small = (
+  me.0,
+  keeps,
+  tt,
+  unmoved s id at refl r,
+  record { last = s; rule = subst (λ (z : Start). IsKept z s) (sym start) r; seat = id; view = at; same = refl },
+)
+
+module _ (id : TableId) (k : Start) (p : BatonPass) (fits : IsPassOf id k p) (idle : p.seat.me.0.doing ≡ Idle) (alone : k.passes ≡ 1)
+    (s : Shared) (r : IsKept k s) (seat : ℕ) (at : get_elem? s.views seat ≡ some p.seat.me.0) where
+  only : (q : BatonPass) → Contains (p ∷ []) q → IsPassOf id k q
+  only q h = subst (IsPassOf id k) (sym (contains_only p q h)) fits
+
+  all_its : p.seat.me.0.logs ≡ p.seat.me.0.logs ++ []
+  all_its = sym (append-nil p.seat.me.0.logs)
+
+  pub settles : IsSettledSoFar (opening_of k) (view_of p)
+  settles = settles_whole (opening_of k) (view_of p) r.history
+      (whole id k (p ∷ []) only (sym alone) s r seat p.seat.me.0 at all_its idle fits.free (omega (arith, alone))) fits.seated.front
+      ((known id k (p ∷ []) only (sym alone) s r seat p.seat.me.0 at all_its idle fits.free p (contains_head p [])).held ∙ ap file_held idle)

@@ -1,13 +1,8 @@
 pub mod Words
-pub mod Counts
 pub mod StepsKeepRule
-pub mod SeatsKeepRule
-pub mod GrabKeepsRule
-pub mod GiveKeepsRule
-pub mod OpeningKeepsRule
+pub mod TurnsKeepRule
 pub mod CallsAreTurns
-pub mod Dealing
+pub mod SeatsKeepRule
 pub mod Passing
 pub mod Calling
 pub mod Closing
-pub mod Settling

@@ -2,9 +2,9 @@
 use Rattle.fx_baton.proofs.Words.{◌≡◌, ℕ, ◌+◌, ◌-◌, ◌*◌, ◌≤◌, Bool, List, [], ◌∷◌, ◌++◌, map, sym, refl, ap, ◌∙◌, subst, arith, Option, Some, None}
 use Rattle.fx_baton.proofs.Words.{TableId, Seat, State, Contents, state_of, IsLegal, IsSeenBy, part_of_pass, close_of, ◌▷◌, ◌▷▷◌, closed_by_release}
 use Rattle.fx_baton.proofs.Words.{closed_by_retirement, File, Event, Release, number_behind, state_at, PassView, IsFront, next_of, HasDrawnInTurn}
-use Rattle.fx_baton.proofs.Words.{Task, Holding, Retiring, seen_again, seen_further, part_mine, Log, View, Start, Call, BatonPass, Seated}
-use Rattle.fx_baton.proofs.Words.{opening_of, begin_of, Takes, lent_view, log_behind, view_behind, first_front, first_own, view_of, IsPassOf}
-use Rattle.fx_baton.proofs.Words.{HasTable, HasSeenMore, UsesNext, HasCalled, HasGivenBack, pass_behind}
+use Rattle.fx_baton.proofs.Words.{Task, Holding, Retiring, seen_again, seen_further, part_mine, Log, View, Start, Call, BatonPass, Seated, opening_of}
+use Rattle.fx_baton.proofs.Words.{begin_of, Takes, lent_view, log_behind, view_behind, first_front, first_own, view_of, IsPassOf, HasTable}
+use Rattle.fx_baton.proofs.Words.{HasSeenMore, UsesNext, HasCalled, HasGivenBack, pass_behind}
 use Rattle.fx_table.specs.Tasks.{activity_of}
 use Rattle.fx_table.specs.Calls.{Adds}
 use Rattle.fx_baton.specs.Turns.{by, actions_of, doing_of, use_of, events_of, table_of_slots, table_of_loan}

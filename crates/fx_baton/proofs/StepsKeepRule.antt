@@ -1,11 +1,38 @@
--- A step of one seat keeps the rule.
-use Rattle.fx_baton.proofs.Words.{◌≡◌, ◌≢◌, ℕ, ◌+◌, ◌<◌, ◌≤◌, true, List, length, set, sym, refl, ◌∙◌, subst, arith, ◌⊎◌, inl, inr, ⊎_elim, some}
-use Rattle.fx_baton.proofs.Words.{get_elem?, Some, Contains, sum_by, Contains-append_cases, at_set, set_else, Contents, state_of, leaving, IsTable}
-use Rattle.fx_baton.proofs.Words.{IsLegal, ◌▷▷◌, File, Event, pass_of_number, HasFile, seen_further, part_other, held_other, sum_set, sum_at, sum_two}
-use Rattle.fx_baton.proofs.Words.{Log, View, Start, Shared, begin_of, logs_of, file_in_hand, holds_by, removals_by, leaving_count, IsLog, IsView}
-use Rattle.fx_baton.proofs.Words.{IsHome, IsAway, IsKept, once_is}
-use Rattle.fx_baton.proofs.Counts.{some_log, hand_is_counted, one_true}
+-- A step of one seat keeps the rule: the logs of a pass in views, and the counts of its activity.
+use Rattle.fx_baton.proofs.Words.{◌≡◌, ℕ, ◌+◌, ◌≤◌, Bool, true, false, cond, List, map, ap, arith, eqb, ◌⊎◌, Some, Contains, File, Event, Task}
+use Rattle.fx_baton.proofs.Words.{bit_here, one_if, sum_map, sum_of, Log, logs_of, file_in_hand, holds_by, removals_by, log_behind, changed_at, ◌≢◌}
+use Rattle.fx_baton.proofs.Words.{◌<◌, length, set, sym, refl, ◌∙◌, subst, inl, inr, ⊎_elim, some, get_elem?, sum_by, Contains-append_cases, at_set}
+use Rattle.fx_baton.proofs.Words.{set_else, Contents, state_of, leaving, IsTable, IsLegal, ◌▷▷◌, pass_of_number, HasFile, seen_further, part_other}
+use Rattle.fx_baton.proofs.Words.{held_other, sum_set, sum_at, sum_two, View, Start, Shared, begin_of, leaving_count, IsLog, IsView, IsHome, IsAway}
+use Rattle.fx_baton.proofs.Words.{IsKept, once_is}
 
+-- a flag that is set at a number, or taken back
+pub flag_set : (f : ℕ → Bool) {g : ℕ → Bool} {q : ℕ} (n : ℕ) → g ≡ changed_at f q true → f q ≡ false
+    → cond {A = ℕ} (g n) 1 0 ≡ cond {A = ℕ} (f n) 1 0 + cond {A = ℕ} (eqb q n) 1 0
+flag_set f n set is = let a = ap (λ (z : ℕ → Bool). z n) set in grind arith
+
+pub flag_back : (f : ℕ → Bool) {g : ℕ → Bool} {q : ℕ} (n : ℕ) → g ≡ changed_at f q false → f q ≡ true
+    → cond {A = ℕ} (g n) 1 0 + cond {A = ℕ} (eqb q n) 1 0 ≡ cond {A = ℕ} (f n) 1 0
+flag_back f n back is = let a = ap (λ (z : ℕ → Bool). z n) back in grind arith
+
+pub one_true : {b : Bool} → 1 ≤ cond {A = ℕ} b 1 0 → b ≡ true
+one_true l = grind arith
+
+-- a pass with the number is counted
+pub some_log : {p : ℕ} (xs : List Log) {x : Log} → Contains xs x → x.number ≡ p → 1 ≤ logs_of p xs
+some_log {p} xs {x} h e = let a = sum_of (λ (y : Log). cond {A = ℕ} (eqb y.number p) 1 0) xs x h in let b = bit_here p x.number e in omega arith
+
+pub logs_behind : (p : ℕ) (es : List Event) (xs : List Log) → logs_of p (map (log_behind es) xs) ≡ logs_of p xs
+logs_behind p es xs = sum_map (λ (x : Log). one_if (eqb x.number p)) (log_behind es) xs
+
+-- a file with which a pass has to do is counted among the held or among the leaving ones
+pub hand_is_counted : (d : Task) {f : File} → file_in_hand d ≡ Some f → (1 ≤ holds_by f.number d) ⊎ (1 ≤ removals_by f.number d)
+hand_is_counted d e = grind arith
+
+pub holds_small : (n : ℕ) (d : Task) → holds_by n d ≤ 1
+holds_small n d = grind arith
+
+-- A step of one seat keeps the rule.
 module _ (k : Start) (s : Shared) (r : IsKept k s) (id : ℕ) (v : View) (at : get_elem? s.views id ≡ some v) (w : View)
     (c : Contents) (es : List Event) (words : List ℕ) (homes : List (mathlib.Core.Option.Option Contents)) where
   abbrev next : Shared

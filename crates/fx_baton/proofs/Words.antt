@@ -10,8 +10,8 @@ pub use Rattle.fx_baton.specs.Passes.{pass_behind, view_of}
 pub use Rattle.fx_baton.specs.Rule.{Gives, Grabs, HasFreshNumbers, IsAway, IsHome, IsKept, IsLog, IsTurn, IsView, Knows, Seated, Shared, Takes}
 pub use Rattle.fx_baton.specs.Rule.{begin_of, empty_view, file_held, file_in_hand, first_view, holds_by, joined_view, leaving_count, lent_view}
 pub use Rattle.fx_baton.specs.Rule.{log_behind, logs_of, new_log, opening_of, removals_by, view_behind, view_of_first, view_without_first}
-pub use Rattle.fx_baton.specs.declared.pass.BatonPass.{BatonPass}
 pub use Rattle.fx_baton.specs.Tables.{IsPassOfTable}
+pub use Rattle.fx_baton.specs.declared.pass.BatonPass.{BatonPass}
 pub use Rattle.fx_baton.specs.declared.view.Call.{Call}
 pub use Rattle.fx_baton.specs.declared.view.Log.{Log}
 pub use Rattle.fx_baton.specs.declared.view.Start.{Start}
@@ -20,8 +20,7 @@ pub use Rattle.fx_plain.specs.Contents.{Contents, IsTable, is_leaving, is_retire
 pub use Rattle.fx_plain.specs.History.{IsLegal, IsSeenBy, Leads, ReleasesItsOwn, action_of, close_of, held_after, held_by, part_of_pass, ◌▷▷◌, ◌▷◌}
 pub use Rattle.fx_plain.specs.State.{IsSettled, State, opening}
 pub use Rattle.fx_plain.specs.Step.{Steps, changed_at, with_removed}
-pub use Rattle.fx_plain.specs.Table.{EndsHold, HasRoomForHold, LetsLeave, closed_by_release, closed_by_retirement, identity_of, more_leaving}
-pub use Rattle.fx_plain.specs.Table.{numbered}
+pub use Rattle.fx_plain.specs.Table.{EndsHold, LetsLeave, closed_by_release, closed_by_retirement, identity_of, more_leaving, numbered}
 pub use Rattle.fx_plain.specs.declared.event.Action.TheVariants.{Allocate, Clear, Close, Full, Look, Put, Release, Take}
 pub use Rattle.fx_plain.specs.declared.event.Event.{Event}
 pub use Rattle.fx_plain.specs.declared.event.File.{File}
@@ -30,7 +29,7 @@ pub use Rattle.fx_table.proofs.Calls.{seen_again, seen_further}
 pub use Rattle.fx_table.proofs.Histories.{held_mine, held_other, legal_then, one_author, part_mine, part_other}
 pub use Rattle.fx_table.proofs.Members.{contains_head, contains_map, contains_mapped, contains_none, contains_only, contains_reverse}
 pub use Rattle.fx_table.proofs.Members.{contains_reversed}
-pub use Rattle.fx_table.proofs.Ones.{bit_here, one_if, once_is, one_less_at, one_more_at}
+pub use Rattle.fx_table.proofs.Ones.{bit_here, once_is, one_if, one_less_at, one_more_at}
 pub use Rattle.fx_table.proofs.SumLemmas.{found_by, sum_at, sum_le_at, sum_map, sum_of, sum_set, sum_two, sum_zero_at}
 pub use Rattle.fx_table.proofs.Turns.{all_are_drawn, drawn_few, drawn_inside, next_is_its_own}
 pub use Rattle.fx_table.specs.Closing.{ClosesTable, times_drawn}
@@ -41,12 +40,12 @@ pub use Rattle.fx_table.specs.Pass.{IsFront, IsHoldOf, IsRetiredOf, PassView, ho
 pub use Rattle.fx_table.specs.Turns.{HasDrawnInTurn}
 pub use Rattle.fx_table.specs.declared.values.Task.{Task}
 pub use Rattle.fx_table.specs.declared.values.Task.TheVariants.{Holding, Idle, Retiring}
-pub use Rattle.std.proofs.Common.{All, Bool, List, [], ap, arith, cond, eq-eqb, eqb, false, get_or, inl, inr, is_none, length, length-append, map}
-pub use Rattle.std.proofs.Common.{refl, reverse, rules, set, subst, suc, sym, true, vec_capacity, zero, ℕ, ⊎_elim, ◌*◌, ◌++◌, ◌+◌, ◌-◌, ◌<◌, ◌^◌, ◌∙◌}
-pub use Rattle.std.proofs.Common.{◌∷◌, ◌≡◌, ◌≢◌, ◌≤◌, ◌⊎◌}
+pub use Rattle.std.proofs.Common.{All, Bool, List, [], ap, arith, cond, eqb, false, get_or, inl, inr, length, length-append, map, refl, reverse}
+pub use Rattle.std.proofs.Common.{rules, set, subst, suc, sym, true, vec_capacity, zero, ℕ, ⊎_elim, ◌*◌, ◌++◌, ◌+◌, ◌-◌, ◌<◌, ◌∙◌, ◌∷◌, ◌≡◌, ◌≢◌, ◌≤◌}
+pub use Rattle.std.proofs.Common.{◌⊎◌}
 pub use Rattle.std.proofs.lemmas.List.Elements.{Contains-append_cases}
 pub use Rattle.std.proofs.lemmas.List.Sums.{sum_by-append}
-pub use Rattle.std.specs.Prelude.{Contains, IfSome, None, Option, Some, count_by, if◌then◌else◌, is_some, nat_lt, not, option_map, sum_by, ◌&&◌, ◌==◌}
+pub use Rattle.std.specs.Prelude.{Contains, None, Option, Some, count_by, if◌then◌else◌, is_some, not, option_map, sum_by, ◌&&◌, ◌==◌}
 pub use lib.ListN.{get_elem?}
 pub use mathlib.Core.Logic.{dite}
 pub use mathlib.Core.Option.{none, some, some-injective, some-ne-none}

@@ -3,11 +3,13 @@
 ghost use Rattle.fx_baton.specs.Laws.{SplitsKeep, JoinsKeep, GrabsKeep, GivesKeep};
 
 /// States that splitting a pass off an idle seat keeps the rule.
+#[tactic(auto, using(crate::proofs::SeatsKeepRule::may_split))]
 pub fn split_keeps_rule()
     ensures { SplitsKeep }
 {}
 
 /// States that joining the passes of an idle seat to another idle seat keeps the rule.
+#[tactic(auto, using(crate::proofs::SeatsKeepRule::may_join))]
 pub fn join_keeps_rule()
     ensures { JoinsKeep }
 {}

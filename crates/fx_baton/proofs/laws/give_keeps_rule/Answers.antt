@@ -1,4 +1,4 @@
-use Rattle.fx_baton.proofs.GiveKeepsRule.{give_keeps}
+use Rattle.fx_baton.proofs.TurnsKeepRule.{give_keeps}
 use Rattle.fx_baton.proofs.laws.give_keeps_rule.Goals as goal
 
 pub returns : goal.returns

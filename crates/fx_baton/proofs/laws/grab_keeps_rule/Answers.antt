@@ -1,4 +1,4 @@
-use Rattle.fx_baton.proofs.GrabKeepsRule.{grab_keeps}
+use Rattle.fx_baton.proofs.TurnsKeepRule.{grab_keeps}
 use Rattle.fx_baton.proofs.laws.grab_keeps_rule.Goals as goal
 
 pub returns : goal.returns

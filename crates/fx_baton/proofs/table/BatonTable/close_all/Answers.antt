@@ -1,8 +1,8 @@
 use Rattle.fx_baton.proofs.Words.{map, ap, subst, arith, ClosesTable, opening_of, view_of, BatonPass, IsPassOfTable}
-use Rattle.fx_baton.proofs.table.BatonTable.close_all.Goals as goal
 use Rattle.fx_table.proofs.Dealing.{fits}
 use Rattle.fx_table.proofs.Gathering.{gathered}
 use Rattle.fx_baton.proofs.Closing.{at_home, closes}
+use Rattle.fx_baton.proofs.table.BatonTable.close_all.Goals as goal
 
 pub finish-requires-clause-home : goal.finish-requires-clause-home
 finish-requires-clause-home c s r at =

@@ -1,7 +1,7 @@
 use Rattle.fx_baton.proofs.Words.{sym, subst, arith, BatonPass, IsIdleSeatOf}
-use Rattle.fx_baton.proofs.table.BatonTable.gather.Goals as goal
 use Rattle.fx_table.proofs.Gathering.{last_of}
 use Rattle.fx_baton.proofs.SeatsKeepRule.{may_join}
+use Rattle.fx_baton.proofs.table.BatonTable.gather.Goals as goal
 
 pub join_seat-requires : goal.join_seat-requires
 join_seat-requires c =

@@ -1,5 +1,5 @@
 use Rattle.fx_baton.proofs.Words.{ap, arith}
-use Rattle.fx_baton.proofs.GiveKeepsRule.{may_store}
+use Rattle.fx_baton.proofs.TurnsKeepRule.{may_store}
 use Rattle.fx_baton.proofs.table.BatonTable.give.Goals as goal
 
 pub store-requires : goal.store-requires

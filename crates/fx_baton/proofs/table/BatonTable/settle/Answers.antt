@@ -1,5 +1,5 @@
 use Rattle.fx_baton.proofs.Words.{subst, arith, Start, IsKept}
-use Rattle.fx_baton.proofs.Settling.{may_observe, settles}
+use Rattle.fx_baton.proofs.Closing.{may_observe, settles}
 use Rattle.fx_table.proofs.Tasks.{idle_task}
 use Rattle.fx_baton.proofs.table.BatonTable.settle.Goals as goal
 
