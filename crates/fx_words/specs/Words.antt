@@ -11,7 +11,7 @@ abbrev pub most_slots : ℕ
 most_slots = 256
 
 -- bits 63 to 40 are the number plus 1, bits 39 to 32 the entry, and bits 31 to 0, the takes, are 0
-abbrev pub slot_word_of : ℕ → ℕ → ℕ
+abbrev pub slot_word_of : (node entry : ℕ) → ℕ
 slot_word_of node entry = (node + 1) * 2 ^ 40 + entry * 2 ^ 32
 
 -- bits 63 to 40: 0, or the file's number plus 1
