@@ -126,8 +126,7 @@ module _ {v : View} {x : Log} {c : Contents} (d : Contents) (chain : ℕ) (known
         → ((h : Option File) → held_after h a ≡ h) → UsesOwn fresh (number_behind (x.own ▷▷ done (a ∷ [])))
         → IsTurn v x c d (done (a ∷ [])) (retiring found 0)
     slot_turn a slot new found fresh step now is leaves own still uses =
-        let apart = apart_from c known.sound slot found is in
-        turn (a ∷ []) (retiring found 0) _ now uses (legal_one step own)
+        let apart = apart_from c known.sound slot found is in turn (a ∷ []) (retiring found 0) _ now uses (legal_one step own)
         (λ n. let b = ap (holds_by n) idle in let r = (retires found).0 n in omega arith) (leaves_more slot found is leaves)
         (λ f i _. still_there (state_of c) slot new found is apart f i)
         (held_mine x.number chain a x.front ∙ (still (held_by x.front x.number) ∙ (held_so idle ∙ sym (retires found).1)))

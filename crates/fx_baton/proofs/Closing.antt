@@ -55,8 +55,7 @@ module _ (id : TableId) (k : Start) where
 
     none_removed : (n : ℕ) (node : Node) → node_at r.contents.nodes n ≡ node → removed_at n node ≡ None
     none_removed n (Leaving file) e =
-        let a = no_leaving n in
-        let b : leaving_count r.contents n ≡ 1 = ap (λ (z : Node). cond {A = ℕ} (is_leaving z) 1 0) e in
+        let a = no_leaving n in let b : leaving_count r.contents n ≡ 1 = ap (λ (z : Node). cond {A = ℕ} (is_leaving z) 1 0) e in
         absurd (omega (arith, a, b))
     none_removed n (Retired file) e = absurd (let a = no_holds n in let b = r.sound.held n (ap is_retired e) in omega (arith, a, b))
     none_removed n _ e = refl
@@ -88,8 +87,7 @@ module _ (id : TableId) (k : Start) where
 
     drawn_once : (c : ℕ) → sum_by (times_drawn c) (map view_of ps) ≤ 1
     drawn_once c =
-        let q : ℕ = pass_of_chain k.passes c in
-        let shown = sum_map (λ (w : PassView). one_if (eqb w.number q)) view_of ps in
+        let q : ℕ = pass_of_chain k.passes c in let shown = sum_map (λ (w : PassView). one_if (eqb w.number q)) view_of ps in
         omega (arith, drawn_few (opening_of k) (map view_of ps) counts c, shown, numbers q, once_is k.passes q)
 
     pub whole : 0 < k.passes → IsWhole (opening_of k) r.history (map view_of ps)

@@ -139,18 +139,13 @@ module _ {id : TableId} {k : Start} {call : Call} {idle : Bool} {p : BatonPass} 
 
   adds_here : Adds (opening_of k) (view_of p) (actions_of t.taken p.seat.me.0.doing call) (activity_of (doing_of t.taken call))
       (use_of call) (view_of (gave seated))
-  adds_here = record {
-    seen = (es, ap (λ (h : List Event). es ++ h) (sym (ap first_front t.has.seated.one)));
-    front = front_is;
-    own = ap (λ (l : List Event). es ++ l) (sym (ap first_own t.has.seated.one));
-    now = refl;
-    number = refl;
-    chain = refl;
-    drawn = refl;
-    no_chains_left = refl;
-    numbers_left = let used = t.numbers in omega arith;
-    looks_left = let used = t.looks in omega arith;
-  }
+  adds_here = let numbers = t.numbers in let looks = t.looks in
+      let seen : IsSeenBy (view_of p).front (es ++ before.front) =
+      (es, ap (λ (h : List Event). es ++ h) (sym (ap first_front t.has.seated.one))) in
+      let own = ap (λ (l : List Event). es ++ l) (sym (ap first_own t.has.seated.one)) in
+      let numbers_left : p.numbers_left - (use_of call).numbers + (use_of call).numbers ≡ p.numbers_left = omega arith in
+      let looks_left : p.looks_left - (use_of call).looks + (use_of call).looks ≡ p.looks_left = omega arith in
+      assumption (seen, front_is, own, numbers_left, looks_left)
 
   -- wherever the pass came from
   adds_so : (u : PassView) (c d : Contents) → HasTable id k u c d p

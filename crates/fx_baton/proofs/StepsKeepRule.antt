@@ -46,8 +46,7 @@ module _ (k : Start) (s : Shared) (r : IsKept k s) (id : ℕ) (v : View) (at : g
   apart i u n e x y hx hy same =
       let a = some_log v.logs hx refl in let b = some_log u.logs hy same in
       let t = sum_two (λ (z : View). logs_of x.number z.logs) s.views id i v u (λ j. n (sym j)) at e in
-      let o = r.numbers x.number in
-      let l = once_is k.passes x.number in absurd (omega arith)
+      let o = r.numbers x.number in let l = once_is k.passes x.number in absurd (omega arith)
 
   -- The obligations of the step: the seat's new view, the new events, that files which others hold or retire stay, and
   -- that the others' numbers stay fresh
@@ -70,10 +69,8 @@ module _ (k : Start) (s : Shared) (r : IsKept k s) (id : ℕ) (v : View) (at : g
   module _ (t : Turns) where
     other_log : {i : ℕ} {u : View} → i ≢ id → get_elem? s.views i ≡ some u → (y : Log) → Contains u.logs y → IsLog k longer c u.doing y
     other_log {i} {u} n e y hy =
-        let a = (r.views i u e).logs y hy in
-        let other : y.number ≢ t.log.number = apart i u n e t.log y t.log_in hy in
-        let foreign : (x : Event) → Contains es x → x.pass ≢ y.number = λ x hx same. other (sym same ∙ t.authors x hx) in
-        record {
+        let a = (r.views i u e).logs y hy in let other : y.number ≢ t.log.number = apart i u n e t.log y t.log_in hy in
+        let foreign : (x : Event) → Contains es x → x.pass ≢ y.number = λ x hx same. other (sym same ∙ t.authors x hx) in record {
           seen = seen_further y.front r.history longer a.seen (es, refl);
           own = part_other y.number es r.history foreign ∙ a.own;
           held = held_other y.number es r.history foreign ∙ a.held;
@@ -90,8 +87,7 @@ module _ (k : Start) (s : Shared) (r : IsKept k s) (id : ℕ) (v : View) (at : g
     still_there : (i : ℕ) (u : View) → i ≢ id → get_elem? s.views i ≡ some u → (f : File) → file_in_hand u.doing ≡ Some f → HasFile (state_of c) f
     still_there i u n e f is =
         let here : get_elem? (set s.views id w) i ≡ some u = set_else s.views id i w n ∙ e in
-        let holds : ℕ → View → ℕ = λ m z. holds_by m z.doing in
-        let removals : ℕ → View → ℕ = λ m z. removals_by m z.doing in
+        let holds : ℕ → View → ℕ = λ m z. holds_by m z.doing in let removals : ℕ → View → ℕ = λ m z. removals_by m z.doing in
         t.files f ((r.views i u e).file f is) (⊎_elim
         (λ one. inl (let a = sum_at (holds f.number) (set s.views id w) i u here in let b = all_holds f.number in omega arith)) (λ one. inr (one_true
         (let a = sum_at (removals f.number) (set s.views id w) i u here in let b = all_removals f.number in omega arith)))
@@ -99,10 +95,8 @@ module _ (k : Start) (s : Shared) (r : IsKept k s) (id : ℕ) (v : View) (at : g
 
     author : (1 ≤ t.log.number) × (t.log.number ≤ k.passes)
     author =
-        let a = some_log v.logs t.log_in refl in
-        let b = sum_at (λ (z : View). logs_of t.log.number z.logs) s.views id v at in
-        let o = r.numbers t.log.number in
-        let n = once_is k.passes t.log.number in (omega arith, omega arith)
+        let a = some_log v.logs t.log_in refl in let b = sum_at (λ (z : View). logs_of t.log.number z.logs) s.views id v at in
+        let o = r.numbers t.log.number in let n = once_is k.passes t.log.number in (omega arith, omega arith)
 
     pub keeps_rule : IsKept k next
     keeps_rule = record {

@@ -1,7 +1,7 @@
 -- A seat with one pass may try the word, and take the table where it is at home; with the table it may put it back.
-use Rattle.fx_baton.proofs.Words.{◌≡◌, ℕ, ◌≤◌, ◌==◌, List, [], ◌∷◌, length, set, get_or, sym, refl, ap, ◌∙◌, subst, arith, inl, inr, ⊎_elim, some}
-use Rattle.fx_baton.proofs.Words.{none, get_elem?, None, Contains, step, takes, keeps, set_else, set_again, Contents, state_of, IsLegal, Event}
-use Rattle.fx_baton.proofs.Words.{seen_again, contains_none, contains_head, contains_only, sum_at, sum_le_at, Log, View, Start, Shared, Seated}
+use Rattle.fx_baton.proofs.Words.{leaving_count, ◌≡◌, ℕ, ◌≤◌, ◌==◌, List, [], ◌∷◌, length, set, get_or, sym, refl, ap, ◌∙◌, subst, arith, inl, inr}
+use Rattle.fx_baton.proofs.Words.{⊎_elim, some, none, get_elem?, None, Contains, step, takes, keeps, set_else, set_again, Contents, state_of, IsLegal}
+use Rattle.fx_baton.proofs.Words.{Event, seen_again, contains_none, contains_head, contains_only, sum_at, sum_le_at, Log, View, Start, Shared, Seated}
 use Rattle.fx_baton.proofs.Words.{begin_of, logs_of, holds_by, removals_by, HasFreshNumbers, IsLog, IsView, IsHome, IsAway, IsKept, Knows, lent_view}
 use Rattle.fx_baton.proofs.Words.{Grabs, Allows, ◌≢◌, true, ◌++◌, map, dite, ℕ_discrete, some-injective, Some, gives, at_set, IsTable, IsSeenBy}
 use Rattle.fx_baton.proofs.Words.{held_by, ◌▷▷◌, Task, pass_of_number, log_behind, view_behind, Gives, IsTurn, part_mine}
@@ -54,18 +54,14 @@ module _ (k : Start) (id : ℕ) (v : View) (x : Log) (one : v.logs ≡ x ∷ [])
     begun = started one mine
 
     knows : Knows v x r.contents r.history
-    knows = record {
-      legal = subst (λ (z : Start). IsLegal (begin_of z) r.history (state_of r.contents)) (sym begun) r.legal;
-      sound = r.sound;
-      seen = log_of.seen;
-      own = log_of.own;
-      held = log_of.held;
-      fresh = subst (λ (z : Start). HasFreshNumbers z (state_of r.contents) x) (sym begun) log_of.fresh;
-      file = mine.file;
-      few = room s r;
-      holds = λ n. let a = sum_at (λ (z : View). holds_by n z.doing) s.views id v at in let b = r.held n in omega arith;
-      leaves = λ n. let a = sum_at (λ (z : View). removals_by n z.doing) s.views id v at in let b = r.leaves n in omega arith;
-    }
+    knows =
+        let legal = subst (λ (z : Start). IsLegal (begin_of z) r.history (state_of r.contents)) (sym begun) r.legal in
+        let fresh = subst (λ (z : Start). HasFreshNumbers z (state_of r.contents) x) (sym begun) log_of.fresh in
+        let holds : (n : ℕ) → holds_by n v.doing ≤ (state_of r.contents).holds n =
+        λ n. let a = sum_at (λ (z : View). holds_by n z.doing) s.views id v at in let b = r.held n in omega arith in
+        let leaves : (n : ℕ) → removals_by n v.doing ≤ leaving_count r.contents n =
+        λ n. let a = sum_at (λ (z : View). removals_by n z.doing) s.views id v at in let b = r.leaves n in omega arith in
+        assumption (legal, r.sound, log_of, fresh, mine.file, room s r, holds, leaves)
 
     abbrev lent : View
     lent = lent_view v x r.history r.contents

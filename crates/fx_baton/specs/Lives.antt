@@ -1,9 +1,10 @@
 -- Passes as they are handed out and gathered.
-use Rattle.std.specs.Prelude.{◌≡◌, ℕ, ◌+◌, ◌-◌, true, false, List, [], flat_map, None}
+use Rattle.std.specs.Prelude.{◌≡◌, ℕ, ◌+◌, ◌-◌, true, false, List, [], ◌∷◌, flat_map, None}
 use Rattle.atomic_table.specs.declared.shared.Seat.{Seat}
 use lib.ListN.{get_elem?}
 use mathlib.Core.Option.{some}
-use Rattle.fx_plain.specs.Contents.{Contents}
+use Rattle.fx_plain.specs.Contents.{Contents, IsTable, state_of}
+use Rattle.fx_plain.specs.State.{opening}
 use Rattle.fx_table.specs.declared.limits.TheConstants.{PASS_LOOKS}
 use Rattle.fx_table.specs.declared.values.Task.TheVariants.{Idle}
 use Rattle.fx_baton.specs.declared.view.Log.{Log}
@@ -12,6 +13,13 @@ use Rattle.fx_baton.specs.declared.view.Start.{Start}
 use Rattle.fx_baton.specs.declared.pass.BatonPass.{BatonPass}
 use Rattle.fx_baton.specs.declared.table.BatonTable.{BatonTable}
 use Rattle.fx_baton.specs.Rule.{Shared, IsKept, IsHome, first_view, new_logs}
+
+-- the list has one table: the other one, prepared for numbers below `numbers`
+pub record HasPrepared (plain : Contents) (numbers : ℕ) (list : List Contents) : Type 0 where
+  pub table : Contents
+  pub only : list ≡ table ∷ []
+  pub state : state_of table ≡ opening (state_of plain) numbers
+  pub sound : IsTable table
 
 -- the view of a seat that has the new passes from p to the last
 abbrev pub dealt : Start → ℕ → View

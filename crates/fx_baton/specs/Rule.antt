@@ -42,7 +42,7 @@ abbrev pub new_log : ℕ → Log
 new_log p = record { number = p; front = []; own = [] }
 
 -- `n` new passes, numbered from `p`
-abbrev pub new_logs : ℕ → ℕ → List Log
+abbrev pub new_logs : (p n : ℕ) → List Log
 new_logs p n = map new_log (range_with_len p n)
 
 -- the view of the seat that opens the table

@@ -20,7 +20,7 @@ use Rattle.fx_baton.specs.declared.view.Call.TheVariants.{Take as TakeCall, Reti
 use Rattle.fx_baton.specs.Rule.{empty_table}
 
 -- an action and its author
-abbrev pub by : ℕ → ℕ → Action → Event
+abbrev pub by : (pass chain : ℕ) → Action → Event
 by pass chain action = record { pass = pass; chain = chain; action = action }
 
 -- the table as the seat took it, and as the seat has it now
@@ -76,5 +76,5 @@ use_of (AllocateCall slot number file) = one_number
 use_of _ = no_use
 
 -- the events of a call
-abbrev pub events_of : Contents → ℕ → ℕ → Task → Call → List Event
+abbrev pub events_of : Contents → (pass chain : ℕ) → Task → Call → List Event
 events_of c pass chain doing call = map (by pass chain) (actions_of c doing call)

@@ -233,12 +233,9 @@ fn retired(node: Option<u32>, entry: Option<u8>) -> Option<Retired>
         → entry ≡ option_map (λ f. f.identity.entry) found
         → result ≡ option_map (λ f. retired_of f 0) found }
 {
-    match (node, entry) {
-        (Some(node), Some(entry)) => Some(Retired {
-            node,
-            entry,
-            takes: 0,
-        }),
-        _ => None,
-    }
+    Some(Retired {
+        node: node?,
+        entry: entry?,
+        takes: 0,
+    })
 }

@@ -8,7 +8,7 @@ ghost use Rattle.fx_table.specs.Closing.{ClosesTable};
 ghost use Rattle.fx_baton.specs.Passes.{view_of};
 ghost use Rattle.fx_baton.specs.Tables.{opening_of_table, IsPassOfTable};
 ghost use Rattle.fx_table.specs.Settling.{IsSettledSoFar};
-ghost use Rattle.fx_baton.specs.Lives.{HasAllPasses, IsIdleSeatOf, logs_in, AllIsHome, Leaves};
+ghost use Rattle.fx_baton.specs.Lives.{HasPrepared, HasAllPasses, IsIdleSeatOf, logs_in, AllIsHome, Leaves};
 
 use crate::kinds::{Deal, Gather, Observe};
 use crate::pass::BatonPass;
@@ -35,11 +35,33 @@ fn only_table(mut slots: Vec<PlainTable>) -> PlainTable
     }
 }
 
+// Prepares a table for files with numbers below `numbers`, and puts it into a list of its own.
+fn prepared(
+    alloc: Global,
+    mut plain: PlainTable,
+    numbers: u32,
+) -> Result<Vec<PlainTable>, (PlainTable, NoMemory)>
+    requires settled { IsSettled (state_of plain) }
+    requires numbers { (state_of plain).size ≤ numbers }
+    ensures list { IfOk result (λ list. HasPrepared plain numbers list.items) }
+    ensures refused { IfErr result (λ (back, _). IsGivenBack plain back) }
+{
+    let Ok(mut list) = Vec::with_capacity(alloc, 1) else {
+        return Err((plain, NoMemory));
+    };
+    let Ok(()) = plain.prepare(numbers) else {
+        list.destroy_empty();
+        return Err((plain, NoMemory));
+    };
+    list.push_reserved(plain);
+    Ok(list)
+}
+
 impl BatonTable {
     // Creates the shared table, and a seat with all passes.
     pub(crate) fn start(
         alloc: Global,
-        mut plain: PlainTable,
+        plain: PlainTable,
         chains: u32,
         passes: u32,
     ) -> Result<(BatonTable, Seat<PlainTable, View>), (PlainTable, NoMemory)>
@@ -58,15 +80,8 @@ impl BatonTable {
         };
         let size = plain.size();
         let (range_start, range_len) = plain.range();
-        let Ok(mut slots) = Vec::with_capacity(alloc, 1) else {
-            return Err((plain, NoMemory));
-        };
-        let Ok(()) = plain.prepare(numbers_for(chains)) else {
-            slots.destroy_empty();
-            return Err((plain, NoMemory));
-        };
-        slots.push_reserved(plain);
-        match Table::new(alloc, &[1], slots, &key) {
+        let list = prepared(alloc, plain, numbers_for(chains))?;
+        match Table::new(alloc, &[1], list, &key) {
             Ok((table, seat)) => Ok((
                 BatonTable {
                     table,

@@ -5,8 +5,7 @@ use Rattle.fx_baton.proofs.table.BatonTable.deal.Goals as goal
 
 pub split_seat-one-requires : goal.split_seat-one-requires
 split_seat-one-requires c =
-    let counts = c.args.self.now.counts in let i = c.loop-number.invariant in
-    let seat = c.loop-number.seat in (
+    let counts = c.args.self.now.counts in let i = c.loop-number.invariant in let seat = c.loop-number.seat in (
       i.table,
       omega arith,
       may_split c.args.self.now.table.shared.key seat.id seat.me.0
@@ -19,8 +18,7 @@ loop-number-preserved c =
     let t = c.args.self.now.table.shared in let all = c.args.self.now.key.1 in let p = c.loop-number.number in
     let test = c.loop-number-test.true in let high : p ≤ t.key.passes = omega (arith, all, test) in
     let me = s.4 ∙ ap (λ (m : Seated). (view_of_first m.0, [])) i.me in
-    let new = is_new_pass t.table_id t.key p _ i.before.low high all _ _ c.new.ensures (s.3 ∙ i.table) me in
-    record {
+    let new = is_new_pass t.table_id t.key p _ i.before.low high all _ _ c.new.ensures (s.3 ∙ i.table) me in record {
       before = one_dealt i.before c.push_reserved.ensures.items new test;
       table = s.0 ∙ i.table;
       me = s.2 ∙ (ap (λ (m : Seated). (view_without_first m.0, m.1)) i.me ∙ ap (λ (v : View). (v, [])) (rest_is_dealt high));

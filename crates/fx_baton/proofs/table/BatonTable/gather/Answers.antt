@@ -7,8 +7,7 @@ pub join_seat-requires : goal.join_seat-requires
 join_seat-requires c =
     let counts = c.args.self.now.counts in let i = c.loop-pass.invariant in let t = c.args.self.now in
     let p = subst (IsIdleSeatOf t) (sym c.seat_of-other.ensures) (last_of (λ (z : BatonPass). IsIdleSeatOf t z.seat) _ _ _ c.in-Some.ensures.items i.passes) in
-    let seat = c.loop-pass.seat in
-    let other = c.seat_of-other.result in (
+    let seat = c.loop-pass.seat in let other = c.seat_of-other.result in (
       i.seat.table,
       p.table,
       p.slots,
