@@ -22,9 +22,6 @@ given_either lo hi p phase n = dite (dec_le lo n)
     (λ f. inr (λ _ b. f (omega arith), rw (le-ltb n lo a, le-ltb n hi (omega (arith, f))) refl)))
     (λ f. inr (λ a _. f a, rw (lt-ltb n lo (omega (arith, f))) refl))
 
-pub told_few : (l : List Log) → sum_by (λ y. one_if y.no_chains_left) l ≤ length l
-told_few l = count_by-le-length (λ y. y.no_chains_left) l
-
 -- the chain that was drawn last is among those that were drawn
 chain_drawn : (l : List ℕ) → 0 < first_or 0 l → 1 ≤ times (first_or 0 l) l
 chain_drawn [] a = absurd (omega arith)
@@ -53,7 +50,7 @@ module _ (turn : Turn) where
 
   -- few passes get `None`, so the word doesn't overflow
   word_is : (found + 1) % 2 ^ 64 ≡ found + 1
-  word_is = let a = sum_le_at told_of lengths st.views (λ j u e. told_few u.logs) in let b = r.whole in let f = r.shape.passes in
+  word_is = let a = sum_le_at told_of lengths st.views (λ j u e. count_by-le-length (λ y. y.no_chains_left) u.logs) in let b = r.whole in let f = r.shape.passes in
       let told : sum_by told_of st.views ≤ 16 = omega arith in
       let b = d.counts in let c = d.few in let e = r.shape.chains in omega (arith, told, b, c, e)
 
@@ -67,9 +64,7 @@ module _ (turn : Turn) where
     alone passes =
         let all : length v.logs ≡ v.start.passes = ap (length {A = Log}) one ∙ sym passes in
         let drawn_here = sym (drawn_v d.given) ∙ drawn r id here all d.given in
-        let none_told = sym (told r id here all) ∙ (told_v ∙ ap one_if untold) in
-        let counts = d.counts in
-        let few = chain_few in
+        let none_told = sym (told r id here all) ∙ (told_v ∙ ap one_if untold) in let counts = d.counts in let few = chain_few in
         dite (dec_le d.given (chain_in x)) (λ le. omega (arith, le, few, counts, none_told))
         (λ gt. let none = (its_log turn).last d.given (omega (arith, gt)) in absurd (omega (arith, none, drawn_here, gt, once_is d.given d.given)))
 

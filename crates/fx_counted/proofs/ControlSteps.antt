@@ -1,19 +1,85 @@
--- Steps that change no slot and no number keep the rule: begin, end, answer and load.
-use Rattle.fx_counted.proofs.Words.{◌≡◌, ℕ, List, set, length, sym, refl, ap, ◌∙◌, arith, held_by, State, Event, range_of, Agrees, ControlCounts}
-use Rattle.fx_counted.proofs.Words.{looks, all_looks, word_of, control_place, draw_place, slot_place, opening_of, IsNumber, state_after_all, Change}
-use Rattle.fx_counted.proofs.Words.{Log, Start, View, Work, sum_by, ◌≢◌, zero, suc, ◌+◌, ◌-◌, ◌/◌, ◌%◌, ◌^◌, ◌<◌, ◌≤◌, [], ◌∷◌, subst}
-use Rattle.fx_counted.proofs.Words.{get_or-set_other, get_or-set_same, Option, IsSome, dite, some, none, some-injective, some-ne-none, ℕ_discrete}
-use Rattle.fx_counted.proofs.Words.{get_elem?, keeps, step, sum_by-cons, Closed, File, Full, no_use, event_of, sum_set, sum_at, sum_le_at, one_change}
-use Rattle.fx_counted.proofs.Words.{full_word_of, WorkAgrees, lengths, in_change, added, removed_by, changes_of, added_of, removed_of, full_in, shown}
-use Rattle.fx_counted.proofs.Words.{IsInside, Stepped, GoesOn, SaysFull, Outside, Same, Idle, Phase, Shared, BeginsKeep, EndsKeep, AnswersKeep}
-use Rattle.fx_counted.proofs.Words.{Between, length-set, Bool, true, false, inl, inr, end_amount_of, InRange, HasToTell, HasPass, MayChange, Sat}
-use Rattle.fx_counted.proofs.Words.{More, Less, ℤ, begun, difference, Allows}
+-- The control word: its count of full slots, and the steps that change no slot and no number.
+use Rattle.fx_counted.proofs.Words.{◌≡◌, ◌≢◌, ℕ, zero, suc, ◌+◌, ◌<◌, ◌≤◌, List, set, sym, refl, ap, ◌⊎◌, inl, inr, arith, Option, Some, None, IsSome}
+use Rattle.fx_counted.proofs.Words.{subst, dite, some, ℕ_discrete, get_elem?, changed_at, File, sum_set, in_change, added, removed_by, changes_of}
+use Rattle.fx_counted.proofs.Words.{added_of, removed_of, if_full, full_in, ControlCounts, turned, Change, Outside, Same, View, changed, changed_here}
+use Rattle.fx_counted.proofs.Words.{changed_else, length, ◌∙◌, held_by, State, Event, range_of, Agrees, looks, all_looks, word_of, control_place}
+use Rattle.fx_counted.proofs.Words.{draw_place, slot_place, opening_of, IsNumber, state_after_all, Log, Start, Work, sum_by, ◌-◌, ◌/◌, ◌%◌, ◌^◌, []}
+use Rattle.fx_counted.proofs.Words.{◌∷◌, get_or-set_other, get_or-set_same, none, some-injective, some-ne-none, keeps, step, sum_by-cons, Closed}
+use Rattle.fx_counted.proofs.Words.{Full, no_use, event_of, sum_at, sum_le_at, one_change, full_word_of, WorkAgrees, lengths, shown, IsInside}
+use Rattle.fx_counted.proofs.Words.{Stepped, GoesOn, SaysFull, Idle, Phase, Shared, BeginsKeep, EndsKeep, AnswersKeep, Between, length-set, Bool}
+use Rattle.fx_counted.proofs.Words.{true, false, end_amount_of, InRange, HasToTell, HasPass, MayChange, Sat, More, Less, ℤ, begun, difference, Allows}
 use Rattle.fx_counted.proofs.Steps.{stays_same, owner_same, Grows, grows_none, IsHistory, Turn, word_at, now, logged, its_log, its_work, step_kept}
 use Rattle.fx_counted.proofs.Steps.{log_now, slot_same, draws_same, grows_one, legal_more, held_mine, same_shape, turn_of, by_turn, went, tells_none}
 use Rattle.fx_counted.proofs.Steps.{tells_one, near, far}
-use Rattle.fx_counted.proofs.FullSlots.{full_few, full_all}
 use Rattle.fx_counted.proofs.LettingGo.{sub_wraps}
 
+pub full_else : (at : ℕ → Option File) (s : ℕ) (new : Option File) (off len : ℕ) → ((i : ℕ) → i < len → off + i ≢ s)
+    → full_in (changed_at at s new) off len ≡ full_in at off len
+full_else at s new off zero other = refl
+full_else at s new off (suc len) other =
+    rw (full_else at s new off len (λ i l. other i (omega arith)), changed_else at s new (off + len) (other len (omega arith))) refl
+
+pub full_here : (at : ℕ → Option File) (s : ℕ) (new : Option File) (off len : ℕ) → off ≤ s → s < off + len
+    → full_in (changed_at at s new) off len + if_full (at s) ≡ full_in at off len + if_full new
+full_here at s new off zero a b = absurd (omega arith)
+full_here at s new off (suc len) a b = dite (ℕ_discrete (off + len) s)
+    (λ here. let e : if_full (at (off + len)) ≡ if_full (at s) = ap (λ (i : ℕ). if_full (at i)) here in
+    rw (full_else at s new off len (λ i l. λ bad. omega arith), changed_here at s new (off + len) here) (omega arith))
+    (λ else. let c = full_here at s new off len a (omega arith) in rw (changed_else at s new (off + len) else) (omega arith))
+
+pub full_one : (found : Option File) → if_full found ≤ 1
+full_one None = omega arith
+full_one (Some f) = omega arith
+
+pub full_few : (at : ℕ → Option File) (off len : ℕ) → full_in at off len ≤ len
+full_few at off zero = omega arith
+full_few at off (suc len) = let a = full_few at off len in let b = full_one (at (off + len)) in omega arith
+
+some_full : (found : Option File) → if_full found ≡ 1 → IsSome found
+some_full None e = absurd (omega arith)
+some_full (Some f) e = refl
+
+-- a range that has as many full slots as slots has no empty one
+pub full_all : (at : ℕ → Option File) (off len : ℕ) → full_in at off len ≡ len → (slot : ℕ) → off ≤ slot → slot < off + len → IsSome (at slot)
+full_all at off zero e slot low high = absurd (omega arith)
+full_all at off (suc len) e slot low high = let a = full_few at off len in let b = full_one (at (off + len)) in dite (ℕ_discrete slot (off + len))
+    (λ same. subst (λ (i : ℕ). IsSome (at i)) (sym same) (some_full (at (off + len)) (omega arith)))
+    (λ else. full_all at off len (omega arith) slot low (omega arith))
+
+-- a slot's place relative to the range, and the change of the pass afterwards
+abbrev pub Stands : ℕ × ℕ → ℕ → Change → Type 0
+Stands range s change = (((range.0 ≤ s) × (s < range.0 + range.1)) × (change ≡ Same))
+    ⊎ (((s < range.0) ⊎ (range.0 + range.1 ≤ s)) × (change ≡ Outside))
+
+changed_so : (old new : ℕ) → old ≤ 1 → new ≤ 1
+    → (in_change (changed old new) ≡ 1) × (added (changed old new) + old ≡ removed_by (changed old new) + new)
+changed_so zero zero a b = (refl, refl)
+changed_so (suc o) zero a b = (refl, omega arith)
+changed_so _ _ a b = (refl, omega arith)
+
+-- the difference that a pass then has to report equals the change in the range
+turned_counts : (at : ℕ → Option File) (range : ℕ × ℕ) (s : ℕ) (old new : Option File) (c : Change) → at s ≡ old → Stands range s c
+    → (in_change (turned c (if_full old) (if_full new)) ≡ in_change c)
+    × (full_in (changed_at at s new) range.0 range.1 + added c + removed_by (turned c (if_full old) (if_full new))
+    ≡ full_in at range.0 range.1 + removed_by c + added (turned c (if_full old) (if_full new)))
+turned_counts at range s old new Same was (inl inside) = let n = changed_so (if_full old) (if_full new) (full_one old) (full_one new) in
+    let g = full_here at s new range.0 range.1 inside.0.0 inside.0.1 in let p : if_full (at s) ≡ if_full old = ap if_full was in (n.0, omega arith)
+turned_counts at range s old new Outside was (inr outside) =
+    let g = full_else at s new range.0 range.1 (λ i l bad. omega (arith, outside.0)) in (refl, omega arith)
+turned_counts at range s old new _ was (inl inside) = absurd (cc inside.1)
+turned_counts at range s old new _ was (inr outside) = absurd (cc outside.1)
+
+pub control_swap : (at : ℕ → Option File) {range : ℕ × ℕ} {views : List View} (id : ℕ) {v : View} (w : View) {word : ℕ} (s : ℕ)
+    (old new : Option File) → get_elem? views id ≡ some v → at s ≡ old → Stands range s v.change
+    → w.change ≡ turned v.change (if_full old) (if_full new) → ControlCounts at range views word
+    → ControlCounts (changed_at at s new) range (set views id w) word
+control_swap at {range} {views} id {v} w s old new here was stands is ok =
+    let a = sum_set changes_of views id v w here in let b = sum_set added_of views id v w here in let c = sum_set removed_of views id v w here in
+    let turn = turned_counts at range s old new v.change was stands in
+    let d = ap in_change is in let e = ap added is in let f = ap removed_by is in let u = ok.upper in let l = ok.lower in
+    record { upper = omega arith; lower = omega arith }
+
+-- Steps that change no slot and no number keep the rule: begin, end, answer and load.
 -- A step that changes no slot and no number, and leaves the pass at its work.
 module _ (turn : Turn) (h' : List Event) where
   open turn use {st, v, r, id, x, here, one}
@@ -185,9 +251,7 @@ module _ (turn : Turn) where
         let s = few_others in let u = r.control.upper in let l = r.control.lower in let ff = few_full v.start st r in
         let fr = few_removed v.start st r in let fa = few_added v.start st r in
         let o1 = sum_at added_of st.views id v here in let l1 = sum_at removed_of st.views id v here in
-        let f1 = sum_at changes_of st.views id v here in
-        let x1 = at_most_one v.change in
-        let big : amount ≤ word = omega arith in
+        let f1 = sum_at changes_of st.views id v here in let x1 = at_most_one v.change in let big : amount ≤ word = omega arith in
         let diff : (word + (2 ^ 64 - amount)) % 2 ^ 64 ≡ word - amount = sub_wraps big fits (omega arith) in
         record { upper = omega arith; lower = omega arith }
 

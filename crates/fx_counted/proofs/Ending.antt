@@ -7,7 +7,7 @@ use Rattle.fx_counted.proofs.Words.{state_after_all, held_of, told_of, once, hol
 use Rattle.fx_counted.proofs.Words.{View, Work, Idle, action_of, Between, one_if, times}
 use Rattle.fx_plain.proofs.AtRest.{inside_behind, opens_inside}
 use Rattle.fx_table.proofs.Gathering.{only_here}
-use Rattle.fx_counted.proofs.Histories.{same_shape}
+use Rattle.fx_counted.proofs.Frames.{same_shape}
 use Rattle.fx_counted.proofs.Keeping.{NodeIn, in_phase, seat_in}
 
 is_number : (k : Start) (n : ℕ) → IsNumber k n ⊎ (IsNumber k n → ⊥)
@@ -34,7 +34,6 @@ module _ {k : Start} {s : Shared} (r : Agrees k s) (all_idle : (i : ℕ) (u : Vi
   Node = NodeIn k s.words s.homes r.history
 
   removed_by : (n : ℕ) (ph : Phase) → Node n ph → OwnerAgrees s.views n ph → end.removed n ≡ None
-  removed_by n (seated slot file) a o = a.not_removed
   removed_by n (leaving i takes file) a o = let bad = nobody i o in absurd (cc bad)
   removed_by n (retired file) a o = let w = a.counts in let h = unheld n in let p = a.some_hold in absurd (omega arith)
   removed_by n _ a o = a.not_removed
@@ -75,10 +74,8 @@ module _ {k : Start} {s : Shared} (r : Agrees k s) (all_idle : (i : ℕ) (u : Vi
   pub one_slot : {slot other : ℕ} {f g : File} → slot < slots_of k → other < slots_of k → end.at slot ≡ Some f → end.at other ≡ Some g
       → f.number ≡ g.number → slot ≡ other
   one_slot {slot} {other} {f} {g} l m there here same =
-      let a = seat_in k s r l there in
-      let b = seat_in k s r m here in
-      let e : seated slot f.identity ≡ seated other g.identity = sym a.2 ∙ (ap r.phase same ∙ b.2) in
-      cc e
+      let a = seat_in k s r l there in let b = seat_in k s r m here in
+      let e : seated slot f.identity ≡ seated other g.identity = sym a.2 ∙ (ap r.phase same ∙ b.2) in cc e
 
   pub none_outside_end : {slot : ℕ} → slots_of k ≤ slot → end.at slot ≡ None
   none_outside_end {slot} past = inside_behind (start_of (opening_of k)) (map action_of r.history) r.legal.leads.0

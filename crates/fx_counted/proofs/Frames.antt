@@ -1,14 +1,71 @@
--- The frame of a step of one seat: other seats, slots, numbers, the control word and the draw word stay.
-use Rattle.fx_counted.proofs.Words.{next_in, end_in, placing, ◌<◌, ◌≤◌, Contains, sum_of, sum_by, ◌≡◌, ◌≢◌, ℕ, ◌+◌, List, [], ◌∷◌, set, sym, refl, ap}
-use Rattle.fx_counted.proofs.Words.{◌∙◌, subst, arith, eqb, some, some-injective, get_elem?, set_here, set_else, File, Event, numbered, sum_two}
-use Rattle.fx_counted.proofs.Words.{sum_set, Does, OwnerAgrees, WorkAgrees, ViewAgrees, Agrees, Shared, logs_of, Phase, spare, placed, leaving}
-use Rattle.fx_counted.proofs.Words.{emptied, owner, file_in, Log, Start, View, Work, Idle, Placing, Holding, Retiring, Emptying, dite, ℕ_discrete}
-use Rattle.fx_counted.proofs.Words.{Between, stands_at, get_or_default, slice_index_or, one_if, bit_here, once_is, Option, Some, None, Closed, State}
-use Rattle.fx_counted.proofs.Words.{SlotAgrees, Home, NodeAgrees, in_change, added, removed_by, changes_of, added_of, removed_of, full_in}
-use Rattle.fx_counted.proofs.Words.{ControlCounts, looks, all_looks, DrawsCount, state_after_all, told_of, unborn, seated, retired, closed, takes_in}
-use Rattle.fx_counted.proofs.Words.{born, IsSeated, IsGone, times}
-use Rattle.fx_counted.proofs.Histories.{Grows}
+-- Histories that grow by one event, and the frame of a step of one seat.
+use Rattle.fx_counted.proofs.Words.{◌≡◌, ◌≢◌, ℕ, ◌+◌, ◌≤◌, List, [], ◌∷◌, sym, refl, ap, ◌∙◌, arith, eq-eqb, ne_eqb, Some, None, dite, ℕ_discrete}
+use Rattle.fx_counted.proofs.Words.{held_after, held_by, IsSeenBy, part_of_pass, Event, Action, Look, start_of, range_of, looks, all_looks}
+use Rattle.fx_counted.proofs.Words.{opening_of, slots_of, state_after_all, Start, ReleasesItsOwn, IsLegal, looks_after, look_in, map, action_of}
+use Rattle.fx_counted.proofs.Words.{changed_at, cond, changed_here, changed_else, by_equality, next_in, end_in, placing, ◌<◌, Contains, sum_of}
+use Rattle.fx_counted.proofs.Words.{sum_by, set, subst, eqb, some, some-injective, get_elem?, set_here, set_else, File, numbered, sum_two, sum_set}
+use Rattle.fx_counted.proofs.Words.{Does, OwnerAgrees, WorkAgrees, ViewAgrees, Agrees, Shared, logs_of, Phase, spare, placed, leaving, emptied, owner}
+use Rattle.fx_counted.proofs.Words.{file_in, Log, View, Work, Idle, Placing, Holding, Retiring, Emptying, Between, stands_at, get_or_default}
+use Rattle.fx_counted.proofs.Words.{slice_index_or, one_if, bit_here, once_is, Option, Closed, State, SlotAgrees, Home, NodeAgrees, in_change, added}
+use Rattle.fx_counted.proofs.Words.{removed_by, changes_of, added_of, removed_of, full_in, ControlCounts, DrawsCount, told_of, unborn, seated}
+use Rattle.fx_counted.proofs.Words.{retired, closed, takes_in, born, IsSeated, IsGone, times}
+use Rattle.fx_plain.specs.Step.{Allows}
+use Rattle.fx_plain.proofs.Leading.{same_shape as shape_of_state}
 
+pub part_mine : {p : ℕ} {e : Event} (h : List Event) → e.pass ≡ p → part_of_pass p (e ∷ h) ≡ e ∷ part_of_pass p h
+part_mine {p} {e} h is = rw (eq-eqb e.pass p is) refl
+
+pub held_mine : {p : ℕ} (e : Event) (h : List Event) → e.pass ≡ p → held_by (e ∷ h) p ≡ held_after (held_by h p) e.action
+held_mine {p} e h is = rw (eq-eqb e.pass p is) refl
+
+-- a property of the changed value, and of each other one as it was, holds for each value
+pub each_changed : {Y : Type 0} (P : ℕ → Y → Type 0) (f : ℕ → Y) {k : ℕ} {v : Y} {n : ℕ} → (n ≡ k → P n v) → (n ≢ k → P n (f n))
+    → P n (changed_at f k v n)
+each_changed P f {k} {v} {n} here else = by_equality n k (λ b. P n (cond b v (f n))) here else
+
+-- the history grew by events of p
+pub record Grows (p : ℕ) (h h' : List Event) : Type 0 where
+  pub seen : (f : List Event) → IsSeenBy f h → IsSeenBy f h'
+  pub parts : (q : ℕ) → p ≢ q → part_of_pass q h' ≡ part_of_pass q h
+  pub helds : (q : ℕ) → p ≢ q → held_by h' q ≡ held_by h q
+
+pub grows_none : (p : ℕ) (h : List Event) → Grows p h h
+grows_none p h = record { seen = λ f s. s; parts = λ q n. refl; helds = λ q n. refl }
+
+pub grows_more : {p : ℕ} {h h' : List Event} {e : Event} → e.pass ≡ p → Grows p h h' → Grows p h (e ∷ h')
+grows_more {h'} {e} by g = record {
+  seen = λ f s. let t = g.seen f s in (e ∷ t.0, ap (λ (l : List Event). e ∷ l) t.1);
+  parts = λ q n. rw (ne_eqb e.pass q (λ is. n (sym by ∙ is))) (g.parts q n);
+  helds = λ q n. rw (ne_eqb e.pass q (λ is. n (sym by ∙ is))) (g.helds q n);
+}
+
+pub grows_one : (p : ℕ) (h : List Event) (e : Event) → e.pass ≡ p → Grows p h (e ∷ h)
+grows_one p h e by = grows_more by (grows_none p h)
+
+abbrev pub IsHistory : Start → List Event → Type 0
+IsHistory k h = IsLegal (start_of (opening_of k)) h (state_after_all k h)
+
+pub legal_more : (k : Start) {h : List Event} {e : Event} → IsHistory k h → Allows (state_after_all k h) e.action
+    → ReleasesItsOwn (held_by h e.pass) e.action → IsHistory k (e ∷ h)
+legal_more k legal may own = record { leads = ((legal.leads.0, may), refl); releases = (legal.releases, own) }
+
+-- no history changes the size or the range
+pub same_shape : (k : Start) (h : List Event) → ((state_after_all k h).size ≡ slots_of k) × ((state_after_all k h).range ≡ range_of (opening_of k))
+same_shape k h = shape_of_state (start_of (opening_of k)) (map action_of h)
+
+looks_step : {f : ℕ → ℕ} {all : ℕ} → ((n : ℕ) → f n ≤ all) → (a : Action) (n : ℕ) → looks_after f a n ≤ all + look_in a
+looks_step few (Look slot None) n = let m = few n in omega arith
+looks_step {f} few (Look slot (Some g)) n = dite (ℕ_discrete n g.number)
+    (λ (e : n ≡ g.number). let m = few g.number in let is = changed_here f g.number (f g.number + 1) n e in omega arith)
+    (λ e. let m = few n in let is = changed_else f g.number (f g.number + 1) n e in omega arith)
+looks_step few _ n = let m = few n in omega arith
+
+-- the looks of one file are at most all looks
+pub looks_few : (h : List Event) (n : ℕ) → looks h n ≤ all_looks h
+looks_few [] n = omega arith
+looks_few (e ∷ h) n = looks_step (looks_few h) e.action n
+
+-- The frame of a step of one seat: other seats, slots, numbers, the control word and the draw word stay.
 -- the number that a pass alone works with, plus 1, or 0
 abbrev pub busy : Work → ℕ
 busy (Between (Retiring f takes)) = f.number + 1
@@ -32,10 +89,8 @@ module _ (id p j : ℕ) (other : j ≢ id) (phase phase' : ℕ → Phase) (stays
   work_stays : (k : Start) (d : Work) → ((f : File) → d ≡ Between (Holding f)
       → file_in (phase' f.number) ≡ file_in (phase f.number)) → WorkAgrees k phase j d → WorkAgrees k phase' j d
   work_stays k (Between Idle) keeps o = tt
-  work_stays k (Placing n) keeps o = (o.0, same_for o.1 refl)
   work_stays k (Between (Holding f)) keeps o = (o.0, keeps f refl ∙ o.1)
-  work_stays k (Between (Retiring f t)) keeps o = (o.0, same_for o.1 refl)
-  work_stays k (Emptying n) keeps o = (o.0, same_for o.1 refl)
+  work_stays k _ keeps o = (o.0, same_for o.1 refl)
 
   -- another view, after events of a pass that it doesn't have
   pub view_stays : {k : Start} {h h' : List Event} → Grows p h h' → {u : View} → ((y : Log) → Contains u.logs y → y.number ≢ p)
@@ -66,12 +121,9 @@ pub not_there : {k : Start} {st : Shared} → Agrees k st → {id j : ℕ} {v u 
     → get_elem? st.views id ≡ some v → v.logs ≡ x ∷ [] → j ≢ id → get_elem? st.views j ≡ some u
     → (y : Log) → Contains u.logs y → y.number ≢ x.number
 not_there {k} {st} r {id} {j} {v} {u} {x} here one other there y at same =
-    let t = sum_two (logs_of x.number) st.views j id u v other there here in
-    let a = r.passes x.number in
-    let c = of_one (λ z. one_if (eqb z.number x.number)) one in
-    let d = bit_here x.number x.number refl in
-    let e = sum_of (λ z. one_if (eqb z.number x.number)) u.logs y at in
-    let f = bit_here x.number y.number same in
+    let t = sum_two (logs_of x.number) st.views j id u v other there here in let a = r.passes x.number in
+    let c = of_one (λ z. one_if (eqb z.number x.number)) one in let d = bit_here x.number x.number refl in
+    let e = sum_of (λ z. one_if (eqb z.number x.number)) u.logs y at in let f = bit_here x.number y.number same in
     omega (arith, once_is k.passes x.number)
 
 -- the read of an element that is in a list

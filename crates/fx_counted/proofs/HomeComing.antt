@@ -1,15 +1,14 @@
 -- Files leave a table of one thread for the places of a shared one, and come back at its end, one after the other.
 use Rattle.fx_counted.proofs.Words.{◌≡◌, ◌≢◌, ℕ, ◌+◌, ◌<◌, ◌≤◌, sym, refl, ap, ◌∙◌, arith, ◌⊎◌, inl, inr, ⊎_elim, Option, Some, None, dite}
 use Rattle.fx_counted.proofs.Words.{ℕ_discrete, dec_le, Closed, State, IsSettled, Contents, state_of, changed_at, numbered, identity_of, AreBack}
-use Rattle.fx_counted.proofs.Words.{get_or-eq_default, changed_here, changed_else, zero, suc, Bool, cond, nat_lt, List, length, set, subst, lt-ltb}
-use Rattle.fx_counted.proofs.Words.{le-ltb, slice_index, some, get_elem?, set_here, set_else, get_or, node_in, slot_place, home_place, homes_for}
-use Rattle.fx_counted.proofs.Words.{file_in_place, length-set, stands_at, at_index, get_or_default, ◌-◌, ◌*◌, some-injective, number_of, File, Names}
-use Rattle.fx_counted.proofs.Words.{Agrees, HasNode, slots_of, chain_numbers, IsNumber, state_after_all, CountedTable, Start, View, Idle, Final, Seen}
+use Rattle.fx_counted.proofs.Words.{get_or-eq_default, changed_here, changed_else, suc, Bool, cond, nat_lt, List, length, set, subst, lt-ltb, le-ltb}
+use Rattle.fx_counted.proofs.Words.{slice_index, some, get_elem?, set_here, set_else, get_or, node_in, slot_place, home_place, homes_for}
+use Rattle.fx_counted.proofs.Words.{file_in_place, stands_at, at_index, get_or_default, ◌-◌, ◌*◌, some-injective, number_of, File, Names, Agrees}
+use Rattle.fx_counted.proofs.Words.{HasNode, slots_of, chain_numbers, IsNumber, state_after_all, CountedTable, Start, View, Idle, Final, Seen}
 use Rattle.fx_counted.proofs.Words.{AllAreIdle, Leaves, Between}
 use Rattle.fx_counted.proofs.Calling.{has_node, its_numbers, node_is}
 use Rattle.fx_counted.proofs.Ending.{home_file, file_home, one_slot, none_outside_end}
-use Rattle.fx_counted.proofs.Frames.{read_at}
-use Rattle.fx_counted.proofs.Histories.{same_shape}
+use Rattle.fx_counted.proofs.Frames.{read_at, same_shape}
 use Rattle.fx_counted.proofs.Places.{apart, low_home, high_home}
 
 -- a table has no file past its slots
@@ -40,12 +39,8 @@ pub record IsPartlyBack (shell : State) (file : ℕ → Option Closed) (from to 
 
 module _ (shell : State) (file : ℕ → Option Closed) where
   pub all_back : {st : State} {from to : ℕ} → to ≤ from → IsPartlyBack shell file from to st → AreBack shell file st
-  all_back {from} done p = record {
-    size = p.size;
-    range = p.range;
-    files = λ slot. p.back slot (dite (dec_le (slot + 1) from) (λ l. inl (omega (arith, l))) (λ g. inr (omega (arith, g, done))));
-    settled = p.settled;
-  }
+  all_back {st} {from} done p = let files : (slot : ℕ) → identity_of (st.at slot) ≡ file slot =
+      λ slot. p.back slot (dite (dec_le (slot + 1) from) (λ l. inl (omega (arith, l))) (λ g. inr (omega (arith, g, done)))) in assumption (p, files)
 
   -- one of them is back, or there was none
   one_back : {st st' : State} {slot from to from' to' : ℕ} → ((s : ℕ) → from' ≤ s → s < to' → (from ≤ s) × (s < to) × (s ≢ slot))
@@ -85,15 +80,6 @@ module _ (size : ℕ) (words : List ℕ) where
   abbrev pub file_at : List (Option Closed) → ℕ → Option Closed
   file_at xs slot = cond (nat_lt slot size) (file_of xs (number_at slot)) None
 
-  -- the places without that file, and without those of the first slots
-  abbrev pub without : Option ℕ → List (Option Closed) → List (Option Closed)
-  without None xs = xs
-  without (Some n) xs = set xs (home_place size n) None
-
-  abbrev pub emptied : ℕ → List (Option Closed) → List (Option Closed)
-  emptied zero xs = xs
-  emptied (suc slot) xs = without (number_at slot) (emptied slot xs)
-
   -- each file is in the place of the number that its slot names, and no other place has one
   pub record AreAtHome (numbers : ℕ) (xs : List (Option Closed)) : Type 0 where
     pub count : length xs ≡ homes_for size numbers
@@ -109,65 +95,57 @@ module _ (size : ℕ) (words : List ℕ) where
   pub none_past : (xs : List (Option Closed)) {slot : ℕ} → size ≤ slot → file_at xs slot ≡ None
   none_past xs {slot} g = ap (λ (b : Bool). cond b (file_of xs (number_at slot)) None) (le-ltb slot size g)
 
-  pub same_length : (done : ℕ) (xs : List (Option Closed)) → length (emptied done xs) ≡ length xs
-  same_length zero xs = refl
-  same_length (suc slot) xs = go (number_at slot) ∙ same_length slot xs
-    where
-      go : (n : Option ℕ) → length (without n (emptied slot xs)) ≡ length (emptied slot xs)
-      go None = refl
-      go (Some n) = length-set (emptied slot xs) (home_place size n) None
+  -- the places of the numbers of the first slots are empty, and those of the others are as they were
+  pub record AreEmptied (xs : List (Option Closed)) (done : ℕ) (now : List (Option Closed)) : Type 0 where
+    pub left : (slot n : ℕ) → done ≤ slot → slot < size → number_at slot ≡ Some n
+        → get_elem? now (home_place size n) ≡ get_elem? xs (home_place size n)
+    pub empty : (place : ℕ) → place < length xs → (get_elem? now place ≡ some None)
+        ⊎ ((slot : ℕ) × (n : ℕ) × (done ≤ slot) × (slot < size) × (number_at slot ≡ Some n) × (home_place size n ≡ place))
 
-  -- a place without a file stays so
-  still_none : (n : Option ℕ) (xs : List (Option Closed)) (place : ℕ) → get_elem? xs place ≡ some None → get_elem? (without n xs) place ≡ some None
-  still_none None xs place e = e
-  still_none (Some n) xs place e = dite (ℕ_discrete place (home_place size n))
-      (λ same. let here = ap (get_elem? xs) (sym same) ∙ e in ap (get_elem? (set xs (home_place size n) None)) same
-      ∙ set_here xs (home_place size n) None (stands_at xs (home_place size n) None here).0)
-      (λ ne. set_else xs (home_place size n) place None ne ∙ e)
-
-  none_stays : (done : ℕ) (xs : List (Option Closed)) (place : ℕ) → get_elem? xs place ≡ some None → get_elem? (emptied done xs) place ≡ some None
-  none_stays zero xs place e = e
-  none_stays (suc slot) xs place e = still_none (number_at slot) (emptied slot xs) place (none_stays slot xs place e)
+  pub all_gone : {xs now : List (Option Closed)} → AreEmptied xs size now → {place : ℕ} → place < length xs → get_elem? now place ≡ some None
+  all_gone a {place} l = ⊎_elim (λ e. e) (λ t. absurd (omega (arith, t.2, t.3))) (a.empty place l)
 
   module _ (numbers : ℕ) (xs : List (Option Closed)) (home : AreAtHome numbers xs) where
-    -- the content of the place of a later slot's number stays
-    pub untouched : (done : ℕ) {slot n : ℕ} → done ≤ slot → slot < size → number_at slot ≡ Some n
-        → get_elem? (emptied done xs) (home_place size n) ≡ get_elem? xs (home_place size n)
-    untouched zero l inside is = refl
-    untouched (suc s) {slot} {n} l inside is = go (number_at s) refl ∙ untouched s (omega arith) inside is
+    pub none_emptied_yet : AreEmptied xs 0 xs
+    none_emptied_yet = record {
+      left = λ _ _ _ _ _. refl;
+      empty = λ place l. let x = get_or xs place None in by_content place x (at_index xs place x l (get_or_default xs place None x l));
+    }
       where
-        go : (m : Option ℕ) → number_at s ≡ m
-            → get_elem? (without m (emptied s xs)) (home_place size n) ≡ get_elem? (emptied s xs) (home_place size n)
-        go None e = refl
-        go (Some m) e = set_else (emptied s xs) (home_place size m) (home_place size n) None
-            (home.apart slot s n m inside (omega arith) (λ same. omega arith) is e)
+        by_content : (place : ℕ) (x : Option Closed) → get_elem? xs place ≡ some x → (get_elem? xs place ≡ some None)
+            ⊎ ((slot : ℕ) × (n : ℕ) × (0 ≤ slot) × (slot < size) × (number_at slot ≡ Some n) × (home_place size n ≡ place))
+        by_content place None e = inl e
+        by_content place (Some file) e = let o = home.others place file e in inr (o.0, o.1, omega arith, o.2, o.3, o.4)
 
-    -- the place of an earlier slot's number is empty
-    gone : (done slot n : ℕ) → slot < done → done ≤ size → number_at slot ≡ Some n → get_elem? (emptied done xs) (home_place size n) ≡ some None
-    gone zero slot n l few is = absurd (omega arith)
-    gone (suc s) slot n l few is = dite (ℕ_discrete slot s)
-        (λ same. subst (λ (m : Option ℕ). get_elem? (without m (emptied s xs)) (home_place size n) ≡ some None) (sym is ∙ ap number_at same)
-        (set_here (emptied s xs) (home_place size n) None
-        (let a = same_length s xs in let b = home.inside slot n (omega arith) is in omega arith)))
-        (λ ne. still_none (number_at s) (emptied s xs) (home_place size n) (gone s slot n (omega (arith, ne)) (omega arith) is))
+    module _ {done : ℕ} {now : List (Option Closed)} (inside : done < size) (a : AreEmptied xs done now) where
+      pub none_emptied : number_at done ≡ None → AreEmptied xs (done + 1) now
+      none_emptied none = record {
+        left = λ slot n le. a.left slot n (omega arith);
+        empty = λ place l. ⊎_elim (λ e. inl e) (λ t. let apart : t.0 ≢ done = λ same. cc (sym t.4 ∙ (ap number_at same ∙ none)) in
+            inr (t.0, t.1, omega (arith, t.2, apart), t.3, t.4, t.5)) (a.empty place l);
+      }
 
-    pub all_gone : {place : ℕ} → place < length xs → get_elem? (emptied size xs) place ≡ some None
-    all_gone {place} l = let x = get_or xs place None in go x (at_index xs place x l (get_or_default xs place None x l))
-      where
-        go : (x : Option Closed) → get_elem? xs place ≡ some x → get_elem? (emptied size xs) place ≡ some None
-        go None e = none_stays size xs place e
-        go (Some file) e = let o = home.others place file e in
-            ap (get_elem? (emptied size xs)) (sym o.4) ∙ gone size o.0 o.1 o.2 (omega arith) o.3
+      pub place_emptied : {n : ℕ} {x : Option Closed} → number_at done ≡ Some n → get_elem? now (home_place size n) ≡ some x
+          → AreEmptied xs (done + 1) (set now (home_place size n) None)
+      place_emptied {n} {x} named there = let at = home_place size n in record {
+        left = λ slot m le lt is. set_else now at (home_place size m) None (home.apart slot done m n lt inside (λ same. omega arith) is named)
+            ∙ a.left slot m (omega arith) lt is;
+        empty = λ place l. dite (ℕ_discrete place at)
+            (λ same. inl (ap (get_elem? (set now at None)) same ∙ set_here now at None (stands_at now at x there).0))
+            (λ other. ⊎_elim (λ e. inl (set_else now at place None other ∙ e)) (λ t.
+            let apart : t.0 ≢ done = λ same. let e : Some t.1 ≡ Some n = sym t.4 ∙ (ap number_at same ∙ named) in
+            let f : t.1 ≡ n = cc e in other (sym t.5 ∙ ap (home_place size) f) in
+            inr (t.0, t.1, omega (arith, t.2, apart), t.3, t.4, t.5)) (a.empty place l));
+      }
 
 -- one slot's file comes back, if there is one
 module _ {size : ℕ} {words : List ℕ} {numbers : ℕ} {xs : List (Option Closed)} (home : AreAtHome size words numbers xs) {shell : State}
-    {slot : ℕ} (inside : slot < size) {now : List (Option Closed)} (are : now ≡ emptied size words slot xs) {st : State}
+    {slot : ℕ} (inside : slot < size) {now : List (Option Closed)} (are : AreEmptied size words xs slot now) {st : State}
     (part : IsPartlyBack shell (file_at size words xs) slot size st) where
   file_is : {n place : ℕ} {x : Option Closed} → number_at size words slot ≡ Some n → place ≡ home_place size n → get_elem? now place ≡ some x
       → file_at size words xs slot ≡ x
   file_is {n} {place} {x} named is there = here_at size words xs inside ∙ (ap (file_of size words xs) named
-      ∙ read_at xs (home_place size n) None (sym (untouched size words numbers xs home slot (omega arith) inside named)
-      ∙ (ap (λ (l : List (Option Closed)). get_elem? l (home_place size n)) (sym are) ∙ (ap (get_elem? now) (sym is) ∙ there))))
+      ∙ read_at xs (home_place size n) None (sym (are.left slot n (omega arith) inside named) ∙ (ap (get_elem? now) (sym is) ∙ there)))
 
   pub some_back : {n place : ℕ} {one : Closed} {st' : State} → number_at size words slot ≡ Some n → place ≡ home_place size n
       → get_elem? now place ≡ some (Some one) → Becomes st slot (Some one) st' → IsPartlyBack shell (file_at size words xs) (slot + 1) size st'
@@ -190,17 +168,9 @@ module _ {size : ℕ} {words : List ℕ} {numbers : ℕ} {xs : List (Option Clos
   pub none_named : number_at size words slot ≡ None → IsPartlyBack shell (file_at size words xs) (slot + 1) size st
   none_named named = not_back (here_at size words xs inside ∙ ap (file_of size words xs) named)
 
-  next : suc slot ≡ slot + 1
-  next = omega arith
-
-  pub place_emptied : {n place : ℕ} {new : List (Option Closed)} → number_at size words slot ≡ Some n → place ≡ home_place size n
-      → new ≡ set now place None → new ≡ emptied size words (slot + 1) xs
-  place_emptied named is written = written ∙ ((λ i. set (are i) (is i) None)
-      ∙ (ap (λ (m : Option ℕ). without size words m (emptied size words slot xs)) (sym named) ∙ ap (λ (m : ℕ). emptied size words m xs) next))
-
-  pub none_emptied : number_at size words slot ≡ None → now ≡ emptied size words (slot + 1) xs
-  none_emptied named = are ∙ (ap (λ (m : Option ℕ). without size words m (emptied size words slot xs)) (sym named)
-      ∙ ap (λ (m : ℕ). emptied size words m xs) next)
+  pub place_left : {n place : ℕ} {x : Option Closed} {new : List (Option Closed)} → number_at size words slot ≡ Some n → place ≡ home_place size n
+      → get_elem? now place ≡ some x → new ≡ set now place None → AreEmptied size words xs (slot + 1) new
+  place_left named is there written = rw (written, is) (place_emptied size words numbers xs home inside are named (rw is at there))
 
 -- the contents of the places at the settled end, and their way back: the end of a table whose passes are all idle
 module _ (t : CountedTable) {id : ℕ} {v : View} {words : List ℕ} (xs : List (Option Closed))
@@ -250,17 +220,14 @@ module _ (t : CountedTable) {id : ℕ} {v : View} {words : List ℕ} (xs : List 
     count = sym final.3 ∙ r.shape.homes;
     inside = λ slot n l is. (stands_at xs (home_place size n) _ (home_is slot n l is)).0;
     apart = λ slot other n m l l' ne is is'.
-        let f = named slot n l is in
-        let g = named other m l' is' in
+        let f = named slot n l is in let g = named other m l' is' in
         (apart size (chain_numbers k) r.shape.slots).homes n m (known slot n l is) (known other m l' is')
         (λ same. ne (one_slot r all_idle l l' f.1 g.1 (f.2 ∙ (same ∙ sym g.2))));
     others = λ place file there.
         let inside = (stands_at xs place (Some file) there).0 in
-        let b = by_place {place = place} (omega (arith, inside, final.3, r.shape.homes)) in
-        let h = home_file r all_idle b.1 in
+        let b = by_place {place = place} (omega (arith, inside, final.3, r.shape.homes)) in let h = home_file r all_idle b.1 in
         let here = final.4 place h.0 (ap (get_elem? final.0.homes) (sym b.2) ∙ h.1) in
-        let is : h.0 ≡ Some file = some-injective h.0 (Some file) (sym here ∙ there) in
-        let o = h.2 file is in
+        let is : h.0 ≡ Some file = some-injective h.0 (Some file) (sym here ∙ there) in let o = h.2 file is in
         (o.0, b.0, o.1, number_is o.1 ∙ ap number_of o.2, b.2);
   }
 

@@ -150,17 +150,20 @@ module _ (turn : Turn) (f : File) (t : ℕ) (works : turn.v.work ≡ Between (Re
 
   -- there is no action if the file stays open
   retirement_lets_go : IsLetGo turn f leaves.0 r.history []
-  retirement_lets_go = record {
-    grows = grows_none x.number r.history;
-    legal = r.legal;
-    own = refl;
-    told = one_same v f.number r.history;
-    held = (its_log turn).held ∙ ap held_in works;
-    holds = λ m. let b = ap (holding m) works in omega arith;
-    free = λ m other bad. let b = ap busy works in other (omega arith);
-    places = ap placing works;
-    open_file = ap file_in leaves.1;
-  }
+  retirement_lets_go =
+      let holds : (m : ℕ) → (state_after_all v.start r.history).holds m + held_of m v ≡ (state_after_all v.start r.history).holds m + 0 =
+      λ m. let b = ap (holding m) works in omega arith in
+      let free : (m : ℕ) → m ≢ f.number → busy v.work ≢ m + 1 = λ m other bad. let b = ap busy works in other (omega arith) in
+      assumption (
+        grows_none x.number r.history,
+        r.legal,
+        one_same v f.number r.history,
+        (its_log turn).held ∙ ap held_in works,
+        holds,
+        free,
+        ap placing works,
+        ap file_in leaves.1,
+      )
 
   retiring_same : {g : File} {u : ℕ} → v.work ≡ Between (Retiring g u) → f ≡ g
   retiring_same its = cc (sym works ∙ its)
@@ -253,8 +256,7 @@ module _ (turn : Turn) (f : File) (works : turn.v.work ≡ Between (Holding f)) 
       inl (λ last. omega arith, assumption (n, counts))
   by_phase fits (retired g) is has = let n = in_phase v.start st r holds_it.0 is in let a = n.counts in
       let b = n.some_hold in let h = held_now in let z = one_less in let same : g ≡ f.identity = cc has in
-      let e : less_one word ≡ word - 1 = sub_wraps (omega arith) fits (omega arith) in
-      dite (ℕ_discrete word 1)
+      let e : less_one word ≡ word - 1 = sub_wraps (omega arith) fits (omega arith) in dite (ℕ_discrete word 1)
       (λ last. inr (last, omega arith, is ∙ ap retired same, rw (← same) n.at_home, rw (← same) n.removed, omega arith))
       (λ more. inl (more, record { counts = omega arith; at_home = n.at_home; some_hold = omega arith; removed = n.removed }))
   by_phase fits _ is has = absurd (cc has)

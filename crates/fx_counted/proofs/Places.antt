@@ -52,14 +52,9 @@ module _ (size : ℕ) where
       slot_back = λ slot. omega arith;
     }
 
--- chains that have few numbers each have fewer than they may have
-pub fewer_numbers : {numbers : ℕ} (chains : ℕ) → numbers ≤ 64 → numbers * chains ≤ 64 * chains
-fewer_numbers chains few = mul-le-mul_right chains few
-
--- chains have few numbers together
+-- chains that have few numbers each have few together
 pub few_numbers : {numbers chains : ℕ} → numbers ≤ 64 → chains ≤ 1023 → numbers * chains ≤ 65472
-few_numbers {numbers} {chains} few count =
-    let a = fewer_numbers chains few in omega (arith, a)
+few_numbers {chains} few count = let a = mul-le-mul_right chains few in omega (arith, a)
 
 -- the control word, the draw word, and the words of slots
 first_words : (control_place ≡ 0) × (draw_place ≡ 8) × (slot_place 0 ≡ 16) × (slot_place 1 ≡ 24) × (slot_place 255 ≡ 2056)

@@ -3,7 +3,7 @@ use Rattle.fx_counted.proofs.Words.{◌≡◌, ℕ, ◌+◌, Bool, [], ◌∷◌
 use Rattle.fx_counted.proofs.Words.{Closed, ◌▷◌, numbered, Allocate, Full, no_use, one_number, Goes, place_of, slot_of, Sat, StillPlaces}
 use Rattle.fx_counted.proofs.Words.{HasAllocated, Tries, Stepped, Exchanges, Change, Outside, Same, More, Start, Work, Idle, Placing, nat_eq}
 use Rattle.fx_counted.proofs.Words.{IsPlacing, HasFoundAllFull, List, Action, Use, ◌▷▷◌, both_uses, Between, Proceeds}
-use Rattle.fx_counted.proofs.Going.{goes_one, goes_then, still_at_work}
+use Rattle.fx_counted.proofs.Calling.{goes_one, goes_then, still_at_work}
 
 -- one step more, and some more
 proceeds_one : {m m' : Sat} {xs : List Action} {a : Use} {w : Work} {c : Change} → Stepped m xs a w c m' → Proceeds m xs a w c m'
@@ -48,9 +48,7 @@ pub exchange_tried : {k : Start} {m m' m'' : Sat} {n slot i slots found old new 
     → slot_of i ≡ slot → Stepped m [] no_use m.0.work Same m' → m'.1 ≡ m.1
     → Exchanges (step slots i old new none) m' found m'' → Tries n file slot m (nat_eq found old) m''
 exchange_tried {m} {m'} {m''} {n} {slot} {i} {found} {old} {file} p here s same e =
-    let loaded = one_still p.work s same in
-    let work = s.work ∙ p.work in
-    let place = same ∙ p.place in
+    let loaded = one_still p.work s same in let work = s.work ∙ p.work in let place = same ∙ p.place in
     let start = s.start ∙ p.at.pass.0 in
     let at_home : m'.1 ≡ (place_of m'.0.start n, Some file) ∷ [] = place ∙ λ i. (place_of (sym start i) n, Some file) ∷ [] in
     tries_by (λ is. let w = e.wins n file work at_home is in

@@ -1,14 +1,27 @@
--- A seat is split off, and one is joined back.
+-- Seats that are split off and joined, passes as they are dealt out, and all of them in one seat again.
 use Rattle.fx_counted.proofs.Words.{◌≡◌, ℕ, List, length, sym, refl, ap, ◌∙◌, subst, arith, ⊎_elim, length-append, sum_by, sum_by-append, eqb}
 use Rattle.fx_counted.proofs.Words.{WorkAgrees, LogAgrees, Agrees, in_change, added, removed_by, Shared, holding, Outside, Log, Start, View, Work}
-use Rattle.fx_counted.proofs.Words.{Idle, Change, SplitsKeep, JoinsKeep, Between, together, spent, one_if, times}
+use Rattle.fx_counted.proofs.Words.{Idle, Change, SplitsKeep, JoinsKeep, Between, together, spent, one_if, times, ◌*◌, ◌+◌, ◌≤◌, [], ◌∷◌, Option}
+use Rattle.fx_counted.proofs.Words.{TableId, Seat, Closed, without_first, first_alone, IsIdle, dealt, Sat, new_log, pass_of, view_of, IsPassOf}
+use Rattle.fx_counted.proofs.Words.{is_idle, CountedPass, new_pass, IsNewPass, take, drop, ◌≢◌, some, get_elem?, Contains, Contents, state_of}
+use Rattle.fx_counted.proofs.Words.{IsSettled, ClosesTable, times_drawn, HasSameFiles, PassView, contains_none, contains_head, contains_map}
+use Rattle.fx_counted.proofs.Words.{contains_mapped, contains_reverse, contains_reversed, sum_map, sum_of, found_by, found_sum, logs_in, opening_of}
+use Rattle.fx_counted.proofs.Words.{state_after_all, first_log, Event, length-reverse, length-map, once, ◌<◌, map, reverse, once_is, ◌++◌, step}
+use Rattle.fx_counted.proofs.Words.{keeps, contains_only, held_in, set-get_or, Allows, set_again, append-nil, IsSettledSoFar}
 use Rattle.fx_table.proofs.Seats.{AreReseated, split, joined}
 use Rattle.fx_counted.proofs.Frames.{busy, owner_map}
 use Rattle.fx_counted.proofs.Keeping.{shape_kept}
+use Rattle.fx_table.proofs.Dealing.{first_left, last_left}
+use Rattle.fx_table.proofs.Chains.{in_part, some_there, some_times}
+use Rattle.fx_table.proofs.Gathering.{logs_are as each_log, sum_gathered, each_seat}
+use Rattle.fx_table.proofs.Settling.{IsWhole, closes_table, settles as settles_whole}
+use Rattle.fx_counted.proofs.Ending.{settled_end, whole_here, sum_here, drawn, told}
+use Rattle.fx_counted.specs.Settling.{Observes}
+use Rattle.fx_counted.proofs.Calling.{its_idle}
 
 -- a seat that does nothing, in no change
-abbrev IsIdle : View → Type 0
-IsIdle v = (v.work ≡ Between Idle) × (v.change ≡ Outside)
+abbrev DoesNothing : View → Type 0
+DoesNothing v = (v.work ≡ Between Idle) × (v.change ≡ Outside)
 
 abbrev logs : View → List Log
 logs v = v.logs
@@ -17,7 +30,7 @@ abbrev start : View → Start
 start v = v.start
 
 -- the rule holds where passes are in other seats that do nothing
-module _ (k : Start) (s : Shared) (r : Agrees k s) (views : List View) (a : AreReseated logs start k IsIdle s.views views) where
+module _ (k : Start) (s : Shared) (r : Agrees k s) (views : List View) (a : AreReseated logs start k DoesNothing s.views views) where
   by_log : (f : Log → ℕ) → sum_by (λ (u : View). sum_by f u.logs) views ≡ sum_by (λ (u : View). sum_by f u.logs) s.views
   by_log f = a.by_logs (sum_by f) refl (λ xs ys. sum_by-append f xs ys)
 
@@ -60,9 +73,133 @@ module _ (k : Start) (s : Shared) (r : Agrees k s) (views : List View) (a : AreR
   }
 
 pub splits_keep : SplitsKeep
-splits_keep k id v idle out s r at = reseated k s r _ (split logs start k IsIdle s.views id v at (idle, out)
+splits_keep k id v idle out s r at = reseated k s r _ (split logs start k DoesNothing s.views id v at (idle, out)
     (λ l. record v { logs = l }) (λ l. refl) (λ l. (idle, out)) (λ l. refl) (r.each_view id v at).start)
 
 pub joins_keep : JoinsKeep
-joins_keep k id v begun idle out other w w_idle w_out s r at apart there = reseated k s r _ (joined logs start k IsIdle s.views id v at (idle, out)
+joins_keep k id v begun idle out other w w_idle w_out s r at apart there = reseated k s r _ (joined logs start k DoesNothing s.views id v at (idle, out)
     other w (together v w) spent apart there (w_idle, w_out) (idle, out) refl begun (refl, refl) refl)
+
+-- Passes as they are dealt out, and all of them in one seat again: what the one history says of each.
+-- The passes that are dealt out.
+pub rest_is_dealt : {k : Start} {p : ℕ} → p ≤ k.passes → without_first (dealt k p) ≡ dealt k (p + 1)
+rest_is_dealt {k} {p} l = ap (λ (z : List Log). record (dealt k p) { logs = drop 1 z }) (first_left new_log p k.passes l)
+
+-- the last pass alone
+pub last_is_dealt : {k : Start} {p : ℕ} → p ≡ k.passes → dealt k p ≡ first_alone (dealt k p)
+last_is_dealt {k} {p} e = ap (λ (z : List Log). record (dealt k p) { logs = z }) (last_left new_log p k.passes e)
+
+-- the pass of a seat that has the first of them
+module _ {id : TableId} (k : Start) {p : ℕ} (low : 1 ≤ p) (high : p ≤ k.passes) {seat : Seat (Option Closed) View} {x : CountedPass}
+    (new : IsNewPass seat x) (table : seat.table_id ≡ id) (is : seat.me ≡ (first_alone (dealt k p), [])) where
+  alone : first_alone (dealt k p) ≡ record (dealt k p) { logs = new_log p ∷ [] }
+  alone = ap (λ (z : List Log). record (dealt k p) { logs = take 1 z }) (first_left new_log p k.passes high)
+
+  me : x.seat.me ≡ (record (dealt k p) { logs = new_log p ∷ [] }, [])
+  me = ap (λ (z : Seat (Option Closed) View). z.me) new.its_seat ∙ (is ∙ ap (λ (v : View). (v, [])) alone)
+
+  pub is_new_pass : IsPassOf id k x × (view_of x ≡ new_pass p)
+  is_new_pass = (
+    record {
+      table = ap (λ (z : Seat (Option Closed) View). z.table_id) new.its_seat ∙ table;
+      places = ap (λ (m : Sat). m.1) me;
+      log = new_log p;
+      seated = let none : (n : ℕ) → 0 ≤ n = λ n. omega arith in rw me (assumption (none k.chains, none 64, none (k.numbers * 0)));
+      knows = assumption (new, new.flag ∙ sym (ap (λ (m : Sat). is_idle m.0.work) me));
+    },
+    ap (λ (m : Sat). pass_of m.0) me,
+  )
+
+-- All passes in one seat: what the one history says of each of them.
+some_pass : {X : Type 0} (l : List X) → 0 < length l → (x : X) × Contains l x
+some_pass [] low = absurd (omega arith)
+some_pass (x ∷ l) low = (x, contains_head x l)
+
+module _ (id : TableId) (k : Start) where
+  abbrev pub Is : CountedPass → Type 0
+  Is p = IsPassOf id k p
+
+  -- the one log of a pass
+  abbrev pub log_of : CountedPass → Log
+  log_of p = first_log p.seat.me.0.logs
+
+  its_log : (p : CountedPass) → Is p → p.seat.me.0.logs ≡ log_of p ∷ []
+  its_log p fits = fits.seated.one ∙ ap (λ (x : Log). x ∷ []) (sym (ap first_log fits.seated.one))
+
+  module _ (ps : List CountedPass) (each : (p : CountedPass) → Contains ps p → Is p) (count : length ps ≡ k.passes)
+      {s : Shared} (r : Agrees k s) (seat : ℕ) {v : View} (at : get_elem? s.views seat ≡ some v) (logs_are : v.logs ≡ logs_in (reverse ps))
+      (idle : v.work ≡ Between Idle) where
+    these_logs : v.logs ≡ map log_of (reverse ps)
+    these_logs = logs_are ∙ each_log (λ p. p.seat.me.0.logs) log_of (reverse ps) (λ p h. its_log p (each p (contains_reverse ps p h)))
+
+    all_logs : length v.logs ≡ k.passes
+    all_logs = ap (length {A = Log}) these_logs ∙ (length-map (reverse ps) log_of ∙ (length-reverse ps ∙ count))
+
+    pub all_idle : (i : ℕ) (u : View) → get_elem? s.views i ≡ some u → u.work ≡ Between Idle
+    all_idle = each_seat (λ (u : View). u.logs) s.views seat v at (whole_here r seat at all_logs) (λ u. u.work ≡ Between Idle) idle
+        (λ i u e none. ((r.each_view i u e).empty none).0)
+
+    pub known : (p : CountedPass) → Contains ps p → LogAgrees k r.history r.phase v.work (log_of p)
+    known p h = (r.each_view seat v at).logs (log_of p) (rw these_logs (contains_mapped log_of (reverse ps) p (contains_reversed ps p h)))
+
+    sum_of_all : (f : Log → ℕ) → sum_by f v.logs ≡ sum_by (λ p. f (log_of p)) ps
+    sum_of_all f = sum_gathered (λ (p : CountedPass). p.seat.me.0.logs) log_of f ps v.logs these_logs
+
+    drawn_by : (c : ℕ) → sum_by (λ p. times c (log_of p).drawn) ps ≡ once r.draws.given c
+    drawn_by c = sym (sum_of_all (λ x. times c x.drawn)) ∙ drawn r seat at all_logs c
+
+    pub whole : 0 < k.passes → IsWhole (opening_of k) r.history (map view_of ps)
+    whole some_passes = record {
+      legal = r.legal;
+      settled = settled_end r all_idle;
+      seen = λ w h. let p = contains_map view_of ps w h in rw p.2 (known p.0 p.1).seen;
+      own = λ w h. let p = contains_map view_of ps w h in rw p.2 (known p.0 p.1).own;
+      authors = λ e h. let known : once k.passes e.pass ≢ 0 =
+          λ none. contains_none e (subst (λ (l : List Event). Contains l e) (r.authors e.pass none) (in_part e.pass r.history e h refl)) in
+          let a = sum_of_all (λ x. one_if (eqb x.number e.pass)) in let b = sum_here r seat at all_logs (λ x. one_if (eqb x.number e.pass)) in
+          let c = r.passes e.pass in let p = found_by (λ (q : CountedPass). (log_of q).number) e.pass ps (omega (arith, known)) in
+          (view_of p.0, contains_mapped view_of ps p.0 p.1, sym p.2);
+      chains_inside = λ w h c d. let p = contains_map view_of ps w h in
+          let a = sum_of (λ (q : CountedPass). times c (log_of q).drawn) ps p.0 p.1 in
+          let b = some_times c (log_of p.0).drawn (subst (λ (z : PassView). Contains z.drawn c) p.2 d) in
+          let e = drawn_by c in let o = once_is r.draws.given c in (omega (arith, o), omega (arith, o, r.draws.few));
+      drawn_once = λ c. let m = sum_map (times_drawn c) view_of ps in omega (arith, m, drawn_by c, once_is r.draws.given c);
+      all_drawn = λ ended c low high. let first = some_pass ps (omega arith) in
+          let a = sum_of (λ (q : CountedPass). one_if (log_of q).no_chains_left) ps first.0 first.1 in
+          let b = ap one_if (ended (view_of first.0) (contains_mapped view_of ps first.0 first.1)) in
+          let t = told r seat at all_logs in let u = sum_of_all (λ x. one_if x.no_chains_left) in let given = r.draws.all (omega arith) in
+          let p = found_sum (λ (q : CountedPass). times c (log_of q).drawn) ps (omega (arith, drawn_by c, once_is r.draws.given c)) in
+          (view_of p.0, contains_mapped view_of ps p.0 p.1, some_there c (log_of p.0).drawn p.2);
+    }
+
+    pub closes : 0 < k.passes → (left : Contents) → HasSameFiles (state_after_all k r.history) (state_of left) → IsSettled (state_of left)
+        → ClosesTable (opening_of k) (map view_of ps) left
+    closes some_passes left = closes_table (opening_of k) r.history (map view_of ps) left (whole some_passes)
+
+-- any seat may look, and nothing changes
+pub may_observe : {k : Start} (slots id i : ℕ) {me : Sat} → me.0.start ≡ k
+    → Allows (Agrees k) slots id me i (λ n. n) (Observes (step slots i 0 0 mathlib.Core.Option.none) me)
+may_observe slots id i {me} start s r wide at small = (
+  me.0,
+  keeps,
+  tt,
+  rw (set-get_or s.words i 0, set_again s.views id me.0 at) r,
+  record { last = s; rule = rw start r; seat = id; view = at; same = refl },
+)
+
+-- the history of a table with one pass, which is idle, without closing the table
+module _ (id : TableId) (k : Start) (p : CountedPass) (fits : IsPassOf id k p) (idle : IsIdle (view_of p)) (alone : k.passes ≡ 1)
+    {s : Shared} (r : Agrees k s) (seat : ℕ) (at : get_elem? s.views seat ≡ some p.seat.me.0) where
+  work : p.seat.me.0.work ≡ Between Idle
+  work = its_idle fits idle
+
+  only : (q : CountedPass) → Contains (p ∷ []) q → IsPassOf id k q
+  only q h = subst (IsPassOf id k) (sym (contains_only p q h)) fits
+
+  all_its : p.seat.me.0.logs ≡ p.seat.me.0.logs ++ []
+  all_its = sym (append-nil p.seat.me.0.logs)
+
+  pub settles : IsSettledSoFar (opening_of k) (view_of p)
+  settles = settles_whole (opening_of k) (view_of p) r.history
+      (whole id k (p ∷ []) only (sym alone) r seat at all_its work (omega (arith, alone))) fits.seated.front
+      ((known id k (p ∷ []) only (sym alone) r seat at all_its work p (contains_head p [])).held ∙ ap held_in work)

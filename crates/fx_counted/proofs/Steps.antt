@@ -1,9 +1,7 @@
 -- Lemmas of a step, passed on from one place. Declares nothing.
-pub use Rattle.fx_counted.proofs.Frames.{busy, does_now, stays_same, owner_same, owner_stays, Stays}
-pub use Rattle.fx_counted.proofs.Histories.{grows_none, Grows, IsHistory, grows_one, part_mine, same_shape, legal_more}
-pub use Rattle.fx_counted.proofs.Histories.{held_mine, grows_more, looks_few, each_changed}
-pub use Rattle.fx_counted.proofs.Keeping.{Turn, turn_of, word_at, its_log, its_work, by_turn, went, tells_none, now, logged, Step, step_kept, log_now}
-pub use Rattle.fx_counted.proofs.Keeping.{Made, Homes, NodeIn, in_phase, seat_in, tells, tells_one}
-pub use Rattle.fx_counted.proofs.NodeSteps.{one_same, near, far, MayTurn, OneNumber, NodeStep, node_agrees}
-pub use Rattle.fx_counted.proofs.NodeSteps.{words_now, slots_now, node_now, control_now, draws_now}
-pub use Rattle.fx_counted.proofs.Frames.{slot_same, draws_same, control_same, node_same, SameFile}
+pub use Rattle.fx_counted.proofs.Frames.{Grows, IsHistory, busy, control_same, does_now, draws_same, each_changed, grows_more, grows_none, grows_one}
+pub use Rattle.fx_counted.proofs.Frames.{held_mine, legal_more, looks_few, node_same, owner_same, owner_stays, part_mine, same_shape, slot_same}
+pub use Rattle.fx_counted.proofs.Frames.{stays_same}
+pub use Rattle.fx_counted.proofs.Keeping.{Homes, Made, MayTurn, NodeIn, NodeStep, OneNumber, Turn, by_turn, control_now, draws_now, far, in_phase}
+pub use Rattle.fx_counted.proofs.Keeping.{its_log, its_work, log_now, logged, near, node_agrees, node_now, now, one_same, seat_in, slots_now}
+pub use Rattle.fx_counted.proofs.Keeping.{step_kept, tells, tells_none, tells_one, turn_of, went, word_at, words_now}

@@ -11,7 +11,7 @@ use Rattle.fx_counted.proofs.Steps.{in_phase, seat_in, busy, owner_stays, does_n
 use Rattle.fx_counted.proofs.Steps.{same_shape, Turn, Homes, word_at, now, logged, its_log, its_work, log_now, tells, went, tells_one, node_same}
 use Rattle.fx_counted.proofs.Steps.{NodeIn, step_kept, slots_now, node_now, control_now, draws_now, words_now}
 use Rattle.fx_counted.proofs.Births.{roomy, else_place, unheld}
-use Rattle.fx_counted.proofs.FullSlots.{Stands, control_swap}
+use Rattle.fx_counted.proofs.ControlSteps.{Stands, control_swap}
 
 -- the phases after a file has left its slot for the seat id
 abbrev pub gone_out : ℕ → Option File → ℕ → (ℕ → Phase) → ℕ → Phase

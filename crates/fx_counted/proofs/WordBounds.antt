@@ -1,10 +1,10 @@
 -- The bounds of the words.
-use Rattle.fx_counted.proofs.Words.{sum_by, ◌≡◌, ℕ, ◌+◌, ◌≤◌, Option, Some, None, sym, ◌∙◌, subst, arith, File, sum_le_at, node_in, Agrees, Names}
-use Rattle.fx_counted.proofs.Words.{WorkAgrees, lengths, changes_of, looks, all_looks, Shared, looks_of, told_of, Start, Retiring, Between, IsSeated}
+use Rattle.fx_counted.proofs.Words.{count_by-le-length, sum_by, ◌≡◌, ℕ, ◌+◌, ◌≤◌, Option, Some, None, sym, ◌∙◌, subst, arith, File, sum_le_at}
+use Rattle.fx_counted.proofs.Words.{node_in, Agrees, Names, WorkAgrees, lengths, changes_of, looks, all_looks, Shared, looks_of, told_of, Start}
+use Rattle.fx_counted.proofs.Words.{Retiring, Between, IsSeated}
 use Rattle.fx_counted.specs.Bounds.{AreBounded, slot_word_in, node_word_in}
-use Rattle.fx_counted.proofs.Chains.{told_few}
 use Rattle.fx_counted.proofs.ControlSteps.{few_changes, few_full, few_added, few_removed}
-use Rattle.fx_counted.proofs.Histories.{looks_few}
+use Rattle.fx_counted.proofs.Frames.{looks_few}
 use Rattle.fx_counted.proofs.Keeping.{in_phase}
 use Rattle.fx_counted.proofs.Calling.{node_is}
 
@@ -26,8 +26,7 @@ module _ (k : Start) (s : Shared) (r : Agrees k s) where
   of_slot slot {number} None names seat is = let e : None ≡ Some number = sym (node_is (slot_word_in s slot) None names) ∙ is in absurd (cc e)
   of_slot slot {number} (Some f) names seat is =
       let e : Some f.number ≡ Some number = sym (node_is (slot_word_in s slot) (Some f) names) ∙ is in
-      let same : f.number ≡ number = cc in
-      let a = in_phase k s r seat.0 seat.2 in
+      let same : f.number ≡ number = cc in let a = in_phase k s r seat.0 seat.2 in
       subst (λ (n : ℕ). 4294967296 ≤ node_word_in k s n + 16777216) same (few_releases f.number _ _ a.counts)
 
   changes_most : sum_by changes_of s.views ≤ 16
@@ -40,7 +39,7 @@ module _ (k : Start) (s : Shared) (r : Agrees k s) where
     leaving = λ seat takes v f there is.
         let work : WorkAgrees k r.phase seat (Between (Retiring f takes)) = subst (WorkAgrees k r.phase seat) is (r.each_view seat v there).work in
         let a = in_phase k s r work.0 work.1 in few_releases f.number _ _ a.counts;
-    draws = let a = sum_le_at told_of lengths s.views (λ j u e. told_few u.logs) in let b = few_passes in
+    draws = let a = sum_le_at told_of lengths s.views (λ j u e. count_by-le-length (λ y. y.no_chains_left) u.logs) in let b = few_passes in
         let c = r.draws.counts in let d = r.draws.few in omega arith;
     changes = let a = r.control.upper in let b = changes_most in omega arith;
     least = let a = r.control.lower in let b = few_added k s r in let c = changes_most in omega arith;

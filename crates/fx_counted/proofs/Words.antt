@@ -1,85 +1,85 @@
 -- The names that these proofs cite, passed on from one place. Declares nothing.
-pub use Rattle.atomic_table.proofs.Lists.{set_here, set_else, at_set, at_longer, at_last, at_map, exchanged, at_index, set_again}
+pub use Rattle.atomic_table.proofs.Lists.{at_index, at_last, at_longer, at_map, at_set, exchanged, set_again, set_else, set_here}
 pub use Rattle.atomic_table.specs.Seated.{TableId}
-pub use Rattle.atomic_table.specs.Table.{Act, keeps, Valid, stepped, carried_after, step, gives, rest, takes, Final, Seen, Allows}
+pub use Rattle.atomic_table.specs.Table.{Act, Allows, Final, Seen, Valid, carried_after, gives, keeps, rest, step, stepped, takes}
 pub use Rattle.atomic_table.specs.declared.shared.Seat.{Seat}
 pub use Rattle.fx_base.specs.declared.open_file.Closed.{Closed}
-pub use Rattle.fx_counted.specs.Agrees.{Names, SlotAgrees, NodeAgrees, Agrees, PlacesNext, WorkAgrees, OwnerAgrees, Does, LogAgrees, ViewAgrees}
-pub use Rattle.fx_counted.specs.Agrees.{lengths, Home, HasShape, IsSeated, IsGone}
-pub use Rattle.fx_counted.specs.Changing.{InRange, HasToTell, IsAtWork, begun, difference}
-pub use Rattle.fx_counted.specs.Control.{full_in, if_full, ControlCounts, in_change, added, removed_by, changes_of, added_of, removed_of}
-pub use Rattle.fx_counted.specs.Counts.{looks, all_looks, looks_after, look_in}
-pub use Rattle.fx_counted.specs.Cuts.{without_first, first_alone, new_logs, first_view, together, spent}
+pub use Rattle.fx_counted.specs.Agrees.{Agrees, Does, HasShape, Home, IsGone, IsSeated, LogAgrees, Names, NodeAgrees, OwnerAgrees, PlacesNext}
+pub use Rattle.fx_counted.specs.Agrees.{SlotAgrees, ViewAgrees, WorkAgrees, lengths}
+pub use Rattle.fx_counted.specs.Changing.{HasToTell, InRange, IsAtWork, begun, difference}
+pub use Rattle.fx_counted.specs.Control.{ControlCounts, added, added_of, changes_of, full_in, if_full, in_change, removed_by, removed_of}
+pub use Rattle.fx_counted.specs.Counts.{all_looks, look_in, looks, looks_after}
+pub use Rattle.fx_counted.specs.Cuts.{first_alone, first_view, new_logs, spent, together, without_first}
 pub use Rattle.fx_counted.specs.Draws.{DrawsCount}
-pub use Rattle.fx_counted.specs.Firsts.{AreFirstWords, AreFirstHomes, first_at}
+pub use Rattle.fx_counted.specs.Firsts.{AreFirstHomes, AreFirstWords, first_at}
 pub use Rattle.fx_counted.specs.Goes.{Goes}
-pub use Rattle.fx_counted.specs.Laws.{word_of, place_of, HasPass, MayChange, BirthsKeep, RestsKeep, DrawsKeep, BeginsKeep, EndsKeep, AnswersKeep}
-pub use Rattle.fx_counted.specs.Laws.{LooksKeep, ReleasesKeep, RetiresKeep, SplitsKeep, JoinsKeep, ClearsKeep, TakesKeep, InstallsKeep, LoadsKeep}
-pub use Rattle.fx_counted.specs.Laws.{ExchangesKeep, IsInRange}
-pub use Rattle.fx_counted.specs.Layout.{slot_place, home_place, homes_for, slot_of, control_place, draw_place, node_place, HasNode, PlacesAreInside}
-pub use Rattle.fx_counted.specs.Layout.{PlacesAreApart, words_for}
-pub use Rattle.fx_counted.specs.Lives.{dealt, logs_in, IsIdleSeatOf, IsNewPass, AllAreIdle, Leaves}
+pub use Rattle.fx_counted.specs.Laws.{AnswersKeep, BeginsKeep, BirthsKeep, ClearsKeep, DrawsKeep, EndsKeep, ExchangesKeep, HasPass, InstallsKeep}
+pub use Rattle.fx_counted.specs.Laws.{IsInRange, JoinsKeep, LoadsKeep, LooksKeep, MayChange, ReleasesKeep, RestsKeep, RetiresKeep, SplitsKeep}
+pub use Rattle.fx_counted.specs.Laws.{TakesKeep, place_of, word_of}
+pub use Rattle.fx_counted.specs.Layout.{HasNode, PlacesAreApart, PlacesAreInside, control_place, draw_place, home_place, homes_for, node_place}
+pub use Rattle.fx_counted.specs.Layout.{slot_of, slot_place, words_for}
+pub use Rattle.fx_counted.specs.Lives.{AllAreIdle, IsIdleSeatOf, IsNewPass, Leaves, dealt, logs_in}
 pub use Rattle.fx_counted.specs.Moves.{HasPlace}
-pub use Rattle.fx_counted.specs.Opens.{word_for, node_for, home_for, OpensWith, first_file, OpeningKeeps}
-pub use Rattle.fx_counted.specs.Passes.{Shared, opening_of, slots_of, chain_numbers, IsNumber, state_after_all, shown, held_in, placing, held_of}
-pub use Rattle.fx_counted.specs.Passes.{holding, Sat, pass_of, doing_in, chain_in, first_log, end_in, next_in, drawn_of, told_of, looks_of, logs_of}
-pub use Rattle.fx_counted.specs.Passes.{new_log, first_or, steps_of}
-pub use Rattle.fx_counted.specs.Phases.{Phase, seated, file_in, placed, unborn, spare, leaving, owner, retired, emptied, closed}
-pub use Rattle.fx_counted.specs.Searching.{StillPlaces, HasAllocated, Tries, IsPlacing, HasFoundAllFull, Proceeds}
-pub use Rattle.fx_counted.specs.Shells.{file_in_place, AreBack, IsShellOf}
-pub use Rattle.fx_counted.specs.Tables.{view_of, is_idle, IsPassOf, opening_of_table, IsBetweenCalls, IsPassOfTable, HasOnePass}
-pub use Rattle.fx_counted.specs.Tells.{Stepped, IsInside, Exchanges, GoesOn, turned, TakesOut, LetsGo, SaysFull, Births, Rests, DrawTells, chain_given}
-pub use Rattle.fx_counted.specs.Tells.{changed, Looks, holds_now, Releases, Retires, Installs, Removes}
+pub use Rattle.fx_counted.specs.Opens.{OpensWith, first_file, home_for, node_for, word_for}
+pub use Rattle.fx_counted.specs.Passes.{IsNumber, Sat, Shared, chain_in, chain_numbers, doing_in, drawn_of, end_in, first_log, first_or, held_in}
+pub use Rattle.fx_counted.specs.Passes.{held_of, holding, logs_of, looks_of, new_log, next_in, opening_of, pass_of, placing, shown, slots_of}
+pub use Rattle.fx_counted.specs.Passes.{state_after_all, steps_of, told_of}
+pub use Rattle.fx_counted.specs.Phases.{Phase, closed, emptied, file_in, leaving, owner, placed, retired, seated, spare, unborn}
+pub use Rattle.fx_counted.specs.Searching.{HasAllocated, HasFoundAllFull, IsPlacing, Proceeds, StillPlaces, Tries}
+pub use Rattle.fx_counted.specs.Shells.{AreBack, IsShellOf, file_in_place}
+pub use Rattle.fx_counted.specs.Tables.{IsBetweenCalls, IsPassOf, IsPassOfTable, is_idle, opening_of_table, view_of}
+pub use Rattle.fx_counted.specs.Tells.{Births, DrawTells, Exchanges, GoesOn, Installs, IsInside, LetsGo, Looks, Releases, Removes, Rests, Retires}
+pub use Rattle.fx_counted.specs.Tells.{SaysFull, Stepped, TakesOut, chain_given, changed, holds_now, turned}
 pub use Rattle.fx_counted.specs.declared.pass.CountedPass.{CountedPass}
 pub use Rattle.fx_counted.specs.declared.table.CountedTable.{CountedTable}
 pub use Rattle.fx_counted.specs.declared.view.Change.{Change}
-pub use Rattle.fx_counted.specs.declared.view.Change.TheVariants.{Same, Outside, More, Less}
+pub use Rattle.fx_counted.specs.declared.view.Change.TheVariants.{Less, More, Outside, Same}
 pub use Rattle.fx_counted.specs.declared.view.Log.{Log}
 pub use Rattle.fx_counted.specs.declared.view.Start.{Start}
 pub use Rattle.fx_counted.specs.declared.view.View.{View}
 pub use Rattle.fx_counted.specs.declared.view.Work.{Work}
-pub use Rattle.fx_counted.specs.declared.view.Work.TheVariants.{Between, Placing, Emptying}
-pub use Rattle.fx_table.specs.declared.values.Task.TheVariants.{Idle, Holding, Retiring}
-pub use Rattle.fx_plain.specs.Contents.{Contents, state_of, file_at, IsPrepared}
-pub use Rattle.fx_plain.specs.History.{◌▷◌, held_by, held_after, part_of_pass, IsSeenBy, action_of, ◌▷▷◌, ReleasesItsOwn, IsLegal}
-pub use Rattle.fx_plain.specs.State.{State, IsSettled, file_numbered, files_in_order, identities_of}
+pub use Rattle.fx_counted.specs.declared.view.Work.TheVariants.{Between, Emptying, Placing}
+pub use Rattle.fx_plain.proofs.Cells.{by_equality, changed_else, changed_here}
+pub use Rattle.fx_plain.specs.Contents.{Contents, IsPrepared, state_of}
+pub use Rattle.fx_plain.specs.History.{IsLegal, IsSeenBy, ReleasesItsOwn, action_of, held_after, held_by, part_of_pass, ◌▷▷◌, ◌▷◌}
+pub use Rattle.fx_plain.specs.State.{IsSettled, State, file_numbered, files_in_order, identities_of}
 pub use Rattle.fx_plain.specs.Step.{changed_at, with_removed}
-pub use Rattle.fx_plain.specs.Table.{numbered, identity_of, number_of, slots_in_order}
+pub use Rattle.fx_plain.specs.Table.{identity_of, number_of, numbered, slots_in_order}
 pub use Rattle.fx_plain.specs.declared.event.Action.{Action}
-pub use Rattle.fx_plain.specs.declared.event.Action.TheVariants.{Look, Put, Clear, Take, Allocate, Close, Release, Full}
+pub use Rattle.fx_plain.specs.declared.event.Action.TheVariants.{Allocate, Clear, Close, Full, Look, Put, Release, Take}
 pub use Rattle.fx_plain.specs.declared.event.Event.{Event}
 pub use Rattle.fx_plain.specs.declared.event.File.{File}
-pub use Rattle.fx_table.proofs.Members.{contains_none, contains_head, contains_map, contains_mapped, contains_only, contains_reverse}
+pub use Rattle.fx_table.proofs.Members.{contains_head, contains_map, contains_mapped, contains_none, contains_only, contains_reverse}
 pub use Rattle.fx_table.proofs.Members.{contains_reversed, each_all, stands_at}
-pub use Rattle.fx_table.proofs.SumLemmas.{found_by, found_sum, sum_at, sum_two, sum_set, sum_le_at, sum_map, sum_of, sum_zero, sum_zero_at}
-pub use Rattle.fx_table.specs.Calls.{Use, no_use, one_number, Adds, Draws, both_uses, one_look}
-pub use Rattle.fx_table.specs.Tasks.{activity_of, retiring}
+pub use Rattle.fx_table.proofs.Ones.{bit_else, bit_here, counted_once, once_is, once_more, one_if, one_less_at, one_more_at, times}
+pub use Rattle.fx_table.proofs.SumLemmas.{found_by, found_sum, sum_at, sum_le_at, sum_map, sum_of, sum_set, sum_two, sum_zero, sum_zero_at}
+pub use Rattle.fx_table.specs.Calls.{Adds, Draws, Use, both_uses, no_use, one_look, one_number}
 pub use Rattle.fx_table.specs.Closing.{ClosesTable, times_drawn}
 pub use Rattle.fx_table.specs.Numbers.{numbers_for, numbers_up_to, once}
-pub use Rattle.fx_table.specs.Opening.{range_of, start_of, IsGivenBack, HasSameFiles, size_of}
-pub use Rattle.fx_table.specs.Pass.{event_of, IsFront, PassView, next_number, new_pass, retired_of, IsIdle}
+pub use Rattle.fx_table.specs.Opening.{HasSameFiles, IsGivenBack, range_of, size_of, start_of}
+pub use Rattle.fx_table.specs.Pass.{IsFront, IsIdle, PassView, event_of, new_pass, next_number, retired_of}
+pub use Rattle.fx_table.specs.Settling.{IsSettledSoFar}
+pub use Rattle.fx_table.specs.Tasks.{activity_of, retiring}
 pub use Rattle.fx_table.specs.declared.limits.TheConstants.{MAX_CHAINS, MAX_PASSES}
 pub use Rattle.fx_table.specs.declared.values.Retired.{Retired}
-pub use Rattle.fx_words.proofs.Parts.{name_made, entry_made, takes_made, name_more, entry_more, takes_more, named_suc}
-pub use Rattle.fx_words.specs.Words.{node_in, name_in, entry_in, takes_in, slot_word_of, retire_amount_of, one_change, end_amount_of, full_word_of}
-pub use Rattle.fx_words.specs.Words.{born, control_word_of, named}
-pub use Rattle.std.proofs.Common.{◌≡◌, ◌≢◌, ℕ, zero, suc, ◌<◌, ◌≤◌, Bool, cond, nat_lt, List, [], ◌∷◌, length, set, sym, refl, ap, ◌∙◌, subst, arith}
-pub use Rattle.std.proofs.Common.{lt-ltb, le-ltb, Option, Some, None, slice_index, ◌+◌, ◌-◌, ◌%◌, ◌^◌, false, eqb, inl, ◌++◌, ◌⊎◌, inr, ⊎_elim}
-pub use Rattle.std.proofs.Common.{eq-eqb, ne_eqb, length-append, true, map, get_or, IsSome, ◌*◌, get_or-set_other, get_or-set_same, ◌/◌, reverse}
-pub use Rattle.std.proofs.Common.{vec_capacity, rules, All, ◌&&◌, nat_eq, length-set, take, drop}
-pub use Rattle.std.proofs.Math.Nat.{mul-le-mul_left, mul-add, mul-le-mul_right}
-pub use Rattle.std.proofs.lemmas.List.{length-reverse, length-map, get_or_append_left, set-get_or, get_or_default, get_or_push, append-nil}
-pub use Rattle.std.proofs.lemmas.List.Elements.{Contains-append_left, All-contains}
-pub use Rattle.std.proofs.lemmas.List.Sums.{sum_by-append, sum_by-cons, count_by-le-length}
-pub use Rattle.std.specs.Mem.Slots.{slots_items, slots_len, IsFull, slots_filled}
-pub use Rattle.std.specs.Prelude.{sum_by, count_by, Contains, Result, option_map, Ok, Err, OnOk, is_some, ℤ, slice_index_or}
+pub use Rattle.fx_table.specs.declared.values.Task.TheVariants.{Holding, Idle, Retiring}
+pub use Rattle.fx_words.proofs.Parts.{entry_made, entry_more, name_made, name_more, named_suc, takes_made, takes_more}
+pub use Rattle.fx_words.specs.Words.{born, control_word_of, end_amount_of, entry_in, full_word_of, name_in, named, node_in, one_change}
+pub use Rattle.fx_words.specs.Words.{retire_amount_of, slot_word_of, takes_in}
+pub use Rattle.std.proofs.Common.{All, Bool, IsSome, List, None, Option, Some, [], ap, arith, cond, drop, eq-eqb, eqb, false, get_or}
+pub use Rattle.std.proofs.Common.{get_or-set_other, get_or-set_same, inl, inr, le-ltb, length, length-append, length-set, lt-ltb, map, nat_eq, nat_lt}
+pub use Rattle.std.proofs.Common.{ne_eqb, refl, reverse, rules, set, slice_index, subst, suc, sym, take, true, vec_capacity, zero, ℕ, ⊎_elim, ◌%◌}
+pub use Rattle.std.proofs.Common.{◌&&◌, ◌*◌, ◌++◌, ◌+◌, ◌-◌, ◌/◌, ◌<◌, ◌^◌, ◌∙◌, ◌∷◌, ◌≡◌, ◌≢◌, ◌≤◌, ◌⊎◌}
+pub use Rattle.std.proofs.Math.ListN.{get_or-eq_default}
+pub use Rattle.std.proofs.Math.Nat.{mul-add, mul-le-mul_left, mul-le-mul_right}
+pub use Rattle.std.proofs.lemmas.List.{append-nil, get_or_append_left, get_or_default, get_or_push, length-map, length-reverse, set-get_or}
+pub use Rattle.std.proofs.lemmas.List.Elements.{All-contains, Contains-append_left}
+pub use Rattle.std.proofs.lemmas.List.FromFn.{length-map-range_with_len}
+pub use Rattle.std.proofs.lemmas.List.Sums.{count_by-le-length, sum_by-append, sum_by-cons}
+pub use Rattle.std.specs.List.{range_with_len}
+pub use Rattle.std.specs.Mem.Slots.{IsFull, slots_filled, slots_items, slots_len}
+pub use Rattle.std.specs.Prelude.{Contains, Err, Ok, OnOk, Result, count_by, is_some, option_map, slice_index_or, sum_by, ℤ}
 pub use lib.ListN.{get_elem?}
 pub use mathlib.Core.Logic.{dite}
-pub use mathlib.Core.Option.{some, none, some-injective, some-ne-none}
-pub use native.Mathlib.Decide.{ℕ_discrete, dec_le}
-pub use Rattle.fx_table.proofs.Ones.{one_if, times, bit_here, bit_else, once_is, once_more, one_more_at, one_less_at, counted_once}
-pub use Rattle.fx_plain.proofs.Cells.{changed_here, changed_else, by_equality}
-pub use Rattle.std.proofs.Math.ListN.{get_or-eq_default}
-pub use Rattle.fx_table.specs.Settling.{IsSettledSoFar}
-pub use Rattle.std.specs.List.{range_with_len}
-pub use Rattle.std.proofs.lemmas.List.FromFn.{length-map-range_with_len}
+pub use mathlib.Core.Option.{none, some, some-injective, some-ne-none}
+pub use native.Mathlib.Decide.{dec_le, ℕ_discrete}

@@ -41,7 +41,8 @@ Names word None = name_in word ≡ 0
 Names word (Some f) = (name_in word ≡ f.number + 1) × (entry_in word ≡ f.identity.entry)
 
 -- the file at a slot: its takes are the look-ups that found it, and it knows its slot
-abbrev pub IsSeated : Start → (ℕ → ℕ) → (ℕ → Phase) → ℕ → ℕ → Option File → Type 0
+abbrev pub IsSeated : (k : Start) (looks : ℕ → ℕ) (phase : ℕ → Phase) (slot word : ℕ) → Option File
+    → Type 0
 IsSeated k looks phase slot word None = Unit {0}
 IsSeated k looks phase slot word (Some f) = IsNumber k f.number
     × (takes_in word ≡ looks f.number) × (phase f.number ≡ seated slot f.identity)

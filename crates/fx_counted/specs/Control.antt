@@ -40,7 +40,7 @@ if_full None = 0
 if_full (Some f) = 1
 
 -- the full slots among the given number of slots from the slot `off` on
-abbrev pub full_in : (ℕ → Option File) → ℕ → ℕ → ℕ
+abbrev pub full_in : (at : ℕ → Option File) (off len : ℕ) → ℕ
 full_in at off zero = 0
 full_in at off (suc len) = full_in at off len + if_full (at (off + len))
 

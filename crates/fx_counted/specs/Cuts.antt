@@ -11,7 +11,7 @@ use Rattle.fx_counted.specs.declared.view.Work.TheVariants.{Between}
 use Rattle.fx_table.specs.declared.values.Task.TheVariants.{Idle}
 
 -- `n` new passes, numbered from `p`
-abbrev pub new_logs : ℕ → ℕ → List Log
+abbrev pub new_logs : (p n : ℕ) → List Log
 new_logs p n = map new_log (range_with_len p n)
 
 -- the view of the seat that opens the table

@@ -21,24 +21,24 @@ abbrev pub slot_of : ℕ → ℕ
 slot_of place = (place - 16) / 8
 
 -- the node word of a number; those of the chains' numbers follow the slots, side by side
-abbrev pub node_place : ℕ → ℕ → ℕ
+abbrev pub node_place : (size number : ℕ) → ℕ
 node_place size number =
     if nat_lt number size then 17 + 8 * number else 16 + 8 * size + (number - FIRST_CHAIN_NUMBER)
 
 -- the number of words, if the chains have `numbers` numbers together
-abbrev pub words_for : ℕ → ℕ → ℕ
+abbrev pub words_for : (size numbers : ℕ) → ℕ
 words_for size numbers = 16 + 8 * size + numbers
 
 -- the place of a number's open file
-abbrev pub home_place : ℕ → ℕ → ℕ
+abbrev pub home_place : (size number : ℕ) → ℕ
 home_place size number = if nat_lt number size then number else size + (number - FIRST_CHAIN_NUMBER)
 
 -- the number of places for open files
-abbrev pub homes_for : ℕ → ℕ → ℕ
+abbrev pub homes_for : (size numbers : ℕ) → ℕ
 homes_for size numbers = size + numbers
 
 -- The number has a word and a place: it is that of a slot or of a chain
-abbrev pub HasNode : ℕ → ℕ → ℕ → Type 0
+abbrev pub HasNode : (size numbers number : ℕ) → Type 0
 HasNode size numbers number = (number < size)
     ⊎ ((FIRST_CHAIN_NUMBER ≤ number) × (number < FIRST_CHAIN_NUMBER + numbers))
 

@@ -30,22 +30,23 @@ abbrev pub Proceeds : Sat → List Action → Use → Work → Change → Sat �
 Proceeds m actions used w c m' = (most : ℕ) × Goes m actions used w c most m'
 
 -- the file is still to be installed
-abbrev pub StillPlaces : ℕ → Change → Sat → Sat → Type 0
+abbrev pub StillPlaces : (number : ℕ) (c : Change) (m m' : Sat) → Type 0
 StillPlaces number c m m' = Proceeds m [] no_use (Placing number) c m' × (m'.1 ≡ m.1)
 
 -- the file is at the slot, which was empty before
-abbrev pub HasAllocated : ℕ → Identity → ℕ → Change → Sat → Sat → Type 0
+abbrev pub HasAllocated : (number : ℕ) (file : Identity) (slot : ℕ) (c : Change) (m m' : Sat)
+    → Type 0
 HasAllocated number file slot c m m' =
     Proceeds m ([] ▷ Allocate slot (numbered number file)) one_number (Between Idle) c m'
     × (m'.1 ≡ [])
 
 -- every slot of the range had a file, and this one is still to be installed
-abbrev pub HasFoundAllFull : ℕ → Sat → Sat → Type 0
+abbrev pub HasFoundAllFull : (number : ℕ) (m m' : Sat) → Type 0
 HasFoundAllFull number m m' =
     Proceeds m ([] ▷ Full) no_use (Placing number) Outside m' × (m'.1 ≡ m.1)
 
 -- a try at one slot
-abbrev pub Tries : ℕ → Identity → ℕ → Sat → Bool → Sat → Type 0
+abbrev pub Tries : (number : ℕ) (file : Identity) (slot : ℕ) (m : Sat) → Bool → Sat → Type 0
 Tries number file slot m true m' = HasAllocated number file slot More m m'
 Tries number file slot m false m' = StillPlaces number Same m m'
 

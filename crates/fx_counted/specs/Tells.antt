@@ -57,14 +57,14 @@ holds_now None = Between Idle
 holds_now (Some f) = Between (Holding f)
 
 -- the difference that a pass has to report if a slot had `old` files and now has `new`, each 0 or 1
-abbrev pub changed : ℕ → ℕ → Change
+abbrev pub changed : (old new : ℕ) → Change
 changed zero zero = Same
 changed zero (suc new) = More
 changed (suc old) zero = Less
 changed (suc old) (suc new) = Same
 
 -- a pass reports changes of slots in the range only
-abbrev pub turned : Change → ℕ → ℕ → Change
+abbrev pub turned : Change → (old new : ℕ) → Change
 turned Outside old new = Outside
 turned Same old new = changed old new
 turned More old new = More
@@ -156,7 +156,7 @@ pub record Exchanges (st : At) (m : Sat) (found : ℕ) (m' : Sat) : Type 0 where
   pub loses : found ≢ st.first → Stepped m [] no_use m.0.work m.0.change m' × (m'.1 ≡ m.1)
 
 -- the chain that a draw which found this word returns
-abbrev pub chain_given : ℕ → ℕ → Option ℕ
+abbrev pub chain_given : (chains found : ℕ) → Option ℕ
 chain_given chains found = if nat_lt found chains then Some (found + 1) else None
 
 -- Draw: the pass gets the next chain, or `None`

@@ -235,12 +235,9 @@ fn removed_in(word: u64) -> Option<Retired>
     ensures { (file : Option File) → Names word file
         → result ≡ option_map (λ f. retired_of f (takes_in word)) file }
 {
-    match node_of(word) {
-        None => None,
-        Some(node) => Some(Retired {
-            node,
-            entry: entry_of(word),
-            takes: takes_of(word),
-        }),
-    }
+    Some(Retired {
+        node: node_of(word)?,
+        entry: entry_of(word),
+        takes: takes_of(word),
+    })
 }

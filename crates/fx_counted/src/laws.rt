@@ -14,11 +14,13 @@ pub fn opening_keeps_rule()
 {}
 
 /// States that splitting a pass off an idle seat keeps the rule.
+#[tactic(auto, using(crate::proofs::Seats::splits_keep))]
 pub fn split_keeps_rule()
     ensures { SplitsKeep }
 {}
 
 /// States that joining the passes of an idle seat to another idle seat keeps the rule.
+#[tactic(auto, using(crate::proofs::Seats::joins_keep))]
 pub fn join_keeps_rule()
     ensures { JoinsKeep }
 {}
@@ -114,11 +116,13 @@ pub fn words_are_bounded()
 
 /// States that each word and each open file of a table of `size` slots, whose chains have `numbers` file numbers
 /// together, has its place inside the table's memory.
+#[tactic(auto, using(crate::proofs::Places::inside))]
 pub fn places_are_inside()
     ensures { (size numbers : ℕ) → size ≤ MOST_SLOTS → PlacesAreInside size numbers }
 {}
 
 /// States that different words have different places, and that the files of different numbers do too.
+#[tactic(auto, using(crate::proofs::Places::apart))]
 pub fn places_are_apart()
     ensures { (size numbers : ℕ) → size ≤ MOST_SLOTS → PlacesAreApart size numbers }
 {}

@@ -8,12 +8,13 @@ ghost use Rattle.fx_table.specs.Pass.{IsIdle, new_passes};
 ghost use Rattle.fx_words.specs.Words.{slot_word_of, born};
 ghost use Rattle.fx_counted.specs.Control.{full_in};
 ghost use Rattle.fx_counted.specs.Firsts.{first_at, AreFirstWords, AreFirstHomes};
-ghost use Rattle.fx_counted.specs.Layout.{slot_place};
+ghost use Rattle.fx_counted.specs.Cuts.{first_view};
+ghost use Rattle.fx_counted.specs.Layout.{slot_place, words_for, homes_for};
 ghost use Rattle.fx_counted.specs.Lives.{HasAllPasses};
 ghost use Rattle.fx_counted.specs.Shells.{IsShellOf};
 ghost use Rattle.fx_counted.specs.Tables.{view_of, opening_of_table, IsPassOfTable};
 
-use crate::kinds::Deal;
+use crate::kinds::{Deal, OneHistory};
 use crate::layout::{CONTROL, MOST_NUMBERS, homes_for, slot_place, words_for};
 use crate::moves::BORN;
 use crate::pass::CountedPass;
@@ -92,7 +93,7 @@ impl CountedTable {
     // Creates the shared table, and a seat with all passes.
     fn start(
         alloc: Global,
-        mut plain: PlainTable,
+        plain: PlainTable,
         chains: u32,
         numbers: u32,
         passes: u32,
@@ -114,31 +115,20 @@ impl CountedTable {
         };
         let size = plain.size();
         let (range_start, range_len) = plain.range();
-        let Ok(words) = first_words(alloc, &plain, numbers * chains) else {
-            return Err((plain, NoMemory));
-        };
-        let Ok(homes) = first_homes(alloc, &mut plain, numbers * chains) else {
-            return Err((plain, NoMemory));
-        };
-        match Table::new(alloc, words.as_slice(), homes, &key) {
-            Ok((table, seat)) => Ok((
-                CountedTable {
-                    table,
-                    shell: plain,
-                    chains,
-                    passes,
-                    numbers,
-                    size,
-                    range_start,
-                    range_len,
-                },
-                seat,
-            )),
-            Err(Refused { slots }) => {
-                put_all(&mut plain, slots);
-                Err((plain, NoMemory))
-            }
-        }
+        let (table, seat, shell) = share(alloc, plain, &key)?;
+        Ok((
+            CountedTable {
+                table,
+                shell,
+                chains,
+                passes,
+                numbers,
+                size,
+                range_start,
+                range_len,
+            },
+            seat,
+        ))
     }
 
     // Hands each pass a seat of its own.
@@ -156,6 +146,52 @@ impl CountedTable {
             number += 1;
         }
         list.push_reserved(CountedPass::new(seat));
+    }
+}
+
+// Creates the words and places of a shared table, whose files come from this table, and a seat with all passes.
+fn share(
+    alloc: Global,
+    mut plain: PlainTable,
+    key: &Start,
+) -> Result<
+    (
+        Table<Option<OpenFile>, View, Start, OneHistory, Global>,
+        Seat<Option<OpenFile>, View>,
+        PlainTable,
+    ),
+    (PlainTable, NoMemory),
+>
+    requires settled { IsSettled (state_of plain) }
+    requires plain { key.now.plain.value ≡ plain }
+    requires inside { let st = state_of plain in
+        (st.size ≤ MOST_SLOTS) × (st.range.0 + st.range.1 ≤ st.size) }
+    requires chains { (key.now.chains ≤ MAX_CHAINS) × (key.now.numbers ≤ CHAIN_NUMBERS) }
+    requires passes { key.now.passes ≤ MAX_PASSES }
+    ensures key { IfOk result (λ (t, _, _). t.shared.key ≡ key.now) }
+    ensures words { IfOk result (λ (t, _, _). t.shared.table_id.words
+        ≡ words_for (state_of plain).size (key.now.numbers * key.now.chains)) }
+    ensures homes { IfOk result (λ (t, _, _). t.shared.table_id.slots
+        ≡ homes_for (state_of plain).size (key.now.numbers * key.now.chains)) }
+    ensures seat { IfOk result (λ (t, seat, _). (seat.table_id ≡ t.shared.table_id)
+        × (seat.me ≡ (first_view key.now, []))) }
+    ensures shell { IfOk result (λ (_, _, shell). IsShellOf (state_of plain) (state_of shell)
+        × IsPrepared shell) }
+    ensures refused { IfErr result (λ (back, _). IsGivenBack plain back) }
+{
+    let numbers = key.numbers * key.chains;
+    let Ok(words) = first_words(alloc, &plain, numbers) else {
+        return Err((plain, NoMemory));
+    };
+    let Ok(homes) = first_homes(alloc, &mut plain, numbers) else {
+        return Err((plain, NoMemory));
+    };
+    match Table::new(alloc, words.as_slice(), homes, key) {
+        Ok((table, seat)) => Ok((table, seat, plain)),
+        Err(Refused { slots }) => {
+            put_all(&mut plain, slots);
+            Err((plain, NoMemory))
+        }
     }
 }
 

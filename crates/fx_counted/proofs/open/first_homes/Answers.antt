@@ -1,5 +1,5 @@
 use Rattle.fx_counted.proofs.Words.{ap, arith, length, length-append, ◌∷◌, [], Option, None, Closed}
-use Rattle.fx_counted.proofs.Starting.{all_taken, files_taken, none_behind}
+use Rattle.fx_counted.proofs.Openings.{all_taken, files_taken, none_behind}
 use Rattle.fx_counted.proofs.open.first_homes.Goals as goal
 
 pub loop-init : goal.loop-init
@@ -11,9 +11,7 @@ loop-init c = record {
 
 pub loop-preserved : goal.loop-preserved
 loop-preserved c =
-    let i = c.loop.invariant in
-    let e = c.push_reserved.ensures in
-    record {
+    let i = c.loop.invariant in let e = c.push_reserved.ensures in record {
       homes = none_behind e.items i.homes;
       count = let count = i.count in let more = ap (length {A = Option Closed}) e.items in
           omega (arith, count, more, length-append c.loop.homes.items (None ∷ []));

@@ -1,5 +1,5 @@
 use Rattle.fx_counted.proofs.Words.{◌≡◌, ◌≤◌, length, vec_capacity, state_of}
-use Rattle.fx_counted.proofs.Starting.{AreHomesUpTo}
+use Rattle.fx_counted.proofs.Openings.{AreHomesUpTo}
 use Rattle.fx_counted.proofs.open.first_homes.Given as goal
 
 abbrev pub invariant-loop : goal.invariant-loop

@@ -1,5 +1,5 @@
 use Rattle.fx_counted.proofs.Words.{state_of}
-use Rattle.fx_counted.proofs.Starting.{AreWordsSoFar}
+use Rattle.fx_counted.proofs.Openings.{AreWordsSoFar}
 use Rattle.fx_counted.proofs.open.first_words.Given as goal
 
 abbrev pub invariant-loop-slot : goal.invariant-loop-slot

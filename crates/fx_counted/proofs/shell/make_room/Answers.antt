@@ -1,4 +1,4 @@
-use Rattle.fx_counted.proofs.Starting.{prepared_or_not}
+use Rattle.fx_counted.proofs.Openings.{prepared_or_not}
 use Rattle.fx_counted.proofs.shell.make_room.Goals as goal
 
 pub returns-clause-same : goal.returns-clause-same

@@ -19,14 +19,10 @@ module _ (all xs ys : List (Option Closed)) (x : Option Closed) (split : xs ≡ 
 
 pub loop-file-preserved-in-Some-file : goal.loop-file-preserved-in-Some-file
 loop-file-preserved-in-Some-file c =
-    let all = c.args.places.items in
-    let xs = c.loop-file.places.items in
-    let now = c.pop.new.self.items in
-    let split = c.in-Some.ensures.items in
-    let i = c.loop-file.invariant in
+    let all = c.args.places.items in let xs = c.loop-file.places.items in let now = c.pop.new.self.items in
+    let split = c.in-Some.ensures.items in let i = c.loop-file.invariant in
     let slot_is : c.len-slot.result ≡ length now = omega (arith, c.len-slot.ensures, c.pop.new.self.ok.0) in
-    let file_is = last_is all xs now c.in-Some.file split i.items ∙ c.in-Some-file.is in
-    record {
+    let file_is = last_is all xs now c.in-Some.file split i.items ∙ c.in-Some-file.is in record {
       part = last_back (state_of c.args.plain.now) (file_in_place all) (rw (file_is, ← slot_is) (file_put i.part.settled c.put_back.ensures.state))
           (rw (one_less all xs now c.in-Some.file split i.items) at i.part);
       prepared = c.put_back.ensures.prepared;

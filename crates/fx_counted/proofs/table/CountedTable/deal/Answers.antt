@@ -1,7 +1,6 @@
 use Rattle.fx_counted.proofs.Words.{◌≡◌, ◌≤◌, [], ◌∙◌, ap, arith, without_first, first_alone, Sat, View}
 use Rattle.fx_table.proofs.Dealing.{one_dealt, all_dealt}
-use Rattle.fx_counted.proofs.Gathered.{rest_is_dealt, last_is_dealt, is_new_pass}
-use Rattle.fx_counted.proofs.Seats.{splits_keep}
+use Rattle.fx_counted.proofs.Seats.{rest_is_dealt, last_is_dealt, is_new_pass, splits_keep}
 use Rattle.fx_counted.proofs.table.CountedTable.deal.Goals as goal
 
 pub split_seat-one-requires : goal.split_seat-one-requires
@@ -13,9 +12,7 @@ split_seat-one-requires c = let i = c.loop-number.invariant in (
 
 pub loop-number-preserved : goal.loop-number-preserved
 loop-number-preserved c =
-    let s = c.split_seat-one.ensures in
-    let i = c.loop-number.invariant in
-    let k = c.args.self.now.table.shared.key in
+    let s = c.split_seat-one.ensures in let i = c.loop-number.invariant in let k = c.args.self.now.table.shared.key in
     let test = c.loop-number-test.true in
     let high : c.loop-number.number ≤ k.passes = omega (arith, c.args.self.now.key.1, test) in
     let new = is_new_pass k i.before.low high c.new.ensures (s.3 ∙ i.table) (s.4 ∙ ap (λ (m : Sat). (first_alone m.0, [])) i.me) in
@@ -28,9 +25,7 @@ loop-number-preserved c =
 
 pub returns : goal.returns
 returns c =
-    let i = c.loop-number.invariant in
-    let k = c.args.self.now.table.shared.key in
-    let all = c.args.self.now.key.1 in
+    let i = c.loop-number.invariant in let k = c.args.self.now.table.shared.key in let all = c.args.self.now.key.1 in
     let last : c.loop-number.number ≡ c.args.self.now.passes = omega (arith, c.loop-number-test.false, i.before.high) in
     let high : c.loop-number.number ≤ k.passes = omega (arith, last, all) in
     let new = is_new_pass k i.before.low high c.new-2.ensures i.table (i.me ∙ ap (λ (v : View). (v, [])) (last_is_dealt (last ∙ all))) in

@@ -5,9 +5,7 @@ use Rattle.fx_counted.proofs.table.CountedTable.gather.Goals as goal
 
 pub join_seat-requires : goal.join_seat-requires
 join_seat-requires c =
-    let t = c.args.self.now in
-    let i = c.loop-pass.invariant in
-    let p = subst (IsIdleSeatOf t) (sym c.into_seat-other.ensures)
+    let t = c.args.self.now in let i = c.loop-pass.invariant in let p = subst (IsIdleSeatOf t) (sym c.into_seat-other.ensures)
     (last_of (λ (z : CountedPass). IsIdleSeatOf t z.seat) _ _ _ c.in-Some.ensures.items i.passes) in (
       i.seat.table,
       p.table,

@@ -1,10 +1,9 @@
 use Rattle.fx_counted.proofs.Words.{◌≡◌, ℕ, [], ◌∷◌, ap, ◌∙◌, subst, arith, Some, ◌▷◌, numbered, Put, takes_in, slot_word_of, Adds, one_number}
-use Rattle.fx_counted.proofs.Words.{place_of, pass_of, view_of, opening_of_table, activity_of, retiring, Bool, sym, File, List, Log, None, Option, Retired}
-use Rattle.fx_counted.proofs.Words.{first_log, is_idle, option_map, refl, rest, is_some, retired_of, Between}
+use Rattle.fx_counted.proofs.Words.{place_of, pass_of, view_of, opening_of_table, activity_of, retiring, Bool, sym, File, List, Log, None, Option}
+use Rattle.fx_counted.proofs.Words.{Retired, first_log, is_idle, option_map, refl, rest, is_some, retired_of, Between}
 use Rattle.std.proofs.lemmas.Bool.{not-false, not-true}
 use Rattle.std.specs.Prelude.{not}
-use Rattle.fx_counted.proofs.Calling.{slot_inside, slot_at}
-use Rattle.fx_counted.proofs.Going.{its_pass, adds_so, goes_one, goes_then, goes_around, still_pass}
+use Rattle.fx_counted.proofs.Calling.{slot_inside, slot_at, its_pass, adds_so, goes_one, goes_then, goes_around, still_pass}
 use Rattle.fx_table.proofs.Removing.{placed_so}
 use Rattle.fx_counted.proofs.SlotLaws.{installs_keep}
 use Rattle.fx_counted.proofs.ControlSteps.{may_change}
@@ -12,13 +11,8 @@ use Rattle.fx_counted.proofs.table.CountedTable.put.Goals as goal
 
 pub swap-found-requires : goal.swap-found-requires
 swap-found-requires c =
-    let t = c.args.self.now in
-    let fits = c.requires.fits in
-    let n = c.next_number-number.result in
-    let born = c.put_in.ensures in
-    let began = c.begin-began.ensures in
-    let goes = began.goes in
-    let place = c.slot_place.ensures in (
+    let t = c.args.self.now in let fits = c.requires.fits in let n = c.next_number-number.result in let born = c.put_in.ensures in
+    let began = c.begin-began.ensures in let goes = began.goes in let place = c.slot_place.ensures in (
       began.table ∙ (born.table ∙ fits.table),
       slot_inside t c.requires.slot place,
       installs_keep _ _ _ _ c.args.slot n _ c.args.file c.begin-began.new.seat.me _ (goes.start ∙ (born.born.start ∙ (its_pass fits).0), goes.one.1)
@@ -35,22 +29,14 @@ idle_if_none (Some f) takes b told is = not-true b (sym told ∙ ap is_some is)
 
 pub returns : goal.returns
 returns c =
-    let o = opening_of_table c.args.self.now in
-    let v = view_of c.args.pass.now in
-    let m = c.end.new.seat.me in
-    let fits = c.requires.fits in
-    let n = c.next_number-number.result in
-    let file = c.args.file in
-    let takes = takes_in c.swap-found.result in
-    let born = c.put_in.ensures in
-    let began = c.begin-began.ensures in
-    let went = c.swap-found.ensures.2 in
-    let start = began.goes.start ∙ (born.born.start ∙ (its_pass fits).0) in
+    let o = opening_of_table c.args.self.now in let v = view_of c.args.pass.now in let m = c.end.new.seat.me in
+    let fits = c.requires.fits in let n = c.next_number-number.result in let file = c.args.file in
+    let takes = takes_in c.swap-found.result in let born = c.put_in.ensures in let began = c.begin-began.ensures in
+    let went = c.swap-found.ensures.2 in let start = began.goes.start ∙ (born.born.start ∙ (its_pass fits).0) in
     let carried = began.places ∙ born.place.place in
     let stepped = went.stepped n file (began.goes.work ∙ born.born.work) (carried ∙ λ i. (place_of (sym start i) n, Some file) ∷ []) in
     let goes = goes_then (goes_one born.born) (goes_around began.goes stepped c.end.ensures.goes) in
-    let shown = ap (λ (l : List Log). (first_log l).numbers_left) fits.seated.one in
-    record {
+    let shown = ap (λ (l : List Log). (first_log l).numbers_left) fits.seated.one in record {
       fits = still_pass _ fits goes
           (c.end.ensures.table ∙ (c.swap-found.ensures.0 ∙ (began.table ∙ born.table)))
           (c.end.ensures.places ∙ (went.carried ∙ ap rest carried))

@@ -1,16 +1,14 @@
-use Rattle.fx_counted.proofs.Words.{ℕ, ◌<◌, ◌≡◌, [], refl, sym, ap, ◌∙◌, arith, subst, Some, ◌▷◌, Close, File, no_use, Retired, retired_of, retire_amount_of}
-use Rattle.fx_counted.proofs.Words.{Goes, node_place, HasPlace, pass_of, state_after_all, IsInside, TakesOut, Change, Start, Idle, Retiring, Between}
-use Rattle.fx_counted.proofs.Calling.{node_inside}
-use Rattle.fx_counted.proofs.Going.{its_pass, its_removal, adds_so, still_pass, let_go, out_place, out_and_home}
+use Rattle.fx_counted.proofs.Words.{ℕ, sym, ◌<◌, ◌≡◌, [], refl, ap, ◌∙◌, arith, subst, Some, ◌▷◌, Close, File, no_use, Retired, retired_of}
+use Rattle.fx_counted.proofs.Words.{retire_amount_of, Goes, node_place, HasPlace, pass_of, state_after_all, IsInside, TakesOut, Change, Start, Idle}
+use Rattle.fx_counted.proofs.Words.{Retiring, Between}
+use Rattle.fx_counted.proofs.Calling.{node_inside, its_pass, its_removal, adds_so, still_pass, let_go, out_place, out_and_home}
 use Rattle.fx_counted.proofs.LettingGo.{retires_keep}
 use Rattle.fx_counted.proofs.table.CountedTable.retire.Goals.{After-fetch_sub-found}
 use Rattle.fx_counted.proofs.table.CountedTable.retire.Goals as goal
 
 pub fetch_sub-found-requires : goal.fetch_sub-found-requires
 fetch_sub-found-requires c =
-    let t = c.args.self.now in
-    let fits = c.requires.fits in
-    let (f, doing) = c.requires.removed in
+    let t = c.args.self.now in let fits = c.requires.fits in let (f, doing) = c.requires.removed in
     let (work, value) = its_removal fits doing in
     let is = c.node_place-place.ensures ∙ ap (λ (r : Retired). node_place t.size r.node) value in (
       fits.table,
@@ -27,11 +25,8 @@ module _ (c : After-fetch_sub-found) where
   its : (c.args.pass.now.seat.me.0.work ≡ Between (Retiring file c.args.retired.takes)) × (c.args.retired ≡ retired_of file c.args.retired.takes)
   its = its_removal c.requires.fits c.requires.removed.1
 
-  work : c.args.pass.now.seat.me.0.work ≡ Between (Retiring file c.args.retired.takes)
-  work = its.0
-
   closes : c.fetch_sub-found.result ≡ c.retire_amount-amount.result → TakesOut c.args.pass.now.seat.me [] file c.fetch_sub-found.new.seat.me
-  closes is = c.fetch_sub-found.ensures.2.closes file _ work is
+  closes is = c.fetch_sub-found.ensures.2.closes file _ its.0 is
 
   place : c.fetch_sub-found.result ≡ c.retire_amount-amount.result
       → HasPlace c.args.self.now.table.shared.key c.args.retired.node (Some file.identity) c.fetch_sub-found.new.seat.me
@@ -40,10 +35,8 @@ module _ (c : After-fetch_sub-found) where
 
 pub returns-then-found-amount : goal.returns-then-found-amount
 returns-then-found-amount c =
-    let a = (goal.at.returns-then-found-amount c).After-fetch_sub-found in
-    let fits = c.requires.fits in
-    let (f, doing) = c.requires.removed in
-    let went = c.fetch_sub-found.ensures.2.waits f _ (work a) c.if-found-amount.true in
+    let a = (goal.at.returns-then-found-amount c).After-fetch_sub-found in let fits = c.requires.fits in
+    let (f, doing) = c.requires.removed in let went = c.fetch_sub-found.ensures.2.waits f _ (its a).0 c.if-found-amount.true in
     let goes = let_go fits.seated.change went.0 in
     let held = subst (λ (z : Start). 0 < (state_after_all z (pass_of c.fetch_sub-found.new.seat.me.0).front).holds f.number)
     fits.seated.start went.1 in
@@ -60,9 +53,7 @@ take_out-requires-clause-place c =
 
 pub returns : goal.returns
 returns c =
-    let a = (goal.at.returns c).After-fetch_sub-found in
-    let fits = c.requires.fits in
-    let (f, doing) = c.requires.removed in
+    let a = (goal.at.returns c).After-fetch_sub-found in let fits = c.requires.fits in let (f, doing) = c.requires.removed in
     let is : c.fetch_sub-found.result ≡ c.retire_amount-amount.result = omega (arith, c.if-found-amount.false) in
     let goes = subst (λ (z : Change). Goes c.args.pass.now.seat.me ([] ▷ Close f) no_use (Between Idle) z 2 c.take_out.new.seat.me)
     fits.seated.change (out_and_home (closes a is) c.take_out.ensures.rests) in

@@ -34,17 +34,13 @@ fetch_sub-word-requires c =
 
 pub returns-then-says_full-clause-ends : goal.returns-then-says_full-clause-ends
 returns-then-says_full-clause-ends c =
-    let t = c.args.self.now in
-    let all = still_searching (goal.at.returns-then-says_full-clause-ends c).In-None in
-    let told : c.fetch_sub-word.result ≡ full_word_of t.range_len = search rules in
-    let answer = c.fetch_sub-word.ensures.2 in
+    let t = c.args.self.now in let all = still_searching (goal.at.returns-then-says_full-clause-ends c).In-None in
+    let told : c.fetch_sub-word.result ≡ full_word_of t.range_len = search rules in let answer = c.fetch_sub-word.ensures.2 in
     answered_full all (answer.full (told ∙ full_of t (all.0.1.start ∙ c.requires.placing.at.pass.0))) answer.carried
 
 pub returns-else-says_full-clause-ends : goal.returns-else-says_full-clause-ends
 returns-else-says_full-clause-ends c =
-    let t = c.args.self.now in
-    let all = still_searching (goal.at.returns-else-says_full-clause-ends c).In-None in
+    let t = c.args.self.now in let all = still_searching (goal.at.returns-else-says_full-clause-ends c).In-None in
     let told : c.fetch_sub-word.result ≢ full_word_of t.range_len = search rules in
-    let full = full_of t (all.0.1.start ∙ c.requires.placing.at.pass.0) in
-    let answer = c.fetch_sub-word.ensures.2 in
+    let full = full_of t (all.0.1.start ∙ c.requires.placing.at.pass.0) in let answer = c.fetch_sub-word.ensures.2 in
     answered_not all (answer.not_full (λ e. told (e ∙ sym full))) answer.carried

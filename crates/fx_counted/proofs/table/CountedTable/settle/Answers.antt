@@ -1,5 +1,5 @@
 use Rattle.fx_counted.proofs.Words.{arith}
-use Rattle.fx_counted.proofs.Gathered.{may_observe, settles}
+use Rattle.fx_counted.proofs.Seats.{may_observe, settles}
 use Rattle.fx_counted.proofs.table.CountedTable.settle.Goals as goal
 
 pub load-requires : goal.load-requires
@@ -7,7 +7,6 @@ load-requires c = let fits = c.requires.fits in (fits.table, omega (arith, c.arg
 
 pub returns-clause-settled : goal.returns-clause-settled
 returns-clause-settled c =
-    let t = c.args.self.now.table.shared in
-    let o = c.load.ensures.2 in
+    let t = c.args.self.now.table.shared in let o = c.load.ensures.2 in
     rw o.same (settles t.table_id t.key c.args.pass.now c.requires.fits c.requires.idle c.requires.alone
     (rw c.requires.fits.seated.start at o.rule) o.seat o.view)

@@ -5,17 +5,13 @@ use Rattle.fx_counted.proofs.table.CountedTable.take_out.Goals as goal
 
 pub exchange-requires : goal.exchange-requires
 exchange-requires c =
-    let h = c.requires.place.1 in
-    let is = rw c.args.self.now.same_size at c.home_place-place.ensures in
+    let h = c.requires.place.1 in let is = rw c.args.self.now.same_size at c.home_place-place.ensures in
     (c.requires.table, (Some c.requires.place.0, h.place ∙ λ i. (sym is i, Some c.requires.place.0) ∷ sym (ap rest h.place) i))
 
 pub store-requires : goal.store-requires
 store-requires c =
-    let t = c.args.self.now in
-    let n = c.args.number in
-    let h = c.requires.place.1 in
-    let is = rw t.same_size at c.home_place-place.ensures in
-    let me = c.exchange.ensures.3 in
+    let t = c.args.self.now in let n = c.args.number in let h = c.requires.place.1 in
+    let is = rw t.same_size at c.home_place-place.ensures in let me = c.exchange.ensures.3 in
     let view = ap (λ (z : Sat). z.0) me in (
       c.exchange.ensures.0 ∙ c.requires.table,
       node_inside t h.known c.node_place.ensures,

@@ -14,12 +14,8 @@ load-found-requires c =
 
 pub compare_exchange-requires : goal.compare_exchange-requires
 compare_exchange-requires c =
-    let t = c.args.self.now in
-    let place = c.slot_place-place.ensures in
-    let p = c.requires.placing in
-    let loaded = c.load-found.ensures.2 in
-    let s = loaded.stepped in
-    let small : c.args.file.entry < 2 ^ 8 = omega arith in
+    let t = c.args.self.now in let place = c.slot_place-place.ensures in let p = c.requires.placing in
+    let loaded = c.load-found.ensures.2 in let s = loaded.stepped in let small : c.args.file.entry < 2 ^ 8 = omega arith in
     let empty : node_in c.load-found.result ≡ None = search rules in (
       c.load-found.ensures.0 ∙ c.requires.table,
       slot_inside t (in_size t c.args.slot c.requires.range) place,

@@ -1,5 +1,0 @@
-use Rattle.fx_counted.proofs.Seats.{joins_keep}
-use Rattle.fx_counted.proofs.laws.join_keeps_rule.Goals as goal
-
-pub returns : goal.returns
-returns c = joins_keep
