@@ -7,9 +7,8 @@ use Rattle.fx_plain.specs.Laws.{IsStart}
 use Rattle.fx_plain.specs.Reopening.{IsTableAtRest}
 use Rattle.std.proofs.lemmas.Bool.{false_from_ne_true}
 use Rattle.fx_plain.proofs.Cells.{by_equality}
-use Rattle.fx_plain.proofs.Named.{named, named_same}
+use Rattle.fx_plain.proofs.Named.{named, named_same, sum_below, sum_grows}
 use Rattle.fx_plain.proofs.Prepared.{opening_is_start}
-use Rattle.fx_plain.proofs.Sums.{sum_below, sum_grows}
 use Rattle.fx_plain.proofs.LawTallies.{bit, placed_one, tally, tally_start, tally_all}
 
 -- two terms of a sum
@@ -32,8 +31,7 @@ begins_by_tally {st} few settled = record {
       let one = few f.number in absurd (omega arith));
   used = λ slot f below is.
       let here : named f.number (st.at slot) ≡ 1 = ap (named f.number) is ∙ named_same f f.number refl in
-      let at_least = placed_one f.number st.at slot st.size below in
-      let one = few f.number in
+      let at_least = placed_one f.number st.at slot st.size below in let one = few f.number in
       false_from_ne_true (st.fresh f.number) (λ fresh. let counted = ap bit fresh in omega arith);
 }
 

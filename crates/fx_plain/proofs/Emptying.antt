@@ -3,9 +3,8 @@ use Rattle.fx_plain.proofs.Words.{length-set, get_or_default, ◌≡◌, ℕ, ze
 use Rattle.fx_plain.proofs.Words.{ap, ◌∙◌, slice_index_or, Option, Some, None, arith, inl, inr, cases_lt, option_to_list, File, files_in_order}
 use Rattle.fx_plain.proofs.Words.{identities_of, AllPlaced, SameButPlaced, slot_at, node_at, file_at, file_named, nodes_without, removed_count_of, At}
 use Rattle.fx_plain.proofs.Words.{Gone, sum_by, Node, sum_by-set, identity_of}
-use Rattle.fx_plain.proofs.Cells.{each_set}
-use Rattle.fx_plain.proofs.Writes.{inside_of-At}
-use Rattle.fx_plain.proofs.Moving.{IsLeft, left_without, named_same}
+use Rattle.fx_plain.proofs.Cells.{each_set, inside_of-At}
+use Rattle.fx_plain.proofs.OwnNumbers.{IsLeft, left_without, named_same}
 
 -- more slots have no fewer files
 pub files_more : (at : ℕ → Option File) (m n : ℕ) → m ≤ n → length (files_in_order at m) ≤ length (files_in_order at n)
@@ -47,13 +46,9 @@ module _ (slots : List (Option ℕ)) (first nodes : List Node) (s : ℕ) (placed
   worked_without : (x : Option ℕ) → slot_at slots s ≡ x → IsWorked slots first nodes s → IsWorked slots first (nodes_without nodes x) (s + 1)
   worked_without None is w = record { len = w.len; left = λ u m le at. w.left u m (omega arith) at; same = w.same; opened = w.opened }
   worked_without (Some m) is w =
-      let there = placed s m is in
-      let here : node_at nodes m ≡ At s there.0 = left s m (omega arith) is ∙ there.1 in
-      let inside = inside_of-At nodes m here in
-      let changed = sum_by-set removed_count_of nodes m Gone Gone inside in
-      let was : removed_count_of (node_at nodes m) ≡ 0 = ap removed_count_of here in
-      let before = w.opened in
-      record {
+      let there = placed s m is in let here : node_at nodes m ≡ At s there.0 = left s m (omega arith) is ∙ there.1 in
+      let inside = inside_of-At nodes m here in let changed = sum_by-set removed_count_of nodes m Gone Gone inside in
+      let was : removed_count_of (node_at nodes m) ≡ 0 = ap removed_count_of here in let before = w.opened in record {
         len = length-set nodes m Gone ∙ w.len;
         left = left_without slots first nodes s placed left (Some m) is;
         same = λ n. each_set (λ k x. SameButPlaced (node_at first k) x) nodes m Gone Gone inside (rw there.1

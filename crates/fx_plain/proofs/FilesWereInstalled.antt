@@ -62,8 +62,7 @@ module _ (P : File → Type 0) where
 pub every_file_was_there_or_installed : (start end : State) (h : List Event) (f : File) → ((number : ℕ) → start.removed number ≡ None)
     → IsLegal start h end → IsAtSlot end f ⊎ IsClosed h f → IsAtSlot start f ⊎ IsInstalled h f
 every_file_was_there_or_installed start end h f none legal is =
-    let P : File → Type 0 = λ g. IsAtSlot start g ⊎ IsInstalled h g in
-    let all : HoldsOfAll P start =
+    let P : File → Type 0 = λ g. IsAtSlot start g ⊎ IsInstalled h g in let all : HoldsOfAll P start =
     record { at_slots = λ slot lt g at. inl (slot, lt, at); removed = λ n g at. let e : None ≡ Some g = sym (none n) ∙ at in cc } in
     let end_all : HoldsOfAll P end = subst (HoldsOfAll P) (sym legal.leads.1) (holds_at_end P start h all legal.leads.0 (λ g new. inr new)) in
     elim is [

@@ -3,12 +3,12 @@ use Rattle.fx_plain.proofs.Words.{◌≡◌, ◌≢◌, ℕ, ◌+◌, ◌-◌, �
 use Rattle.fx_plain.proofs.Words.{◌∙◌, slice_index, slice_index_or, slice_set, Option, Some, None, arith, length-set, get_or-set_same}
 use Rattle.fx_plain.proofs.Words.{get_or-set_other, Closed, File, Look, Release, Steps, changed_at, after, Leads, close_of, ◌▷▷◌, Contents, IsTable}
 use Rattle.fx_plain.proofs.Words.{IsCounted, state_of, slot_at, node_at, file_at, placed_at, leaving, removed_at, is_fresh, is_leaving, is_retired}
-use Rattle.fx_plain.proofs.Words.{file_in, node_after_retirement, removed_count_of, itself, At, Leaving, Retired, Gone, numbered, identity_of}
+use Rattle.fx_plain.proofs.Words.{file_in, node_after_retirement, removed_count_of, At, Leaving, Retired, Gone, numbered, identity_of}
 use Rattle.fx_plain.proofs.Words.{closed_by_retirement, EndsHold, Node, get_or-le-sum_by, sum_by-set, ◌▷◌, closed_by_release}
-use Rattle.fx_plain.proofs.Cells.{by_equality, each_set, unchanged, written, inside_of}
+use Rattle.fx_plain.proofs.Cells.{by_equality, each_set, unchanged, written, inside_of, IsOff, inside_of-At, inside_told, leaving_is, retired_is}
+use Rattle.fx_plain.proofs.Cells.{state_of-holds, state_of-nodes, leaving-nodes, same_file}
 use Rattle.std.proofs.lemmas.List.Elements.{All-from_get_or}
 use Rattle.std.proofs.lemmas.List.Sums.{sum_by-le}
-use Rattle.fx_plain.proofs.Writes.{IsOff, inside_of-At, inside_told, leaving_is, retired_is, state_of-holds, state_of-nodes, leaving-nodes, same_file}
 
 -- the file at a slot
 pub at_is : (c : Contents) {slot number : ℕ} {file : Closed} → slot_at c.slots slot ≡ Some number → node_at c.nodes number ≡ At slot file
@@ -31,7 +31,7 @@ module _ (c : Contents) {n : ℕ} (h : ℕ) (inside : n < length c.holds) where
 
   holds_counted : {full held removed : ℕ} (held' : ℕ) → IsCounted c full held removed → h < 2 ^ 32 → held' + slice_index c.holds n ≡ held + h
       → IsCounted (record c { holds = slice_set c.holds n h }) full held' removed
-  holds_counted held' k fits sum = let changed = sum_by-set itself c.holds n h 0 inside in let all = k.all_holds in record {
+  holds_counted held' k fits sum = let changed = sum_by-set (λ n. n) c.holds n h 0 inside in let all = k.all_holds in record {
     full_slots = k.full_slots;
     all_holds = omega arith;
     small_holds = λ m. each_set (λ _ x. x < 2 ^ 32) c.holds n h 0 inside fits m (λ _. k.small_holds m);
@@ -49,8 +49,8 @@ look_steps {c} {slot} {n} t inside at named =
 -- the holds of a table with fewer than 2^32 nodes fit 64 bits
 pub few_held : {c : Contents} {full held removed : ℕ} → IsTable c → IsCounted c full held removed → held + 1 < 2 ^ 64
 few_held {c} t k =
-    let all = sum_by-le itself 4294967295 c.holds
-    (All-from_get_or (λ x. itself x ≤ 4294967295) c.holds 0 (λ i lt. let one = k.small_holds i in omega arith)) in
+    let all = sum_by-le (λ n. n) 4294967295 c.holds
+    (All-from_get_or (λ x. x ≤ 4294967295) c.holds 0 (λ i lt. let one = k.small_holds i in omega arith)) in
     let len = t.same_numbers in let few = t.few_nodes in let h = k.all_holds in omega arith
 
 -- a node with a removed file is at no slot
@@ -83,8 +83,7 @@ keeps_node {c} {n} v t off inside still unfresh = record {
 closed_counted : {c : Contents} {n full held removed : ℕ} → IsCounted c full held removed → n < length c.nodes
     → removed_count_of (node_at c.nodes n) ≡ 1 → IsCounted (closed_at c n) full held (removed - 1)
 closed_counted {c} {n} k inside one =
-    let changed = sum_by-set removed_count_of c.nodes n Gone Gone inside in
-    let r = k.all_removed in
+    let changed = sum_by-set removed_count_of c.nodes n Gone Gone inside in let r = k.all_removed in
     record { full_slots = k.full_slots; all_holds = k.all_holds; small_holds = k.small_holds; all_removed = omega arith }
 
 module _ {c : Contents} (n : ℕ) (t : IsTable c) (going : leaving c n ≡ true) where
@@ -119,8 +118,7 @@ module _ {c : Contents} (n : ℕ) (t : IsTable c) (going : leaving c n ≡ true)
 
   pub retire_waits : slice_index c.holds n ≢ 0 → Leads (state_of c) (close_of (closed_by_retirement c n)) (state_of retired_at)
   retire_waits held =
-      let none : closed_by_retirement c n ≡ None = grind arith in
-      rw none (
+      let none : closed_by_retirement c n ≡ None = grind arith in rw none (
         tt,
         state_of-nodes (Retired was_leaving.0) t node_inside off ∙ λ i. record (state_of c) {
           removed = unchanged (state_of c).removed n (Some (numbered n was_leaving.0)) (sym (ap (removed_at n) was_leaving.1)) i;
@@ -139,8 +137,7 @@ module _ {c : Contents} (n : ℕ) (t : IsTable c) (going : leaving c n ≡ true)
       → IsTable retired_at × IsCounted retired_at full held removed
   retire_wait_keeps k some_hold =
       let changed = sum_by-set removed_count_of c.nodes n (Retired was_leaving.0) Gone node_inside in
-      let was : removed_count_of (node_at c.nodes n) ≡ 1 = ap removed_count_of was_leaving.1 in
-      let r = k.all_removed in (
+      let was : removed_count_of (node_at c.nodes n) ≡ 1 = ap removed_count_of was_leaving.1 in let r = k.all_removed in (
         keeps_node (Retired was_leaving.0) t off node_inside (λ _. omega arith) refl,
         record { full_slots = k.full_slots; all_holds = k.all_holds; small_holds = k.small_holds; all_removed = omega arith },
       )
@@ -162,7 +159,7 @@ module _ {c : Contents} (n : ℕ) (t : IsTable c) (some_hold : 0 < slice_index c
 
   less_counted : {full held removed : ℕ} → IsCounted c full held removed → IsCounted (held_less c n) full (held - 1) removed
   less_counted {held} k =
-      let h = k.all_holds in let small = k.small_holds n in let one = get_or-le-sum_by itself c.holds n 0 less_inside in
+      let h = k.all_holds in let small = k.small_holds n in let one = get_or-le-sum_by (λ n. n) c.holds n 0 less_inside in
       holds_counted c _ less_inside (held - 1) k (omega arith) (omega arith)
 
   -- a file that isn't retired, or has another hold, stays open
@@ -214,8 +211,7 @@ module _ {c : Contents} (n : ℕ) (t : IsTable c) (some_hold : 0 < slice_index c
 
     let_go_steps : (f : File) → f.number ≡ n → Leads (state_of c) ([] ▷ Release f ▷▷ close_of (closed_by_release c n)) (state_of let_go)
     let_go_steps f same =
-        let unheld : changed_at (state_of c).holds f.number ((state_of c).holds f.number - 1) n ≡ 0 = grind arith in
-        rw closing (
+        let unheld : changed_at (state_of c).holds f.number ((state_of c).holds f.number - 1) n ≡ 0 = grind arith in rw closing (
           ((tt, rw same some_hold), (removed_is, unheld)),
           λ i. record (state_of c) {
             at = λ slot. same_file n Gone t retired_off slot i;

@@ -4,8 +4,7 @@ use Rattle.fx_plain.proofs.Words.{inl, inr, State, IsSettled, Allows, after, sta
 use Rattle.fx_plain.proofs.Words.{Allocate, Close, nil_from_length}
 use Rattle.fx_plain.specs.Laws.{IsStart, IsAtSlot, closed_of, closes_of, installed_by, IsInstalled, IsStillThere, IsClosedOnce}
 use Rattle.fx_plain.proofs.FilesWereInstalled.{HoldsOfFiles, holds_after}
-use Rattle.fx_plain.proofs.Named.{named, named_same, named_file}
-use Rattle.fx_plain.proofs.Sums.{term_found}
+use Rattle.fx_plain.proofs.Named.{named, named_same, named_file, term_found}
 use Rattle.fx_plain.proofs.LawTallies.{bit, present, placed, placed_one, tally, tally_after, tally_all, tally_start}
 
 -- no other file has the file's number
@@ -68,10 +67,8 @@ followed_after {f} {st} a before may = record {
 
 followed_from_start : (f : File) {st : State} → IsStart st → IsAtSlot st f → IsFollowed f st []
 followed_from_start f {st} start (slot, lt, is) =
-    let few = tally_start st f.number start in
-    let at_least = placed_one f.number st.at slot st.size lt in
-    let there : named f.number (st.at slot) ≡ 1 = ap (named f.number) is ∙ named_same f f.number refl in
-    record {
+    let few = tally_start st f.number start in let at_least = placed_one f.number st.at slot st.size lt in
+    let there : named f.number (st.at slot) ≡ 1 = ap (named f.number) is ∙ named_same f f.number refl in record {
       used = start.used slot f lt is;
       only = record {
         at_slots = λ other below g other_is same. let place = start.distinct other slot g f below lt other_is is same in
@@ -85,16 +82,13 @@ followed_from_start f {st} start (slot, lt, is) =
 followed_from_new : {f : File} (st : State) (closed : List File) → tally f.number st + length closed ≤ 1 → (a : Action) → Allows st a
     → installed_by a ≡ Some f → IsFollowed f (after st a) (closed ++ closed_of f.number a)
 followed_from_new {f} st closed few a may is =
-    let (fresh, used, none_closed) = installed_now st a may is in
-    let one : bit (st.fresh f.number) ≡ 1 = ap bit fresh in
+    let (fresh, used, none_closed) = installed_now st a may is in let one : bit (st.fresh f.number) ≡ 1 = ap bit fresh in
     let only : IsOnly f st = record {
       at_slots = λ slot lt g is same. let there : named f.number (st.at slot) ≡ 1 = ap (named f.number) is ∙ named_same g f.number same in
           let at_least = placed_one f.number st.at slot st.size lt in absurd (omega arith);
       removed = λ n g is same. let there : present (st.removed f.number) ≡ 1 = ap present (ap st.removed (sym same) ∙ is) in absurd (omega arith);
     } in
-    let same = tally_after st a f.number may (omega arith) in
-    let no_more = ap length none_closed in
-    record {
+    let same = tally_after st a f.number may (omega arith) in let no_more = ap length none_closed in record {
       used = used;
       only = holds_after (Same f) (SameAt f) (λ _ p. p) only a may (λ g is_g _. let e : Some g ≡ Some f = sym is_g ∙ is in cc);
       one_of = inl (omega arith, rw (nil_from_length closed (omega arith), none_closed) refl);
@@ -107,8 +101,7 @@ followed [] f begins may (inr never) = absurd never
 followed (e ∷ h) f begins may (inl at_start) = followed_after e.action (followed h f begins may.0 (inl at_start)) may.1
 followed (e ∷ h) f begins may (inr (inl before)) = followed_after e.action (followed h f begins may.0 (inr before)) may.1
 followed {start} (e ∷ h) f begins may (inr (inr now)) =
-    let few = tally_start start f.number begins in
-    let same = tally_all start h f.number few may.0 in
+    let few = tally_start start f.number begins in let same = tally_all start h f.number few may.0 in
     followed_from_new (state_after start (map action_of h)) (closes_of f.number h) (omega arith) e.action may.1 now
 
 module _ {f : File} {end : State} {closed : List File} (settled : IsSettled end) (end_of : IsFollowed f end closed) where
@@ -125,8 +118,7 @@ module _ {f : File} {end : State} {closed : List File} (settled : IsSettled end)
   no_more_there : tally f.number end ≡ 0 → IsAtSlot end f → ⊥
   no_more_there no_slot (slot, lt, is) =
       let there : named f.number (end.at slot) ≡ 1 = ap (named f.number) is ∙ named_same f f.number refl in
-      let at_least = placed_one f.number end.at slot end.size lt in
-      omega (arith, all_placed)
+      let at_least = placed_one f.number end.at slot end.size lt in omega (arith, all_placed)
 
 pub every_removed_file_is_closed : (start end : State) (h : List Event) (f : File) → IsStart start → AllowsAll start (map action_of h)
     → end ≡ state_after start (map action_of h)

@@ -5,8 +5,7 @@ use Rattle.fx_plain.proofs.Words.{Release, Close}
 use Rattle.fx_plain.specs.Laws.{closed_of, closes_of, released_by, releases_in}
 use Rattle.fx_plain.specs.History.{held_after, held_by, ReleasesItsOwn, AllReleaseTheirOwn, part_of_pass}
 use Rattle.fx_plain.proofs.Cells.{by_equality}
-use Rattle.fx_plain.proofs.Named.{named, named_same}
-use Rattle.fx_plain.proofs.Sums.{sum_below, same_below, changed_below, sum_grows, sum_zero}
+use Rattle.fx_plain.proofs.Named.{named, named_same, sum_below, same_below, changed_below, sum_grows, sum_zero}
 
 -- the holds of a number that an action adds, and those that it ends
 abbrev taken : ℕ → Action → ℕ
@@ -93,17 +92,14 @@ kept : (start : State) (h since : List Event) (p n : ℕ) → IsCovered (keeping
     → IsCovered (keeping p n (since ++ h)) ((state_after start (map action_of (since ++ h))).holds n) × (closes_of n since ≡ [])
 kept start h [] p n cover may own is = (cover, refl)
 kept start h (e ∷ since) p n cover may own is =
-    let all = since ++ h in
-    let st = state_after start (map action_of all) in
-    let (before, now) = kept_on p e since is in
+    let all = since ++ h in let st = state_after start (map action_of all) in let (before, now) = kept_on p e since is in
     let (held, earlier) = kept start h since p n cover may.0 own.0 before in
     let change : keeping p n (e ∷ all) e.pass + given n e.action ≤ keeping p n all e.pass + taken n e.action =
     by_equality e.pass p (λ b.
     (if b then 1 else holding n (e ∷ all) e.pass) + given n e.action ≤ (if b then 1 else holding n all e.pass) + taken n e.action)
     (λ same. let none_given = given_none n e.action (now same) in omega arith)
     (λ _. rw (own_held e all) (own_change n (held_by all e.pass) e.action own.1)) in
-    let mine : keeping p n all p ≡ 1 = grind arith in
-    let some_hold = held.below (suc p) in
+    let mine : keeping p n all p ≡ 1 = grind arith in let some_hold = held.below (suc p) in
     let here = no_close st e.action n may.1 (omega arith) in (
       covered_after (keeping p n (e ∷ all)) e.pass ((after st e.action).holds n) (taken n e.action)
           (given n e.action) (λ k apart. rw (other_holds n e all k apart) refl) change (holds_after st e.action n may.1) held,
@@ -114,8 +110,7 @@ kept start h (e ∷ since) p n cover may own is =
 looked : (before : List Event) (look : Event) {slot : ℕ} {f : File} {holds : ℕ} → look.action ≡ Look slot (Some f)
     → IsCovered (holding f.number (look ∷ before)) holds → IsCovered (keeping look.pass f.number (look ∷ before)) holds
 looked before look {f} {holds} is cover =
-    let n = f.number in
-    let h = look ∷ before in
+    let n = f.number in let h = look ∷ before in
     let found : held_by h look.pass ≡ Some f = own_held look before ∙ ap (held_after (held_by before look.pass)) is in
     let one : holding n h look.pass ≡ 1 = ap (named n) found ∙ named_same f n refl in
     let agree : (k : ℕ) → holding n h k ≡ keeping look.pass n h k =
@@ -134,8 +129,7 @@ pub no_close_while_held : (start : State) (before since others : List Event) (lo
     → AllowsAll start (map action_of (others ++ (since ++ (look ∷ before)))) → AllReleaseTheirOwn (others ++ (since ++ (look ∷ before)))
     → look.action ≡ Look slot (Some f) → releases_in (part_of_pass look.pass since) ≡ [] → closes_of f.number since ≡ []
 no_close_while_held start before since others look slot f may_all own_all is none_given =
-    let h = look ∷ before in
-    let may = allowed_before start (since ++ h) others may_all in
+    let h = look ∷ before in let may = allowed_before start (since ++ h) others may_all in
     let own = released_before (since ++ h) others own_all in
     let cover = covered start h f.number (allowed_before start h since may) (released_before h since own) in
     (kept start h since look.pass f.number (looked before look is cover) may own none_given).1

@@ -3,8 +3,7 @@ use Rattle.fx_plain.proofs.Words.{◌≡◌, suc, ℕ, ◌+◌, ◌<◌, ◌≤�
 use Rattle.fx_plain.proofs.Words.{arith, inl, inr, length-append, cases_lt, State, Allows, after, changed_at, with_removed, state_after, AllowsAll}
 use Rattle.fx_plain.proofs.Words.{action_of, File, Event, Action, Look, Put, Clear, Take, Allocate, Close}
 use Rattle.fx_plain.specs.Laws.{IsStart, closed_of, closes_of, if_numbered}
-use Rattle.fx_plain.proofs.Named.{named, named_at_most_one, named_file}
-use Rattle.fx_plain.proofs.Sums.{sum_below, changed_below, sum_grows, sum_zero, sum_one}
+use Rattle.fx_plain.proofs.Named.{named, named_at_most_one, named_file, sum_below, changed_below, sum_grows, sum_zero, sum_one}
 
 abbrev pub bit : Bool → ℕ
 bit true = 1
@@ -48,11 +47,8 @@ moved : (st : State) (n : ℕ) {slot : ℕ} (new : Option File) {found : Option 
     → bit (fresh n) + named n new ≡ bit (st.fresh n) → slot < st.size → found ≡ st.at slot → tally n st ≤ 1
     → bit (fresh n) + placed n (changed_at st.at slot new) st.size + present (with_removed st.removed found n) + 0 ≡ tally n st
 moved st n {slot} new {found} fresh used lt is few =
-    let there = ap (named n) is in
-    let change = placed_change n st.at new lt in
-    let at_least = placed_one n st.at slot st.size lt in
-    let more = removed_change st.removed found n (omega arith) in
-    omega arith
+    let there = ap (named n) is in let change = placed_change n st.at new lt in
+    let at_least = placed_one n st.at slot st.size lt in let more = removed_change st.removed found n (omega arith) in omega arith
 
 -- a step moves a number on, and counts each close
 pub tally_after : (st : State) (a : Action) (n : ℕ) → Allows st a → tally n st ≤ 1 → tally n (after st a) + length (closed_of n a) ≡ tally n st
@@ -71,10 +67,8 @@ pub tally_all : (start : State) (h : List Event) (n : ℕ) → tally n start ≤
     → tally n (state_after start (map action_of h)) + length (closes_of n h) ≡ tally n start
 tally_all start [] n few may = omega arith
 tally_all start (e ∷ h) n few may =
-    let st = state_after start (map action_of h) in
-    let earlier = tally_all start h n few may.0 in
-    let now = tally_after st e.action n may.1 (omega arith) in
-    omega (arith, length-append (closes_of n h) (closed_of n e.action))
+    let st = state_after start (map action_of h) in let earlier = tally_all start h n few may.0 in
+    let now = tally_after st e.action n may.1 (omega arith) in omega (arith, length-append (closes_of n h) (closed_of n e.action))
 
 -- a fresh number is at no slot, at the start
 none_placed : {st : State} (n : ℕ) → IsStart st → st.fresh n ≡ true → placed n st.at st.size ≡ 0

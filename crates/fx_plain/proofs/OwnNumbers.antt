@@ -1,7 +1,11 @@
--- After a write of a slot, the slots outside the span still have files with their own numbers.
+-- Each file moves to the node of its slot's number, one slot after another, and slots outside the span have such numbers.
 use Rattle.fx_plain.proofs.Words.{◌≡◌, ◌≢◌, ℕ, ◌<◌, ◌≤◌, List, length, sym, ◌∙◌, arith, slice_set, Option, Some, None, length-set, get_or-set_other}
-use Rattle.fx_plain.proofs.Words.{slot_at, SlotSpan, IsOutside, HaveOwnOutside}
-use Rattle.fx_plain.proofs.Cells.{each_set}
+use Rattle.fx_plain.proofs.Words.{slot_at, SlotSpan, IsOutside, HaveOwnOutside, ◌+◌, [], ◌∷◌, ◌++◌, refl, ap, set-set, get_or_append_left, Closed}
+use Rattle.fx_plain.proofs.Words.{AllPlaced, IsFiled, subst, node_at, file_named, file_in, opening_slot, moved_node, nodes_without, file_count_of, At}
+use Rattle.fx_plain.proofs.Words.{Gone, sum_by, Node, sum_by-set, set-get_or, HaveOwnNumbers}
+use Rattle.fx_plain.proofs.Cells.{each_set, by_equality, inside_of-At}
+use Rattle.std.proofs.Math.Seq.{get_or-append_seam}
+use Rattle.fx_plain.proofs.Removals.{other_number}
 
 module _ (slots : List (Option ℕ)) {slot : ℕ} (x : Option ℕ) (inside : slot < length slots) where
   -- in a span that has the slot now
@@ -26,3 +30,107 @@ own_of_none slots span few none = record {
   inside = few;
   own = λ u n at out. let e : None ≡ Some n = sym (none u) ∙ at in absurd (cc e);
 }
+
+-- Each file moves to the node of its slot's number, one slot after another.
+file_named_same : (old new : List Node) (x : Option ℕ) → ((n : ℕ) → x ≡ Some n → node_at new n ≡ node_at old n) → file_named new x ≡ file_named old x
+file_named_same old new None same = refl
+file_named_same old new (Some n) same = ap file_in (same n refl)
+
+-- the files of the slots from `s` on are as they were
+abbrev pub IsLeft : List (Option ℕ) → List Node → List Node → ℕ → Type 0
+IsLeft slots first nodes s = (u number : ℕ) → s ≤ u → slot_at slots u ≡ Some number → node_at nodes number ≡ node_at first number
+
+module _ (slots : List (Option ℕ)) (first nodes : List Node) (s : ℕ) (placed : AllPlaced slots first) (left : IsLeft slots first nodes s) where
+  pub named_same : file_named nodes (slot_at slots s) ≡ file_named first (slot_at slots s)
+  named_same = file_named_same first nodes (slot_at slots s) (λ n is. left s n (omega arith) is)
+
+  -- one slot more was done
+  pub left_without : (x : Option ℕ) → slot_at slots s ≡ x → IsLeft slots first (nodes_without nodes x) (s + 1)
+  left_without None is = λ u number le at. left u number (omega arith) at
+  left_without (Some m) is = λ u number le at.
+      let apart : u ≢ s = omega arith in
+      get_or-set_other nodes m number Gone Gone (other_number slots first placed apart is at) ∙ left u number (omega arith) at
+
+pub length-without : (nodes : List Node) (x : Option ℕ) → length (nodes_without nodes x) ≡ length nodes
+length-without nodes None = refl
+length-without nodes (Some n) = length-set nodes n Gone
+
+same_filled : (x : Option ℕ) (s : ℕ) → file_count_of (opening_slot x s) ≡ file_count_of x
+same_filled None s = refl
+same_filled (Some n) s = refl
+
+-- the slots before s name their own numbers, and the others are as they were
+pub record IsOpened (first slots : List (Option ℕ)) (s : ℕ) : Type 0 where
+  pub done : (u : ℕ) → u < s → slot_at slots u ≡ opening_slot (slot_at first u) u
+  pub rest : (u : ℕ) → s ≤ u → slot_at slots u ≡ slot_at first u
+  pub full : sum_by file_count_of slots ≡ sum_by file_count_of first
+
+pub opened_next : {first slots : List (Option ℕ)} {s : ℕ} → IsOpened first slots s → s < length slots
+    → IsOpened first (slice_set slots s (opening_slot (slot_at slots s) s)) (s + 1)
+opened_next {first} {slots} {s} before inside =
+    let changed = sum_by-set file_count_of slots s (opening_slot (slot_at slots s) s) None inside in
+    let same = same_filled (slot_at slots s) s in let full = before.full in record {
+      done = λ u lt. each_set (λ k x. x ≡ opening_slot (slot_at first k) k) slots s (opening_slot (slot_at slots s) s) None inside
+          (rw (before.rest s (omega arith)) refl) u (λ other. before.done u (omega arith));
+      rest = λ u le. let apart : u ≢ s = omega arith in
+          get_or-set_other slots s u (opening_slot (slot_at slots s) s) None apart ∙ before.rest u (omega arith);
+      full = omega arith;
+    }
+
+-- one node more was appended
+pub moved_next : (moved : List Node) {s : ℕ} {node : Node} (expected : ℕ → Node) → length moved ≡ s → node ≡ expected s
+    → ((u : ℕ) → u < s → node_at moved u ≡ expected u) → {u : ℕ} → u < s + 1 → node_at (moved ++ node ∷ []) u ≡ expected u
+moved_next moved {s} {node} expected len is before {u} lt = by_equality u s (λ _. node_at (moved ++ node ∷ []) u ≡ expected u)
+    (λ same. ap (node_at (moved ++ node ∷ [])) (same ∙ sym len) ∙ get_or-append_seam moved node [] Gone ∙ is ∙ ap expected (sym same))
+    (λ other. let below : u < length moved = omega arith in get_or_append_left moved (node ∷ []) Gone u below ∙ before u (omega arith))
+
+-- one slot more was done in the list of nodes that is there
+module _ (slots : List (Option ℕ)) (first nodes : List Node) {s : ℕ} (placed : AllPlaced slots first) (left : IsLeft slots first nodes s)
+    (own : HaveOwnNumbers slots) (inside : s < length slots) where
+  pub left_settled : (v : Node) → IsLeft slots first (slice_set (nodes_without nodes (slot_at slots s)) s v) (s + 1)
+  left_settled v = λ u m le at.
+      let apart : m ≢ s = λ (same : m ≡ s). let e : m ≡ u = own u m at (omega arith) in absurd (omega arith) in
+      get_or-set_other (nodes_without nodes (slot_at slots s)) s m v Gone apart
+      ∙ left_without slots first nodes s placed left (slot_at slots s) refl u m le at
+
+  earlier_stays : (x : Option ℕ) → slot_at slots s ≡ x → (u : ℕ) → u < s → node_at (nodes_without nodes x) u ≡ node_at nodes u
+  earlier_stays None is u lt = refl
+  earlier_stays (Some n) is u lt = get_or-set_other nodes n u Gone Gone
+      (λ (same : u ≡ n). let e : n ≡ s = own s n is (omega arith) in absurd (omega arith))
+
+  -- a property of the nodes of the slots before `s`, and of the node of `s`, holds for each of them
+  pub each_settled : (P : ℕ → Node → Type 0) (v : Node) → s < length nodes → P s v → ((u : ℕ) → u < s → P u (node_at nodes u))
+      → {u : ℕ} → u < s + 1 → P u (node_at (slice_set (nodes_without nodes (slot_at slots s)) s v) u)
+  each_settled P v room here before {u} lt = each_set P (nodes_without nodes (slot_at slots s)) s v Gone
+      (let len = length-without nodes (slot_at slots s) in omega arith) here u
+      (λ other. subst (P u) (sym (earlier_stays (slot_at slots s) refl u (omega arith))) (before u (omega arith)))
+
+  -- the nodes of the slots after `s` stay
+  pub later_stays : (v : Node) (x : Option ℕ) → slot_at slots s ≡ x → {u : ℕ} → s + 1 ≤ u → u < length slots
+      → node_at (slice_set (nodes_without nodes x) s v) u ≡ node_at nodes u
+  later_stays v None is {u} le lt = get_or-set_other nodes s u v Gone (λ (same : u ≡ s). absurd (omega arith))
+  later_stays v (Some n) is {u} le lt = get_or-set_other (nodes_without nodes (Some n)) s u v Gone (λ (same : u ≡ s). absurd (omega arith))
+      ∙ get_or-set_other nodes n u Gone Gone (λ (same : u ≡ n). let e : n ≡ s = own s n is (omega arith) in absurd (omega arith))
+
+-- a slot that has its own number already
+module _ (slots : List (Option ℕ)) (nodes : List Node) {s : ℕ} (at : slot_at slots s ≡ Some s) where
+  pub node_settled : {file : Closed} → node_at nodes s ≡ At s file
+      → nodes ≡ slice_set (nodes_without nodes (slot_at slots s)) s (moved_node (file_named nodes (slot_at slots s)) s)
+  node_settled named = rw (at, set-set, named) (sym (rw named at (set-get_or nodes s Gone)))
+
+-- the node that a slot's file moved to
+pub filed_by_move : (slots : List (Option ℕ)) (nodes : List Node) (s : ℕ) {node : Node} → node ≡ moved_node (file_named nodes (slot_at slots s)) s
+    → IsFiled slots nodes s node
+filed_by_move slots nodes s is = record {
+  file = λ n named. rw named at is;
+  vacant = λ none. rw (is, none) (record { used = refl; none_removed = refl });
+}
+
+-- files in nodes, after more nodes were added
+module _ (slots : List (Option ℕ)) (old new : List Node) (placed : AllPlaced slots old)
+    (same : (n : ℕ) → n < length old → node_at new n ≡ node_at old n) where
+  named_before : (u : ℕ) {n : ℕ} → slot_at slots u ≡ Some n → node_at new n ≡ node_at old n
+  named_before u {n} at = let there = placed u n at in same n (inside_of-At old n there.1)
+
+  pub still_placed : AllPlaced slots new
+  still_placed u n at = let there = placed u n at in (there.0, named_before u at ∙ there.1)

@@ -1,9 +1,14 @@
--- The state in which passes begin.
+-- The state in which passes begin, and a table that was prepared.
 use Rattle.fx_plain.proofs.Words.{◌≡◌, ℕ, ◌&&◌, not, nat_lt, ap, subst, sym, ◌∙◌, None, Some, File, Option, IsSettled, State, opening, refl}
-use Rattle.fx_plain.proofs.Words.{file_numbered, identity_of, arith, numbered}
+use Rattle.fx_plain.proofs.Words.{file_numbered, identity_of, arith, numbered, ◌<◌, ◌≤◌, ◌^◌, true, false, List, length, replicate, slice_index, inl}
+use Rattle.fx_plain.proofs.Words.{inr, length-replicate, cases_lt, get_or-eq_default, Closed, Contents, IsTable, IsCounted, state_of, slot_at}
+use Rattle.fx_plain.proofs.Words.{node_at, file_at, removed_at, is_fresh, is_retired, IsRenumbered, IsVacant, moved_node, file_in, opening_slot}
+use Rattle.fx_plain.proofs.Words.{sum, removed_count_of, Fresh, At, Gone, Node, lt-ltb, le-ltb}
 use Rattle.fx_plain.specs.Laws.{IsStart}
 use Rattle.std.specs.Prelude.{option_map}
 use Rattle.std.proofs.lemmas.Grind.{common_steps}
+use Rattle.fx_plain.proofs.Cells.{inside_of, read_default}
+use Rattle.fx_plain.proofs.Settled.{no_holds, none_removed, quiet_is, sum_of_nothings, sum_by-replicate}
 
 -- a file that is numbered anew: its number is its slot's, and it is the file that it was
 pub numbered_anew : (x : Option File) (slot : ℕ) (f : File) → file_numbered x slot ≡ Some f → f.number ≡ slot
@@ -34,3 +39,108 @@ opens_alike one other size range files numbers = λ i. record (opening one numbe
   at = λ slot. (by_identity (one.at slot) slot ∙ ap (option_map (numbered slot)) (files slot) ∙ sym (by_identity (other.at slot) slot)) i;
   fresh = λ number. not (nat_lt number (size i)) && nat_lt number numbers;
 }
+
+-- The state of a table that was prepared.
+opening_own : (slot : ℕ) {number : ℕ} (x : Option ℕ) → opening_slot x slot ≡ Some number → number ≡ slot
+opening_own slot None is = cc
+opening_own slot (Some m) is = cc
+
+module _ {c : Contents} {slots : List (Option ℕ)} {nodes : List Node} {numbers : ℕ} (t : IsTable c) (enough : length c.slots ≤ numbers)
+    (few : numbers < 2 ^ 32) (r : IsRenumbered c.slots c.nodes slots nodes numbers) {holds : List ℕ} (unheld : holds ≡ replicate numbers 0) where
+  abbrev pub prepared : Contents
+  prepared = record { slots = slots; range = c.range; nodes = nodes; holds = holds; numbers = numbers }
+
+  -- the node of a slot's own number has its file
+  own_node : {u m : ℕ} → u < length c.slots → slot_at c.slots u ≡ Some m → node_at nodes u ≡ moved_node (file_in (node_at c.nodes m)) u
+  own_node {u} {m} inside is = (r.files.filed u inside).file m is
+
+  -- no node of a slot's own number has a removed file
+  low_vacant : {n : ℕ} → n < length c.slots → (x : Option ℕ) → slot_at c.slots n ≡ x → IsVacant (node_at nodes n)
+  low_vacant {n} low None is = (r.files.filed n low).vacant is
+  low_vacant {n} low (Some m) is = rw (own_node low is, (t.placed n m is).1) (record { used = refl; none_removed = refl })
+
+  -- a property of each kind of node holds for each node
+  each_node : (P : ℕ → Node → Type 0) → ((n : ℕ) (node : Node) → n < length c.slots → IsVacant node → P n node)
+      → ((n : ℕ) → length c.slots ≤ n → n < numbers → P n Fresh) → ((n : ℕ) → numbers ≤ n → P n Gone) → (n : ℕ) → P n (node_at nodes n)
+  each_node P low mid high n = elim (cases_lt n (length c.slots)) [
+    | inl lt ↦ low n (node_at nodes n) lt (low_vacant lt (slot_at c.slots n) refl)
+    | inr ge ↦ elim (cases_lt n numbers) [
+      | inl lt ↦ rw (r.fresh n ge lt) (mid n ge lt)
+      | inr past ↦ let len = r.size in let behind : length nodes ≤ n = omega arith in rw (get_or-eq_default nodes Gone behind) (high n past)
+    ]
+  ]
+
+  none_waits : (n : ℕ) → removed_at n (node_at nodes n) ≡ None
+  none_waits = each_node (λ n node. removed_at n node ≡ None)
+      (λ n node lt vacant. (quiet_is node vacant.none_removed).0 n) (λ n ge lt. refl) (λ n ge. refl)
+
+  fresh_is : (n : ℕ) → is_fresh (node_at nodes n) ≡ (not (nat_lt n (length c.slots)) && nat_lt n numbers)
+  fresh_is = each_node (λ n node. is_fresh node ≡ (not (nat_lt n (length c.slots)) && nat_lt n numbers))
+      (λ n node lt vacant. rw (lt-ltb n (length c.slots) lt) vacant.used)
+      (λ n ge lt. rw (le-ltb n (length c.slots) ge, lt-ltb n numbers lt) refl)
+      (λ n ge. let past : length c.slots ≤ n = omega arith in rw (le-ltb n (length c.slots) past, le-ltb n numbers ge) refl)
+
+  named_node : {u : ℕ} → u < length c.slots → (x : Option ℕ) → slot_at c.slots u ≡ x
+      → file_at nodes (opening_slot x u) ≡ file_numbered (file_at c.nodes x) u
+  named_node inside None is = refl
+  named_node {u} inside (Some m) is = rw (own_node inside is, (t.placed u m is).1) refl
+
+  at_is : (u : ℕ) → file_at nodes (slot_at slots u) ≡ file_numbered (file_at c.nodes (slot_at c.slots u)) u
+  at_is u = elim (cases_lt u (length c.slots)) [
+    | inl lt ↦ ap (file_at nodes) (r.files.named u lt) ∙ named_node lt (slot_at c.slots u) refl
+    | inr ge ↦ let same = r.files.same_size in let behind : length slots ≤ u = omega arith in
+        rw (get_or-eq_default slots None behind, get_or-eq_default c.slots None ge) refl
+  ]
+
+  no_hold : (n : ℕ) → slice_index holds n ≡ 0
+  no_hold n = rw unheld (read_default numbers n 0)
+
+  pub state_of-fields : state_of prepared ≡ opening (state_of c) numbers
+  state_of-fields = λ i. record {
+    size = r.files.same_size i;
+    range = c.range;
+    at = λ u. at_is u i;
+    removed = λ n. none_waits n i;
+    holds = λ n. no_hold n i;
+    fresh = λ n. fresh_is n i;
+  }
+
+  named_placed : {u k : ℕ} → u < length c.slots → (x : Option ℕ) → slot_at c.slots u ≡ x → opening_slot x u ≡ Some k
+      → (file : Closed) × (node_at nodes k ≡ At u file)
+  named_placed inside None is same = cc
+  named_placed {u} {k} inside (Some m) is same = let there = t.placed u m is in let e : u ≡ k = cc in
+      (there.0, rw (sym e, own_node inside is, there.1) refl)
+
+  slot_inside : (u : ℕ) {k : ℕ} → slot_at slots u ≡ Some k → u < length c.slots
+  slot_inside u {k} is = let lt = inside_of slots u None (λ (gone : slot_at slots u ≡ None). let e : Some k ≡ None = sym is ∙ gone in cc) in
+      let same = r.files.same_size in omega arith
+
+  pub own_number : (u : ℕ) {k : ℕ} → slot_at slots u ≡ Some k → k ≡ u
+  own_number u is = opening_own u (slot_at c.slots u) (sym (r.files.named u (slot_inside u is)) ∙ is)
+
+  prepared_keeps : IsTable prepared
+  prepared_keeps = record {
+    own = λ u k is lt. own_number u is;
+    used = λ k lt. let below : k < length c.slots = let same = r.files.same_size in omega arith in
+        fresh_is k ∙ rw (lt-ltb k (length c.slots) below) refl;
+    few_slots = let f = t.few_slots in let same = r.files.same_size in omega arith;
+    range_inside = let inside = t.range_inside in let same = r.files.same_size in omega arith;
+    few_nodes = let len = r.size in omega arith;
+    same_numbers = ap (length {A = ℕ}) unheld ∙ length-replicate numbers 0 ∙ sym r.size;
+    placed = λ u k is. let inside = slot_inside u is in named_placed inside (slot_at c.slots u) refl (sym (r.files.named u inside) ∙ is);
+    held = each_node (λ n node. is_retired node ≡ true → 0 < slice_index holds n)
+        (λ n node lt vacant is. let e : false ≡ true = sym (quiet_is node vacant.none_removed).2 ∙ is in cc) (λ n ge lt is. cc) (λ n ge is. cc);
+  }
+
+  pub fields_keep : {full held removed : ℕ} → IsCounted c full held removed → IsSettled (state_of c)
+      → IsTable prepared × IsCounted prepared full held removed
+  fields_keep k settled = (
+    prepared_keeps,
+    record {
+      full_slots = k.full_slots ∙ sym r.files.same_full;
+      all_holds = no_holds k settled ∙ sym (ap sum unheld ∙ sum_by-replicate (λ n. n) numbers 0 refl);
+      small_holds = λ n. let z = no_hold n in omega arith;
+      all_removed = none_removed k settled ∙ sym (sum_of_nothings removed_count_of nodes Gone
+          (each_node (λ n node. removed_count_of node ≡ 0) (λ n node lt vacant. vacant.none_removed) (λ n ge lt. refl) (λ n ge. refl)));
+    },
+  )

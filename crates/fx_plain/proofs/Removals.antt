@@ -5,10 +5,9 @@ use Rattle.fx_plain.proofs.Words.{File, Put, Take, changed_at, with_removed, Con
 use Rattle.fx_plain.proofs.Words.{file_at, placed_at, leaving, removed_at, is_fresh, is_leaving, is_retired, node_after_removal, file_count_of}
 use Rattle.fx_plain.proofs.Words.{removed_count_of, At, Leaving, Gone, numbered, LetsLeave, sum_by, Node, IsSettled, get_or-le-sum_by, sum_by-set}
 use Rattle.fx_plain.proofs.Words.{number_of, more_leaving}
-use Rattle.fx_plain.proofs.Cells.{each_set, written, unchanged}
+use Rattle.fx_plain.proofs.Cells.{each_set, written, unchanged, inside_of-At, inside_told, fresh_is, file_same}
 use Rattle.std.proofs.lemmas.List.Sums.{sum_by-le}
 use Rattle.fx_plain.proofs.Settled.{not_removed, IsQuiet, quiet_is}
-use Rattle.fx_plain.proofs.Writes.{inside_of-At, inside_told, fresh_is, file_same}
 
 abbrev pub removed_of : List Node → ℕ → Option File
 removed_of nodes n = removed_at n (node_at nodes n)
@@ -143,15 +142,11 @@ module _ {c : Contents} {slot : ℕ} {x : Option ℕ} (y : Option ℕ) (nodes : 
       → sum_by removed_count_of nodes ≡ sum_by removed_count_of c.nodes → full' + file_count_of x ≡ full + file_count_of y
       → removed' ≡ removed + file_count_of x → (removed' < 2 ^ 32) × (full + 1 < 2 ^ 32) × IsCounted changed full' held removed'
   changed_counted full' removed' k same full_is removed_is =
-      let was = ap file_count_of at in
-      let slots_total = sum_by-set file_count_of c.slots slot y None inside in
+      let was = ap file_count_of at in let slots_total = sum_by-set file_count_of c.slots slot y None inside in
       let nodes_total = opened-gave_way nodes x slot names in
       let all = sum_by-le removed_count_of 1 changed.nodes (λ k d lt. opened_le (slice_index_or changed.nodes k d)) in
       let most = sum_by-le file_count_of 1 c.slots (λ k d lt. filled_le (slice_index_or c.slots k d)) in
-      let size = length-gave_way nodes x in
-      let few = t.few_nodes in
-      let few_slots = t.few_slots in
-      let f = k.full_slots in
+      let size = length-gave_way nodes x in let few = t.few_nodes in let few_slots = t.few_slots in let f = k.full_slots in
       let r = k.all_removed in
       (omega arith, omega arith, record { full_slots = omega arith; all_holds = k.all_holds; small_holds = k.small_holds; all_removed = omega arith })
 
@@ -268,8 +263,7 @@ module _ {c : Contents} {slot n : ℕ} {found : Option ℕ} (file : Closed) (t :
       → full' + file_count_of found ≡ full + 1 → removed' ≡ removed + file_count_of found → (removed' < 2 ^ 32) × (full + 1 < 2 ^ 32)
       × (IsTable (put_at c slot found n file) × IsCounted (put_at c slot found n file) full' held removed')
   put_counted full' removed' k full_is removed_is =
-      let quiet = free.quiet in
-      let nodes_total = sum_by-set removed_count_of c.nodes n (At slot file) Gone free.room in
+      let quiet = free.quiet in let nodes_total = sum_by-set removed_count_of c.nodes n (At slot file) Gone free.room in
       let all = changed_counted (Some n) with_file t inside at same_len same_named full' removed' k (omega arith) full_is removed_is in
       (all.0, all.1, (put_keeps, all.2))
 

@@ -101,16 +101,14 @@ module _ (r : Renaming) (one : IsOneToOne r) where
     held_same known = ap (read_at (λ x. x) 0 st.holds) known
 
     allows : (a : Action) → KnowsFound r (installed_by a) → Allows st a → Allows other (renamed r a)
-    allows (Look slot found) known (inside, is) = (inside, ap (renamed_found r) is)
     allows (Release f) known some = rw (held_same (k.held f.number some)) some
     allows (Put slot f replaced) known (inside, is_fresh, is) = (inside, k.stays_fresh f.number (known f refl) is_fresh, ap (renamed_found r) is)
-    allows (Clear slot found) known (inside, is) = (inside, ap (renamed_found r) is)
-    allows (Take slot found) known (inside, is) = (inside, ap (renamed_found r) is)
     allows (Allocate slot f) known (inside, in_range, none, is_fresh) =
         (inside, in_range, ap (renamed_found r) none, k.stays_fresh f.number (known f refl) is_fresh)
     allows Full known full = λ slot inside in_range. some_renamed r (st.at slot) (full slot inside in_range)
     allows (Close f) known (waits, none) = let named = k.removed f.number f waits in
         (ap (read_at (renamed_found r) None st.removed) named ∙ ap (renamed_found r) waits, held_same named ∙ none)
+    allows _ known may = (may.0, ap (renamed_found r) may.1)
 
     -- a hold more or less
     holds_back : (change : ℕ → ℕ) {n : ℕ} → IsNamed r n → changed_at other.holds (r.number n) (change (other.holds (r.number n)))
@@ -129,7 +127,6 @@ module _ (r : Renaming) (one : IsOneToOne r) where
     }
 
     after_is : (a : Action) → Allows st a → after other (renamed r a) ≡ renamed_state r (fresh_after r fresh a) (after st a)
-    after_is (Look slot None) may = refl
     after_is (Look slot (Some f)) may = λ i. record other { holds = holds_back (λ held. held + 1) (k.at slot f (sym may.1)) i }
     after_is (Release f) may = λ i. record other { holds = holds_back (λ held. held - 1) (k.held f.number may) i }
     after_is (Put slot f replaced) may = λ i. record other {
@@ -143,8 +140,8 @@ module _ (r : Renaming) (one : IsOneToOne r) where
       at = through (renamed_found r) st.at slot (Some f) i;
       fresh = changed_at fresh (r.number f.number) false;
     }
-    after_is Full may = refl
     after_is (Close f) may = λ i. record other { removed = changed_back (renamed_found r) None st.removed None (k.removed f.number f may.0) i }
+    after_is _ may = refl
 
     -- the files of the state afterwards
     file_changed : {files : ℕ → Option File} → ((m : ℕ) → KnowsFound r (files m)) → (n : ℕ) {new : Option File} → KnowsFound r new
@@ -173,7 +170,6 @@ module _ (r : Renaming) (one : IsOneToOne r) where
     stays_emptied slot found is = assumption (file_changed k.at slot nothing_known, removed_after found (known_found slot is))
 
     stays_renamable : (a : Action) → KnowsFound r (installed_by a) → Allows st a → IsRenamable r (fresh_after r fresh a) (after st a)
-    stays_renamable (Look slot None) known may = k
     stays_renamable (Look slot (Some f)) known may = assumption (held_changed (st.holds f.number + 1) (k.at slot f (sym may.1)))
     stays_renamable (Release f) known may = assumption (held_changed (st.holds f.number - 1) (k.held f.number may))
     stays_renamable (Put slot f replaced) known may =
@@ -181,8 +177,8 @@ module _ (r : Renaming) (one : IsOneToOne r) where
     stays_renamable (Clear slot found) known may = stays_emptied slot found may.1
     stays_renamable (Take slot found) known may = stays_emptied slot found may.1
     stays_renamable (Allocate slot f) known may = assumption (file_changed k.at slot known, still_fresh (known f refl))
-    stays_renamable Full known may = k
     stays_renamable (Close f) known may = assumption (file_changed k.removed f.number nothing_known)
+    stays_renamable _ known may = k
 
   -- a history of actions
   module _ {fresh : ℕ → Bool} {start : State} (k : IsRenamable r fresh start) where
@@ -241,9 +237,7 @@ pub legal_renamed : (r : Renaming) → IsOneToOne r → {fresh : ℕ → Bool} {
     → InstallsNamed r (map action_of h) → IsLegal start h end
     → (left : ℕ → Bool) × IsLegal (renamed_state r fresh start) (map (renamed_event r) h) (renamed_state r left end) × IsRenamable r left end
 legal_renamed r one {fresh} {start} {h} k known legal =
-    let actions = map action_of h in
-    let may = legal.leads.0 in
-    let left = fresh_behind r fresh actions in (
+    let actions = map action_of h in let may = legal.leads.0 in let left = fresh_behind r fresh actions in (
       left,
       record {
         leads = (

@@ -1,13 +1,27 @@
--- The counters of a table, and its state.
-use Rattle.fx_plain.proofs.Words.{◌≡◌, ℕ, zero, suc, ◌≤◌, true, false, List, [], length, length-append, replicate, refl, sym, ap, ◌∙◌, Option, Some}
-use Rattle.fx_plain.proofs.Words.{None, arith, IsSettled, files_in_order, files_of, identities_of, Contents, IsTable, IsCounted, state_of, slot_at}
-use Rattle.fx_plain.proofs.Words.{node_at, file_at, removed_at, is_leaving, is_retired, file_count_of, removed_count_of, itself, take, add-one}
-use Rattle.fx_plain.proofs.Words.{length-replicate, Fresh, Leaving, Retired, Gone, sum_by, Node}
-use Rattle.std.proofs.lemmas.List.{take_all}
-use Rattle.std.proofs.lemmas.List.Sums.{sum_by_more}
+-- The counters of a table, and its state; sums over lists of nothings.
+use Rattle.fx_plain.proofs.Words.{◌≡◌, sum_by-cons, sum_by, List, [], arith, ap, ◌∙◌, replicate, slice_index_or, suc, zero, ℕ, ◌∷◌, ◌≤◌, true, false}
+use Rattle.fx_plain.proofs.Words.{length, length-append, refl, sym, Option, Some, None, IsSettled, files_in_order, files_of, identities_of, Contents}
+use Rattle.fx_plain.proofs.Words.{IsTable, IsCounted, state_of, slot_at, node_at, file_at, removed_at, is_leaving, is_retired, file_count_of}
+use Rattle.fx_plain.proofs.Words.{removed_count_of, take, add-one, length-replicate, Fresh, Leaving, Retired, Gone, Node}
 use Rattle.fx_plain.proofs.Cells.{read_default}
-use Rattle.fx_plain.proofs.SumLemmas.{sum_of_nothings, nothing_in_sum, sum_by-replicate}
+use Rattle.std.proofs.lemmas.List.Elements.{All-from_get_or}
+use Rattle.std.proofs.lemmas.List.Sums.{sum_by-le, sum_by_more}
+use Rattle.std.proofs.lemmas.List.{take_all}
 
+pub sum_of_nothings : {X : Type 0} (f : X → ℕ) (xs : List X) (d : X) → ((i : ℕ) → f (slice_index_or xs i d) ≡ 0) → sum_by f xs ≡ 0
+sum_of_nothings f xs d each =
+    let most = sum_by-le f 0 xs (All-from_get_or (λ x. f x ≤ 0) xs d (λ i lt. let one = each i in omega arith)) in omega arith
+
+pub sum_by-replicate : {X : Type 0} (f : X → ℕ) (n : ℕ) (x : X) → f x ≡ 0 → sum_by f (replicate n x) ≡ 0
+sum_by-replicate f n x nothing = sum_of_nothings f (replicate n x) x (λ i. ap f (read_default n i x) ∙ nothing)
+
+-- an element of a list whose sum is 0
+pub nothing_in_sum : {X : Type 0} (f : X → ℕ) (xs : List X) (d : X) → f d ≡ 0 → sum_by f xs ≡ 0 → (i : ℕ) → f (slice_index_or xs i d) ≡ 0
+nothing_in_sum f [] d nothing all i = nothing
+nothing_in_sum f (x ∷ xs) d nothing all zero = omega (arith, sum_by-cons f x xs)
+nothing_in_sum f (x ∷ xs) d nothing all (suc i) = nothing_in_sum f xs d nothing (omega (arith, sum_by-cons f x xs)) i
+
+-- The counters of a table, and its state.
 -- a node without a removed file
 abbrev pub IsQuiet : Node → Type 0
 IsQuiet node = ((number : ℕ) → removed_at number node ≡ None) × (is_leaving node ≡ false) × (is_retired node ≡ false)
@@ -25,12 +39,12 @@ not_removed n _ is = cc
 -- a table without holds and removed files is settled
 pub settled_by_counts : {c : Contents} {full held removed : ℕ} → IsCounted c full held removed → held ≡ 0 → removed ≡ 0 → IsSettled (state_of c)
 settled_by_counts {c} k no_holds none_removed = record {
-  unheld = λ n. nothing_in_sum itself c.holds 0 refl (sym k.all_holds ∙ no_holds) n;
+  unheld = λ n. nothing_in_sum (λ n. n) c.holds 0 refl (sym k.all_holds ∙ no_holds) n;
   closed = λ n. (quiet_is (node_at c.nodes n) (nothing_in_sum removed_count_of c.nodes Gone refl (sym k.all_removed ∙ none_removed) n)).0 n;
 }
 
 pub no_holds : {c : Contents} {full held removed : ℕ} → IsCounted c full held removed → IsSettled (state_of c) → held ≡ 0
-no_holds {c} k s = k.all_holds ∙ sum_of_nothings itself c.holds 0 s.unheld
+no_holds {c} k s = k.all_holds ∙ sum_of_nothings (λ n. n) c.holds 0 s.unheld
 
 pub none_removed : {c : Contents} {full held removed : ℕ} → IsCounted c full held removed → IsSettled (state_of c) → removed ≡ 0
 none_removed {c} k s = k.all_removed ∙ sum_of_nothings removed_count_of c.nodes Gone (λ n. not_removed n (node_at c.nodes n) (s.closed n))
@@ -45,8 +59,7 @@ files_upto : {c : Contents} → IsTable c → (n : ℕ) → n ≤ length c.slots
     → length (files_in_order (state_of c).at n) ≡ sum_by file_count_of (take n c.slots)
 files_upto t zero le = refl
 files_upto {c} t (suc n) le =
-    let rest = files_upto t n (omega arith) in
-    let one = one_file n t (slot_at c.slots n) refl in
+    let rest = files_upto t n (omega arith) in let one = one_file n t (slot_at c.slots n) refl in
     let both = length-append (files_in_order (state_of c).at n) (identities_of ((state_of c).at n)) in
     let more = rw add-one at (sum_by_more file_count_of c.slots n None (omega arith)) in omega arith
 
@@ -61,8 +74,7 @@ pub sparse_keeps : {slots : List (Option ℕ)} {n : ℕ} {nodes : List Node} {ho
 sparse_keeps {n} slots_are few no_nodes no_hold =
     let len : length (replicate {A = Option ℕ} n None) ≡ n = length-replicate n None in
     let unnamed : (slot number : ℕ) → slot_at (replicate n None) slot ≡ Some number → ⊥ = λ slot number is.
-    let e : Some number ≡ None = sym is ∙ read_default n slot None in cc in
-    rw (slots_are, no_nodes, no_hold) (
+    let e : Some number ≡ None = sym is ∙ read_default n slot None in cc in rw (slots_are, no_nodes, no_hold) (
       record {
         few_slots = omega arith;
         range_inside = omega arith;

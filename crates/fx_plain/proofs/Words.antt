@@ -1,9 +1,9 @@
 -- The names that most proofs of this crate use.
 pub use Rattle.fx_base.specs.declared.open_file.Closed.{Closed}
-pub use Rattle.fx_plain.specs.Contents.{AllPlaced, At, Contents, Fresh, Gone, HaveOwnNumbers, IsCounted, IsPrepared, IsTable, Leaving, Retired}
-pub use Rattle.fx_plain.specs.Contents.{SameButPlaced, file_at, file_count_of, file_in, file_named, is_fresh, is_leaving, is_retired, itself, leaving}
-pub use Rattle.fx_plain.specs.Contents.{moved_node, node_after_removal, node_after_retirement, node_at, nodes_without, opening_slot, placed_at}
-pub use Rattle.fx_plain.specs.Contents.{removed_at, removed_count_of, slot_at, state_of}
+pub use Rattle.fx_plain.specs.Contents.{AllPlaced, At, Contents, Fresh, Gone, HaveOwnNumbers, IsCounted, IsTable, Leaving, Retired, SameButPlaced}
+pub use Rattle.fx_plain.specs.Contents.{file_at, file_count_of, file_in, file_named, is_fresh, is_leaving, is_retired, leaving, moved_node}
+pub use Rattle.fx_plain.specs.Contents.{node_after_removal, node_after_retirement, node_at, nodes_without, opening_slot, placed_at, removed_at}
+pub use Rattle.fx_plain.specs.Contents.{removed_count_of, slot_at, state_of}
 pub use Rattle.fx_plain.specs.History.{AllowsAll, IsLegal, Leads, action_of, close_of, closed_by, closes_in, state_after, ◌▷▷◌, ◌▷◌}
 pub use Rattle.fx_plain.specs.OwnNumbers.{HaveOwnOutside, IsFiled, IsOutside, IsRenumbered, IsVacant}
 pub use Rattle.fx_plain.specs.Reserved.{with_rest}
@@ -28,4 +28,4 @@ pub use Rattle.std.proofs.lemmas.List.{append-nil, get_or-append-add, get_or-rep
 pub use Rattle.std.proofs.lemmas.List.{get_or_default, length-replicate, length-set, nil_from_length, set-append_left, set-get_or, set-set}
 pub use Rattle.std.proofs.lemmas.List.Sums.{get_or-le-sum_by, sum_by-cons, sum_by-set}
 pub use Rattle.std.specs.Option.{option_to_list}
-pub use Rattle.std.specs.Prelude.{sum_by}
+pub use Rattle.std.specs.Prelude.{sum, sum_by}

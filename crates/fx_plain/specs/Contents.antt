@@ -2,7 +2,7 @@
 -- files that aren't retired yet, and `numbers_of` the number of prepared numbers.
 use Rattle.std.specs.Prelude.{◌≡◌, ℕ, ◌+◌, ◌<◌, ◌≤◌, ◌^◌, Bool, true, false, List, length, Option}
 use Rattle.std.specs.Prelude.{Some, None, slice_index, slice_index_or, slice_set}
-use Rattle.std.specs.Prelude.{sum_by}
+use Rattle.std.specs.Prelude.{sum, sum_by}
 use Rattle.fx_base.specs.Identity.{Identity}
 use Rattle.fx_plain.specs.State.{State}
 use Rattle.fx_plain.specs.declared.event.File.{File}
@@ -110,13 +110,10 @@ removed_count_of (Leaving file) = 1
 removed_count_of (Retired file) = 1
 removed_count_of _ = 0
 
-abbrev pub itself : ℕ → ℕ
-itself n = n
-
 -- the counters of a table: full slots, holds, and removed files
 pub record IsCounted (c : Contents) (full held removed : ℕ) : Type 0 where
   pub full_slots : full ≡ sum_by file_count_of c.slots
-  pub all_holds : held ≡ sum_by itself c.holds
+  pub all_holds : held ≡ sum c.holds
   pub small_holds : (number : ℕ) → slice_index c.holds number < 2 ^ 32
   pub all_removed : removed ≡ sum_by removed_count_of c.nodes
 

@@ -76,10 +76,7 @@ impl HoldList {
     pub(crate) fn of(&self, number: u32) -> u32
         ensures { result ≡ slice_index self.now number }
     {
-        match self.written.get(number as usize) {
-            Some(holds) => *holds,
-            None => 0,
-        }
+        self.written.get(number as usize).copied().unwrap_or(0)
     }
 
     // Adds a hold of a number.

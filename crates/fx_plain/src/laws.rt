@@ -17,6 +17,7 @@ pub fn no_close_while_held()
 {}
 
 /// States that a file is closed at most once.
+#[tactic(auto, using(crate::proofs::LawTallies::closed_at_most_once))]
 pub fn closed_at_most_once()
     ensures { ClosedAtMostOnce }
 {}
@@ -24,6 +25,7 @@ pub fn closed_at_most_once()
 /// States that in a settled state, where no file has a hold and none waits for its close, each file that was at a slot
 /// at the start or was installed since is either still at a slot and was never closed, or at no slot and was closed
 /// once.
+#[tactic(auto, using(crate::proofs::LawFiles::every_removed_file_is_closed))]
 pub fn every_removed_file_is_closed()
     ensures { EveryRemovedFileIsClosed }
 {}
@@ -46,6 +48,7 @@ pub fn opening_is_at_rest()
 {}
 
 /// States that a table at rest is at rest again whenever its history leads to a settled state.
+#[tactic(auto, using(crate::proofs::AtRest::stays_at_rest))]
 pub fn a_table_comes_to_rest()
     ensures { StaysAtRest }
 {}

@@ -108,19 +108,13 @@ impl NodeList {
     pub(crate) fn is_leaving(&self, number: u32) -> bool
         ensures { result ≡ is_leaving (node_at self.now number) }
     {
-        match self.written.get(number as usize) {
-            Some(node) => is_leaving(node),
-            None => false,
-        }
+        self.written.get(number as usize).is_some_and(is_leaving)
     }
 
     pub(crate) fn is_retired(&self, number: u32) -> bool
         ensures { result ≡ is_retired (node_at self.now number) }
     {
-        match self.written.get(number as usize) {
-            Some(node) => is_retired(node),
-            None => false,
-        }
+        self.written.get(number as usize).is_some_and(is_retired)
     }
 
     // Returns the file of a number in any state that has one.

@@ -27,13 +27,9 @@ impl SlotSpan {
         if self.end <= self.start {
             self.start = slot;
             self.end = slot + 1;
-            return;
-        }
-        if slot < self.start {
-            self.start = slot;
-        }
-        if self.end <= slot {
-            self.end = slot + 1;
+        } else {
+            self.start = self.start.min(slot);
+            self.end = self.end.max(slot + 1);
         }
     }
 }

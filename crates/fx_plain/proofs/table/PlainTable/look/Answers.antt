@@ -8,8 +8,7 @@ overflow_add-self c = omega (arith, few_held c.self.invariant.0.0 c.self.invaria
 
 pub returns-clause-step : goal.returns-clause-step
 returns-clause-step c =
-    let v : Contents = the_view c.self.inside in
-    let inside : c.args.slot < length v.slots = search rules in
+    let v : Contents = the_view c.self.inside in let inside : c.args.slot < length v.slots = search rules in
     let at : slot_at v.slots c.args.slot ≡ Some c.in_ok-number.number = seen_at v.slots None inside c.index.ensures c.in_ok-number.was in
     let named = c.self.invariant.0.0.placed c.args.slot c.in_ok-number.number at in
     let after : Contents = record v { holds = c.add_hold.new.self } in

@@ -1,12 +1,10 @@
 use Rattle.fx_plain.proofs.Words.{sym, arith, state_of}
-use Rattle.fx_plain.proofs.Opening.{fields_keep, state_of-fields, own_number}
-use Rattle.fx_plain.proofs.Prepared.{settled_at_opening}
+use Rattle.fx_plain.proofs.Prepared.{fields_keep, state_of-fields, own_number, settled_at_opening}
 use Rattle.fx_plain.proofs.table.PlainTable.prepare.Goals as goal
 
 pub invariant_of-self-2 : goal.invariant_of-self-2
 invariant_of-self-2 c =
-    let enough = rw (sym c.self.view_is) at c.requires.numbers in
-    let settled = rw (sym c.self.view_is) at c.requires.settled in
+    let enough = rw (sym c.self.view_is) at c.requires.numbers in let settled = rw (sym c.self.view_is) at c.requires.settled in
     let filed = c.in_ok-renumber.ensures.ok in (
       fields_keep c.self.invariant.0.0 enough c.ranges.numbers.fits filed c.start_again.ensures c.self.invariant.0.1 settled,
       record {
@@ -17,8 +15,7 @@ invariant_of-self-2 c =
 
 pub returns-clause-ok : goal.returns-clause-ok
 returns-clause-ok c =
-    let enough = rw (sym c.self.view_is) at c.requires.numbers in
-    rw (sym c.self.view_is)
+    let enough = rw (sym c.self.view_is) at c.requires.numbers in rw (sym c.self.view_is)
     (state_of-fields c.self.invariant.0.0 enough c.ranges.numbers.fits c.in_ok-renumber.ensures.ok c.start_again.ensures)
 
 pub returns-clause-settled : goal.returns-clause-settled

@@ -1,7 +1,6 @@
 use Rattle.fx_plain.proofs.Words.{rules, false, ◌≡◌, ◌^◌, None, ◌+◌, ◌<◌, Some, length, sym, ◌∙◌, arith, changed_at, with_removed, slot_at, file_at}
 use Rattle.fx_plain.proofs.Words.{Contents, IsTable, IsCounted, state_of, numbered, the_view}
-use Rattle.fx_plain.proofs.Cells.{unchanged}
-use Rattle.fx_plain.proofs.Writes.{unnamed}
+use Rattle.fx_plain.proofs.Cells.{unchanged, unnamed}
 use Rattle.fx_plain.proofs.Removals.{IsFree, own_free, put_at, state_of-put, put_counted}
 use Rattle.fx_plain.proofs.OwnNumbers.{own_as_before}
 use Rattle.fx_plain.proofs.table.PlainTable.put_back.Goals.{After-set_node}

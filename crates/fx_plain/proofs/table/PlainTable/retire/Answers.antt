@@ -1,5 +1,5 @@
 use Rattle.fx_plain.proofs.Words.{rules, Gone, sym, ◌∙◌, the_view}
-use Rattle.fx_plain.proofs.Writes.{leaving-nodes}
+use Rattle.fx_plain.proofs.Cells.{leaving-nodes}
 use Rattle.fx_plain.proofs.Holding.{node_inside, retires, retire_closes, retire_waits, retire_close_keeps, retire_wait_keeps}
 use Rattle.fx_plain.proofs.table.PlainTable.retire.Goals as goal
 

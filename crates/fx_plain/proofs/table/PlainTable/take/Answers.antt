@@ -1,6 +1,6 @@
 use Rattle.fx_plain.proofs.Words.{rules, ◌≡◌, ◌≤◌, ◌^◌, sym, ◌<◌, Some, None, length, ◌+◌, ◌-◌, arith, slot_at, Contents, IsTable, IsCounted}
 use Rattle.fx_plain.proofs.Words.{the_view}
-use Rattle.fx_plain.proofs.Writes.{has_file-At}
+use Rattle.fx_plain.proofs.Cells.{has_file-At}
 use Rattle.fx_plain.proofs.Removals.{taken, seen_at, take_removes, take_counted}
 use Rattle.fx_plain.proofs.OwnNumbers.{own_as_before}
 use Rattle.fx_plain.proofs.table.PlainTable.take.Goals.{In_ok-number}

@@ -33,12 +33,10 @@ close_file-requires-clause-room c =
 
 pub loop-slot-preserved : goal.loop-slot-preserved
 loop-slot-preserved c =
-    let a = (goal.at.loop-slot-preserved c).After-index in
-    let i = c.loop-slot.invariant in
+    let a = (goal.at.loop-slot-preserved c).After-index in let i = c.loop-slot.invariant in
     let nodes_are : c.close_file.new.nodes ≡ nodes_without c.loop-slot.nodes (slot_at c.args.slots.now.items c.loop-slot.slot) =
     c.close_file.ensures.nodes ∙ ap (nodes_without c.loop-slot.nodes) (read a) in
-    let next = longer a in
-    record {
+    let next = longer a in record {
       files = rw (c.close_file.ensures.files, i.files, listed a, files_next (at a) c.loop-slot.slot)
           (append_assoc c.args.closes.now.files (files_in_order (at a) c.loop-slot.slot) (identities_of (at a c.loop-slot.slot)));
       room = omega arith;

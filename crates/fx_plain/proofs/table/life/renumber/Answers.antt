@@ -1,4 +1,4 @@
-use Rattle.fx_plain.proofs.Moving.{still_placed}
+use Rattle.fx_plain.proofs.OwnNumbers.{still_placed}
 use Rattle.fx_plain.proofs.table.life.renumber.Goals as goal
 
 pub renumber_in_place-requires-clause-placed : goal.renumber_in_place-requires-clause-placed

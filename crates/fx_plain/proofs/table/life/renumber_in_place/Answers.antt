@@ -1,20 +1,15 @@
 use Rattle.fx_plain.proofs.Words.{rules, refl, ◌≡◌, ◌<◌, ap, ◌∙◌, length, slice_set, arith, slot_at, nodes_without, moved_node, file_named, IsFiled}
+use Rattle.fx_plain.proofs.OwnNumbers.{named_same, opened_next, left_settled, each_settled, later_stays, filed_by_move}
 use Rattle.fx_plain.proofs.table.life.renumber_in_place.Goals as goal
-use Rattle.fx_plain.proofs.Moving.{named_same, opened_next, left_settled, each_settled, later_stays, filed_by_move}
 
 pub loop-slot-preserved : goal.loop-slot-preserved
 loop-slot-preserved c =
-    let i = c.loop-slot.invariant in
-    let first = c.args.slots.now.items in
-    let nodes = c.loop-slot.nodes in
-    let s = c.loop-slot.slot in
-    let inside_first : s < length first = omega arith in
-    let inside : s < length c.loop-slot.slots.items = omega arith in
-    let room : s < length nodes = omega arith in
+    let i = c.loop-slot.invariant in let first = c.args.slots.now.items in let nodes = c.loop-slot.nodes in
+    let s = c.loop-slot.slot in let inside_first : s < length first = omega arith in
+    let inside : s < length c.loop-slot.slots.items = omega arith in let room : s < length nodes = omega arith in
     let nodes_are : c.settle.new.nodes ≡ slice_set (nodes_without nodes (slot_at first s)) s (moved_node (file_named nodes (slot_at first s)) s) =
     rw (i.opened.rest s (omega arith)) at c.settle.ensures.nodes in
-    let moved = ap (λ x. moved_node x s) (named_same first c.args.nodes.now nodes s c.requires.placed i.left) in
-    record {
+    let moved = ap (λ x. moved_node x s) (named_same first c.args.nodes.now nodes s c.requires.placed i.left) in record {
       len = search rules;
       nodes_len = search rules;
       opened = rw c.settle.ensures.slots (opened_next i.opened inside);

@@ -1,5 +1,5 @@
 use Rattle.fx_plain.proofs.Words.{◌≡◌, ◌≤◌, ◌<◌, ℕ, Some, length, slot_at, node_at, IsFiled, vec_len}
-use Rattle.fx_plain.proofs.Moving.{IsOpened}
+use Rattle.fx_plain.proofs.OwnNumbers.{IsOpened}
 use Rattle.fx_plain.proofs.table.life.renumber_in_place.Given as goal
 
 -- the slots so far name their own numbers, whose nodes have their files, and what the others name is as it was

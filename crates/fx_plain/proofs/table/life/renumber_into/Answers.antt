@@ -1,14 +1,11 @@
 use Rattle.fx_plain.proofs.Words.{refl, rules, ◌≡◌, sym, ap, ◌∙◌, arith, moved_node, file_named, slot_at}
-use Rattle.fx_plain.proofs.Moving.{named_same, left_without, opened_next, moved_next}
+use Rattle.fx_plain.proofs.OwnNumbers.{named_same, left_without, opened_next, moved_next}
 use Rattle.fx_plain.proofs.table.life.renumber_into.Goals as goal
 
 pub loop-slot-preserved : goal.loop-slot-preserved
 loop-slot-preserved c =
-    let i = c.loop-slot.invariant in
-    let first = c.args.slots.now.items in
-    let nodes = c.loop-slot.nodes in
-    let s = c.loop-slot.slot in
-    let here = i.opened.rest s (omega arith) in
+    let i = c.loop-slot.invariant in let first = c.args.slots.now.items in let nodes = c.loop-slot.nodes in
+    let s = c.loop-slot.slot in let here = i.opened.rest s (omega arith) in
     let node_is : c.move_file-node.result ≡ moved_node (file_named c.args.nodes.now (slot_at first s)) s = c.move_file-node.ensures.node
     ∙ rw here (ap (λ x. moved_node x s) (named_same first c.args.nodes.now nodes s c.requires.placed i.left)) in
     record {

@@ -1,5 +1,5 @@
 use Rattle.fx_plain.proofs.Words.{◌≡◌, ◌≤◌, ◌<◌, ℕ, Some, length, slot_at, node_at, moved_node, file_named, vec_len, vec_capacity}
-use Rattle.fx_plain.proofs.Moving.{IsOpened}
+use Rattle.fx_plain.proofs.OwnNumbers.{IsOpened}
 use Rattle.fx_plain.proofs.table.life.renumber_into.Given as goal
 
 -- the slots so far name their own numbers, and the others are as they were, with their files
