@@ -2,7 +2,7 @@
 use Rattle.std.proofs.Common.{◌≡◌, ◌≢◌, ℕ, ◌+◌, ◌-◌, ◌^◌, ◌<◌, ◌≤◌, Some, None, refl, ap, sym, ◌∙◌, arith, ne_eqb, eq-eqb}
 use mathlib.Core.Logic.{dite}
 use native.Mathlib.Decide.{ℕ_discrete}
-use Rattle.fx_words.specs.Words.{last_node, slot_word_of, name_in, named, entry_in, takes_in}
+use Rattle.fx_words.specs.Words.{slot_word_of, name_in, named, entry_in, takes_in}
 use Rattle.fx_words.specs.Laws.{ReadersUndoMaker, MakerUndoesReaders, OneMoreTakeChangesTakes}
 
 pub name_made : (node entry : ℕ) → entry < 2 ^ 8 → name_in (slot_word_of node entry) ≡ node + 1
@@ -13,9 +13,6 @@ entry_made node entry small = omega arith
 
 pub takes_made : (node entry : ℕ) → takes_in (slot_word_of node entry) ≡ 0
 takes_made node entry = omega arith
-
-pub word_made : (node entry : ℕ) → node ≤ last_node → entry < 2 ^ 8 → slot_word_of node entry < 2 ^ 64
-word_made node entry few small = omega arith
 
 pub named_suc : (name node : ℕ) → name ≡ node + 1 → named name ≡ Some node
 named_suc name node is = ap named is
@@ -30,9 +27,6 @@ entry_more word room = omega arith
 pub takes_more : (word : ℕ) → takes_in word + 1 < 2 ^ 32 → takes_in (word + 1) ≡ takes_in word + 1
 takes_more word room = omega arith
 
-pub word_more : (word : ℕ) → word < 2 ^ 64 → takes_in word + 1 < 2 ^ 32 → word + 1 < 2 ^ 64
-word_more word fits room = omega arith
-
 named_back : (name node : ℕ) → named name ≡ Some node → name ≡ node + 1
 named_back name node is = dite (ℕ_discrete name 0)
     (λ none. absurd (let e : None ≡ Some node = sym (named_none name none) ∙ is in cc e))
@@ -46,7 +40,7 @@ named_back name node is = dite (ℕ_discrete name 0)
 
 pub reads_back : ReadersUndoMaker
 reads_back node entry few small = record {
-  word = word_made node entry few small;
+  word = omega arith;
   node_back = named_suc _ node (name_made node entry small);
   entry_back = entry_made node entry small;
   no_takes = takes_made node entry;
@@ -57,7 +51,7 @@ made_back word node is = let e = named_back (name_in word) node is in omega arit
 
 pub takes_one : OneMoreTakeChangesTakes
 takes_one word fits room = record {
-  word = word_more word fits room;
+  word = omega arith;
   same_node = ap named (name_more word room);
   same_entry = entry_more word room;
   takes = takes_more word room;
