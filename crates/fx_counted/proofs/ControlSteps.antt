@@ -7,7 +7,7 @@ use Rattle.fx_counted.proofs.Words.{draw_place, slot_place, opening_of, IsNumber
 use Rattle.fx_counted.proofs.Words.{◌∷◌, get_or-set_other, get_or-set_same, none, some-injective, some-ne-none, keeps, step, sum_by-cons, Closed}
 use Rattle.fx_counted.proofs.Words.{Full, no_use, event_of, sum_at, sum_le_at, one_change, full_word_of, WorkAgrees, lengths, shown, IsInside}
 use Rattle.fx_counted.proofs.Words.{Stepped, GoesOn, SaysFull, Idle, Phase, Shared, BeginsKeep, EndsKeep, AnswersKeep, Between, length-set, Bool}
-use Rattle.fx_counted.proofs.Words.{true, false, end_amount_of, InRange, HasToTell, HasPass, MayChange, Sat, More, Less, ℤ, begun, difference, Allows}
+use Rattle.fx_counted.proofs.Words.{true, false, end_amount_of, InRange, HasToTell, HasPass, MayChange, Sat, ℤ, begun, difference, Allows}
 use Rattle.fx_counted.proofs.Steps.{stays_same, owner_same, Grows, grows_none, IsHistory, Turn, word_at, now, logged, its_log, its_work, step_kept}
 use Rattle.fx_counted.proofs.Steps.{log_now, slot_same, draws_same, grows_one, legal_more, held_mine, same_shape, turn_of, by_turn, went, tells_none}
 use Rattle.fx_counted.proofs.Steps.{tells_one, near, far}
@@ -238,8 +238,7 @@ module _ (turn : Turn) where
         let a = sum_set changes_of st.views id v w here in let b = sum_set added_of st.views id v w here in
         let d = sum_set removed_of st.views id v w here in
         let a' = ap in_change out in let b' = ap added out in let d' = ap removed_by out in let s = few_others in
-        let u = r.control.upper in let l = r.control.lower in
-        let sum : (word + 4294967296) % 2 ^ 64 ≡ word + 4294967296 = omega arith in
+        let u = r.control.upper in let l = r.control.lower in let sum : (word + 4294967296) % 2 ^ 64 ≡ word + 4294967296 = omega arith in
         record { upper = omega arith; lower = omega arith }
 
     -- the difference is reported: `amount` is 2^32 minus the difference
@@ -315,9 +314,7 @@ answers_keep k slots id i m x has same place = by_turn slots (λ _. Unit {0}) (�
 amount_told : (c : Change) {delta : ℤ} {amount : ℕ} → in_change c ≡ 1 → difference c ≡ delta → amount ≡ end_amount_of delta
     → amount + added c ≡ one_change + removed_by c
 amount_told Outside one d e = absurd (cc one)
-amount_told Same one d e = let f = e ∙ ap end_amount_of (sym d) in omega arith
-amount_told More one d e = let f = e ∙ ap end_amount_of (sym d) in omega arith
-amount_told Less one d e = let f = e ∙ ap end_amount_of (sym d) in omega arith
+amount_told _ one d e = let f = e ∙ ap end_amount_of (sym d) in omega arith
 
 pub ends_by : {k : Start} (slots id : ℕ) {i amount : ℕ} {delta : ℤ} {m : Sat} {x : Log} → HasPass k m x → HasToTell true delta m.0.change
     → amount ≡ end_amount_of delta → i ≡ control_place

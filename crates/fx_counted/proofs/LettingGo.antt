@@ -153,8 +153,7 @@ module _ (turn : Turn) (f : File) (t : ℕ) (works : turn.v.work ≡ Between (Re
   retirement_lets_go =
       let holds : (m : ℕ) → (state_after_all v.start r.history).holds m + held_of m v ≡ (state_after_all v.start r.history).holds m + 0 =
       λ m. let b = ap (holding m) works in omega arith in
-      let free : (m : ℕ) → m ≢ f.number → busy v.work ≢ m + 1 = λ m other bad. let b = ap busy works in other (omega arith) in
-      assumption (
+      let free : (m : ℕ) → m ≢ f.number → busy v.work ≢ m + 1 = λ m other bad. let b = ap busy works in other (omega arith) in assumption (
         grows_none x.number r.history,
         r.legal,
         one_same v f.number r.history,

@@ -48,8 +48,7 @@ pub exchange_tried : {k : Start} {m m' m'' : Sat} {n slot i slots found old new 
     → slot_of i ≡ slot → Stepped m [] no_use m.0.work Same m' → m'.1 ≡ m.1
     → Exchanges (step slots i old new none) m' found m'' → Tries n file slot m (nat_eq found old) m''
 exchange_tried {m} {m'} {m''} {n} {slot} {i} {found} {old} {file} p here s same e =
-    let loaded = one_still p.work s same in let work = s.work ∙ p.work in let place = same ∙ p.place in
-    let start = s.start ∙ p.at.pass.0 in
+    let loaded = one_still p.work s same in let work = s.work ∙ p.work in let place = same ∙ p.place in let start = s.start ∙ p.at.pass.0 in
     let at_home : m'.1 ≡ (place_of m'.0.start n, Some file) ∷ [] = place ∙ λ i. (place_of (sym start i) n, Some file) ∷ [] in
     tries_by (λ is. let w = e.wins n file work at_home is in
     let put = subst (λ (z : ℕ). Stepped m' ([] ▷ Allocate z (numbered n file)) one_number (Between Idle) More m'') here w.0 in

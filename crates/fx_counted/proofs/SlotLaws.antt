@@ -82,8 +82,7 @@ installs_keep k slots id i s n new file m x has works carries small inside stand
         replaced = old;
         names = names_old turn s is.1 old refl;
         stepped = λ n₂ file₂ works₂ carries₂.
-            let same_n : n ≡ n₂ = cc (sym works ∙ works₂) in
-            let same_f : file ≡ file₂ = cc (ap file_carried (sym is.0 ∙ carries₂)) in
+            let same_n : n ≡ n₂ = cc (sym works ∙ works₂) in let same_f : file ≡ file₂ = cc (ap file_carried (sym is.0 ∙ carries₂)) in
             rw (← same_n, ← same_f, (far turn).slot_back s)
             (installation_tells turn s is.1 old refl a is.2 n file works small does m.1 (rest m.1));
         carried = refl;
@@ -183,8 +182,7 @@ module _ (turn : Turn) (slots s n old_word : ℕ) (file : Closed) (carried : Lis
       rw carries (installation_agrees turn s within None at_none a stands n file works small allocated),
       record {
         wins = λ n₂ file₂ works₂ carries₂ _.
-            let same_n : n ≡ n₂ = cc (sym works ∙ works₂) in
-            let same_f : file ≡ file₂ = cc (ap file_carried (sym carries ∙ carries₂)) in (
+            let same_n : n ≡ n₂ = cc (sym works ∙ works₂) in let same_f : file ≡ file₂ = cc (ap file_carried (sym carries ∙ carries₂)) in (
               rw (← same_n, ← same_f, (far turn).slot_back s)
                   (subst (λ (c : Change). Stepped m ([] ▷ a) one_number (Between Idle) c (w, rest m.1)) (λ i. turned (same i) 0 1)
                   (installation_tells turn s within None at_none a stands n file works small allocated m.1 (rest m.1))),

@@ -13,10 +13,8 @@ split_seat-one-requires c = let i = c.loop-number.invariant in (
 pub loop-number-preserved : goal.loop-number-preserved
 loop-number-preserved c =
     let s = c.split_seat-one.ensures in let i = c.loop-number.invariant in let k = c.args.self.now.table.shared.key in
-    let test = c.loop-number-test.true in
-    let high : c.loop-number.number ≤ k.passes = omega (arith, c.args.self.now.key.1, test) in
-    let new = is_new_pass k i.before.low high c.new.ensures (s.3 ∙ i.table) (s.4 ∙ ap (λ (m : Sat). (first_alone m.0, [])) i.me) in
-    record {
+    let test = c.loop-number-test.true in let high : c.loop-number.number ≤ k.passes = omega (arith, c.args.self.now.key.1, test) in
+    let new = is_new_pass k i.before.low high c.new.ensures (s.3 ∙ i.table) (s.4 ∙ ap (λ (m : Sat). (first_alone m.0, [])) i.me) in record {
       before = one_dealt i.before c.push_reserved.ensures.items new test;
       table = s.0 ∙ i.table;
       me = s.2 ∙ (ap (λ (m : Sat). (without_first m.0, m.1)) i.me ∙ ap (λ (v : View). (v, [])) (rest_is_dealt high));
@@ -29,5 +27,4 @@ returns c =
     let last : c.loop-number.number ≡ c.args.self.now.passes = omega (arith, c.loop-number-test.false, i.before.high) in
     let high : c.loop-number.number ≤ k.passes = omega (arith, last, all) in
     let new = is_new_pass k i.before.low high c.new-2.ensures i.table (i.me ∙ ap (λ (v : View). (v, [])) (last_is_dealt (last ∙ all))) in
-    let done = all_dealt i.before c.push_reserved-2.ensures.items new last in
-    record { ready = done.0; count = done.1; new = done.2 }
+    let done = all_dealt i.before c.push_reserved-2.ensures.items new last in record { ready = done.0; count = done.1; new = done.2 }

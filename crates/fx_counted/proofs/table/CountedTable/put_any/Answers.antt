@@ -6,8 +6,7 @@ use Rattle.fx_counted.proofs.table.CountedTable.put_any.Goals as goal
 pub returns-in-Some-clause-allocated : goal.returns-in-Some-clause-allocated
 returns-in-Some-clause-allocated g c =
     let size = c.args.self.now.same_size in let below = c.in-Some.ensures.slot in
-    let found = rw c.identity-identity.ensures at c.in-Some.ensures.found in
-    let placed = goes_then (goes_one c.put_in.ensures.born) found.0.1 in
+    let found = rw c.identity-identity.ensures at c.in-Some.ensures.found in let placed = goes_then (goes_one c.put_in.ensures.born) found.0.1 in
     (omega arith, (_, new_here _ _ 0 _ _ _ c.next_number-number.ensures.number refl, adds_so c.requires.fits placed))
 
 pub returns-in-None-clause-allocated : goal.returns-in-None-clause-allocated

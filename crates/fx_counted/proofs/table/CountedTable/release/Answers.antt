@@ -6,8 +6,7 @@ use Rattle.fx_counted.proofs.table.CountedTable.release.Goals as goal
 
 pub fetch_sub-found-requires : goal.fetch_sub-found-requires
 fetch_sub-found-requires c =
-    let t = c.args.self.now in let fits = c.requires.fits in let (f, holding) = c.requires.held in
-    let (work, value) = its_hold fits holding in
+    let t = c.args.self.now in let fits = c.requires.fits in let (f, holding) = c.requires.held in let (work, value) = its_hold fits holding in
     let is = c.node_place-place.ensures ∙ ap (λ (h : Hold). node_place t.size h.node) value in (
       fits.table,
       node_inside t (subst (IsInside t.table.shared.key) work fits.seated.inside) is,

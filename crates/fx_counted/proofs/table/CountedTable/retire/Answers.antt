@@ -8,8 +8,7 @@ use Rattle.fx_counted.proofs.table.CountedTable.retire.Goals as goal
 
 pub fetch_sub-found-requires : goal.fetch_sub-found-requires
 fetch_sub-found-requires c =
-    let t = c.args.self.now in let fits = c.requires.fits in let (f, doing) = c.requires.removed in
-    let (work, value) = its_removal fits doing in
+    let t = c.args.self.now in let fits = c.requires.fits in let (f, doing) = c.requires.removed in let (work, value) = its_removal fits doing in
     let is = c.node_place-place.ensures ∙ ap (λ (r : Retired). node_place t.size r.node) value in (
       fits.table,
       node_inside t (subst (IsInside t.table.shared.key) work fits.seated.inside) is,

@@ -11,8 +11,7 @@ exchange-requires c =
 pub store-requires : goal.store-requires
 store-requires c =
     let t = c.args.self.now in let n = c.args.number in let h = c.requires.place.1 in
-    let is = rw t.same_size at c.home_place-place.ensures in let me = c.exchange.ensures.3 in
-    let view = ap (λ (z : Sat). z.0) me in (
+    let is = rw t.same_size at c.home_place-place.ensures in let me = c.exchange.ensures.3 in let view = ap (λ (z : Sat). z.0) me in (
       c.exchange.ensures.0 ∙ c.requires.table,
       node_inside t h.known c.node_place.ensures,
       rests_keep t.table.shared.key _ _ _ n c.exchange.new.seat.me h.log (rw view h.pass) (rw view h.work)
