@@ -106,8 +106,7 @@ module _ {id : TableId} {k : Start} {u : PassView} {c : Contents} {p : BatonPass
 
     behind_own : number_behind log.own ≤ number
     behind_own =
-        let own = ap first_own h.seated.one in let l = h.seated.turns.unused in let e = ap number_behind own in
-        let n = number_is in omega arith
+        let own = ap first_own h.seated.one in let l = h.seated.turns.unused in let e = ap number_behind own in let n = number_is in omega arith
 
     owned : pass_of_number view.start.passes number ≡ log.number
     owned = ap (λ (z : Start). pass_of_number z.passes number) same_start ∙ its_own.0

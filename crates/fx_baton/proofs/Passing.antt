@@ -154,8 +154,7 @@ module _ {id : TableId} {k : Start} {call : Call} {idle : Bool} {p : BatonPass} 
       let loans : Some t.taken ≡ Some c = sym t.has.loan ∙ h.loan in let same : t.taken ≡ c = cc loans in
       let saw = subst (λ (z : PassView × Contents). Adds (opening_of k) z.0 (actions_of z.1 p.seat.me.0.doing call)
       (activity_of (doing_of z.1 call)) (use_of call) (view_of (gave seated))) (λ i. (h.more.same i, same i)) adds_here in
-      let seen = seen_further u.front (view_of p).front (view_of (gave seated)).front h.more.seen adds_here.seen in
-      assumption (seen, saw)
+      let seen = seen_further u.front (view_of p).front (view_of (gave seated)).front h.more.seen adds_here.seen in assumption (seen, saw)
 
   pub gives_back : HasGivenBack id k call p (pass_behind p call idle seat)
   gives_back = subst (λ (m : Seated). HasGivenBack id k call p (gave m)) (sym is_seated) record {

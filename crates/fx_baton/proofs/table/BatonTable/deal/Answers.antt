@@ -30,8 +30,6 @@ returns c =
     let i = c.loop-number.invariant in let t = c.args.self.now.table.shared in
     let all = c.args.self.now.key.1 in let p = c.loop-number.number in let most = i.before.high in
     let last : p ≡ c.args.self.now.passes = omega (arith, c.loop-number-test.false, most) in
-    let me = i.me ∙ ap (λ (v : View). (v, [])) (last_is_dealt (last ∙ all)) in
-    let high : p ≤ t.key.passes = omega (arith, last, all) in
+    let me = i.me ∙ ap (λ (v : View). (v, [])) (last_is_dealt (last ∙ all)) in let high : p ≤ t.key.passes = omega (arith, last, all) in
     let new = is_new_pass t.table_id t.key p _ i.before.low high all _ _ c.new-2.ensures i.table me in
-    let done = all_dealt i.before c.push_reserved-2.ensures.items new last in
-    record { ready = done.0; count = done.1; new = done.2 }
+    let done = all_dealt i.before c.push_reserved-2.ensures.items new last in record { ready = done.0; count = done.1; new = done.2 }

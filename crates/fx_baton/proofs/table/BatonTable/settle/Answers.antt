@@ -5,8 +5,7 @@ use Rattle.fx_baton.proofs.table.BatonTable.settle.Goals as goal
 
 pub load-requires : goal.load-requires
 load-requires c =
-    let counts = c.args.self.now.counts in
-    let fits = c.requires.fits in (fits.table, omega arith, may_observe _ _ fits.seated.start)
+    let counts = c.args.self.now.counts in let fits = c.requires.fits in (fits.table, omega arith, may_observe _ _ fits.seated.start)
 
 pub returns-clause-settled : goal.returns-clause-settled
 returns-clause-settled c =
