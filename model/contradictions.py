@@ -2,9 +2,9 @@
 requests of a submission is tried on model/model.py, one step at a time.
 
 In `complaint_of`, for lines that a search of fixcheck found, a line that isn't named, or is left out, puts no condition on its request:
-it may answer anything that leaves the following requests of its chain canceled, or not, as in the text; and a file may be closed or
-not. Lines of opens at any slot are never left out. If the lines are those of one slot, requests at the others are left out, and none
-of their lines may be named.
+it may answer anything, and the following requests of its chain are canceled, or not, as in the text; and a file may be closed or not.
+Lines of opens at any slot are never left out, and those of closed files only all together. If the lines are those of one slot, requests
+at the others are left out, and none of their lines may be named.
 
 `order_of_named` looks at the lines that any verdict names: the named lines alone must have no order, whatever the other requests
 answer and whichever of them are canceled. An open at any slot still takes the slot that its line says."""
@@ -18,18 +18,17 @@ CLOSES_NO_OTHER, FEWER = "and closes no other file", re.compile("fewer of them m
 NO_MEMORY = -12
 CANCELS = "and cancels the same requests"
 # reasons that rest on the files that have no line, and those that a line's place alone shows to be wrong
-NO_LINE = re.compile(r"has no `closed` line|files from there with a `closed` line|" + CLOSES_NO_OTHER)
+NO_LINE = re.compile(r"has no `closed` line|" + CLOSES_NO_OTHER)
 PLACE_ALONE = re.compile(r"a file is closed once|closed files (stand|are) in order")
 # with more requests than these not all orders are looked at
 LARGEST_SUBMISSION = 24
 
 
 class Step:
-    """A request of a text, or one entry of an update: its line, from 0, the result and the bytes there, and whether the next request of
-    its chain is canceled, or None where that doesn't depend on it."""
+    """A request of a text, or one entry of an update: its line, from 0, and the result and the bytes there."""
 
-    def __init__(self, line, place, request, linked_by, told, behind):
-        self.line, self.place, self.request, self.linked_by, self.told, self.behind = line, place, request, linked_by, told, behind
+    def __init__(self, line, place, request, told):
+        self.line, self.place, self.request, self.told = line, place, request, told
 
     def slot(self):
         """Returns the slot that it accesses, or None if it finds all full."""
@@ -49,13 +48,6 @@ class Step:
         """The mark of the file that it installs, if it does."""
         kind, *words = self.request
         return text_of_mark(submitted(self.place, words[2] if kind == "update" and len(words) > 2 else 0))
-
-    def leaves_chain(self, res):
-        """Returns whether the rest of the chain is as in the text if it answers this and its line puts no condition on it. A read may lack memory."""
-        if self.behind is None:
-            return True
-        is_severed = severs(self.request, self.linked_by, res)
-        return is_severed == self.behind or self.behind and self.request[0] == "read" and self.request[3] > 0
 
 
 def before(script, lines, command):
@@ -115,13 +107,12 @@ class OfLines(Submission):
 
     def steps_of(self, nth):
         steps, chain, told = [], self.chains[nth], self.told[nth]
-        for member, (request, linked_by) in enumerate(chain):
+        for member, (request, _) in enumerate(chain):
             res, got = told[member]
             if res == -ECANCELED:
                 continue
-            behind = told[member + 1][0] == -ECANCELED if linked_by == "link" and member + 1 < len(chain) else None
             place = self.player.submissions, nth + 1, member + 1
-            steps += [Step(self.first[nth] + member, place, piece, linked_by, (it, got), behind) for piece, it in pieces_of(request, res)]
+            steps += [Step(self.first[nth] + member, place, piece, (it, got)) for piece, it in pieces_of(request, res)]
         return steps
 
     def ends(self):
@@ -134,7 +125,7 @@ class OfLines(Submission):
                 step, after = chain[places[nth]], player.copy()
                 after.wanted = step.told[0]
                 answer = after.perform(step.place, step.request)
-                if answer == step.told or step.line not in named and step.may_be_left_out() and step.leaves_chain(answer[0]):
+                if answer == step.told or step.line not in named and step.may_be_left_out():
                     yield after, ((*places[:nth], places[nth] + 1, *places[nth + 1 :]),)
 
     def strange(self, named):
@@ -146,9 +137,9 @@ class OfLines(Submission):
         return named - {step.line for step in steps if step.tells()} - set(self.closed)
 
     def optional(self, named):
-        """Those of the lines that may be left out."""
+        """Those of the lines that may be left out one by one."""
         reads = {step.line for chain in self.steps for step in chain if step.may_be_left_out()}
-        return [it for it in named if it in reads or it in self.closed]
+        return [it for it in named if it in reads]
 
 
 class Free(Submission):
@@ -221,6 +212,13 @@ def complaint_of(script, text, said, most=20_000):
     for line in submission.optional(named):
         if not submission.has_order(named - {line}, closes_no_other, most):
             return f"line {line + 1} may be left out"
+    closed = set(submission.closed)
+    if not closes_no_other and named & closed:
+        return "it names files that are closed, and doesn't rest on them"
+    if closes_no_other and of_slot and not closed <= named:
+        return "it doesn't name each closed file of the slot"
+    if closes_no_other and of_slot and not submission.has_order(named - closed, False, most):
+        return "it doesn't matter which files are closed"
     return None
 
 

@@ -32,8 +32,6 @@ NO_ORDERS = (
 )
 # kept texts with lines that have no order, each of which is needed for that
 UNORDERED = "examples/judged/submissions.judged"
-# kept texts whose closed files need a request that empties their slot
-EMPTIED = ("examples/judged/explained.judged", "examples/judged/submissions.judged")
 
 
 def kinds(fixcheck):
@@ -46,8 +44,8 @@ def kinds(fixcheck):
     yield "allocations between marks", 6, allocations()
     yield "verdicts", 7, verdicts()
     yield "names in verdicts", 9, names_told()
-    yield "lines that have no order", 73, unordered(fixcheck)
-    yield "lines of slots that nothing empties", 4, emptied()
+    yield "lines that have no order", 84, unordered(fixcheck)
+    yield "lines beside which no other file is closed", 6, beside_closes(fixcheck)
 
 
 def examples():
@@ -192,11 +190,12 @@ def unordered(fixcheck):
                 yield f"{wrong}", contradictions.complaint_of(Script(script), text, wrong) is not None
 
 
-def emptied():
-    """Where no request empties a slot whose files are all closed, each line that is named left out: an order gives the others."""
-    for path in EMPTIED:
-        for script, text, _, _, block, _ in module("tests/check-verdicts").verdicts_of(os.path.join(ROOT, path)):
-            said = block.decode().splitlines()
-            for line in said[1:] if "so one of its files stays there" in said[0] else ():
-                holds = contradictions.order_of_named(Script(script), text.decode(), [it for it in said if it != line])
-                yield f"{said} without {line}", bool(holds)
+def beside_closes(fixcheck):
+    """Of lines that have no order if no other file is closed, each left out: an order gives the others."""
+    for script, text, *_ in module("tests/check-verdicts").verdicts_of(os.path.join(ROOT, UNORDERED)):
+        said = verdict(fixcheck, script, text.decode())[1]
+        if contradictions.CLOSES_NO_OTHER not in said[0] or contradictions.CANCELS in said[0] or len(said) < 3:
+            continue
+        for line in said[1:]:
+            holds = contradictions.order_of_named(Script(script), text.decode(), [it for it in said if it != line])
+            yield f"{said} without {line}", bool(holds)

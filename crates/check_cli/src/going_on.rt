@@ -1,10 +1,9 @@
 //! Judging a text after its first break, each time from the ring that the text shows there.
+use crate::question::Question;
 use crate::shown::shown_after;
 use check_judge::{Break, Judgement, judge_from};
 use check_search::Limits;
 use fx_base::NoMemory;
-use fx_script::Script;
-use std::alloc::Global;
 
 /// The verdict on the text after the last break.
 #[derive(Drop)]
@@ -38,22 +37,21 @@ fn counted_from(broken: Break, commands: usize, at: usize) -> Break {
 
 // Judges a text after a break: the next break, or the verdict on the rest.
 fn next_break(
-    alloc: Global,
-    script: &Script,
-    text: &[u8],
+    question: &Question<'_>,
     limits: Limits,
     broken: &Break,
 ) -> Result<Result<Break, Remainder>, NoMemory> {
-    if broken.commands >= script.commands().len() {
+    if broken.commands >= question.script.commands().len() {
         return Ok(Err(Remainder::Nothing));
     }
-    let Some(shown) = shown_after(alloc, script, text, broken)? else {
+    let Some((ring, rest)) = shown_after(question, broken)? else {
         return Ok(Err(Remainder::NoRing));
     };
-    let (done, at) = (broken.commands.saturating_add(1), shown.at);
-    let rest = text.get(at..).unwrap_or(b"");
+    let done = broken.commands.saturating_add(1);
+    let at = question.text.len().saturating_sub(rest);
+    let rest = question.rest(at);
     Ok(
-        match judge_from(alloc, script, done, shown.ring, rest, limits)? {
+        match judge_from(question.alloc, question.script, done, ring, rest, limits)? {
             None => Err(Remainder::NoRing),
             Some(Judgement::NotLegal(next)) => Ok(counted_from(next, done, at)),
             Some(judgement) => Err(Remainder::Judged(judgement)),
@@ -66,17 +64,15 @@ fn next_break(
 ///
 /// # Errors
 /// `NoMemory` if an allocation fails.
-pub fn breaks_from(
-    alloc: Global,
-    script: &Script,
-    text: &[u8],
+pub(crate) fn breaks_from(
+    question: &Question<'_>,
     limits: Limits,
     first: Break,
 ) -> Result<Breaks, NoMemory> {
-    let mut breaks = Vec::new(alloc);
+    let mut breaks = Vec::new(question.alloc);
     let mut last = first;
-    for _ in 0..script.commands().len() {
-        match next_break(alloc, script, text, limits, &last)? {
+    for _ in 0..question.script.commands().len() {
+        match next_break(question, limits, &last)? {
             Ok(next) => {
                 breaks.push(last)?;
                 last = next;

@@ -1,6 +1,6 @@
 //! Reads the script and the text.
 use check_arguments::NoVerdict;
-use check_explain::{line_at, line_behind};
+use check_explain::{line_after, line_at};
 use fx_script::{Command, PlayFault, Script, ScriptError};
 use std::alloc::{AllocError, Global};
 use std::fs;
@@ -8,19 +8,14 @@ use std::io::{Error, ErrorKind, Read};
 
 // Returns the name of a path in messages.
 fn name_of(alloc: Global, path: &str) -> Result<String, AllocError> {
-    let mut name = String::new(alloc);
-    name.push_str(if path == "-" { "standard input" } else { path })?;
-    Ok(name)
+    (if path == "-" { "standard input" } else { path }).to_owned(alloc)
 }
 
 // Returns the ending for a failed read.
 fn unread(alloc: Global, path: &str, error: Error) -> NoVerdict {
-    if error.kind() == ErrorKind::OutOfMemory {
-        return NoVerdict::Fault(PlayFault::NoMemory);
-    }
     match name_of(alloc, path) {
-        Ok(name) => NoVerdict::Unread(name, error),
-        Err(refused) => NoVerdict::from(refused),
+        Ok(name) if error.kind() != ErrorKind::OutOfMemory => NoVerdict::Unread(name, error),
+        _ => NoVerdict::Fault(PlayFault::NoMemory),
     }
 }
 
@@ -45,7 +40,7 @@ pub fn read_path(rt: &HostRuntime, path: &str) -> Result<Vec<u8>, NoVerdict> {
 
 // Checks whether a line, from 1, has a carriage return.
 fn has_return(source: &[u8], line: u32) -> bool {
-    let at = line_behind(source, 0, line.saturating_sub(1) as usize);
+    let at = line_after(source, 0, line.saturating_sub(1) as usize);
     line_at(source, at).contains(&b'\r')
 }
 

@@ -4,7 +4,9 @@
 mod answer_list;
 mod going_on;
 mod input;
+mod order_lines;
 mod progress;
+mod question;
 mod shown;
 mod text_list;
 mod unexpected;
@@ -13,7 +15,7 @@ mod verdict;
 use answer_list::{listing, place_of, status_of_answers};
 use check_arguments::{NoVerdict, Settings, settings_in, words};
 use check_explain::History;
-use check_judge::{Break, Judgement};
+use check_judge::Judgement;
 use check_search::Limits;
 use check_texts::{may, texts_of};
 use fx_order::Order;
@@ -21,6 +23,7 @@ use fx_script::{PlayFault, Script};
 use going_on::breaks_from;
 use input::{note_script, read_path, script_of, swapped};
 use progress::judged;
+use question::Question;
 use std::io::{self, Write};
 use std::process::ExitCode;
 use text_list::{listing_of_texts, status_of_texts};
@@ -43,30 +46,29 @@ fn write(rt: &HostRuntime, text: &str) -> Result<(), NoVerdict> {
 // Prints a whole history of a legal text, part by part.
 fn print_history(
     rt: &HostRuntime,
-    script: &Script,
-    text: &[u8],
+    question: &Question<'_>,
     orders: &[Order],
 ) -> Result<(), NoVerdict> {
-    let alloc = rt.alloc();
-    let mut history = History::new(alloc, script.catalogue(), text, orders);
+    let (alloc, script) = (question.alloc, question.script);
+    let catalogue = script.catalogue();
+    let mut history = History::new(alloc, catalogue, question.source, question.text, orders);
     write(rt, "legal\n")?;
     for command in script.commands() {
-        history.tell(alloc, command)?;
+        history.push(command)?;
         if history.lines().len() >= KEPT {
             write(rt, history.lines())?;
             history.clear();
         }
     }
-    history.tell_end()?;
+    history.push_end()?;
     write(rt, history.lines())
 }
 
 // Returns the limits of the search.
 fn limits_of(settings: Settings<'_>) -> Limits {
-    Limits {
-        states: settings.states as usize,
-        bytes: (settings.memory as usize).saturating_mul(MIB),
-    }
+    let (states, memory) = (settings.states as usize, settings.memory as usize);
+    let bytes = memory.saturating_mul(MIB);
+    Limits { states, bytes }
 }
 
 // Prints the answers of the request that the arguments name. Returns the exit status.
@@ -83,8 +85,7 @@ fn list_answers(
     if answers.answers.is_empty() && answers.are_all {
         return Err(NoVerdict::NoRequest(format!(in alloc; "{}", settings.text)?));
     }
-    let told = listing(alloc, script, settings, &answers)?;
-    write(rt, told.as_str())?;
+    write(rt, listing(alloc, script, settings, &answers)?.as_str())?;
     Ok(status_of_answers(&answers))
 }
 
@@ -97,24 +98,11 @@ fn list_texts(
 ) -> Result<u8, NoVerdict> {
     let alloc = rt.alloc();
     let all = texts_of(alloc, script, limits_of(settings), most as usize)?;
-    let told = listing_of_texts(alloc, script, settings, &all)?;
-    write(rt, told.as_str())?;
+    write(
+        rt,
+        listing_of_texts(alloc, script, settings, &all)?.as_str(),
+    )?;
     Ok(status_of_texts(&all))
-}
-
-// Prints all breaks of a text that isn't legal, from the first one on.
-fn print_breaks(
-    rt: &HostRuntime,
-    settings: Settings<'_>,
-    script: &Script,
-    source: &[u8],
-    text: &[u8],
-    first: Break,
-) -> Result<(), NoVerdict> {
-    let alloc = rt.alloc();
-    let all = breaks_from(alloc, script, text, limits_of(settings), first)?;
-    let told = breaks_text(alloc, script, source, text, &settings, &all)?;
-    write(rt, told.as_str())
 }
 
 // Judges a text, and prints the verdict. Returns the exit status.
@@ -124,25 +112,29 @@ fn print_verdict(
     script: &Script,
     source: &[u8],
 ) -> Result<u8, NoVerdict> {
-    let alloc = rt.alloc();
     let text = read_path(rt, settings.text)?;
-    let judgement = judged(rt, script, &text, limits_of(settings))?;
+    let question = Question {
+        alloc: rt.alloc(),
+        script,
+        source,
+        text: &text,
+        settings,
+    };
+    let limits = limits_of(settings);
+    let judgement = judged(rt, script, &text, limits)?;
     let status = status_of(&judgement);
+    if matches!(&judgement, Judgement::NotLegal(_)) {
+        note_script(rt, settings.text, &text)?;
+    }
     match judgement {
         Judgement::Legal(orders) if settings.history => {
-            print_history(rt, script, &text, orders.as_slice())?;
+            print_history(rt, &question, orders.as_slice())?;
         }
         Judgement::NotLegal(first) if settings.keep_going => {
-            note_script(rt, settings.text, &text)?;
-            print_breaks(rt, settings, script, source, &text, first)?;
+            let all = breaks_from(&question, limits, first)?;
+            write(rt, breaks_text(&question, &all)?.as_str())?;
         }
-        judgement => {
-            let told = verdict_text(alloc, script, source, &text, &settings, &judgement)?;
-            if matches!(&judgement, Judgement::NotLegal(_)) {
-                note_script(rt, settings.text, &text)?;
-            }
-            write(rt, told.as_str())?;
-        }
+        judgement => write(rt, verdict_text(&question, &judgement)?.as_str())?,
     }
     Ok(status)
 }

@@ -1,36 +1,12 @@
 //! The ring that a text shows after a command at which it breaks. It is advice, and no contract speaks of it: `judge_from` checks
 //! that it is a ring.
-use check_explain::{Case, KnownReport, behind, line_at, line_number, next_place};
+use crate::question::Question;
+use check_explain::{Case, KnownReport, cut_word, line_at, next_place, rest_after};
 use check_judge::{Break, Fault, Judgement, judge_from};
-use check_lines::{ClosedLine, ReportLines, read_report};
+use check_lines::{ReportLines, copy_of, read_report};
 use check_search::Limits;
-use fx_base::{Mark, NoMemory};
-use fx_chain::{Request, check};
+use fx_base::NoMemory;
 use fx_order::{RingSlots, Slots};
-use fx_script::{Command, Script};
-use std::alloc::Global;
-
-/// A ring that a text shows after a command.
-#[derive(Drop)]
-pub struct Shown {
-    pub ring: RingSlots,
-    /// The number of bytes of the text up to there.
-    pub at: usize,
-}
-
-// Returns a copy of the slots and counts of a ring.
-fn copy_of(alloc: Global, ring: &RingSlots) -> Result<RingSlots, NoMemory> {
-    Ok(RingSlots {
-        slots: ring.slots.copy(alloc)?,
-        submissions: ring.submissions,
-        registrations: ring.registrations,
-    })
-}
-
-// Checks whether a file with this mark has a `closed` line.
-fn is_closed(closed: &[ClosedLine], mark: Mark) -> bool {
-    closed.iter().any(|line| line.mark == mark)
-}
 
 // Checks whether the completions are at the places of the requests, in their order.
 fn are_placed(case: &Case<'_>, lines: &ReportLines) -> bool {
@@ -46,23 +22,15 @@ fn are_placed(case: &Case<'_>, lines: &ReportLines) -> bool {
 
 // Returns the slots after a submission: each file that was at a slot, or that a completion installs there, is still there unless
 // it has a `closed` line. Returns `None` if two files are then at one slot.
-fn slots_after(
-    alloc: Global,
-    case: &Case<'_>,
-    lines: ReportLines,
-) -> Result<Option<Slots>, NoMemory> {
+fn slots_after(case: &Case<'_>, lines: ReportLines) -> Result<Option<Slots>, NoMemory> {
     let ReportLines {
         completions,
         closed,
-        tags: _,
+        ..
     } = lines;
-    let mut at = Vec::new(alloc);
-    for _ in 0..case.size() {
-        at.push(None)?;
-    }
-    let report = KnownReport::new(alloc, case, completions)?;
-    for it in &report.files {
-        if is_closed(&closed, it.file.mark) {
+    let mut at = vec![in case.alloc; None; case.size()]?;
+    for it in &KnownReport::new(case, completions)?.files {
+        if closed.iter().any(|line| line.mark == it.file.mark) {
             continue;
         }
         match at.get_mut(it.slot as usize) {
@@ -74,134 +42,78 @@ fn slots_after(
     Ok(Some(Slots { range, at }))
 }
 
-// Returns the ring after a submission whose lines can be read, and the rest of the text.
-fn after_submission<'a>(
-    alloc: Global,
-    case: &Case<'a>,
+// Returns the ring after a submission whose lines can be read, and the number of bytes of the rest of the text.
+fn after_submission(
+    case: &Case<'_>,
     registrations: u32,
-) -> Result<Option<(RingSlots, &'a [u8])>, NoMemory> {
-    let Some((lines, rest)) = read_report(alloc, case.text, case.requests.len())? else {
+) -> Result<Option<(RingSlots, usize)>, NoMemory> {
+    let Some((lines, rest)) = read_report(case.alloc, case.text, case.requests.len())? else {
         return Ok(None);
     };
     if !are_placed(case, &lines) {
         return Ok(None);
     }
-    let Some(slots) = slots_after(alloc, case, lines)? else {
+    let Some(slots) = slots_after(case, lines)? else {
         return Ok(None);
     };
-    let submissions = case.number();
     let ring = RingSlots {
         slots,
-        submissions,
+        submissions: case.number(),
         registrations,
     };
-    Ok(Some((ring, rest)))
+    Ok(Some((ring, rest.len())))
 }
 
-// Returns the first word of the lines of a call between submissions, or of a refused submission.
-fn word_of(command: &Command) -> &'static [u8] {
-    match command {
-        Command::Sparse(_) => b"sparse",
-        Command::Register(..) => b"register",
-        Command::Unregister => b"unregister",
-        Command::Range(..) => b"range",
-        Command::Update(..) => b"regupdate",
-        Command::Submit(_) => b"submit",
-    }
-}
-
-// Checks whether a line says that a command was refused.
-fn is_refusal(command: &Command, line: &[u8]) -> bool {
-    match line.strip_prefix(word_of(command)) {
-        Some(rest) => rest.starts_with(b" -") || rest.starts_with(b" refused "),
-        None => false,
-    }
-}
-
-// Returns the ring after the command at a break, if it prints what is expected.
-fn expected_after(
-    alloc: Global,
-    script: &Script,
-    broken: &Break,
-    wanted: &str,
-) -> Result<Option<RingSlots>, NoMemory> {
-    let limits = Limits {
-        states: 1,
-        bytes: 1,
-    };
-    let ring = copy_of(alloc, &broken.ring)?;
-    let wanted = wanted.as_bytes();
-    match judge_from(alloc, script, broken.commands, ring, wanted, limits)? {
-        Some(Judgement::NotLegal(next)) if next.commands == 1 => Ok(Some(next.ring)),
-        _ => Ok(None),
-    }
-}
-
-// Returns the ring after a call, or after a refused submission, whose first line begins a text: the ring before it if the line
-// says that it was refused, and the expected ring if the line is the expected one.
+// Returns the ring after a call, or after a refused submission, whose first line is this one: the expected ring if the line is the
+// expected one, and the ring before it if the line says that it was refused.
 fn after_line(
-    alloc: Global,
-    script: &Script,
-    command: &Command,
+    question: &Question<'_>,
     broken: &Break,
     line: &[u8],
 ) -> Result<Option<RingSlots>, NoMemory> {
-    match &broken.fault {
-        Fault::Text(wanted) if line_at(wanted.as_bytes(), 0) == line => {
-            expected_after(alloc, script, broken, wanted.as_str())
-        }
-        _ if is_refusal(command, line) => Ok(Some(copy_of(alloc, &broken.ring)?)),
-        _ => Ok(None),
-    }
-}
-
-// Returns the submission at a break, if it is one without a fault, and the rest of the text.
-fn case_at<'a>(script: &'a Script, text: &'a [u8], broken: &'a Break) -> Option<Case<'a>> {
-    let requests: &'a [Request] = match script.commands().get(broken.commands) {
-        Some(Command::Submit(requests)) if check(requests).is_ok() => requests.as_slice(),
-        _ => return None,
+    let ring = copy_of(question.alloc, &broken.ring)?;
+    let expected = match &broken.fault {
+        Fault::Text(expected) => expected.as_bytes(),
+        _ => b"submit",
     };
-    Some(Case {
-        catalogue: script.catalogue(),
-        slots: &broken.ring.slots,
-        submissions: broken.ring.submissions,
-        requests,
-        text: text.get(broken.at..).unwrap_or(b""),
-        line: line_number(text, broken.at),
-    })
+    if matches!(broken.fault, Fault::Text(_)) && line_at(expected, 0) == line {
+        let limits = Limits {
+            states: 1,
+            bytes: 1,
+        };
+        let (alloc, commands) = (question.alloc, broken.commands);
+        let judgement = judge_from(alloc, question.script, commands, ring, expected, limits)?;
+        return Ok(match judgement {
+            Some(Judgement::NotLegal(next)) if next.commands == 1 => Some(next.ring),
+            _ => None,
+        });
+    }
+    let (word, result) = cut_word(line);
+    let is_refusal = result.starts_with(b"-") || result.starts_with(b"refused ");
+    Ok((is_refusal && word == cut_word(expected).0).then_some(ring))
 }
 
-/// Returns the ring that a text shows after the command at which it breaks, or `None` if it shows none (this project's own).
+/// Returns the ring that a text shows after the command at which it breaks, and the number of bytes of the rest of the text, or `None`
+/// if it shows none (this project's own).
 ///
 /// Of a submission, each request has its completion. A file that was at a slot, or that a completion installs there, is there
 /// unless it has a `closed` line, and no two files are at one slot. Of a call, or a refused submission, the first line is the
 /// expected one, or says that it was refused.
-///
-/// # Errors
-/// `NoMemory` if an allocation fails.
-pub fn shown_after(
-    alloc: Global,
-    script: &Script,
-    text: &[u8],
+pub(crate) fn shown_after(
+    question: &Question<'_>,
     broken: &Break,
-) -> Result<Option<Shown>, NoMemory> {
-    let Some(command) = script.commands().get(broken.commands) else {
-        return Ok(None);
-    };
-    if let Some(case) = case_at(script, text, broken) {
-        if let Some((ring, rest)) = after_submission(alloc, &case, broken.ring.registrations)? {
-            let at = text.len().saturating_sub(rest.len());
-            return Ok(Some(Shown { ring, at }));
+) -> Result<Option<(RingSlots, usize)>, NoMemory> {
+    if let Some(case) = question.case_at(broken) {
+        let shown = after_submission(&case, broken.ring.registrations)?;
+        if shown.is_some() {
+            return Ok(shown);
         }
     }
-    let rest = text.get(broken.at..).unwrap_or(b"");
+    let rest = question.rest(broken.at);
     let line = line_at(rest, 0);
-    let Some(ring) = after_line(alloc, script, command, broken, line)? else {
+    let Some(ring) = after_line(question, broken, line)? else {
         return Ok(None);
     };
-    let Some((_, rest)) = read_report(alloc, behind(rest, line), 0)? else {
-        return Ok(None);
-    };
-    let at = text.len().saturating_sub(rest.len());
-    Ok(Some(Shown { ring, at }))
+    let read = read_report(question.alloc, rest_after(rest, line), 0)?;
+    Ok(read.map(|(_, rest)| (ring, rest.len())))
 }

@@ -3,18 +3,15 @@ ghost use Rattle.std.specs.Prelude.{◌≡◌};
 ghost use Rattle.check_cli.specs.Status.{status};
 
 use crate::going_on::{Breaks, Remainder};
+use crate::order_lines::push_order;
+use crate::question::Question;
 use crate::unexpected::why_of;
 use check_arguments::Settings;
-use check_explain::{
-    Case, Complaint, Finding, first_difference, line_behind, line_number, line_of_command,
-    look_through, no_order, shown_line,
-};
+use check_explain::{Complaint, explain, first_difference, line_after, line_number, shown_line};
 use check_judge::{Break, Fault, Judgement, Reason};
 use check_search::Doubt;
 use fx_base::NoMemory;
-use fx_order::Order;
-use fx_script::{Command, Script};
-use std::alloc::{AllocError, Global};
+use std::alloc::AllocError;
 
 /// Returns the exit status of a verdict: 0 for legal, 1 for not legal, 6 for undecided.
 pub fn status_of(judgement: &Judgement) -> u8
@@ -27,279 +24,186 @@ pub fn status_of(judgement: &Judgement) -> u8
     }
 }
 
-// Appends the line of an order: its submission, and the requests of its accesses.
-fn push_order(told: &mut String, order: &Order) -> Result<(), AllocError> {
-    let submission = order.submission;
-    write!(told, "order {submission}:")?;
-    for place in &order.places {
-        let (chain, member) = (place.chain, place.member);
-        write!(told, " {submission}.{chain}.{member}")?;
-        if let Some(entry) = place.entry {
-            write!(told, ".{entry}")?;
-        }
-    }
-    told.push_str("\n")
-}
-
-// Appends a line's number, the lines that are expected there, and the line.
+// Appends the number of a line, the lines that are expected there, the line, and the reason why it is wrong, if that is known.
 fn push_found(
-    alloc: Global,
-    told: &mut String,
-    text: &[u8],
+    report: &mut String,
+    question: &Question<'_>,
     at: usize,
-    wanted: &str,
+    expected: &str,
+    why: &str,
 ) -> Result<(), AllocError> {
-    let line = line_number(text, at);
-    let found = shown_line(alloc, text, at, "nothing")?;
+    let number = line_number(question.text, at);
+    let found = shown_line(question.alloc, question.text, at, "nothing")?;
     write!(
-        told,
-        "line {line} of the text: expected {wanted}, found {found}"
-    )
+        report,
+        "line {number} of the text: expected {expected}, found {found}"
+    )?;
+    report.push_str(if why.is_empty() { "" } else { "; " })?;
+    write!(report, "{why}\n")
 }
 
-// Appends the reason why a line is wrong, if it is known, and the line end.
-fn push_end(told: &mut String, why: &str) -> Result<(), AllocError> {
-    if !why.is_empty() {
-        told.push_str("; ")?;
-        told.push_str(why)?;
-    }
-    told.push('\n')
-}
-
-// Appends the numbers of some lines of the text.
-fn push_numbers(told: &mut String, first: usize, lines: &[usize]) -> Result<(), AllocError> {
-    told.push_str(if lines.len() == 1 { "line" } else { "lines" })?;
-    for (i, at) in lines.iter().enumerate() {
-        let number = first.saturating_add(*at);
-        let sign = if i == 0 {
-            " "
-        } else if i.saturating_add(1) == lines.len() {
-            " and "
-        } else {
-            ", "
-        };
-        told.push_str(sign)?;
-        write!(told, "{number}")?;
-    }
-    told.push_str(" of the text")
-}
-
-// Appends a complaint about a submission's lines, the first of which begins at a place.
-fn push_complaint(
-    alloc: Global,
-    told: &mut String,
-    text: &[u8],
+// Appends the numbers of the lines at some places of the text, the reason why they conflict, and the lines.
+fn push_conflict(
+    report: &mut String,
+    question: &Question<'_>,
     from: usize,
-    complaint: &Complaint,
+    lines: &[usize],
+    why: &str,
 ) -> Result<(), AllocError> {
-    match complaint {
-        Complaint::Line(line, wanted, why) => {
-            push_found(alloc, told, text, line_behind(text, from, *line), wanted)?;
-            push_end(told, why)
-        }
-        Complaint::Lines(lines, why) => {
-            let first = line_number(text, from);
-            push_numbers(told, first, lines)?;
-            told.push_str(": ")?;
-            told.push_str(why)?;
-            told.push('\n')?;
-            for line in lines {
-                let number = first.saturating_add(*line);
-                let shown = shown_line(alloc, text, line_behind(text, from, *line), "nothing")?;
-                write!(told, "  {number}: {shown}\n")?;
-            }
-            Ok(())
-        }
+    let first = line_number(question.text, from);
+    report.push_str(if lines.len() == 1 { "line" } else { "lines" })?;
+    for (i, line) in lines.iter().enumerate() {
+        let is_last = i.saturating_add(1) == lines.len();
+        report.push_str(match i {
+            0 => " ",
+            _ if is_last => " and ",
+            _ => ", ",
+        })?;
+        write!(report, "{}", first.saturating_add(*line))?;
     }
+    write!(report, " of the text: {why}\n")?;
+    for line in lines {
+        let at = line_after(question.text, from, *line);
+        let shown = shown_line(question.alloc, question.text, at, "nothing")?;
+        write!(report, "  {}: {shown}\n", first.saturating_add(*line))?;
+    }
+    Ok(())
 }
 
 // Appends the judge's reason for refusing a submission.
-fn push_reason(told: &mut String, submission: u32, reason: Reason) -> Result<(), AllocError> {
-    write!(told, "submission {submission}: ")?;
+fn push_reason(report: &mut String, submission: u32, reason: Reason) -> Result<(), AllocError> {
+    write!(report, "submission {submission}: ")?;
     match reason {
         Reason::Member(place) => {
             let (chain, member) = (place.chain, place.member);
             write!(
-                told,
+                report,
                 "no table lets {submission}.{chain}.{member} complete so\n"
             )
         }
-        Reason::TooManyCompletions => write!(told, "there are more completions than requests\n"),
-        Reason::Closes => write!(told, "no order closes these files\n"),
-        Reason::Slot(slot) => write!(told, "slot {slot} alone has no order\n"),
-        Reason::Chains => write!(told, "its chains have no order\n"),
+        Reason::TooManyCompletions => write!(report, "there are more completions than requests\n"),
+        Reason::Closes => write!(report, "no order closes these files\n"),
+        Reason::Slot(slot) => write!(report, "slot {slot} alone has no order\n"),
+        Reason::Chains => write!(report, "its chains have no order\n"),
     }
-}
-
-// Appends the command at which a text breaks.
-fn push_place(told: &mut String, script: &[u8], broken: &Break) -> Result<(), AllocError> {
-    let Some(line) = line_of_command(script, broken.commands) else {
-        return told.push_str("the end of the script; ");
-    };
-    let command = broken.commands.saturating_add(1);
-    write!(told, "command {command}, line {line} of the script; ")
 }
 
 // Returns a complaint about the lines of the submission at which a text breaks, if it is one and a complaint is found.
-fn complaint_in(
-    alloc: Global,
-    script: &Script,
-    text: &[u8],
-    broken: &Break,
-) -> Result<Option<Complaint>, NoMemory> {
-    let (Some(Command::Submit(requests)), Fault::Line(..) | Fault::Order(..)) = (
-        script.commands().get(broken.commands),
-        &broken.fault,
-    ) else {
-        return Ok(None);
+fn complaint_in(question: &Question<'_>, broken: &Break) -> Result<Option<Complaint>, NoMemory> {
+    let slot = match &broken.fault {
+        Fault::Text(_) => return Ok(None),
+        Fault::Order(_, Reason::Slot(slot)) => Some(*slot),
+        Fault::Line(..) | Fault::Order(..) => None,
     };
-    let case = Case {
-        catalogue: script.catalogue(),
-        slots: &broken.ring.slots,
-        submissions: broken.ring.submissions,
-        requests,
-        text: text.get(broken.at..).unwrap_or(b""),
-        line: line_number(text, broken.at),
-    };
-    let report = match look_through(alloc, &case)? {
-        Finding::Wrong(complaint) => return Ok(Some(complaint)),
-        Finding::Fits(report) => report,
-    };
-    match &broken.fault {
-        Fault::Order(_, Reason::Slot(slot)) => no_order(alloc, &case, &report, Some(*slot)),
-        Fault::Order(_, Reason::Chains) => no_order(alloc, &case, &report, None),
-        _ => Ok(None),
+    match question.case_at(broken) {
+        Some(case) => explain(&case, slot),
+        None => Ok(None),
     }
 }
 
-// Appends the reason why a text breaks.
+// Appends the command at which a text breaks, and the reason.
 fn push_break(
-    alloc: Global,
-    told: &mut String,
-    script: &Script,
-    text: &[u8],
+    report: &mut String,
+    question: &Question<'_>,
     broken: &Break,
 ) -> Result<(), NoMemory> {
-    if let Some(complaint) = complaint_in(alloc, script, text, broken)? {
-        return Ok(push_complaint(alloc, told, text, broken.at, &complaint)?);
+    let command = broken.commands.saturating_add(1);
+    if broken.commands < question.script.commands().len() {
+        let after = question.script_after(command).len().saturating_add(1);
+        let line = line_number(question.source, question.source.len().saturating_sub(after));
+        write!(
+            report,
+            "not legal: command {command}, line {line} of the script; "
+        )?;
+    } else {
+        report.push_str("not legal: the end of the script; ")?;
     }
-    match &broken.fault {
-        Fault::Text(wanted) => {
-            let wanted = wanted.as_bytes();
-            let (at, there) = first_difference(text, broken.at, wanted);
-            let line = shown_line(alloc, wanted, there, "the end")?;
-            push_found(alloc, told, text, at, &line)?;
-            let rest = wanted.get(there..).unwrap_or(b"");
-            let why = why_of(alloc, script, text, broken, at, rest)?;
-            push_end(told, &why)?;
+    match (complaint_in(question, broken)?, &broken.fault) {
+        (Some(Complaint::Line(line, expected, why)), _) => {
+            let at = line_after(question.text, broken.at, line);
+            push_found(report, question, at, expected.as_str(), why.as_str())?;
         }
-        Fault::Line(lines, wanted) => {
-            let at = line_behind(text, broken.at, *lines);
-            push_found(alloc, told, text, at, wanted)?;
-            told.push('\n')?;
+        (Some(Complaint::Lines(lines, why)), _) => {
+            push_conflict(report, question, broken.at, &lines, why.as_str())?;
         }
-        Fault::Order(submission, reason) => push_reason(told, *submission, *reason)?,
+        (None, Fault::Text(expected)) => {
+            let expected = expected.as_bytes();
+            let (at, there) = first_difference(question.text, broken.at, expected);
+            let line = shown_line(question.alloc, expected, there, "the end")?;
+            let rest = expected.get(there..).unwrap_or(b"");
+            let why = why_of(question, broken, at, rest)?;
+            push_found(report, question, at, line.as_str(), why.as_str())?;
+        }
+        (None, Fault::Line(lines, expected)) => {
+            let at = line_after(question.text, broken.at, *lines);
+            push_found(report, question, at, expected.as_str(), "")?;
+        }
+        (None, Fault::Order(submission, reason)) => push_reason(report, *submission, *reason)?,
     }
     Ok(())
 }
 
 // Appends the submission that wasn't decided, and the reason.
 fn push_doubt(
-    told: &mut String,
+    report: &mut String,
     settings: &Settings<'_>,
     submission: u32,
     doubt: &Doubt,
 ) -> Result<(), AllocError> {
-    write!(told, "submission {submission} ")?;
+    let (states, memory) = (settings.states, settings.memory);
+    write!(report, "submission {submission} ")?;
     match doubt {
-        Doubt::TooManyStates => {
-            let states = settings.states;
-            write!(told, "has more than {states} states\n")
-        }
-        Doubt::TooMuchMemory => {
-            let memory = settings.memory;
-            write!(told, "has more states than {memory} MiB hold\n")
-        }
-        Doubt::NotShown => told.push_str("wasn't shown to have an order, or to have none\n"),
+        Doubt::TooManyStates => write!(report, "has more than {states} states\n"),
+        Doubt::TooMuchMemory => write!(report, "has more states than {memory} MiB hold\n"),
+        Doubt::NotShown => report.push_str("wasn't shown to have an order, or to have none\n"),
     }
 }
 
 /// Returns the lines of a verdict.
-///
-/// # Errors
-/// `NoMemory` if an allocation fails.
-pub fn verdict_text(
-    alloc: Global,
-    script: &Script,
-    source: &[u8],
-    text: &[u8],
-    settings: &Settings<'_>,
+pub(crate) fn verdict_text(
+    question: &Question<'_>,
     judgement: &Judgement,
 ) -> Result<String, NoMemory> {
-    let mut told = String::new(alloc);
+    let mut report = String::new(question.alloc);
     match judgement {
         Judgement::Legal(orders) => {
-            told.push_str("legal\n")?;
+            report.push_str("legal\n")?;
             for order in orders {
-                push_order(&mut told, order)?;
+                push_order(&mut report, order.submission, &order.places)?;
             }
         }
-        Judgement::NotLegal(broken) => {
-            told.push_str("not legal: ")?;
-            push_place(&mut told, source, broken)?;
-            push_break(alloc, &mut told, script, text, broken)?;
-        }
+        Judgement::NotLegal(broken) => push_break(&mut report, question, broken)?,
         Judgement::Undecided(submission, doubt) => {
-            told.push_str("undecided: ")?;
-            push_doubt(&mut told, settings, *submission, doubt)?;
+            report.push_str("undecided: ")?;
+            push_doubt(&mut report, &question.settings, *submission, doubt)?;
         }
     }
-    Ok(told)
-}
-
-// Appends the verdict on the text after the last break, which is at a command, from 1.
-fn push_rest(
-    told: &mut String,
-    settings: &Settings<'_>,
-    command: usize,
-    rest: &Remainder,
-) -> Result<(), AllocError> {
-    match rest {
-        Remainder::Nothing | Remainder::Judged(Judgement::NotLegal(_)) => Ok(()),
-        Remainder::NoRing => {
-            write!(
-                told,
-                "not judged after command {command}: the text shows no ring there\n"
-            )
-        }
-        Remainder::Judged(Judgement::Legal(_)) => write!(told, "legal after command {command}\n"),
-        Remainder::Judged(Judgement::Undecided(submission, doubt)) => {
-            write!(told, "undecided after command {command}: ")?;
-            push_doubt(told, settings, *submission, doubt)
-        }
-    }
+    Ok(report)
 }
 
 /// Returns the lines of all breaks of a text, and of the verdict on what follows the last one.
-///
-/// # Errors
-/// `NoMemory` if an allocation fails.
-pub fn breaks_text(
-    alloc: Global,
-    script: &Script,
-    source: &[u8],
-    text: &[u8],
-    settings: &Settings<'_>,
-    all: &Breaks,
-) -> Result<String, NoMemory> {
-    let mut told = String::new(alloc);
+pub(crate) fn breaks_text(question: &Question<'_>, all: &Breaks) -> Result<String, NoMemory> {
+    let mut report = String::new(question.alloc);
     let mut command = 0usize;
     for broken in &all.breaks {
-        told.push_str("not legal: ")?;
-        push_place(&mut told, source, broken)?;
-        push_break(alloc, &mut told, script, text, broken)?;
+        push_break(&mut report, question, broken)?;
         command = broken.commands.saturating_add(1);
     }
-    push_rest(&mut told, settings, command, &all.rest)?;
-    Ok(told)
+    match &all.rest {
+        Remainder::Nothing | Remainder::Judged(Judgement::NotLegal(_)) => {}
+        Remainder::NoRing => {
+            write!(
+                report,
+                "not judged after command {command}: the text shows no ring there\n"
+            )?;
+        }
+        Remainder::Judged(Judgement::Legal(_)) => {
+            write!(report, "legal after command {command}\n")?;
+        }
+        Remainder::Judged(Judgement::Undecided(submission, doubt)) => {
+            write!(report, "undecided after command {command}: ")?;
+            push_doubt(&mut report, &question.settings, *submission, doubt)?;
+        }
+    }
+    Ok(report)
 }

@@ -1,189 +1,157 @@
 //! The answers that a request may give, whatever the other requests answer (docs/MODEL.md, "What a request answers").
 use crate::case::Case;
-use crate::event::name_of;
-use crate::may_be::MayBe;
+use crate::kinds::{Effect, acts_of, bytes_of, fixed_result, may_lack_memory};
+use crate::words::name_of;
 use fx_base::{Errno, NoMemory};
-use fx_chain::{Completion, Op, Request, Target};
+use fx_chain::{Completion, Request};
 use std::alloc::{AllocError, Global};
 
 /// The largest number of answers, and of bytes of a file, that are shown.
 const SHOWN: usize = 16;
 
-/// An answer that a request may give.
-#[derive(Clone, Copy)]
-pub enum ValidAnswer {
-    /// A result without bytes.
-    Result(i32),
-    /// One of the slots of a range: its first slot, and the number of its slots, which is at least 1.
-    Slots(u32, u32),
-    /// The bytes of a file of this catalogue entry, as far as the read asks for them.
-    Bytes(u8),
+/// Returns the possible contents of each slot during a submission, each once: files of catalogue entries, or none.
+pub(crate) fn may_be_at(case: &Case<'_>) -> Result<Vec<Vec<Option<u8>>>, NoMemory> {
+    let mut slots = Vec::new(case.alloc);
+    for file in &case.slots.at {
+        slots.push(vec![in case.alloc; file.map(|it| it.entry)]?)?;
+    }
+    for request in case.requests {
+        if case.refusal_of(request).is_some() {
+            continue;
+        }
+        for act in acts_of(case.alloc, case.catalogue, request)? {
+            let left = match act.effect {
+                Effect::Looks => continue,
+                Effect::Takes | Effect::Clears => None,
+                Effect::Installs(entry) => Some(entry),
+            };
+            let (first, count) = act.slot.map_or(case.slots.range, |slot| (slot, 1));
+            for it in slots.iter_mut().skip(first as usize).take(count as usize) {
+                if !it.contains(&left) {
+                    it.push(left)?;
+                }
+            }
+        }
+    }
+    Ok(slots)
 }
 
-// Appends the answers of a read or a close of a slot, but for -12.
-fn push_found(answers: &mut Vec<ValidAnswer>, op: &Op, may: &MayBe) -> Result<(), AllocError> {
-    if let Op::Read { .. } = op {
-        for entry in &may.entries {
-            answers.push(ValidAnswer::Bytes(*entry))?;
+/// An answer that a request may give: one of the results from `first` to `last`, with these bytes, of a file of this entry.
+#[derive(Drop)]
+pub(crate) struct ValidAnswer {
+    first: i32,
+    last: i32,
+    bytes: Vec<u8>,
+    entry: Option<u8>,
+}
+
+impl ValidAnswer {
+    /// Returns the answer without bytes of one of some results.
+    pub(crate) fn among(alloc: Global, first: i32, last: i32) -> ValidAnswer {
+        let (bytes, entry) = (Vec::new(alloc), None);
+        ValidAnswer {
+            first,
+            last,
+            bytes,
+            entry,
         }
-    } else if !may.entries.is_empty() {
-        answers.push(ValidAnswer::Result(0))?;
     }
-    if may.empty {
-        answers.push(ValidAnswer::Result(-Errno::EBADF.code()))?;
+
+    // Returns the answer of a read of a file of an entry.
+    fn read(case: &Case<'_>, request: &Request, entry: u8) -> Result<ValidAnswer, NoMemory> {
+        let bytes = bytes_of(case, request, entry)?;
+        let number = i32::try_from(bytes.len()).unwrap_or(i32::MAX);
+        let mut answer = ValidAnswer::among(case.alloc, number, number);
+        answer.bytes = bytes;
+        answer.entry = Some(entry);
+        Ok(answer)
     }
-    Ok(())
+
+    /// Checks whether it is that of a completion.
+    pub(crate) fn fits(&self, it: &Completion) -> bool {
+        (self.first..=self.last).contains(&it.res) && self.bytes.as_slice() == it.got.as_slice()
+    }
+
+    // Appends it: the result, or the range of results; the first 16 bytes, and the name of the file that has them.
+    fn push(&self, words: &mut String, case: &Case<'_>) -> Result<(), AllocError> {
+        write!(words, "{}", self.first)?;
+        if self.first < self.last {
+            write!(words, " to {}", self.last)?;
+        }
+        for (i, byte) in self.bytes.iter().take(SHOWN).enumerate() {
+            words.push_str(if i == 0 { " " } else { "" })?;
+            write!(words, "{byte:02x}")?;
+        }
+        if self.bytes.len() > SHOWN {
+            words.push_str("..")?;
+        }
+        match self.entry {
+            Some(entry) => write!(words, " of {}", name_of(case.catalogue, entry)),
+            None => Ok(()),
+        }
+    }
 }
 
 /// Returns the answers that a request may give unless it is canceled.
-///
-/// # Errors
-/// `NoMemory` if an allocation fails.
-pub fn answers_of(
-    alloc: Global,
+pub(crate) fn answers_of(
     case: &Case<'_>,
-    slots: &[MayBe],
+    slots: &[Vec<Option<u8>>],
     request: &Request,
 ) -> Result<Vec<ValidAnswer>, NoMemory> {
-    let mut answers = Vec::new(alloc);
-    if let Some(errno) = case.refusal_of(request) {
-        answers.push(ValidAnswer::Result(-errno.code()))?;
-        return Ok(answers);
+    if let Some(res) = fixed_result(case, request) {
+        return Ok(vec![in case.alloc; ValidAnswer::among(case.alloc, res, res)]?);
     }
-    match &request.op {
-        Op::Open {
-            target: Target::Slot(_),
-            ..
-        } => answers.push(ValidAnswer::Result(0))?,
-        Op::Open {
-            target: Target::Any,
-            ..
-        } => {
+    let mut answers = Vec::new(case.alloc);
+    let error = |errno: Errno| ValidAnswer::among(case.alloc, -errno.code(), -errno.code());
+    for act in acts_of(case.alloc, case.catalogue, request)? {
+        let Some(slot) = act.slot else {
             let (first, count) = case.slots.range;
+            let last = first.saturating_add(count).saturating_sub(1);
             if count > 0 {
-                answers.push(ValidAnswer::Slots(first, count))?;
+                let (first, last) = (i32::try_from(first), i32::try_from(last));
+                let (first, last) = (first.unwrap_or(i32::MAX), last.unwrap_or(i32::MAX));
+                answers.push(ValidAnswer::among(case.alloc, first, last))?;
             }
-            answers.push(ValidAnswer::Result(-Errno::ENFILE.code()))?;
-        }
-        Op::Read { slot, .. } | Op::Close { slot } => {
-            if let Some(may) = slots.get(*slot as usize) {
-                push_found(&mut answers, &request.op, may)?;
+            answers.push(error(Errno::ENFILE))?;
+            continue;
+        };
+        let may = slots.get(slot as usize).map_or(&[][..], |it| it.as_slice());
+        let entries = may.iter().copied().flatten();
+        if act.effect == Effect::Looks {
+            for entry in entries {
+                answers.push(ValidAnswer::read(case, request, entry)?)?;
             }
+        } else if entries.count() > 0 {
+            answers.push(ValidAnswer::among(case.alloc, 0, 0))?;
         }
-        Op::Update { list, .. } => {
-            answers.push(ValidAnswer::Result(i32::try_from(list.len()).unwrap_or(i32::MAX)))?;
+        if may.contains(&None) {
+            answers.push(error(Errno::EBADF))?;
         }
     }
-    if let Op::Read { len: 1.., .. } = &request.op {
-        answers.push(ValidAnswer::Result(-Errno::ENOMEM.code()))?;
+    if may_lack_memory(request) {
+        answers.push(error(Errno::ENOMEM))?;
     }
     Ok(answers)
 }
 
-/// Checks whether a completion is one of some answers.
-///
-/// # Errors
-/// `NoMemory` if an allocation fails.
-pub fn is_among(
-    alloc: Global,
+/// Returns the first 16 of some answers in words, after a place.
+pub(crate) fn answers_words(
     case: &Case<'_>,
-    request: &Request,
-    completion: &Completion,
+    front: String,
     answers: &[ValidAnswer],
-) -> Result<bool, NoMemory> {
-    let Completion { res, got, .. } = completion;
-    for answer in answers {
-        let fits = match *answer {
-            ValidAnswer::Result(wanted) => *res == wanted && got.is_empty(),
-            ValidAnswer::Slots(first, count) => match u32::try_from(*res) {
-                Ok(slot) => first <= slot && slot.saturating_sub(first) < count && got.is_empty(),
-                Err(_) => false,
-            },
-            ValidAnswer::Bytes(entry) => {
-                let bytes = case.bytes_of(alloc, request, entry)?;
-                usize::try_from(*res).ok() == Some(bytes.len())
-                    && bytes.as_slice() == got.as_slice()
-            }
-        };
-        if fits {
-            return Ok(true);
-        }
+) -> Result<String, AllocError> {
+    let mut words = front;
+    for (i, answer) in answers.iter().take(SHOWN).enumerate() {
+        let is_last = i.saturating_add(1) == answers.len();
+        words.push_str(match i {
+            0 => " with ",
+            _ if is_last => " or ",
+            _ => ", ",
+        })?;
+        answer.push(&mut words, case)?;
     }
-    Ok(false)
-}
-
-/// Appends the number of a read's bytes, and the first 16 of them.
-///
-/// # Errors
-/// `AllocError` if an allocation fails.
-pub fn push_bytes(told: &mut String, bytes: &[u8]) -> Result<(), AllocError> {
-    let count = bytes.len();
-    write!(told, "{count}")?;
-    if count > 0 {
-        told.push(' ')?;
+    if answers.len() > SHOWN {
+        words.push_str(" or others")?;
     }
-    for byte in bytes.iter().take(SHOWN) {
-        write!(told, "{byte:02x}")?;
-    }
-    if count > SHOWN {
-        told.push_str("..")?;
-    }
-    Ok(())
-}
-
-// Appends an answer.
-fn push_answer(
-    alloc: Global,
-    told: &mut String,
-    case: &Case<'_>,
-    request: &Request,
-    answer: ValidAnswer,
-) -> Result<(), NoMemory> {
-    match answer {
-        ValidAnswer::Result(number) => write!(told, "{number}")?,
-        ValidAnswer::Slots(first, count) => {
-            let last = first.saturating_add(count).saturating_sub(1);
-            if first < last {
-                write!(told, "{first} to {last}")?;
-            } else {
-                write!(told, "{first}")?;
-            }
-        }
-        ValidAnswer::Bytes(entry) => {
-            let bytes = case.bytes_of(alloc, request, entry)?;
-            push_bytes(told, &bytes)?;
-            if let Some(name) = name_of(case.catalogue, entry) {
-                write!(told, " of {name}")?;
-            }
-        }
-    }
-    Ok(())
-}
-
-/// Appends the first 16 of some answers.
-///
-/// # Errors
-/// `NoMemory` if an allocation fails.
-pub fn push_answers(
-    alloc: Global,
-    told: &mut String,
-    case: &Case<'_>,
-    request: &Request,
-    answers: &[ValidAnswer],
-) -> Result<(), NoMemory> {
-    for (i, answer) in answers.iter().enumerate() {
-        if i == SHOWN {
-            told.push_str(" or others")?;
-            break;
-        }
-        if i > 0 {
-            told.push_str(if i.saturating_add(1) == answers.len() {
-                " or "
-            } else {
-                ", "
-            })?;
-        }
-        push_answer(alloc, told, case, request, *answer)?;
-    }
-    Ok(())
+    Ok(words)
 }

@@ -1,4 +1,12 @@
 //! A complaint about the lines of a submission, for a person. It is advice, on which no verdict rests.
+use crate::case::Case;
+use crate::contradiction::no_order;
+use crate::report::KnownReport;
+use crate::wrong_answer::wrong_answer;
+use crate::wrong_close::wrong_close;
+use crate::wrong_count::wrong_count;
+use crate::wrong_place::wrong_place;
+use fx_base::NoMemory;
 
 /// Invalid lines of a submission's report, by their numbers, which count from 0 at its first line.
 #[derive(Drop)]
@@ -7,4 +15,29 @@ pub enum Complaint {
     Line(usize, String, String),
     /// Some lines contradict each other: their numbers in order, and the reason.
     Lines(Vec<usize>, String),
+}
+
+/// The first complaint that a check of the lines finds, or `None`, or an error if an allocation fails.
+pub(crate) type Checked = Result<Option<Complaint>, NoMemory>;
+
+/// Looks for the first invalid lines of a submission. `slot`: the slot that the judge blames, if it blames one.
+///
+/// # Errors
+/// `NoMemory` if an allocation fails.
+pub fn explain(case: &Case<'_>, slot: Option<u32>) -> Result<Option<Complaint>, NoMemory> {
+    if let Some(complaint) = wrong_place(case)? {
+        return Ok(Some(complaint));
+    }
+    let completions = case.completions()?;
+    if let Some(complaint) = wrong_answer(case, &completions)? {
+        return Ok(Some(complaint));
+    }
+    let mut report = KnownReport::new(case, completions)?;
+    if let Some(complaint) = wrong_close(case, &mut report)? {
+        return Ok(Some(complaint));
+    }
+    match wrong_count(case, &report)? {
+        None => no_order(case, &report, slot),
+        complaint => Ok(complaint),
+    }
 }

@@ -1,386 +1,197 @@
-//! Lines that have no order together, and of which none can be left out. Lines are left out, and the search is repeated.
+//! Lines of a submission that have no order together. Lines are left out, and the search is repeated.
 use crate::case::Case;
-use crate::flags::{flags, is_at, set};
-use crate::installed::{Installed, KnownReport};
-use crate::told_claims::{Left, claims_told, question_of, tells_of_chain};
+use crate::claims::{ClaimsView, Stays};
+use crate::complaint::{Checked, Complaint};
+use crate::kinds::{Effect, fixed_result};
+use crate::report::KnownReport;
+use bitflags::Flags;
 use check_search::{Found, Limits, Steps, components, explore};
 use fx_base::NoMemory;
-use std::alloc::{AllocError, Global};
+use fx_chain::SqeFlags;
 
-/// The largest number of searches, of the lines that they go through, and of the states that they meet in all; of the states of the
-/// first search, and of one that leaves lines out.
-const SEARCHES: usize = 1_000;
-
-const LINES: usize = 4_000_000;
-
+/// The largest number of states of all searches, in which a search counts at least as many as there are lines, and of one search.
 const STATES: usize = 200_000;
 
-const FIRST_STATES: usize = 50_000;
-
-const MORE_STATES: usize = 20_000;
+const MOST_STATES: usize = 20_000;
 
 /// The largest number of bytes of a search's states.
 const BYTES: usize = 67_108_864;
 
-/// The largest number of ways, that are tried, in which files without a line stay or are closed.
-const WAYS: usize = 64;
+// More lines than this help nobody.
+const MOST_LINES: usize = 16;
 
 /// A search for lines that have no order together.
 #[derive(Drop)]
-pub struct Cause<'a> {
-    alloc: Global,
-    case: &'a Case<'a>,
-    report: &'a KnownReport,
-    // The slots that are looked at.
-    slots: Vec<bool>,
-    // Whether only files with a `closed` line are closed. `kept`: the slots that have a file without one, so that no further file
-    // stays there.
-    are_all: bool,
-    kept: Vec<bool>,
-    left: Left,
-    searches: usize,
-    states: usize,
-    // Whether each line that wasn't left out is known to be needed.
+struct Contradiction<'a> {
+    view: ClaimsView<'a>,
+    // Whether the lines have no order only if the files that are closed are those with a `closed` line.
+    rests_on_closes: bool,
+    // Whether each line that isn't left out is known to be needed.
     is_sure: bool,
+    // The number of states that are left.
+    states: usize,
 }
 
-// Returns the number of ways in which at most one file of each group stays.
-fn ways_of(groups: &[Vec<usize>]) -> usize {
-    let mut ways = 1usize;
-    for group in groups {
-        ways = ways.saturating_mul(group.len().saturating_add(1));
-    }
-    ways
-}
-
-impl<'a> Cause<'a> {
-    /// Returns a search that leaves no line out yet, and looks at no slot.
-    ///
-    /// # Errors
-    /// `AllocError` if an allocation fails.
-    pub fn new(
-        alloc: Global,
-        case: &'a Case<'a>,
-        report: &'a KnownReport,
-    ) -> Result<Cause<'a>, AllocError> {
-        let mut kept = flags(alloc, case.size(), false)?;
-        for it in &report.files {
-            if it.closed.is_none() {
-                set(&mut kept, it.slot as usize, true);
-            }
-        }
-        let lines = report.completions.len().saturating_add(report.closes.len());
-        let left = Left {
-            out: flags(alloc, lines, false)?,
-            stays: flags(alloc, report.files.len(), false)?,
-            swept: Vec::new(alloc),
-            is_free: false,
-        };
-        Ok(Cause {
-            alloc,
-            case,
-            report,
-            slots: flags(alloc, case.size(), false)?,
-            are_all: false,
-            kept,
-            left,
-            searches: SEARCHES.min(LINES.checked_div(lines).unwrap_or(SEARCHES)),
-            states: STATES,
-            is_sure: true,
-        })
-    }
-
-    /// Checks whether a slot is looked at.
-    pub fn has_slot(&self, slot: u32) -> bool {
-        is_at(&self.slots, slot as usize)
-    }
-
-    /// Checks whether a slot of the allocation range is looked at.
-    pub fn has_range(&self) -> bool {
-        let mut slots = self.slots.iter().enumerate();
-        slots.any(|(slot, is_looked_at)| *is_looked_at && self.case.is_in_range(slot))
-    }
-
-    /// Checks whether a line wasn't left out.
-    pub fn has_line(&self, line: usize) -> bool {
-        !is_at(&self.left.out, line)
-    }
-
-    /// Checks whether the lines have no order only if no file without a `closed` line is closed.
-    pub fn are_all(&self) -> bool {
-        self.are_all
-    }
-
-    /// Checks whether each line that wasn't left out is known to be needed.
-    pub fn is_sure(&self) -> bool {
-        self.is_sure
-    }
-
-    /// Looks at this slot; or, without one, at the first slots that chains join and at which the lines have no order, and else at all
-    /// slots. Returns whether a search showed that the lines have no order there.
-    ///
-    /// # Errors
-    /// `NoMemory` if an allocation fails.
-    pub fn look_at(&mut self, slot: Option<u32>) -> Result<bool, NoMemory> {
-        if let Some(slot) = slot {
-            set(&mut self.slots, slot as usize, true);
-            return self.sees_no_order();
-        }
-        let size = self.case.size();
-        let all = flags(self.alloc, size, true)?;
-        let (_, chains) = claims_told(self.alloc, self.case, self.report, &self.left, &all)?;
-        for part in &components(self.alloc, size, self.case.slots.range, &chains)? {
-            if part.len() < 2 {
-                continue;
-            }
-            self.slots = flags(self.alloc, size, false)?;
-            for slot in part {
-                set(&mut self.slots, *slot, true);
-            }
-            if self.sees_no_order()? {
-                return Ok(true);
-            }
-        }
-        self.slots = all;
-        Ok(false)
-    }
-
-    // Checks whether a search shows that the lines have no order, whichever other files are closed, or else if none is.
-    fn sees_no_order(&mut self) -> Result<bool, NoMemory> {
-        for are_all in [false, true] {
-            self.are_all = are_all;
-            if self.has_no_order(FIRST_STATES)? == Some(true) {
-                return Ok(true);
-            }
-        }
-        Ok(false)
-    }
-
-    // Checks whether no line says if a file is closed. If a file without a line stays at a slot, each other one there is closed.
-    fn is_free(&self, it: &Installed) -> bool {
-        match it.closed {
-            Some(line) => {
-                !self.has_line(line) && !(self.are_all && is_at(&self.kept, it.slot as usize))
-            }
-            None => !self.are_all,
-        }
-    }
-
-    // Returns, for each slot, the files of which no line says if they are closed. One of them may stay.
-    fn free_files(&self) -> Result<Vec<Vec<usize>>, NoMemory> {
-        let mut groups: Vec<Vec<usize>> = Vec::new(self.alloc);
-        for (i, it) in self.report.files.iter().enumerate() {
-            if self.has_slot(it.slot) && self.is_free(it) {
-                self.push_free(&mut groups, i, it.slot)?;
-            }
-        }
-        Ok(groups)
-    }
-
-    // Returns the slot of a group of files.
-    fn slot_of(&self, group: &[usize]) -> Option<u32> {
-        let first = group.first()?;
-        let it = self.report.files.get(*first)?;
-        Some(it.slot)
-    }
-
-    // Adds a file to those at its slot.
-    fn push_free(
-        &self,
-        groups: &mut Vec<Vec<usize>>,
-        file: usize,
-        slot: u32,
-    ) -> Result<(), AllocError> {
-        for group in groups.iter_mut() {
-            if self.slot_of(group.as_slice()) == Some(slot) {
-                return Ok(group.push(file)?);
-            }
-        }
-        let mut group = Vec::new(self.alloc);
-        group.push(file)?;
-        Ok(groups.push(group)?)
-    }
-
-    // Returns the number, from 1, of the file of a group that is the first to be tried as the one that stays: that without a line. 0 for
-    // none.
-    fn first_choice(&self, group: &[usize]) -> usize {
-        for (i, file) in group.iter().enumerate() {
-            if matches!(self.report.files.get(*file), Some(it) if it.closed.is_none()) {
-                return i.saturating_add(1);
-            }
-        }
-        0
-    }
-
-    // Lets files stay in one of the ways. In the first one those stay that have no line.
-    fn choose(&mut self, groups: &[Vec<usize>], way: usize) {
-        for (i, it) in self.report.files.iter().enumerate() {
-            set(&mut self.left.stays, i, it.closed.is_none());
-        }
-        let mut rest = way;
-        for group in groups {
-            let ways = group.len().saturating_add(1);
-            let choice = rest
-                .saturating_add(self.first_choice(group))
-                .checked_rem(ways);
-            rest = rest.checked_div(ways).unwrap_or(0);
-            for (i, file) in group.iter().enumerate() {
-                set(
-                    &mut self.left.stays,
-                    *file,
-                    Some(i.saturating_add(1)) == choice,
-                );
-            }
-        }
-    }
-
-    // Searches for an order of the lines that aren't left out, with the chosen files staying. Returns whether there is none, or `None` if
-    // that isn't seen, and the number of states met.
-    fn search(&mut self, most: usize) -> Result<(Option<bool>, usize), NoMemory> {
-        let states = most.min(self.states);
-        if self.searches == 0 || states == 0 {
-            return Ok((None, 0));
-        }
-        self.searches = self.searches.saturating_sub(1);
-        let asked = question_of(self.alloc, self.case, self.report, &self.left, &self.slots)?;
-        let steps = Steps::new(self.alloc, &asked.strands, &asked.cells)?;
-        let limits = Limits {
-            states,
-            bytes: BYTES,
-        };
-        let (rows, found) = explore(self.alloc, &steps, limits)?;
-        self.states = self.states.saturating_sub(rows.len());
-        let seen = match found {
+impl Contradiction<'_> {
+    // Searches for an order of the lines that aren't left out. Returns whether there is none, or `None` if the search doesn't show it.
+    fn search(&mut self, stays: Stays) -> Result<Option<bool>, NoMemory> {
+        self.view.stays = stays;
+        let (alloc, bytes) = (self.view.case.alloc, BYTES);
+        let (cells, strands) = self.view.question()?;
+        let steps = Steps::new(alloc, &strands, &cells)?;
+        let states = self.states.min(MOST_STATES);
+        let (rows, found) = explore(alloc, &steps, Limits { states, bytes })?;
+        let spent = rows.len().max(self.view.out.len());
+        self.states = self.states.saturating_sub(spent);
+        Ok(match found {
             Found::NoEnd => Some(true),
             Found::Order(_) => Some(false),
             Found::Stopped(_) => None,
+        })
+    }
+
+    // Checks whether the lines that aren't left out have no order, whichever file of one slot stays. Returns `None` if that isn't seen.
+    fn has_no_order(&mut self) -> Result<Option<bool>, NoMemory> {
+        let as_told = self.search(Stays::AsTold)?;
+        if as_told == Some(false) || self.rests_on_closes {
+            return Ok(as_told);
+        }
+        if self.search(Stays::Swept)? == Some(true) {
+            return Ok(Some(true));
+        }
+        if self.view.slots.iter().filter(|has| **has).count() > 1 {
+            return Ok(None);
+        }
+        let files = self.view.report.files.as_slice();
+        for (i, it) in files.iter().enumerate() {
+            if self.view.has_slot(it.slot) {
+                let seen = self.search(Stays::Only(i))?;
+                if seen != Some(true) {
+                    return Ok(seen);
+                }
+            }
+        }
+        self.search(Stays::Only(files.len()))
+    }
+
+    // Looks at some slots. Returns whether the lines are seen to have no order there, whichever files are closed, or else by the text.
+    fn look_at(&mut self, slots: &[usize]) -> Result<bool, NoMemory> {
+        for (slot, has) in self.view.slots.iter_mut().enumerate() {
+            *has = slots.contains(&slot);
+        }
+        for rests_on_closes in [false, true] {
+            self.rests_on_closes = rests_on_closes;
+            if self.has_no_order()? == Some(true) {
+                return Ok(true);
+            }
+        }
+        Ok(false)
+    }
+
+    // Looks at the first slots that chains join and at which the lines have no order. Returns whether there are such slots.
+    fn look_at_parts(&mut self) -> Result<bool, NoMemory> {
+        let case = self.view.case;
+        let mut chains = Vec::new(case.alloc);
+        for strand in self.view.question()?.1 {
+            chains.push(strand.claims)?;
+        }
+        for part in &components(case.alloc, case.size(), case.slots.range, &chains)? {
+            if part.len() > 1 && self.look_at(part)? {
+                return Ok(true);
+            }
+        }
+        Ok(false)
+    }
+
+    // Sets whether a line is left out.
+    fn set_out(&mut self, line: usize, is_out: bool) {
+        if let Some(it) = self.view.out.get_mut(line) {
+            *it = is_out;
+        }
+    }
+
+    // Leaves out each read and each close that isn't needed.
+    fn leave_out(&mut self) -> Result<(), NoMemory> {
+        let report = self.view.report;
+        for act in &report.acts {
+            let is_optional = act.found.is_some() && act.file.is_none() && act.slot.is_some();
+            if is_optional && self.view.has(act) {
+                self.set_out(act.line, true);
+                let seen = self.has_no_order()?;
+                self.set_out(act.line, seen == Some(true));
+                self.is_sure = self.is_sure && seen.is_some();
+            }
+        }
+        Ok(())
+    }
+
+    // Checks whether a request may sever its chain before one that may change the slots, unless a later line of the chain is named.
+    fn rests_on_others(&self, named: &[usize]) -> bool {
+        let ClaimsView { case, report, .. } = &self.view;
+        case.requests.iter().enumerate().any(|(line, it)| {
+            let chain = report.chain_of(line);
+            let is_later = |other: usize| other > line && report.chain_of(other) == chain;
+            it.links()
+                && !it.flags.contains(SqeFlags::IO_HARDLINK)
+                && fixed_result(case, it).is_none()
+                && !named.iter().any(|other| *other == line || is_later(*other))
+                && report.acts.iter().any(|act| {
+                    act.effect != Effect::Looks && is_later(act.line) && self.view.has(act)
+                })
+        })
+    }
+
+    // Returns the reason that some lines have no order together, in words.
+    fn why(&self, lines: &[usize], slot: Option<u32>) -> Result<String, NoMemory> {
+        let (these, concern) = match lines.len() {
+            1 => ("this one", "concerns"),
+            _ => ("all of these", "concern"),
         };
-        Ok((seen, rows.len()))
+        let mut why = format!(in self.view.case.alloc; "no order of the requests gives {these}")?;
+        if let Some(slot) = slot {
+            write!(why, ", which {concern} slot {slot}")?;
+        }
+        if self.rests_on_closes {
+            why.push_str(", and closes no other file")?;
+        }
+        if self.rests_on_others(lines) {
+            why.push_str(", and cancels the same requests")?;
+        }
+        match (self.is_sure, lines.len()) {
+            (true, _) => {}
+            (false, 1) => why.push_str("; there may be none without it")?,
+            (false, _) => why.push_str("; fewer of them may contradict each other")?,
+        }
+        Ok(why)
     }
+}
 
-    // Searches with no file of a group staying, and the last one of each group going at any time. If the lines have no order then, they
-    // have none whichever of these files stay.
-    fn sweep(
-        &mut self,
-        groups: &[Vec<usize>],
-        most: usize,
-    ) -> Result<(Option<bool>, usize), NoMemory> {
-        for group in groups {
-            for file in group {
-                set(&mut self.left.stays, *file, false);
-            }
-            if let Some(slot) = self.slot_of(group) {
-                self.left.swept.push(slot)?;
-            }
-        }
-        let seen = self.search(most)?;
-        self.left.swept.clear();
-        Ok(seen)
+/// Returns a complaint about at most 16 lines that have no order together, at the blamed slot or at slots that a search finds.
+pub(crate) fn no_order(case: &Case<'_>, report: &KnownReport, slot: Option<u32>) -> Checked {
+    let mut those = Contradiction {
+        view: ClaimsView {
+            case,
+            report,
+            slots: vec![in case.alloc; true; case.size()]?,
+            out: vec![in case.alloc; false; report.completions.len()]?,
+            stays: Stays::AsTold,
+        },
+        rests_on_closes: false,
+        is_sure: true,
+        states: STATES,
+    };
+    let is_seen = match slot {
+        Some(slot) => those.look_at(&[slot as usize])?,
+        None => those.look_at_parts()?,
+    };
+    those.is_sure = is_seen;
+    if is_seen {
+        those.leave_out()?;
     }
-
-    // Checks whether the lines that aren't left out have no order, whichever files without a line are closed. `None` if that isn't
-    // seen.
-    fn has_no_order(&mut self, most: usize) -> Result<Option<bool>, NoMemory> {
-        let groups = self.free_files()?;
-        let (mut left, ways) = (most, ways_of(&groups));
-        self.choose(&groups, 0);
-        if ways > 1 {
-            let (seen, states) = self.sweep(&groups, left)?;
-            if seen == Some(true) {
-                return Ok(seen);
-            }
-            left = left.saturating_sub(states);
-        }
-        for way in 0..ways.min(WAYS) {
-            self.choose(&groups, way);
-            let (seen, states) = self.search(left)?;
-            if seen != Some(true) {
-                return Ok(seen);
-            }
-            left = left.saturating_sub(states);
-        }
-        Ok(if ways > WAYS { None } else { Some(true) })
+    let lines = those.view.named(those.rests_on_closes)?;
+    if lines.is_empty() || lines.len() > MOST_LINES || slot.is_none() && !is_seen {
+        return Ok(None);
     }
-
-    // Leaves lines out, if the others have no order without them.
-    fn leave_out(&mut self, lines: &[usize]) -> Result<(), NoMemory> {
-        for line in lines {
-            set(&mut self.left.out, *line, true);
-        }
-        let seen = self.has_no_order(MORE_STATES)?;
-        if seen == Some(true) {
-            return Ok(());
-        }
-        for line in lines {
-            set(&mut self.left.out, *line, false);
-        }
-        if seen.is_none() && lines.len() == 1 {
-            self.is_sure = false;
-        }
-        Ok(())
-    }
-
-    // Leaves out lines that aren't left out yet, `size` at a time.
-    fn leave_out_by(&mut self, lines: &[usize], size: usize) -> Result<(), NoMemory> {
-        let mut own = Vec::new(self.alloc);
-        for (i, line) in lines.iter().enumerate() {
-            if self.has_line(*line) {
-                own.push(*line)?;
-            }
-            let is_last = i.saturating_add(1) == lines.len();
-            if !own.is_empty() && (own.len() >= size || is_last) {
-                self.leave_out(&own)?;
-                own.clear();
-            }
-        }
-        Ok(())
-    }
-
-    /// Leaves out those of some lines that aren't needed. It tries halves of them first, and at last each by itself.
-    ///
-    /// # Errors
-    /// `NoMemory` if an allocation fails.
-    pub fn leave_out_all(&mut self, lines: &[usize]) -> Result<(), NoMemory> {
-        let mut size = lines.len();
-        for _ in 0..lines.len() {
-            size = size.saturating_add(1) / 2;
-            self.leave_out_by(lines, size)?;
-            if size <= 1 {
-                break;
-            }
-        }
-        Ok(())
-    }
-
-    // Checks whether a line is left out whose request's chain, by the next line, runs or is severed.
-    fn leaves_chain_open(&self) -> bool {
-        for (line, is_out) in self.left.out.iter().enumerate() {
-            if *is_out && tells_of_chain(self.case, self.report, line) {
-                return true;
-            }
-        }
-        false
-    }
-
-    /// Checks whether the lines may have an order if those that are left out leave open whether their requests sever their chains.
-    ///
-    /// # Errors
-    /// `NoMemory` if an allocation fails.
-    pub fn rests_on_chains(&mut self) -> Result<bool, NoMemory> {
-        if !self.leaves_chain_open() {
-            return Ok(false);
-        }
-        self.left.is_free = true;
-        let seen = self.has_no_order(MORE_STATES)?;
-        self.left.is_free = false;
-        Ok(seen != Some(true))
-    }
-
-    /// Takes all lines back, if no search showed anything about fewer of them.
-    pub fn keep_all(&mut self) {
-        for line in self.left.out.iter_mut() {
-            *line = false;
-        }
-        self.is_sure = false;
-    }
+    let why = those.why(&lines, slot)?;
+    Ok(Some(Complaint::Lines(lines, why)))
 }

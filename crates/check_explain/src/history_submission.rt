@@ -1,150 +1,75 @@
 //! The part of a history that belongs to a submission.
 use crate::history_line::HistoryLines;
+use crate::words::{ByteWords, PlaceWords};
 use fx_base::{Errno, NoMemory};
-use fx_chain::{Completion, Op, Request};
-use fx_order::{Access, AccessPlace, Order};
-use std::alloc::Global;
+use fx_chain::{Completion, Place};
+use fx_order::{AccessPlace, Order};
 
-// The members of a chain that haven't answered yet: the requests from this one on, in front of that one.
-#[derive(Clone, Copy)]
-struct Waiting {
-    from: usize,
-    to: usize,
-}
-
-// A submission's requests with their answers, and how far each chain is.
-#[derive(Drop)]
-struct Submission<'a> {
-    requests: &'a [Request],
-    completions: &'a [Completion],
-    chains: Vec<Waiting>,
-}
-
-// The chains of a submission, none of whose members has answered.
-fn chains_of(alloc: Global, completions: &[Completion]) -> Result<Vec<Waiting>, NoMemory> {
-    let mut chains = Vec::new(alloc);
-    for (at, completion) in completions.iter().enumerate() {
-        if completion.place.member == 1 {
-            chains.push(Waiting { from: at, to: at })?;
-        }
-        if let Some(chain) = chains.last_mut() {
-            chain.to = at.saturating_add(1);
-        }
-    }
-    Ok(chains)
-}
-
-// Checks whether an access is the last one of its request. An update makes one for each entry that isn't a skip.
-fn is_last(request: &Request, place: AccessPlace) -> bool {
-    let (Op::Update { off: _, list }, Some(entry)) = (&request.op, place.entry) else {
+// Checks whether the first of some accesses is the last one of its request.
+fn is_last(places: &[AccessPlace]) -> bool {
+    let [first, others @ ..] = places else {
         return true;
     };
-    let behind = entry.saturating_add(1);
-    !list.iter().skip(behind).any(|number| *number >= -1)
+    let next = others.iter().find(|it| it.chain == first.chain);
+    !matches!(next, Some(next) if next.member == first.member)
 }
 
-impl<'a> Submission<'a> {
-    // The next request of a chain, from 0, with its answer.
-    fn next_of(&self, chain: usize) -> Option<(&'a Request, &'a Completion)> {
-        let waiting = self.chains.get(chain)?;
-        if waiting.from >= waiting.to {
-            return None;
+// Appends answers from one on up to a member of a chain, and, if `canceled`, those of the canceled ones after it. Returns the next one.
+fn push_answers(
+    lines: &mut HistoryLines<'_>,
+    answers: (&[&[u8]], &[Completion]),
+    from: usize,
+    (chain, member): (u32, u32),
+    canceled: bool,
+) -> Result<usize, NoMemory> {
+    for at in from..answers.1.len() {
+        let (Some(request), Some(it)) = (answers.0.get(at), answers.1.get(at)) else {
+            return Ok(at);
+        };
+        let is_canceled = canceled && it.res == -Errno::ECANCELED.code();
+        if it.place.chain != chain || it.place.member > member && !is_canceled {
+            return Ok(at);
         }
-        let request = self.requests.get(waiting.from)?;
-        Some((request, self.completions.get(waiting.from)?))
+        let (place, request) = (PlaceWords(it.place), ByteWords(request));
+        write!(lines.text, "{place} {request} answers {}", it.res)?;
+        lines.end_line()?;
     }
-
-    // Tells what the next request of a chain answered.
-    fn tell_next(&mut self, telling: &mut HistoryLines<'_>, chain: usize) -> Result<(), NoMemory> {
-        if let Some((request, completion)) = self.next_of(chain) {
-            telling.tell_answer(request, completion)?;
-        }
-        if let Some(waiting) = self.chains.get_mut(chain) {
-            waiting.from = waiting.from.saturating_add(1);
-        }
-        Ok(())
-    }
-
-    // Tells the answers of a chain's next requests that stand in front of a member: they never came to the table.
-    fn tell_before(
-        &mut self,
-        telling: &mut HistoryLines<'_>,
-        chain: usize,
-        member: u32,
-    ) -> Result<(), NoMemory> {
-        for _ in 0..self.requests.len() {
-            match self.next_of(chain) {
-                Some((_, completion)) if completion.place.member < member => {
-                    self.tell_next(telling, chain)?;
-                }
-                _ => return Ok(()),
-            }
-        }
-        Ok(())
-    }
-
-    // Tells the answers of a chain's next requests that were canceled.
-    fn tell_canceled(
-        &mut self,
-        telling: &mut HistoryLines<'_>,
-        chain: usize,
-    ) -> Result<(), NoMemory> {
-        for _ in 0..self.requests.len() {
-            match self.next_of(chain) {
-                Some((_, completion)) if completion.res == -Errno::ECANCELED.code() => {
-                    self.tell_next(telling, chain)?;
-                }
-                _ => return Ok(()),
-            }
-        }
-        Ok(())
-    }
-
-    // Tells an access, and behind the last one of a request what the request answered.
-    fn tell_access(
-        &mut self,
-        alloc: Global,
-        telling: &mut HistoryLines<'_>,
-        submission: u32,
-        place: AccessPlace,
-        access: Access,
-    ) -> Result<(), NoMemory> {
-        let chain = (place.chain as usize).saturating_sub(1);
-        self.tell_before(telling, chain, place.member)?;
-        let (number, member) = (place.chain, place.member);
-        let who = format!(in alloc; "{submission}.{number}.{member}")?;
-        telling.tell_access(who.as_str(), access)?;
-        match self.next_of(chain) {
-            Some((request, _)) if is_last(request, place) => {
-                self.tell_next(telling, chain)?;
-                self.tell_canceled(telling, chain)
-            }
-            _ => Ok(()),
-        }
-    }
+    Ok(answers.1.len())
 }
 
-/// Appends the lines of a submission whose requests, done one at a time in this order, completed so.
-///
-/// # Errors
-/// `NoMemory` if an allocation fails.
-pub fn tell_submission(
-    alloc: Global,
-    telling: &mut HistoryLines<'_>,
-    requests: &[Request],
-    completions: &[Completion],
+/// Appends the lines of a submission, by the lines of its requests, their completions and their order. A request answers after its
+/// last access; one that makes none answers when its chain has come to it.
+pub(crate) fn push_submission(
+    lines: &mut HistoryLines<'_>,
+    answers: (&[&[u8]], &[Completion]),
     order: &Order,
 ) -> Result<(), NoMemory> {
-    let mut submission = Submission {
-        requests,
-        completions,
-        chains: chains_of(alloc, completions)?,
-    };
-    for (made, place) in order.accesses.iter().zip(order.places.iter()) {
-        submission.tell_access(alloc, telling, order.submission, *place, made.access)?;
+    // the number of each chain, and its first request that hasn't answered yet
+    let mut chains = Vec::new(lines.alloc);
+    for (at, it) in answers.1.iter().enumerate() {
+        if it.place.member == 1 {
+            chains.push((it.place.chain, at))?;
+        }
     }
-    for chain in 0..submission.chains.len() {
-        submission.tell_before(telling, chain, u32::MAX)?;
+    for (i, (made, at)) in order.accesses.iter().zip(order.places.iter()).enumerate() {
+        let Some((chain, next)) = chains.get_mut((at.chain as usize).saturating_sub(1)) else {
+            continue;
+        };
+        let before = at.member.saturating_sub(1);
+        *next = push_answers(lines, answers, *next, (*chain, before), false)?;
+        let place = Place {
+            submission: order.submission,
+            chain: at.chain,
+            member: at.member,
+        };
+        let who = format!(in lines.alloc; "{}", PlaceWords(place))?;
+        lines.push_access(who.as_bytes(), made.access)?;
+        if is_last(order.places.get(i..).unwrap_or(&[])) {
+            *next = push_answers(lines, answers, *next, (*chain, at.member), true)?;
+        }
+    }
+    for (chain, next) in &chains {
+        push_answers(lines, answers, *next, (*chain, u32::MAX), false)?;
     }
     Ok(())
 }

@@ -6,16 +6,6 @@ use std::alloc::{AllocError, Global};
 /// The largest number of bytes of a line that are shown.
 const SHOWN: usize = 100;
 
-/// The commands of a script. Its other lines are files and requests.
-const COMMANDS: [&[u8]; 6] = [
-    b"sparse",
-    b"register",
-    b"unregister",
-    b"range",
-    b"regupdate",
-    b"submit",
-];
-
 // Returns the number of bytes of the first line, its end included.
 fn line_length(text: &[u8]) -> usize
     ensures { result ≤ length text.now }
@@ -38,7 +28,7 @@ pub fn line_at(text: &[u8], from: usize) -> &[u8] {
 }
 
 /// Returns the rest of a text after its first line.
-pub fn behind<'a>(text: &'a [u8], line: &[u8]) -> &'a [u8] {
+pub fn rest_after<'a>(text: &'a [u8], line: &[u8]) -> &'a [u8] {
     text.get(line.len()..).unwrap_or(text)
 }
 
@@ -50,6 +40,31 @@ pub(crate) fn without_end(line: &[u8]) -> (&[u8], bool) {
     }
 }
 
+/// Returns the first word of a line, and its other words.
+pub fn cut_word(line: &[u8]) -> (&[u8], &[u8]) {
+    let (line, _) = without_end(line);
+    match line.iter().position(|byte| *byte == b' ') {
+        Some(at) => (
+            &line[..at],
+            line.get(at.saturating_add(1)..).unwrap_or(line),
+        ),
+        None => (line, &line[..0]),
+    }
+}
+
+/// Returns the first line of a script that is a command or a request, its end included, and the rest of the script.
+pub fn next_asked(script: &[u8]) -> (&[u8], &[u8]) {
+    let mut rest = script;
+    for _ in 0..script.len() {
+        let line = line_at(rest, 0);
+        rest = rest_after(rest, line);
+        if !line.starts_with(b"\n") && !line.starts_with(b"#") && !line.starts_with(b"file ") {
+            return (line, rest);
+        }
+    }
+    (rest, rest)
+}
+
 /// Returns the number, from 1, of the line that has the byte at a place.
 pub fn line_number(text: &[u8], at: usize) -> usize {
     let ends = text.iter().take(at).filter(|byte| **byte == b'\n');
@@ -57,7 +72,7 @@ pub fn line_number(text: &[u8], at: usize) -> usize {
 }
 
 /// Returns the place at which a line begins: `lines` lines after the one that begins at `from`.
-pub fn line_behind(text: &[u8], from: usize, lines: usize) -> usize {
+pub fn line_after(text: &[u8], from: usize, lines: usize) -> usize {
     let mut at = from;
     for _ in 0..lines {
         at = at.saturating_add(line_at(text, at).len());
@@ -65,8 +80,7 @@ pub fn line_behind(text: &[u8], from: usize, lines: usize) -> usize {
     at
 }
 
-/// Returns the places of the first line in which two texts differ: in the first text, which is read from a place on, and in the
-/// second.
+/// Returns the places of the first line in which two texts differ: in the first text, read from a place on, and in the second.
 pub fn first_difference(text: &[u8], from: usize, wanted: &[u8]) -> (usize, usize) {
     let (mut at, mut there) = (from, 0usize);
     for _ in 0..wanted.len() {
@@ -109,34 +123,4 @@ pub fn shown_line(
         shown.push_str(" without a line end")?;
     }
     Ok(shown)
-}
-
-// Checks whether a line of a script is a command.
-fn is_command(line: &[u8]) -> bool {
-    let (bytes, _) = without_end(line);
-    for word in COMMANDS {
-        if let Some(rest) = bytes.strip_prefix(word) {
-            if rest.is_empty() || rest.starts_with(b" ") {
-                return true;
-            }
-        }
-    }
-    false
-}
-
-/// Returns the number, from 1, of the line of a script that has its nth command, from 0, or `None` if it has fewer commands.
-pub fn line_of_command(script: &[u8], nth: usize) -> Option<usize> {
-    let (mut number, mut seen, mut at) = (1usize, 0usize, 0usize);
-    for _ in 0..script.len() {
-        let line = line_at(script, at);
-        if is_command(line) {
-            if seen == nth {
-                return Some(number);
-            }
-            seen = seen.saturating_add(1);
-        }
-        number = number.saturating_add(1);
-        at = at.saturating_add(line.len());
-    }
-    None
 }

@@ -1,160 +1,148 @@
-//! Completions that no request there may have, or that their chain doesn't let be.
-use crate::answers::{ValidAnswer, answers_of, is_among, push_answers};
-use crate::case::{Case, next_place, push_place};
-use crate::complaint::Complaint;
-use crate::may_be::{MayBe, may_be_at};
-use crate::why::push_why;
+//! Completions that no request there may have, or that contradict their chain.
+use crate::answers::{ValidAnswer, answers_of, answers_words, may_be_at};
+use crate::case::{Case, next_place};
+use crate::complaint::{Checked, Complaint};
+use crate::kinds::{Effect, acts_of, bytes_of, fixed_result, why_refused};
+use crate::words::{PlaceWords, name_of};
 use bitflags::Flags;
 use fx_base::{Errno, NoMemory};
-use fx_chain::{Completion, Op, Place, Request, SqeFlags, Target};
-use std::alloc::{AllocError, Global};
+use fx_chain::{Completion, Place, Request, SqeFlags};
 
-// The place of a request, and its chain so far: the line of its first member, and that of the member that severed it, if one did.
+// A request's place, and its chain so far: the line of its first member, and the member that severed it, if one did, with its line.
 #[derive(Clone, Copy)]
-struct Front {
+struct Member {
     place: Place,
     first: usize,
-    severed: Option<usize>,
+    severed: Option<(usize, Place)>,
 }
 
-// Returns the complaint that a member isn't canceled, though an earlier one severed its chain.
-fn not_canceled(
-    alloc: Global,
-    completions: &[Completion],
-    by: usize,
-    at: usize,
-) -> Result<Complaint, AllocError> {
-    let mut lines = Vec::new(alloc);
-    lines.push(by)?;
-    lines.push(at)?;
-    let mut why = String::new(alloc);
-    if let (Some(first), Some(second)) = (completions.get(by), completions.get(at)) {
-        push_place(&mut why, first.place)?;
-        why.push_str(" fails and severs its chain, so ")?;
-        push_place(&mut why, second.place)?;
-        why.push_str(" should be -125")?;
-    }
-    Ok(Complaint::Lines(lines, why))
-}
-
-// Checks whether a request may fail or not, depending on the slots when it runs.
-fn may_fail(case: &Case<'_>, request: &Request) -> bool {
-    let depends = match &request.op {
-        Op::Open { target, .. } => *target == Target::Any,
-        Op::Read { .. } | Op::Close { .. } => true,
-        Op::Update { .. } => false,
-    };
-    depends && case.refusal_of(request).is_none()
-}
-
-// Returns the complaint that a member is canceled, though no earlier one severs its chain: the lines of those that could, and its
-// own.
-fn not_severed(
-    alloc: Global,
+// Returns the reason why a read can't have its bytes: the file that has them is never at the slot, or no file has them.
+fn why_not_read(
     case: &Case<'_>,
-    first: usize,
-    at: usize,
-) -> Result<Complaint, AllocError> {
-    let mut lines = Vec::new(alloc);
-    for i in first..at {
-        if let Some(request) = case.requests.get(i) {
-            if !request.flags.contains(SqeFlags::IO_HARDLINK) && may_fail(case, request) {
-                lines.push(i)?;
-            }
-        }
-    }
-    lines.push(at)?;
-    let mut why = String::new(alloc);
-    why.push_str("-125 follows a request that fails, and no request before it in its chain fails")?;
-    Ok(Complaint::Lines(lines, why))
-}
-
-// Returns the expected line of a request in words: its place, and its possible answers.
-fn wanted_of(
-    alloc: Global,
-    case: &Case<'_>,
-    place: Place,
     request: &Request,
-    answers: &[ValidAnswer],
+    slot: u32,
+    it: &Completion,
 ) -> Result<String, NoMemory> {
-    let mut wanted = String::new(alloc);
-    push_place(&mut wanted, place)?;
-    wanted.push_str(" with ")?;
-    push_answers(alloc, &mut wanted, case, request, answers)?;
-    Ok(wanted)
+    let (alloc, res, count) = (case.alloc, it.res, it.got.len());
+    if usize::try_from(res).ok() != Some(count) {
+        return Ok(format!(in alloc; "the number is {res}, and {count} bytes follow")?);
+    }
+    for number in 0..case.catalogue.len() {
+        let entry = u8::try_from(number).unwrap_or(u8::MAX);
+        if bytes_of(case, request, entry)?.as_slice() == it.got.as_slice() {
+            let name = name_of(case.catalogue, entry);
+            return Ok(format!(in alloc;
+                "these are the bytes of {name}, which is never at slot {slot}"
+            )?);
+        }
+    }
+    Ok(format!(in alloc; "no file gives this read these bytes")?)
 }
 
-// Returns the complaint about the completion of a chain's next request, if there is one.
-fn complaint_of(
-    alloc: Global,
-    case: &Case<'_>,
-    slots: &[MayBe],
-    front: Front,
-    at: usize,
-    completions: &[Completion],
-) -> Result<Option<Complaint>, NoMemory> {
-    let Some(request) = case.requests.get(at) else {
+// Returns the reason why a request can't have a completion, which may be empty.
+fn why_not(case: &Case<'_>, request: &Request, it: &Completion) -> Result<String, NoMemory> {
+    let (alloc, res, has_bytes) = (case.alloc, it.res, !it.got.is_empty());
+    if let Some(errno) = case.refusal_of(request) {
+        return Ok(why_refused(case, request, errno)?);
+    }
+    let acts = acts_of(alloc, case.catalogue, request)?;
+    let Some(act) = acts.first() else {
+        return Ok(String::new(alloc));
+    };
+    let is_read = act.effect == Effect::Looks;
+    Ok(match act.slot {
+        _ if has_bytes && (!is_read || res < 0) => {
+            format!(in alloc; "only a read that finds a file has bytes")?
+        }
+        None if case.slots.range.1 == 0 => format!(in alloc; "the range has no slot")?,
+        Some(slot) if is_read && res >= 0 => why_not_read(case, request, slot, it)?,
+        Some(slot) if act.effect == Effect::Takes && res == 0 => {
+            format!(in alloc; "slot {slot} never has a file")?
+        }
+        Some(slot) if fixed_result(case, request).is_none() && res == -Errno::EBADF.code() => {
+            format!(in alloc; "slot {slot} is never empty")?
+        }
+        _ => String::new(alloc),
+    })
+}
+
+// Returns the complaint that a member is canceled, though no earlier one severs its chain: the lines of those that could.
+fn not_severed(case: &Case<'_>, first: usize, at: usize) -> Checked {
+    let mut lines = Vec::new(case.alloc);
+    for (i, request) in case.requests.iter().enumerate().take(at).skip(first) {
+        let severs = !request.flags.contains(SqeFlags::IO_HARDLINK);
+        if severs && fixed_result(case, request).is_none() {
+            lines.push(i)?;
+        }
+    }
+    lines.push(at)?;
+    let why = "-125 follows a request that fails, and no request before it in its chain fails";
+    Ok(Some(Complaint::Lines(lines, why.to_owned(case.alloc)?)))
+}
+
+// Returns the complaint that a member isn't canceled, though an earlier one severed its chain, if it isn't.
+fn not_canceled(case: &Case<'_>, by: (usize, Place), at: (usize, &Completion)) -> Checked {
+    if at.1.is_refusal(at.1.place, Errno::ECANCELED) {
         return Ok(None);
-    };
-    let completion = completions.get(at);
-    let is_canceled = match completion {
-        Some(it) => it.res == -Errno::ECANCELED.code() && it.got.is_empty(),
-        None => false,
-    };
-    if let (Some(by), Some(_)) = (front.severed, completion) {
-        if is_canceled {
-            return Ok(None);
-        }
-        return Ok(Some(not_canceled(alloc, completions, by, at)?));
     }
-    if is_canceled && front.first < at {
-        return Ok(Some(not_severed(alloc, case, front.first, at)?));
-    }
-    let mut answers = answers_of(alloc, case, slots, request)?;
-    if front.severed.is_some() {
-        answers.clear();
-        answers.push(ValidAnswer::Result(-Errno::ECANCELED.code()))?;
-    }
-    if let Some(it) = completion {
-        if is_among(alloc, case, request, it, &answers)? {
-            return Ok(None);
-        }
-    }
-    let wanted = wanted_of(alloc, case, front.place, request, &answers)?;
-    let mut why = String::new(alloc);
-    push_why(alloc, &mut why, case, request, completion)?;
-    Ok(Some(Complaint::Line(at, wanted, why)))
+    let (first, second) = (PlaceWords(by.1), PlaceWords(at.1.place));
+    let why = format!(in case.alloc;
+        "{first} fails and severs its chain, so {second} should be -125"
+    )?;
+    Ok(Some(Complaint::Lines(vec![in case.alloc; by.0, at.0]?, why)))
 }
 
-/// Returns a complaint about the first completion that its request can't have, or that contradicts an earlier one of its chain. Each
-/// line must have the place of its request.
-///
-/// # Errors
-/// `NoMemory` if an allocation fails.
-pub fn wrong_answer(
-    alloc: Global,
+// Returns the complaint about the completion of a request, if there is one.
+fn complaint_of(
     case: &Case<'_>,
+    slots: &[Vec<Option<u8>>],
+    member: Member,
+    at: usize,
+    request: &Request,
     completions: &[Completion],
-) -> Result<Option<Complaint>, NoMemory> {
-    let slots = may_be_at(alloc, case)?;
-    let mut front = Front {
+) -> Checked {
+    let why = match (member.severed, completions.get(at)) {
+        (_, None) => "its result can't be read".to_owned(case.alloc)?,
+        (Some(by), Some(it)) => return not_canceled(case, by, (at, it)),
+        (None, Some(it)) => {
+            if member.first < at && it.is_refusal(it.place, Errno::ECANCELED) {
+                return not_severed(case, member.first, at);
+            }
+            let answers = answers_of(case, slots, request)?;
+            if answers.iter().any(|answer| answer.fits(it)) {
+                return Ok(None);
+            }
+            why_not(case, request, it)?
+        }
+    };
+    let canceled = -Errno::ECANCELED.code();
+    let answers = match member.severed {
+        Some(_) => vec![in case.alloc; ValidAnswer::among(case.alloc, canceled, canceled)]?,
+        None => answers_of(case, slots, request)?,
+    };
+    let place = format!(in case.alloc; "{}", PlaceWords(member.place))?;
+    Ok(Some(Complaint::Line(at, answers_words(case, place, &answers)?, why)))
+}
+
+/// Returns a complaint about the first completion that its request can't have, or that contradicts an earlier one of its chain.
+pub(crate) fn wrong_answer(case: &Case<'_>, completions: &[Completion]) -> Checked {
+    let slots = may_be_at(case)?;
+    let mut member = Member {
         place: case.first_place(),
         first: 0,
         severed: None,
     };
     for (at, request) in case.requests.iter().enumerate() {
-        let complaint = complaint_of(alloc, case, &slots, front, at, completions)?;
+        let complaint = complaint_of(case, &slots, member, at, request, completions)?;
         if complaint.is_some() {
             return Ok(complaint);
         }
-        front.place = next_place(front.place, request);
+        member.place = next_place(member.place, request);
         if !request.links() {
-            front.first = at.saturating_add(1);
-            front.severed = None;
-        } else if let (None, Some(it)) = (front.severed, completions.get(at)) {
-            if request.severs(it) {
-                front.severed = Some(at);
-            }
+            member.first = at.saturating_add(1);
+            member.severed = None;
+        } else if let (None, Some(it)) = (member.severed, completions.get(at)) {
+            member.severed = request.severs(it).then_some((at, it.place));
         }
     }
     Ok(None)
