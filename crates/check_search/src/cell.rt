@@ -1,7 +1,7 @@
 //! A slot as the states of a search have it.
 ghost use Rattle.std.specs.Prelude.{◌≡◌, IsTrue, ◌↔◌};
 ghost use Rattle.std.specs.List.{list_all};
-ghost use Rattle.check_search.specs.Machine.{allows, cell_at, cells_after, is_staying, is_taken, may_find, may_leave, suits, with_cell};
+ghost use Rattle.check_search.specs.Machine.{allows, cell_at, cells_after, is_staying, is_taken, may_find, may_leave, may_stay, suits, with_cell};
 
 use crate::claim::{Claim, Leaves, Resident, Wants};
 
@@ -28,14 +28,13 @@ pub fn cell_at(cells: &[Cell], slot: u32) -> Option<Resident>
     None
 }
 
-// Whether the file found is one that a claim speaks of.
+// Checks whether the file found is one that a claim speaks of.
 fn suits(wants: &Wants, found: Option<Resident>) -> bool
     ensures { result ≡ suits wants.now found }
 {
     match wants {
         Wants::Anything => true,
-        Wants::Nothing => found.is_none(),
-        Wants::NothingToTake => found.is_none(),
+        Wants::Nothing | Wants::NothingToTake => found.is_none(),
         Wants::Something => found.is_some(),
         Wants::Bytes(fits) => match found {
             Some(resident) => fits[resident.file.entry as usize],
@@ -44,7 +43,7 @@ fn suits(wants: &Wants, found: Option<Resident>) -> bool
     }
 }
 
-/// Whether what was found may be removed: it is no file, or one that the closes have.
+/// Checks whether what was found may be removed: nothing, or a file that the closes have.
 pub(crate) fn may_leave(found: Option<Resident>) -> bool
     ensures { result ≡ may_leave found }
 {
@@ -54,7 +53,17 @@ pub(crate) fn may_leave(found: Option<Resident>) -> bool
     }
 }
 
-/// Whether a claim may be made where this is at its slot.
+/// Checks whether what was found may stay: nothing, or a file that the closes don't have.
+pub(crate) fn may_stay(found: Option<Resident>) -> bool
+    ensures { result ≡ may_stay found }
+{
+    match found {
+        Some(resident) => !resident.leaves,
+        None => true,
+    }
+}
+
+/// Checks whether a claim may be made where this is at its slot.
 pub(crate) fn may_find(claim: &Claim, found: Option<Resident>) -> bool
     ensures { result ≡ may_find claim.now found }
 {
@@ -66,33 +75,23 @@ pub(crate) fn may_find(claim: &Claim, found: Option<Resident>) -> bool
     }
 }
 
-// Whether each slot of the allocation range has a file.
+// Checks whether each slot of the allocation range has a file.
 fn are_taken(cells: &[Cell]) -> bool
     ensures { result ≡ list_all is_taken cells.now }
 {
-    for cell in cells {
-        if cell.in_range && cell.file.is_none() {
-            return false;
-        }
-    }
-    true
+    cells
+        .iter()
+        .all(|cell| !cell.in_range || cell.file.is_some())
 }
 
-/// Whether no slot has a file that the closes have.
+/// Checks whether no slot has a file that the closes have.
 pub(crate) fn are_staying(cells: &[Cell]) -> bool
     ensures { result ≡ list_all is_staying cells.now }
 {
-    for cell in cells {
-        if let Some(resident) = cell.file {
-            if resident.leaves {
-                return false;
-            }
-        }
-    }
-    true
+    cells.iter().all(|cell| may_stay(cell.file))
 }
 
-/// Whether the access that a claim tells of may be made where the slots have these files.
+/// Checks whether the access that a claim tells of may be made where the slots have these files.
 pub(crate) fn is_allowed(cells: &[Cell], claim: &Claim) -> bool
     ensures { result ≡ allows cells.now claim.now }
 {

@@ -24,7 +24,7 @@ pub struct Web<'a> {
     pub rows: Rows,
 }
 
-// Whether a state has this number among the states.
+// Checks whether a state has this number among the states.
 fn is_at(
     alloc: Global,
     web: &Web<'_>,
@@ -51,7 +51,7 @@ struct Here<'a> {
     row: &'a [u16],
 }
 
-// Whether the files of the slot of a chain's next claim don't come out even at a state behind it.
+// Checks whether the files of the slot of a chain's next claim don't come out even at a state behind it.
 fn is_uneven_behind(strands: &[Strand], node: &SearchNode, next: &SearchNode, chain: usize) -> bool
     ensures { IsTrue result → HasNoEnd strands.now (view next.now) }
 {
@@ -61,7 +61,7 @@ fn is_uneven_behind(strands: &[Strand], node: &SearchNode, next: &SearchNode, ch
     }
 }
 
-// Whether the next claim of a chain leads to one of the states if it may be made, or to one that can be seen to lead to no
+// Checks whether the next claim of a chain leads to one of the states if it may be made, or to one that can be seen to lead to no
 // end.
 fn step_leads_inside(
     alloc: Global,
@@ -90,7 +90,7 @@ fn step_leads_inside(
     Ok(is_uneven_behind(strands, here.node, &next, chain))
 }
 
-// Whether each step from a state leads to one of the states.
+// Checks whether each step from a state leads to one of the states.
 #[tactic(auto, unfolding(crate::specs::Machine::LeadsInside))]
 fn leads_inside(
     alloc: Global,
@@ -109,7 +109,7 @@ fn leads_inside(
     Ok(true)
 }
 
-// Whether the next claim of a chain only tests, may be made, and leads to one of the states.
+// Checks whether the next claim of a chain only tests, may be made, and leads to one of the states.
 fn test_leads_inside(
     alloc: Global,
     strands: &[Strand],
@@ -136,7 +136,7 @@ fn test_leads_inside(
     Ok(true)
 }
 
-// Whether a state was looked at: by one step that only tests, where there is one, and else by all steps.
+// Checks whether a state was looked at: by one step that only tests, where there is one, and else by all steps.
 #[tactic(auto, unfolding(crate::specs::Machine::IsExplored))]
 fn is_explored(
     alloc: Global,
@@ -153,7 +153,7 @@ fn is_explored(
     }
 }
 
-// Whether a state is no end, and was looked at.
+// Checks whether a state is no end, and was looked at.
 fn is_looked_through(
     alloc: Global,
     strands: &[Strand],
@@ -170,7 +170,7 @@ fn is_looked_through(
     is_explored(alloc, strands, web, &Here { node: &node, row })
 }
 
-// Whether each state is no end, and was looked at.
+// Checks whether each state is no end, and was looked at.
 fn is_closed(alloc: Global, strands: &[Strand], web: &Web<'_>) -> Result<bool, NoMemory>
     ensures { IfOk result (λ yes. IsTrue yes → All (λ row. IsLookedThrough strands.now
         (all_unpacked web.now.steps.packing web.now.rows.keys) (unpacked web.now.steps.packing row.items))

@@ -14,7 +14,7 @@ pub struct Resident {
 }
 
 /// The condition on what an access found at its slot.
-#[derive(Clone, Copy, Debug)]
+#[derive(Clone, Copy, Debug, PartialEq)]
 pub enum Wants {
     /// A file or no file.
     Anything,
@@ -58,7 +58,7 @@ pub fn resident_for(closes: &[Closed], file: Closed) -> Resident
     }
 }
 
-// Whether a file is where it belongs in a list that is in order of mark.
+// Checks whether a file is where it belongs in a list that is in order of mark.
 fn is_in_order_there(files: &[Closed], file: Closed) -> bool
     ensures { IsTrue result → Contains files.now file }
 {
@@ -71,17 +71,9 @@ fn is_in_order_there(files: &[Closed], file: Closed) -> bool
     }
 }
 
-// Whether a list has a file. It is looked for first where it belongs, if the list is in order of mark, as closes are.
+// Checks whether a list has a file. It is looked for first where it belongs, if the list is in order of mark, as closes are.
 fn has(files: &[Closed], file: Closed) -> bool
     ensures { IsTrue result ↔ Contains files.now file }
 {
-    if is_in_order_there(files, file) {
-        return true;
-    }
-    for other in files {
-        if *other == file {
-            return true;
-        }
-    }
-    false
+    is_in_order_there(files, file) || files.iter().any(|other| *other == file)
 }

@@ -9,12 +9,9 @@ fn join(labels: &mut [usize], one: usize, other: usize) {
     let (Some(from), Some(to)) = (labels.get(one).copied(), labels.get(other).copied()) else {
         return;
     };
-    if from == to {
-        return;
-    }
-    for i in 0..labels.len() {
-        if labels[i] == from {
-            labels[i] = to;
+    for label in labels {
+        if *label == from {
+            *label = to;
         }
     }
 }
@@ -29,7 +26,7 @@ fn join_range(labels: &mut [usize], range: (u32, u32)) {
     }
 }
 
-// The slot by which a claim is joined with others of its chain, if it is of a slot: a range without slots has none.
+// Returns the slot by which a claim is joined with others of its chain, if it is of a slot: a range without slots has none.
 fn slot_of(range: (u32, u32), claim: &Claim) -> Option<usize> {
     match claim {
         Claim::At(slot, _, _) => Some(*slot as usize),
@@ -65,18 +62,15 @@ pub fn components(
     range: (u32, u32),
     chains: &[Vec<Claim>],
 ) -> Result<Vec<Vec<usize>>, NoMemory> {
-    let mut labels = Vec::new(alloc);
-    for slot in 0..size {
-        labels.push(slot)?;
-    }
+    let mut labels: Vec<usize> = (0..size).collect(alloc)?;
     for claims in chains {
         join_chain(&mut labels, range, claims);
     }
     let mut parts = Vec::new(alloc);
     for label in 0..size {
         let mut part: Vec<usize> = Vec::new(alloc);
-        for slot in 0..labels.len() {
-            if labels[slot] == label {
+        for (slot, own) in labels.iter().enumerate() {
+            if *own == label {
                 part.push(slot)?;
             }
         }

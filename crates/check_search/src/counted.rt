@@ -21,7 +21,7 @@ pub enum SlotChange {
     Staying,
 }
 
-// Whether what a claim leaves at its slot is such a change.
+// Checks whether what a claim leaves at its slot is such a change.
 fn is_change(leaves: &Leaves, wants: &Wants, change: SlotChange) -> bool
     ensures { result ≡ is_change leaves.now wants.now change }
 {
@@ -30,19 +30,17 @@ fn is_change(leaves: &Leaves, wants: &Wants, change: SlotChange) -> bool
         Leaves::Empty => match change {
             SlotChange::Takes => matches!(wants, Wants::Something),
             SlotChange::Empties => true,
-            SlotChange::Leaving => false,
-            SlotChange::Staying => false,
+            SlotChange::Leaving | SlotChange::Staying => false,
         },
         Leaves::File(file) => match change {
-            SlotChange::Takes => false,
-            SlotChange::Empties => false,
+            SlotChange::Takes | SlotChange::Empties => false,
             SlotChange::Leaving => file.leaves,
             SlotChange::Staying => !file.leaves,
         },
     }
 }
 
-/// Whether a claim makes such a change of a slot.
+/// Checks whether a claim makes such a change of a slot.
 pub(crate) fn is_changing(change: SlotChange, slot: u32, claim: &Claim) -> bool
     ensures { result ≡ changes change slot claim.now }
 {
@@ -60,7 +58,7 @@ fn one_if(yes: bool) -> usize
     if yes { 1 } else { 0 }
 }
 
-// How many of the claims from a place on make such a change.
+// Returns how many of the claims from a place on make such a change.
 fn count_from(change: SlotChange, slot: u32, claims: &[Claim], first: usize) -> usize
     ensures { result ≡ count_by (changes change slot) (drop first claims.now) }
 {
@@ -71,7 +69,7 @@ fn count_from(change: SlotChange, slot: u32, claims: &[Claim], first: usize) -> 
     count
 }
 
-// How many claims that make such a change are still to be made, where they can be counted.
+// Returns how many claims that make such a change are still to be made, where they can be counted.
 fn to_come(change: SlotChange, slot: u32, strands: &[Strand], places: &[usize]) -> Option<usize>
     ensures { IfSome result (λ count. count ≡ to_come change slot strands.now places.now) }
 {
@@ -83,7 +81,7 @@ fn to_come(change: SlotChange, slot: u32, strands: &[Strand], places: &[usize]) 
     Some(count)
 }
 
-// How many files at a slot leave it: 0 or 1.
+// Returns how many files at a slot leave it: 0 or 1.
 fn leaving(found: Option<Resident>) -> usize
     ensures { result ≡ leaving_files found }
 {
@@ -93,7 +91,7 @@ fn leaving(found: Option<Resident>) -> usize
     }
 }
 
-// How many stay there.
+// Returns how many stay there.
 fn staying(found: Option<Resident>) -> usize
     ensures { result ≡ staying found }
 {
@@ -103,7 +101,7 @@ fn staying(found: Option<Resident>) -> usize
     }
 }
 
-// Whether two files stay at a slot.
+// Checks whether two files stay at a slot.
 fn two_stay(strands: &[Strand], node: &SearchNode, slot: u32) -> bool
     ensures { IsTrue result → TwoStay strands.now (view node.now) slot }
 {
@@ -114,7 +112,7 @@ fn two_stay(strands: &[Strand], node: &SearchNode, slot: u32) -> bool
     }
 }
 
-// Whether more files are taken from a slot than leave it.
+// Checks whether more files are taken from a slot than leave it.
 fn too_few_leave(strands: &[Strand], node: &SearchNode, slot: u32) -> bool
     ensures { IsTrue result → TooFewLeave strands.now (view node.now) slot }
 {
@@ -128,7 +126,7 @@ fn too_few_leave(strands: &[Strand], node: &SearchNode, slot: u32) -> bool
     }
 }
 
-// Whether each file leaves a slot, and the last one that comes stays there.
+// Checks whether each file leaves a slot, and the last one that comes stays there.
 fn last_stays(strands: &[Strand], node: &SearchNode, slot: u32) -> bool
     ensures { IsTrue result → LastStays strands.now (view node.now) slot }
 {

@@ -9,7 +9,7 @@ use crate::claim::{Claim, Leaves};
 use crate::node::{SearchNode, place_of};
 use crate::strand::Strand;
 
-/// Whether another claim changes nothing at a slot, or leaves there what the claim may not be made with.
+/// Checks whether another claim changes nothing at a slot, or leaves there what the claim may not be made with.
 pub(crate) fn is_no_help(slot: u32, claim: &Claim, other: &Claim) -> bool
     ensures { result ≡ no_help slot claim.now other.now }
 {
@@ -23,7 +23,7 @@ pub(crate) fn is_no_help(slot: u32, claim: &Claim, other: &Claim) -> bool
     }
 }
 
-// Whether none of the claims from a place on helps.
+// Checks whether none of the claims from a place on helps.
 fn none_helps_from(slot: u32, claim: &Claim, claims: &[Claim], first: usize) -> bool
     ensures { IsTrue result → ((k : ℕ) (other : OneClaim) → first ≤ k
         → slice_get claims.now k ≡ Some other → no_help slot claim.now other ≡ true) }
@@ -36,7 +36,7 @@ fn none_helps_from(slot: u32, claim: &Claim, claims: &[Claim], first: usize) -> 
     true
 }
 
-// Whether no claim that is still to be made helps.
+// Checks whether no claim that is still to be made helps.
 fn none_helps(strands: &[Strand], places: &[usize], slot: u32, claim: &Claim) -> bool
     ensures { IsTrue result → NoneHelps strands.now places.now slot claim.now }
 {
@@ -48,7 +48,7 @@ fn none_helps(strands: &[Strand], places: &[usize], slot: u32, claim: &Claim) ->
     true
 }
 
-// Whether a claim may not be made with what is at the slot, and that stays, or what may come is no better.
+// Checks whether a claim may not be made with what is at the slot, and that stays, or what may come is no better.
 fn is_hopeless(strands: &[Strand], node: &SearchNode, slot: u32, claim: &Claim) -> bool
     ensures { IsTrue result → IsHopeless strands.now (view node.now) slot claim.now }
 {

@@ -18,24 +18,18 @@ pub struct SearchNode {
     pub cells: Vec<Cell>,
 }
 
-/// The place of a chain.
+/// Returns the place of a chain.
 pub(crate) fn place_of(places: &[usize], chain: usize) -> usize
     ensures { result ≡ slice_index places.now chain }
 {
-    match places.get(chain) {
-        Some(place) => *place,
-        None => 0,
-    }
+    places.get(chain).copied().unwrap_or(0)
 }
 
 /// Returns the claim that `chain` makes next, by the chain's place among `strands`, or `None` if all its claims are made.
 pub fn claim_of<'a>(strands: &'a [Strand], places: &[usize], chain: usize) -> Option<&'a Claim>
     ensures { option_copied result ≡ claim_at strands.now places.now chain }
 {
-    match strands.get(chain) {
-        Some(strand) => strand.claims.get(place_of(places, chain)),
-        None => None,
-    }
+    strands.get(chain)?.claims.get(place_of(places, chain))
 }
 
 /// Returns the state where no claim is made yet and `cells` are the slots.
@@ -51,7 +45,7 @@ pub fn start_of(alloc: Global, strands: &[Strand], cells: &[Cell]) -> Result<Sea
     })
 }
 
-/// Whether a claim changes nothing.
+/// Checks whether a claim changes nothing.
 pub(crate) fn is_test(claim: &Claim) -> bool
     ensures { result ≡ is_test claim.now }
 {
@@ -61,41 +55,15 @@ pub(crate) fn is_test(claim: &Claim) -> bool
     }
 }
 
-// Whether both are one file, or none.
-fn is_same_file(one: Option<Resident>, other: Option<Resident>) -> bool
-    ensures { IsTrue result → one ≡ other }
-{
-    match (one, other) {
-        (Some(one), Some(other)) => one.file == other.file && one.leaves == other.leaves,
-        (None, None) => true,
-        _ => false,
-    }
-}
-
-// Whether both are one slot with one file.
-fn is_same_cell(one: Cell, other: Cell) -> bool
-    ensures { IsTrue result → one ≡ other }
-{
-    one.slot == other.slot && one.in_range == other.in_range && is_same_file(one.file, other.file)
-}
-
-/// Whether both lists have the same files at the same slots.
+/// Checks whether both lists have the same files at the same slots.
 pub(crate) fn are_same(cells: &[Cell], others: &[Cell]) -> bool
     ensures { IsTrue result → cells.now ≡ others.now }
 {
-    if cells.len() != others.len() {
-        return false;
-    }
-    for i in 0..cells.len() {
-        if !is_same_cell(cells[i], others[i]) {
-            return false;
-        }
-    }
-    true
+    cells == others
 }
 
 impl SearchNode {
-    /// Where the next claim of a chain leads, if it may be made.
+    /// Returns where the next claim of a chain leads, if it may be made.
     pub(crate) fn next(
         &self,
         alloc: Global,
@@ -119,26 +87,21 @@ impl SearchNode {
         Ok(Some(SearchNode { places, cells }))
     }
 
-    /// Whether both are one.
+    /// Checks whether both are one.
     pub(crate) fn is_same(&self, other: &SearchNode) -> bool
         ensures { IsTrue result → view self.now ≡ view other.now }
     {
         self.places == other.places && are_same(&self.cells, &other.cells)
     }
 
-    // Whether no claim is left.
+    // Checks whether no claim is left.
     fn is_over(&self, strands: &[Strand]) -> bool
         ensures { ((c : ℕ) → claim_at strands.now self.now.places.items c ≡ None) → IsTrue result }
     {
-        for chain in 0..strands.len() {
-            if claim_of(strands, &self.places, chain).is_some() {
-                return false;
-            }
-        }
-        true
+        (0..strands.len()).all(|chain| claim_of(strands, &self.places, chain).is_none())
     }
 
-    /// Whether no claim is left, and no file that the closes have.
+    /// Checks whether no claim is left, and no file that the closes have.
     pub(crate) fn is_end(&self, strands: &[Strand]) -> bool
         ensures { IsEndOfClaims strands.now (view self.now) → IsTrue result }
     {

@@ -21,32 +21,22 @@ pub struct Packing {
     pub files: Vec<Vec<Option<Resident>>>,
 }
 
-// The numbers of a packed state from one on.
+// Returns the numbers of a packed state from one on.
 fn numbers_of(alloc: Global, row: &[u16]) -> Result<Vec<usize>, NoMemory>
     ensures { IfOk result (λ numbers. numbers.items ≡ row.now) }
 {
-    let mut numbers = Vec::with_capacity(alloc, row.len())?;
-    for number in row {
-        numbers.push(*number as usize)?;
-    }
-    Ok(numbers)
+    Ok(row.iter().map(|number| *number as usize).collect(alloc)?)
 }
 
 impl Packing {
-    /// What is at a slot, by the places of the slot and of the file.
+    /// Returns what is at a slot, by the places of the slot and of the file.
     pub(crate) fn file_at(&self, cell: usize, number: usize) -> Option<Resident>
         ensures { result ≡ packed_file self.now.files.items cell number }
     {
-        match self.files.get(cell) {
-            Some(files) => match files.get(number) {
-                Some(file) => *file,
-                None => None,
-            },
-            None => None,
-        }
+        *self.files.get(cell)?.get(number)?
     }
 
-    // The slots with the files of these numbers.
+    // Returns the slots with the files of these numbers.
     fn cells_with(&self, alloc: Global, numbers: &[usize]) -> Result<Vec<Cell>, NoMemory>
         ensures { IfOk result (λ cells. cells.items
             ≡ numbered_cells self.now.files.items numbers.now 0 self.now.cells.items) }
@@ -61,7 +51,7 @@ impl Packing {
         Ok(cells)
     }
 
-    /// The state that a packed one stands for.
+    /// Returns the state that a packed one stands for.
     pub(crate) fn unpack(&self, alloc: Global, row: &[u16]) -> Result<SearchNode, NoMemory>
         ensures { IfOk result (λ node. view node ≡ unpacked self.now row.now) }
     {

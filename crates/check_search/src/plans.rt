@@ -90,9 +90,7 @@ fn near(
         }
         let mut is_wider = false;
         for cell in &blocked {
-            if tracks.widen(steps, *cell)? {
-                is_wider = true;
-            }
+            is_wider |= tracks.widen(steps, *cell)?;
         }
         if !is_wider {
             return Ok(None);

@@ -36,7 +36,7 @@ pub(crate) struct SearchRoom {
     pub doubt: Doubt,
 }
 
-// The room for states like this one, whose numbers have two bytes each.
+// Returns the room for states like this one, whose numbers have two bytes each.
 fn room_for(row: &[u16], limits: Limits) -> SearchRoom {
     let weight = row.len().saturating_mul(2).saturating_add(BESIDE);
     let states = limits.bytes.checked_div(weight).unwrap_or(0);

@@ -34,14 +34,11 @@ pub(crate) struct SearchState<'a> {
 }
 
 impl<'a> SearchState<'a> {
-    /// The state where no step was made.
+    /// Returns the state where no step was made.
     pub(crate) fn new(alloc: Global, steps: &'a Steps<'a>) -> Result<SearchState<'a>, NoMemory> {
         let row = steps.start(alloc)?;
         let tallies = steps.tallies(alloc)?;
-        let mut made = Vec::new(alloc);
-        for _ in &tallies {
-            made.push(0u64)?;
-        }
+        let made = vec![in alloc; 0u64; tallies.len()]?;
         Ok(SearchState {
             steps,
             empty: steps.empty(&row),
@@ -52,28 +49,26 @@ impl<'a> SearchState<'a> {
         })
     }
 
-    /// The step that a chain makes next.
+    /// Returns the step that a chain makes next.
     pub(crate) fn next_of(&self, chain: usize) -> Option<ClaimStep<'a>> {
         self.steps.next_of(&self.row, chain)
     }
 
-    /// Whether a step may be made.
+    /// Checks whether a step may be made.
     pub(crate) fn allows(&self, step: &ClaimStep<'_>) -> bool {
         self.steps.allows(&self.row, step, self.empty)
     }
 
-    /// The moment of its slot that a step leads to; none for a step of no slot.
+    /// Returns the moment of its slot that a step leads to; none for a step of no slot.
     pub(crate) fn moment_behind(&self, step: &ClaimStep<'_>) -> Option<(usize, u64)> {
         let cell = step.cell?;
         let made = self.made.get(cell)?;
-        let file = match step.left {
-            Some(left) => left,
-            None => self.steps.file_number(&self.row, cell),
-        };
+        let there = self.steps.file_number(&self.row, cell);
+        let file = step.left.unwrap_or(there);
         Some((cell, moment_of(*made ^ step.bit, file)))
     }
 
-    /// Whether a step led to a state from which its slot's claims lead to no end.
+    /// Checks whether a step led to a state from which its slot's claims lead to no end.
     pub(crate) fn is_dead(&self, step: &ClaimStep<'_>) -> bool {
         match (step.cell, step.left) {
             (Some(cell), Some(_)) if cell < self.tallies.len() => {
@@ -99,7 +94,7 @@ impl<'a> SearchState<'a> {
         self.sum ^= drawn(place, number_at(&self.row, place));
     }
 
-    // The same of a slot, where it is counted too if it is an empty one of the allocation range.
+    // Adds what is drawn for a slot, or takes it away, and counts the slot if it is an empty one of the allocation range.
     fn count_slot(&mut self, cell: Option<usize>, is_more: bool) {
         let Some(cell) = cell else {
             return;

@@ -19,32 +19,19 @@ pub struct ClaimStep<'a> {
 /// A claim, by its chain and its place among the chain's.
 pub type ClaimAt = (usize, usize);
 
-/// The bit of a claim with so many in front of it at its slot.
-pub(crate) fn bit_behind(before: Option<usize>) -> u64 {
-    let Some(before) = before else {
-        return 0;
-    };
-    if before >= MOST_CLAIMS {
-        return 0;
-    }
-    let mut bit = 1u64;
-    for _ in 0..before {
-        bit = bit.wrapping_mul(2);
-    }
-    bit
+/// Returns the bit of a claim with so many in front of it at its slot.
+pub(crate) fn bit_behind(before: usize) -> u64 {
+    if before < MOST_CLAIMS { 1 << before } else { 0 }
 }
 
-/// The number at a place of a packed state.
+/// Returns the number at a place of a packed state.
 pub(crate) fn number_at(row: &[u16], place: usize) -> u16 {
-    match row.get(place) {
-        Some(number) => *number,
-        None => 0,
-    }
+    row.get(place).copied().unwrap_or(0)
 }
 
 /// Sets the number at a place, if the state has it.
 pub(crate) fn set_number(row: &mut [u16], place: usize, number: u16) {
-    if place < row.len() {
-        row[place] = number;
+    if let Some(own) = row.get_mut(place) {
+        *own = number;
     }
 }

@@ -1,6 +1,6 @@
 //! The claims of a part by numbers, and the state of a search that goes through them. Nothing is promised of it.
 
-use crate::cell::{Cell, may_find, may_leave};
+use crate::cell::{Cell, may_find, may_leave, may_stay};
 use crate::claim::{Claim, Leaves, Resident};
 use crate::dead::is_no_help;
 use crate::node::is_test;
@@ -11,28 +11,23 @@ use crate::tally::Tally;
 use fx_base::NoMemory;
 use std::alloc::Global;
 
+// The claims of a slot.
+#[derive(Drop)]
+struct SlotClaims<'a> {
+    places: Vec<ClaimAt>,
+    classes: Tally<'a>,
+}
+
 /// The claims of chains at some slots.
 #[derive(Drop)]
 pub struct Steps<'a> {
     pub packing: Packing,
     // The claims of each chain.
     chains: Vec<Vec<ClaimStep<'a>>>,
-    // For each slot its claims: the chain, and the place among the chain's.
-    at: Vec<Vec<(usize, usize)>>,
-    // For each slot the classes of its claims.
-    classes: Vec<Tally<'a>>,
+    // Those of each slot.
+    slots: Vec<SlotClaims<'a>>,
     // How many claims there are.
     count: usize,
-}
-
-// The place of a slot among those of a part.
-fn cell_of(cells: &[Cell], slot: u32) -> Option<usize> {
-    for i in 0..cells.len() {
-        if cells[i].slot == slot {
-            return Some(i);
-        }
-    }
-    None
 }
 
 // Notes a file of a slot, and answers its number.
@@ -41,11 +36,11 @@ fn number_for(
     cell: usize,
     file: Resident,
 ) -> Result<u16, NoMemory> {
-    if cell >= files.len() {
+    let Some(own) = files.get_mut(cell) else {
         return Ok(0);
-    }
-    let number = files[cell].len();
-    files[cell].push(Some(file))?;
+    };
+    let number = own.len();
+    own.push(Some(file))?;
     Ok(u16::try_from(number).unwrap_or(u16::MAX))
 }
 
@@ -60,28 +55,26 @@ impl<'a> Steps<'a> {
         cells: &[Cell],
     ) -> Result<Steps<'a>, NoMemory> {
         let mut files = Vec::new(alloc);
-        let mut at = Vec::new(alloc);
-        let mut classes = Vec::new(alloc);
+        let mut slots = Vec::new(alloc);
         for cell in cells {
-            let mut own: Vec<Option<Resident>> = Vec::new(alloc);
-            own.push(None)?;
+            let mut own = vec![in alloc; None]?;
             if cell.file.is_some() {
                 own.push(cell.file)?;
             }
             files.push(own)?;
-            at.push(Vec::new(alloc))?;
-            classes.push(Tally::new(alloc))?;
+            slots.push(SlotClaims {
+                places: Vec::new(alloc),
+                classes: Tally::new(alloc),
+            })?;
         }
-        let packing = Packing {
-            chains: strands.len(),
-            cells: Vec::from_slice(alloc, cells)?,
-            files,
-        };
         let mut steps = Steps {
-            packing,
+            packing: Packing {
+                chains: strands.len(),
+                cells: Vec::from_slice(alloc, cells)?,
+                files,
+            },
             chains: Vec::new(alloc),
-            at,
-            classes,
+            slots,
             count: 0,
         };
         for strand in strands {
@@ -93,63 +86,46 @@ impl<'a> Steps<'a> {
     fn push_chain(&mut self, alloc: Global, claims: &'a [Claim]) -> Result<(), NoMemory> {
         let chain = self.chains.len();
         let mut own = Vec::with_capacity(alloc, claims.len())?;
-        for k in 0..claims.len() {
-            let step = self.step_of(&claims[k])?;
-            if let Some(cell) = step.cell {
-                if cell < self.at.len() {
-                    self.at[cell].push((chain, k))?;
-                }
-            }
-            own.push(step)?;
+        for (k, claim) in claims.iter().enumerate() {
+            own.push(self.step_of(claim, (chain, k))?)?;
         }
         self.count = self.count.saturating_add(claims.len());
         self.chains.push(own)?;
         Ok(())
     }
 
-    fn step_of(&mut self, claim: &'a Claim) -> Result<ClaimStep<'a>, NoMemory> {
-        let Claim::At(slot, _, leaves) = claim else {
-            return Ok(ClaimStep {
-                claim,
-                cell: None,
-                left: None,
-                class: 0,
-                bit: 0,
-            });
-        };
-        let cell = cell_of(&self.packing.cells, *slot);
-        let left = match (leaves, cell) {
-            (Leaves::Empty, _) => Some(0),
-            (Leaves::File(file), Some(cell)) => Some(number_for(
-                &mut self.packing.files,
-                cell,
-                *file,
-            )?),
-            _ => None,
-        };
-        let class = match cell {
-            Some(cell) if cell < self.classes.len() => self.classes[cell].class_of(claim)?,
-            _ => 0,
-        };
-        let before = match cell {
-            Some(cell) => self.at.get(cell).map(|claims| claims.len()),
-            None => None,
-        };
-        Ok(ClaimStep {
+    fn step_of(&mut self, claim: &'a Claim, at: ClaimAt) -> Result<ClaimStep<'a>, NoMemory> {
+        let mut step = ClaimStep {
             claim,
-            cell,
-            left,
-            class,
-            bit: bit_behind(before),
-        })
+            cell: None,
+            left: None,
+            class: 0,
+            bit: 0,
+        };
+        let Claim::At(slot, _, leaves) = claim else {
+            return Ok(step);
+        };
+        let cells = &self.packing.cells;
+        let Some(cell) = cells.iter().position(|cell| cell.slot == *slot) else {
+            return Ok(step);
+        };
+        step.cell = Some(cell);
+        step.left = match leaves {
+            Leaves::Same => None,
+            Leaves::Empty => Some(0),
+            Leaves::File(file) => Some(number_for(&mut self.packing.files, cell, *file)?),
+        };
+        if let Some(own) = self.slots.get_mut(cell) {
+            step.class = own.classes.class_of(claim)?;
+            step.bit = bit_behind(own.places.len());
+            own.places.push(at)?;
+        }
+        Ok(step)
     }
 
-    /// The state where no claim was made.
+    /// Returns the state where no claim was made.
     pub fn start(&self, alloc: Global) -> Result<Vec<u16>, NoMemory> {
-        let mut row = Vec::new(alloc);
-        for _ in &self.chains {
-            row.push(0)?;
-        }
+        let mut row = vec![in alloc; 0; self.chains.len()]?;
         for cell in &self.packing.cells {
             row.push(u16::from(cell.file.is_some()))?;
         }
@@ -161,28 +137,25 @@ impl<'a> Steps<'a> {
         self.chains.len()
     }
 
-    /// How many claims there are.
+    /// Returns how many claims there are.
     pub(crate) fn count(&self) -> usize {
         self.count
     }
 
-    /// The claim that a chain makes next.
+    /// Returns the claim that a chain makes next.
     pub(crate) fn next_of(&self, row: &[u16], chain: usize) -> Option<ClaimStep<'a>> {
         let steps = self.chains.get(chain)?;
         steps.get(number_at(row, chain) as usize).copied()
     }
 
-    /// The claims of a slot, each with its chain, those of the first chain first.
+    /// Returns the claims of a slot, each with its chain, those of the first chain first.
     pub(crate) fn claims_at(
         &self,
         alloc: Global,
         cell: usize,
     ) -> Result<Vec<(usize, ClaimStep<'a>)>, NoMemory> {
         let mut claims = Vec::new(alloc);
-        let Some(places) = self.at.get(cell) else {
-            return Ok(claims);
-        };
-        for (chain, k) in places {
+        for (chain, k) in self.places_at(cell) {
             if let Some(step) = self.chains.get(*chain).and_then(|own| own.get(*k)) {
                 claims.push((*chain, *step))?;
             }
@@ -190,7 +163,14 @@ impl<'a> Steps<'a> {
         Ok(claims)
     }
 
-    // The claim of a chain at a place, where it is still to be made.
+    fn places_at(&self, cell: usize) -> &[ClaimAt] {
+        match self.slots.get(cell) {
+            Some(own) => &own.places,
+            None => &[],
+        }
+    }
+
+    // Returns the claim of a chain at a place, where it is still to be made.
     fn left_at(&self, row: &[u16], at: ClaimAt) -> Option<&'a Claim> {
         let (chain, k) = at;
         if k < number_at(row, chain) as usize {
@@ -200,18 +180,18 @@ impl<'a> Steps<'a> {
         Some(step.claim)
     }
 
-    /// The file number at a slot.
+    /// Returns the file number at a slot.
     pub(crate) fn file_number(&self, row: &[u16], cell: usize) -> u16 {
         number_at(row, self.chains.len().saturating_add(cell))
     }
 
-    /// The file at a slot.
+    /// Returns the file at a slot.
     pub fn file(&self, row: &[u16], cell: usize) -> Option<Resident> {
         self.packing
             .file_at(cell, self.file_number(row, cell) as usize)
     }
 
-    /// Whether a claim may be made, where this many slots of the allocation range are empty.
+    /// Checks whether a claim may be made, where this many slots of the allocation range are empty.
     pub(crate) fn allows(&self, row: &[u16], step: &ClaimStep<'_>, empty: usize) -> bool {
         match step.cell {
             Some(cell) => may_find(step.claim, self.file(row, cell)),
@@ -224,55 +204,37 @@ impl<'a> Steps<'a> {
         matches!(self.packing.cells.get(cell), Some(cell) if cell.in_range)
     }
 
-    /// How many slots of the allocation range are empty.
+    /// Returns how many slots of the allocation range are empty.
     pub(crate) fn empty(&self, row: &[u16]) -> usize {
-        let mut empty = 0usize;
-        for i in 0..self.packing.cells.len() {
-            if self.packing.cells[i].in_range && self.file_number(row, i) == 0 {
-                empty = empty.saturating_add(1);
-            }
-        }
-        empty
+        (0..self.packing.cells.len())
+            .filter(|cell| self.is_in_range(*cell) && self.file_number(row, *cell) == 0)
+            .count()
     }
 
-    /// The claims of each slot, all of them still to be made.
+    /// Returns the claims of each slot, all of them still to be made.
     pub fn tallies(&self, alloc: Global) -> Result<Vec<Tally<'a>>, NoMemory> {
-        let mut tallies = Vec::with_capacity(alloc, self.classes.len())?;
-        for classes in &self.classes {
-            tallies.push(classes.copy(alloc)?)?;
-        }
-        for steps in &self.chains {
-            for step in steps {
-                if let Some(cell) = step.cell {
-                    if cell < tallies.len() {
-                        tallies[cell].count_claim(step.class, step.claim, true);
-                    }
-                }
+        let mut tallies = Vec::with_capacity(alloc, self.slots.len())?;
+        for cell in 0..self.slots.len() {
+            let mut tally = self.slots[cell].classes.copy(alloc)?;
+            for (_, step) in self.claims_at(alloc, cell)? {
+                tally.count_claim(step.class, step.claim, true);
             }
+            tallies.push(tally)?;
         }
         Ok(tallies)
     }
 
-    /// Whether no slot has a file that the closes have.
+    /// Checks whether no slot has a file that the closes have.
     pub(crate) fn is_staying(&self, row: &[u16]) -> bool {
-        for i in 0..self.packing.cells.len() {
-            if matches!(self.file(row, i), Some(file) if file.leaves) {
-                return false;
-            }
-        }
-        true
+        (0..self.packing.cells.len()).all(|cell| may_stay(self.file(row, cell)))
     }
 
-    /// A chain whose next claim only tests and may be made, where this many slots of the allocation range are empty.
+    /// Returns a chain whose next claim only tests and may be made, where this many slots of the allocation range are empty.
     pub(crate) fn test_of(&self, row: &[u16], empty: usize) -> Option<usize> {
-        for chain in 0..self.chains.len() {
-            if let Some(step) = self.next_of(row, chain) {
-                if is_test(step.claim) && self.allows(row, &step, empty) {
-                    return Some(chain);
-                }
-            }
-        }
-        None
+        (0..self.chains.len()).find(|chain| match self.next_of(row, *chain) {
+            Some(step) => is_test(step.claim) && self.allows(row, &step, empty),
+            None => false,
+        })
     }
 
     /// Makes the next claim of a chain, and answers what was at its slot.
@@ -303,7 +265,7 @@ impl<'a> Steps<'a> {
         }
     }
 
-    // Whether a claim that is still to be made leaves a file at the slot that the claim at this place may find. The claims
+    // Checks whether a claim that is still to be made leaves a file at the slot that the claim at this place may find. The claims
     // in front are looked at first, since a chain mostly waits for what stands in front of it.
     fn is_helped(
         &self,
@@ -313,17 +275,9 @@ impl<'a> Steps<'a> {
         slot: u32,
         claim: &Claim,
     ) -> bool {
-        for i in (0..at).rev() {
-            if i < claims.len() && self.helps(row, claims[i], slot, claim) {
-                return true;
-            }
-        }
-        for i in at..claims.len() {
-            if self.helps(row, claims[i], slot, claim) {
-                return true;
-            }
-        }
-        false
+        let (front, behind) = claims.split_at(at.min(claims.len()));
+        let helps = |other: &ClaimAt| self.helps(row, *other, slot, claim);
+        front.iter().rev().any(helps) || behind.iter().any(helps)
     }
 
     fn helps(&self, row: &[u16], other: ClaimAt, slot: u32, claim: &Claim) -> bool {
@@ -333,7 +287,7 @@ impl<'a> Steps<'a> {
         }
     }
 
-    /// The state behind the next claim of a chain.
+    /// Returns the state behind the next claim of a chain.
     pub(crate) fn row_after(
         &self,
         alloc: Global,
@@ -347,7 +301,7 @@ impl<'a> Steps<'a> {
         Ok(after)
     }
 
-    /// A claim that waits in vain behind the next claim of a chain, which led from one state to another.
+    /// Returns a claim that waits in vain behind the next claim of a chain, which led from one state to another.
     pub(crate) fn hopeless_behind(
         &self,
         row: &[u16],
@@ -358,20 +312,20 @@ impl<'a> Steps<'a> {
         self.hopeless(after, step.cell?)
     }
 
-    /// A claim of a slot, still to be made, that waits for a file which doesn't come.
+    /// Returns a claim of a slot, still to be made, that waits for a file which doesn't come.
     pub fn hopeless(&self, row: &[u16], cell: usize) -> Option<ClaimAt> {
-        let claims = self.at.get(cell)?;
+        let claims = self.places_at(cell);
         let slot = self.packing.cells.get(cell)?.slot;
         let found = self.file(row, cell);
-        for i in 0..claims.len() {
-            let Some(claim) = self.left_at(row, claims[i]) else {
+        for (i, at) in claims.iter().enumerate() {
+            let Some(claim) = self.left_at(row, *at) else {
                 continue;
             };
             if may_find(claim, found) {
                 continue;
             }
             if !may_leave(found) || !self.is_helped(row, claims, i, slot, claim) {
-                return Some(claims[i]);
+                return Some(*at);
             }
         }
         None

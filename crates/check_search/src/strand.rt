@@ -18,10 +18,5 @@ pub struct Strand {
 pub fn has_slot(cells: &[Cell], slot: u32) -> bool
     ensures { result ≡ list_any (λ cell. cell.slot == slot) cells.now }
 {
-    for cell in cells {
-        if cell.slot == slot {
-            return true;
-        }
-    }
-    false
+    cells.iter().any(|cell| cell.slot == slot)
 }

@@ -31,20 +31,14 @@ pub struct Tally<'a> {
     staying: usize,
 }
 
-// Whether both may be made with the same files.
+// Checks whether both may be made with the same files.
 fn is_alike(one: &Claim, other: &Claim) -> bool {
-    let (Claim::At(_, wants, _), Claim::At(_, others, _)) = (one, other) else {
-        return false;
-    };
-    let same_wants = match (wants, others) {
-        (Wants::Anything, Wants::Anything) => true,
-        (Wants::Nothing, Wants::Nothing) => true,
-        (Wants::NothingToTake, Wants::NothingToTake) => true,
-        (Wants::Something, Wants::Something) => true,
-        (Wants::Bytes(fits), Wants::Bytes(others)) => fits == others,
+    match (one, other) {
+        (Claim::At(_, wants, _), Claim::At(_, others, _)) => {
+            wants == others && is_test(one) == is_test(other)
+        }
         _ => false,
-    };
-    same_wants && is_test(one) == is_test(other)
+    }
 }
 
 /// One more, or one less.
@@ -57,7 +51,7 @@ pub(crate) fn count(number: &mut usize, is_more: bool) {
 }
 
 impl<'a> Tally<'a> {
-    /// No claims.
+    /// Returns a tally without claims.
     pub fn new(alloc: Global) -> Tally<'a> {
         Tally {
             classes: Vec::new(alloc),
@@ -68,7 +62,7 @@ impl<'a> Tally<'a> {
         }
     }
 
-    /// The same classes once more, with what was counted.
+    /// Returns the same classes once more, with what was counted.
     pub fn copy(&self, alloc: Global) -> Result<Tally<'a>, NoMemory> {
         Ok(Tally {
             classes: Vec::from_slice(alloc, &self.classes)?,
@@ -76,12 +70,14 @@ impl<'a> Tally<'a> {
         })
     }
 
-    /// The number of the claims that may be made with the same files as this one, which is no reason to count it.
+    /// Returns the number of the class of a claim, which it doesn't count.
     pub(crate) fn class_of(&mut self, claim: &'a Claim) -> Result<usize, NoMemory> {
-        for i in 0..self.classes.len() {
-            if is_alike(self.classes[i].claim, claim) {
-                return Ok(i);
-            }
+        if let Some(class) = self
+            .classes
+            .iter()
+            .position(|own| is_alike(own.claim, claim))
+        {
+            return Ok(class);
         }
         self.classes.push(Class {
             claim,
@@ -128,18 +124,15 @@ impl<'a> Tally<'a> {
         }
     }
 
-    // Whether a claim waits for a file that doesn't come, where this is at the slot ([`crate::dead`]).
+    // Checks whether a claim waits for a file that doesn't come, where this is at the slot ([`crate::dead`]).
     fn is_hopeless(&self, found: Option<Resident>) -> bool {
         let stays = !may_leave(found);
-        for class in &self.classes {
-            if class.left > 0 && (stays || class.helpers == 0) && !may_find(class.claim, found) {
-                return true;
-            }
-        }
-        false
+        self.classes.iter().any(|class| {
+            class.left > 0 && (stays || class.helpers == 0) && !may_find(class.claim, found)
+        })
     }
 
-    // Whether the files don't come out even, where this is at the slot ([`crate::counted`]).
+    // Checks whether the files don't come out even, where this is at the slot ([`crate::counted`]).
     fn is_uneven(&self, found: Option<Resident>) -> bool {
         let (mut leaving, mut staying) = (self.leaving, self.staying);
         match found {

@@ -8,8 +8,8 @@ use fx_base::NoMemory;
 use indexmap::IndexSet;
 use std::alloc::Global;
 
-// What the number of the file is multiplied with where it stands beside the bits of the claims that were made: a moment.
-const FILE: u64 = 281_474_976_710_656;
+// A moment: the bits of the claims that were made, and above them the number of the file.
+const MADE: u64 = (1 << MOST_CLAIMS) - 1;
 
 // How many moments of a slot are looked at.
 const MOST_MOMENTS: usize = 4_096;
@@ -47,34 +47,31 @@ struct Slot<'a> {
     near: usize,
 }
 
-/// The moment of a slot where these claims were made, and where this file is there.
+/// Returns the moment of a slot where these claims were made, and where this file is there.
 pub fn moment_of(made: u64, file: u16) -> u64 {
-    made.wrapping_add(u64::from(file).wrapping_mul(FILE))
+    made | (u64::from(file) << MOST_CLAIMS)
+}
+
+// Returns the number of the file at a moment.
+fn file_in(moment: u64) -> u16 {
+    (moment >> MOST_CLAIMS) as u16
 }
 
 impl Slot<'_> {
-    // The first chain that has claims which weren't made.
+    // Returns the first chain that has claims which weren't made.
     fn first(&self, made: u64) -> usize {
-        for (chain, step) in &self.claims {
-            if made & step.bit == 0 {
-                return *chain;
-            }
-        }
-        usize::MAX
+        let left = self.claims.iter().find(|claim| made & claim.1.bit == 0);
+        left.map_or(usize::MAX, |claim| claim.0)
     }
 
-    // The moment behind the claim at a place, if it may be made.
+    // Returns the moment behind the claim at a place, if it may be made.
     fn behind(&self, moment: u64, at: usize) -> Option<u64> {
         let (chain, step) = self.claims.get(at).copied()?;
-        let (made, file) = (moment % FILE, moment / FILE);
-        let is_first = match at
-            .checked_sub(1)
-            .and_then(|it| self.claims.get(it).copied())
-        {
-            Some((other, before)) => other != chain || made & before.bit != 0,
+        let (made, file) = (moment & MADE, file_in(moment));
+        let is_first = match at.checked_sub(1).and_then(|it| self.claims.get(it)) {
+            Some((other, before)) => *other != chain || made & before.bit != 0,
             None => true,
         };
-        let file = u16::try_from(file).unwrap_or(0);
         let found = self.steps.packing.file_at(self.cell, file as usize);
         if made & step.bit != 0 || !is_first || !may_find(step.claim, found) {
             return None;
@@ -82,10 +79,10 @@ impl Slot<'_> {
         Some(moment_of(made ^ step.bit, step.left.unwrap_or(file)))
     }
 
-    // The moments that a claim leads to from one.
+    // Returns the moments that a claim leads to from one.
     fn all_behind(&self, moment: u64) -> Result<Vec<u64>, NoMemory> {
         let mut moments = Vec::new(self.alloc);
-        let far = self.first(moment % FILE).saturating_add(self.near);
+        let far = self.first(moment & MADE).saturating_add(self.near);
         for (at, (chain, _)) in self.claims.iter().enumerate() {
             if *chain >= far {
                 break;
@@ -97,7 +94,7 @@ impl Slot<'_> {
         Ok(moments)
     }
 
-    // The moments that are reached from the first one; none where they are too many.
+    // Returns the moments that are reached from the first one; none where they are too many.
     fn reached(&self, first: u64) -> Result<Option<IndexSet<u64>>, NoMemory> {
         let mut reached = IndexSet::new(self.alloc);
         reached.insert(first)?;
@@ -113,23 +110,18 @@ impl Slot<'_> {
         Ok(None)
     }
 
-    // Whether a moment is an end, or a claim leads from it to one of some moments.
+    // Checks whether a moment is an end, or a claim leads from it to one of some moments.
     fn leads_on(&self, moment: u64, others: &IndexSet<u64>) -> Result<bool, NoMemory> {
-        if self.first(moment % FILE) == usize::MAX {
-            let file = u16::try_from(moment / FILE).unwrap_or(0);
-            let found = self.steps.packing.file_at(self.cell, file as usize);
+        if self.first(moment & MADE) == usize::MAX {
+            let file = file_in(moment) as usize;
+            let found = self.steps.packing.file_at(self.cell, file);
             return Ok(!matches!(found, Some(file) if file.leaves));
         }
         let behind = self.all_behind(moment)?;
-        for other in &behind {
-            if others.contains(other) {
-                return Ok(true);
-            }
-        }
-        Ok(false)
+        Ok(behind.iter().any(|other| others.contains(other)))
     }
 
-    // Those from which all claims can be made; none where they are too many.
+    // Returns those from which all claims can be made; none where they are too many.
     fn moments(&self, first: u64) -> Result<Option<IndexSet<u64>>, NoMemory> {
         let Some(reached) = self.reached(first)? else {
             return Ok(None);
@@ -144,9 +136,35 @@ impl Slot<'_> {
         }
         Ok(Some(moments))
     }
+
+    // Returns the track from the first moment on, widened until it leads to an end.
+    fn track(&mut self, first: u64) -> Result<Track, NoMemory> {
+        for _ in 0..WIDENINGS {
+            if self.claims.len() > MOST_CLAIMS {
+                break;
+            }
+            let Some(moments) = self.moments(first)? else {
+                break;
+            };
+            if moments.contains(&first) {
+                return Ok(Track {
+                    near: self.near,
+                    moments: Some(moments),
+                });
+            }
+            if self.near >= self.steps.chains() {
+                break;
+            }
+            self.near = self.near.saturating_mul(WIDER);
+        }
+        Ok(Track {
+            near: usize::MAX,
+            moments: None,
+        })
+    }
 }
 
-// The track of a slot, as near as one is from this on. Where the slot has too many claims any order is as good.
+// Returns the track of a slot, as near as one is from this on. Where the slot has too many claims any order is as good.
 fn track_of(
     alloc: Global,
     steps: &Steps<'_>,
@@ -154,14 +172,7 @@ fn track_of(
     cell: usize,
     near: usize,
 ) -> Result<Track, NoMemory> {
-    let none = Track {
-        near: usize::MAX,
-        moments: None,
-    };
     let claims = steps.claims_at(alloc, cell)?;
-    if claims.len() > MOST_CLAIMS {
-        return Ok(none);
-    }
     let first = moment_of(0, steps.file_number(start, cell));
     let mut slot = Slot {
         alloc,
@@ -170,26 +181,11 @@ fn track_of(
         claims,
         near,
     };
-    for _ in 0..WIDENINGS {
-        let Some(moments) = slot.moments(first)? else {
-            return Ok(none);
-        };
-        if moments.contains(&first) {
-            return Ok(Track {
-                near: slot.near,
-                moments: Some(moments),
-            });
-        }
-        if slot.near >= steps.chains() {
-            break;
-        }
-        slot.near = slot.near.saturating_mul(WIDER);
-    }
-    Ok(none)
+    slot.track(first)
 }
 
 impl Tracks {
-    /// The tracks of all slots, each as near as one is from this on.
+    /// Returns the tracks of all slots, each as near as one is from this on.
     pub fn new(alloc: Global, steps: &Steps<'_>, near: usize) -> Result<Tracks, NoMemory> {
         let start = steps.start(alloc)?;
         let mut tracks = Vec::new(alloc);
@@ -206,12 +202,9 @@ impl Tracks {
 
     /// Checks whether all claims of a slot can be made from a moment on.
     pub fn allows(&self, cell: usize, moment: u64) -> bool {
-        match self.tracks.get(cell) {
-            Some(track) => match &track.moments {
-                Some(moments) => moments.contains(&moment),
-                None => true,
-            },
-            None => true,
+        match self.tracks.get(cell).map(|track| &track.moments) {
+            Some(Some(moments)) => moments.contains(&moment),
+            _ => true,
         }
     }
 

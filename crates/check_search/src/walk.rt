@@ -47,7 +47,7 @@ pub(crate) struct Walk<'a> {
 }
 
 impl<'a> Walk<'a> {
-    /// A search at its start.
+    /// Returns a search at its start.
     pub(crate) fn new(
         alloc: Global,
         steps: &'a Steps<'a>,
@@ -92,7 +92,7 @@ impl<'a> Walk<'a> {
         Ok(Found::Stopped(self.room.doubt))
     }
 
-    // The next step to be tried, with how many were tried then. Where a step may be made that only tests, no other one need
+    // Returns the next step to be tried, with how many were tried then. Where a step may be made that only tests, no other one need
     // be. A played order mostly goes on with the chain that it was at, and begins the chains in turn.
     fn choice(&self, stage: &Stage) -> Option<(usize, usize)> {
         if stage.tried == ALL {
@@ -119,7 +119,7 @@ impl<'a> Walk<'a> {
         None
     }
 
-    // The same where the first of the chains that may go on is drawn, and the others come behind it, going round.
+    // Returns the next step where the first of the chains that may go on is drawn, and the others follow, going round.
     fn choice_drawn(&self, stage: &Stage, low: usize, high: usize) -> Option<(usize, usize)> {
         let count = high.saturating_sub(low);
         let first = drawn(self.plan.seed.saturating_add(self.way.len()), 0) >> 33;
@@ -134,7 +134,7 @@ impl<'a> Walk<'a> {
         None
     }
 
-    // The first chain that isn't done, and the one behind the last that may go on.
+    // Returns the first chain that isn't done, and the one behind the last that may go on.
     fn window(&self) -> (usize, usize) {
         let chains = self.steps.chains();
         if self.plan.open >= chains {
@@ -153,20 +153,16 @@ impl<'a> Walk<'a> {
         (low, chains)
     }
 
-    // A chain whose next step only tests and may be made. Where orders are left out, it is one of those that may go on.
+    // Returns a chain whose next step only tests and may be made. Where orders are left out, it is one of those that may go on.
     fn test(&self) -> Option<usize> {
         if self.tracks.is_none() {
             return self.steps.test_of(&self.here.row, self.here.empty);
         }
         let (_, high) = self.window();
-        for chain in 0..high {
-            if let Some(step) = self.here.next_of(chain) {
-                if is_test(step.claim) && self.may_make(chain) {
-                    return Some(chain);
-                }
-            }
-        }
-        None
+        (0..high).find(|chain| match self.here.next_of(*chain) {
+            Some(step) => is_test(step.claim) && self.may_make(*chain),
+            None => false,
+        })
     }
 
     fn may_make(&self, chain: usize) -> bool {
@@ -176,7 +172,7 @@ impl<'a> Walk<'a> {
         }
     }
 
-    // Whether a step leads to a moment of its slot from which the others there are tried.
+    // Checks whether a step leads to a moment of its slot from which the others there are tried.
     fn keeps_track(&self, step: &ClaimStep<'_>) -> bool {
         let Some(tracks) = self.tracks else {
             return true;
@@ -263,18 +259,15 @@ impl<'a> Walk<'a> {
         }
     }
 
-    // Whether all claims were made, and no file is left that the closes have.
+    // Checks whether all claims were made, and no file is left that the closes have.
     fn is_end(&self) -> bool {
         self.way.len() > self.steps.count() && self.steps.is_staying(&self.here.row)
     }
 
-    // The steps of the way.
+    // Returns the steps of the way.
     fn order(&self) -> Result<Vec<usize>, NoMemory> {
-        let mut order = Vec::new(self.alloc);
-        for i in 1..self.way.len() {
-            order.push(self.way[i].by)?;
-        }
-        Ok(order)
+        let steps = self.way.iter().skip(1);
+        Ok(steps.map(|stage| stage.by).collect(self.alloc)?)
     }
 
     // Tries one step, or goes back by one where none is left. It answers how the search ended, if it did.
