@@ -8,7 +8,8 @@ use Rattle.fx_base.specs.declared.mark.Mark.{Mark}
 use Rattle.fx_base.specs.declared.mark.Mark.TheVariants.{Submitted}
 use Rattle.fx_base.specs.declared.open_file.Closed.{Closed}
 use Rattle.fx_chain.specs.Completed.{Completed, all_completed}
-use Rattle.fx_chain.specs.Operation.{Asked, Operation, Opens, Updates}
+use Rattle.fx_chain.specs.Operation.{Asked}
+use Rattle.fx_order.specs.Requests.{InstallsAt}
 use Rattle.fx_order.specs.Slots.{table_of_slots}
 use Rattle.fx_order.specs.declared.slots.Slots.{Slots}
 use Rattle.check_judge.specs.declared.told.Told.{Told}
@@ -67,12 +68,6 @@ TellsFiles (Err line) files = ⊥
 abbrev pub TellsCloses : Result Told Fault → List Closed → Type 0
 TellsCloses (Ok told) files = told.closes.items ≡ files
 TellsCloses (Err fault) files = ⊥
-
--- the place in its list at which a request may install a file
-abbrev pub InstallsAt : Operation → ℕ → Type 0
-InstallsAt (Opens name target) entry = entry ≡ 0
-InstallsAt (Updates off list) entry = (file : ℕ) × (slice_get list entry ≡ Some (pos file))
-InstallsAt _ entry = ⊥
 
 -- the request, which completed so, installed a file with the mark
 pub record Installed (asked : Asked) (c : Completed) (mark : Mark) : Type 0 where

@@ -1,10 +1,10 @@
 -- If no mark is placed twice, and none that is in the table, each removed file isn't there afterwards, and was removed
 -- once.
-use Rattle.fx_order.proofs.Words.{◌≡◌, ◌≢◌, ◌⊎◌, inl, inr, ⊎_elim, ℕ, List, [], ◌∷◌, ◌++◌, sym, ◌∙◌, Some, Closed, Table, Puts, Allocates, Permits}
+use Rattle.fx_order.proofs.Words.{◌≡◌, ◌≢◌, ◌⊎◌, inl, inr, ⊎_elim, ℕ, List, [], ◌∷◌, ◌++◌, sym, subst, ◌∙◌, Some, Closed, Table, Puts, Allocates, Permits}
 use Rattle.fx_order.proofs.Words.{not-true, Decides-not, Contains-get_or, recursion_from_All, IsDistinct-cons, PermitsAll, table_with, table_after}
 use Rattle.fx_order.proofs.Words.{removed_by, Access, removed_in, Bool, None, Option, false, refl, slice_index_or, option_to_list}
 use Rattle.std.specs.List.{IsDistinct}
-use Rattle.fx_order.proofs.Placed.{Has, Removes, emptied, has_left, has_right, left_from, placed, placed_by, removed_from, removes_contained}
+use Rattle.fx_order.proofs.Placed.{Has, Removes, emptied, has_either, has_left, has_right, left_from, placed, placed_by, removed_from, removes_contained}
 use Rattle.fx_order.proofs.Placed.{step_from}
 use Rattle.fx_order.proofs.EqualFiles.{mark_Decides, same_mark}
 
@@ -21,6 +21,35 @@ pub once_between : (xs ys : List (ℕ × Closed)) (s o : ℕ) (f g : Closed) →
 once_between [] ys s o f g once first later same = absurd first
 once_between (x ∷ xs) ys s o f g once (inl here) later same = once.1 o g (has_right xs ys o g later) ((λ i. (here i).1.mark) ∙ same)
 once_between (x ∷ xs) ys s o f g once (inr first) later same = once_between xs ys s o f g once.0 first later same
+
+-- lists in which no mark is placed twice, nor one of the first in the second
+pub once_then : (xs ys : List (ℕ × Closed)) → PlacesOnce xs → PlacesOnce ys
+    → ((s o : ℕ) (f g : Closed) → Has xs s f → Has ys o g → f.mark ≢ g.mark) → PlacesOnce (xs ++ ys)
+once_then [] ys first behind apart = behind
+once_then (x ∷ xs) ys first behind apart = (
+  once_then xs ys first.0 behind (λ s o f g one. apart s o f g (inr one)),
+  λ o g has. ⊎_elim (λ one. first.1 o g one) (λ later. apart x.0 o x.1 g (inl refl) later) (has_either xs ys o g has),
+)
+
+-- each file that was placed is such a one, and no mark was placed twice
+abbrev pub Own : (Closed → Type 0) → List (ℕ × Closed) → Type 0
+Own P l = ((s : ℕ) (f : Closed) → Has l s f → P f) × PlacesOnce l
+
+pub own_none : {P : Closed → Type 0} → Own P []
+own_none = (λ s f has. absurd has, tt)
+
+pub own_one : {P : Closed → Type 0} {slot : ℕ} {file : Closed} → P file → Own P ((slot, file) ∷ [])
+own_one {P} p = (λ s f has. ⊎_elim (λ here. subst P (λ i. (here i).1) p) (λ none. absurd none) has, (tt, λ s g none. absurd none))
+
+pub own_weaker : {P Q : Closed → Type 0} (l : List (ℕ × Closed)) → ((f : Closed) → P f → Q f) → Own P l → Own Q l
+own_weaker l weaker own = (λ s f has. weaker f (own.0 s f has), own.1)
+
+pub own_both : {P Q R : Closed → Type 0} (xs ys : List (ℕ × Closed)) → ((f : Closed) → P f → R f) → ((f : Closed) → Q f → R f)
+    → ((f g : Closed) → P f → Q g → f.mark ≢ g.mark) → Own P xs → Own Q ys → Own R (xs ++ ys)
+own_both xs ys left right apart first behind = (
+  λ s f has. ⊎_elim (λ one. left f (first.0 s f one)) (λ later. right f (behind.0 s f later)) (has_either xs ys s f has),
+  once_then xs ys first.1 behind.1 (λ s o f g one later. apart f g (first.0 s f one) (behind.0 o g later)),
+)
 
 slot_of : {slot s : ℕ} {file f : Closed} → Has ((slot, file) ∷ []) s f → s ≡ slot
 slot_of (inl here) = λ i. (sym here i).0

@@ -1,10 +1,11 @@
 -- An access as steps: a look-up is released at once, and what was removed is closed at once.
-use Rattle.fx_order.proofs.Words.{◌≡◌, ℕ, ◌+◌, ◌-◌, ◌<◌, ◌≤◌, ◌==◌, true, false, List, [], ◌++◌, map, refl, sym, ◌∙◌, arith, Option, Some, None}
+use Rattle.fx_order.proofs.Words.{◌≡◌, ℕ, ◌+◌, ◌-◌, ◌<◌, ◌≤◌, ◌==◌, true, false, List, [], ◌∷◌, ◌++◌, length, map, refl, sym, ◌∙◌, arith, Option, Some, None}
 use Rattle.fx_order.proofs.Words.{ReleasesItsOwn, IsSome, if◌then◌else◌, option_to_list, Closed, File, Event, Action, Look, Release, Put, Clear, Take}
 use Rattle.fx_order.proofs.Words.{Allocate, Full, Close, State, IsSettled, ◌▷◌, ◌▷▷◌, state_after, AllowsAll, AllReleaseTheirOwn, held_by, close_of}
 use Rattle.fx_order.proofs.Words.{closes_in, identity_of, by_equality, Looks, Puts, Clears, Takes, Allocates, FindsFull, Permits, table_with}
 use Rattle.fx_order.proofs.Words.{removed_by, Access, table_after, closed_by, Allows, after, with_removed, ap}
 use Rattle.fx_order.proofs.Accesses.{accesses_by, at_itself, shown, shown-after}
+use Rattle.fx_order.proofs.Placed.{placed_by}
 
 -- the release of what a look-up found, if it found a file
 abbrev pub release_of : Option File → List Action
@@ -21,11 +22,14 @@ Does (Takes slot removed) actions = (x : Option File) × (identity_of x ≡ remo
 Does (Allocates slot file) actions = (f : File) × (f.identity ≡ file) × (actions ≡ [] ▷ Allocate slot f)
 Does FindsFull actions = actions ≡ [] ▷ Full
 
+-- the actions are those of the accesses, one after another
+abbrev pub AllDo : List Access → List Action → Type 0
+AllDo [] actions = actions ≡ []
+AllDo (access ∷ accesses) actions = (own : List Action) × (others : List Action) × (actions ≡ own ▷▷ others) × Does access own × AllDo accesses others
+
 -- the number of files that an access installs
 abbrev pub installs : Access → ℕ
-installs (Puts slot file removed) = 1
-installs (Allocates slot file) = 1
-installs _ = 0
+installs access = length (placed_by access)
 
 abbrev pub by : ℕ → Action → Event
 by chain a = record { pass = chain; chain = chain; action = a }

@@ -2,7 +2,7 @@
 use Rattle.fx_order.proofs.Words.{◌≡◌, ◌↔◌, ℕ, ◌+◌, Bool, false, IsTrue, List, [], ◌∷◌, ◌++◌, length, take, drop, refl, sym, ap, ◌∙◌, arith, min}
 use Rattle.fx_order.proofs.Words.{AllByRecursion, either_way, MatchBool, when_false, take-append-drop, length-append, take-append_seam}
 use Rattle.fx_order.proofs.Words.{drop-append_seam, FileEntry, Completed, next_member, canceled, severs, Asked, Place, Access, IsChainDone}
-use Rattle.fx_order.proofs.Words.{IsRequestDone}
+use Rattle.fx_order.proofs.Words.{IsRequestDone, All, All-head, All-tail, ◌<◌, ◌≤◌, by_equality, first_member, accesses_of_chain, ChainAccess, AreChainsDone}
 use Rattle.fx_chain.proofs.ChainGoesOn.{canceled_count}
 
 -- the first part of a list of a known length
@@ -59,3 +59,20 @@ length-done catalogue size place (request ∷ requests) accesses cs x =
     (λ _ y. ap length y.1 ∙ canceled_count (next_member place) requests)
     (λ _. length-done catalogue size (next_member place) requests x.1 x.3) x.7 in
     ap length x.5 ∙ omega arith
+
+-- a chain that was done, of a submission's
+pub record IsChainOf (catalogue : List FileEntry) (size submission chain : ℕ) (order : List ChainAccess) (P : List Asked → Type 0) : Type 0 where
+  pub run : List Asked
+  pub own : List Completed
+  pub holds : P run
+  pub done : IsChainDone catalogue size (first_member submission chain) run (accesses_of_chain chain order) own
+
+-- each of the chains was done, and has what all have
+pub chain_at : (catalogue : List FileEntry) (size submission first : ℕ) (runs : List (List Asked)) (order : List ChainAccess) (cs : List Completed)
+    → AreChainsDone catalogue size submission first runs order cs → (P : List Asked → Type 0) → All P runs → (chain : ℕ) → first ≤ chain
+    → chain < first + length runs → IsChainOf catalogue size submission chain order P
+chain_at catalogue size submission first [] order cs x P each chain low high = absurd (omega arith)
+chain_at catalogue size submission first (run ∷ runs) order cs x P each chain low high =
+    by_equality chain first (λ _. IsChainOf catalogue size submission chain order P)
+    (λ same. rw same (record { run = run; own = x.0; holds = All-head P run runs each; done = x.3 }))
+    (λ other. chain_at catalogue size submission (first + 1) runs order x.1 x.4 P (All-tail P run runs each) chain (omega arith) (omega arith))

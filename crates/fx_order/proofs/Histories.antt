@@ -4,7 +4,7 @@ use Rattle.fx_order.proofs.Words.{Action, State, opening, state_of, action_of, s
 use Rattle.fx_order.proofs.Words.{runs_of, RingContents, RingState, HasClosed, ring_of, IsOneHistory, Reported, Table, PermitsAll, table_after}
 use Rattle.fx_order.proofs.Words.{accesses_of, IsOneOrder, table_of}
 use Rattle.fx_order.proofs.Accesses.{shown, shown-opening}
-use Rattle.fx_order.proofs.Answered.{all_chains_explained}
+use Rattle.fx_order.proofs.Explained.{all_chains_explained}
 use Rattle.fx_order.proofs.Installs.{few_installs}
 use Rattle.fx_order.proofs.Made.{Made, made}
 use Rattle.fx_order.proofs.Shown.{NonePast, none_past_accesses, none_past_table, ring_with_files, shows_ring}

@@ -6,13 +6,8 @@ use Rattle.fx_order.proofs.Words.{AllReleaseTheirOwn, state_after, closes_in, by
 use Rattle.fx_order.proofs.Words.{accesses_of_chain, removed_in, table_after, Access, ChainAccess, leads_then, closes_in-then, contains_none, ⊎_elim}
 use Rattle.fx_order.proofs.Words.{All-map}
 use Rattle.fx_order.proofs.Accesses.{of_all, of_author, shown}
-use Rattle.fx_order.proofs.AtOnce.{Does, Done, by, done, installs}
+use Rattle.fx_order.proofs.AtOnce.{AllDo, Done, by, done, installs}
 use Rattle.fx_order.proofs.Ordered.{IsWithin}
-
--- the actions are those of the accesses, one after another
-abbrev pub AllDo : List Access → List Action → Type 0
-AllDo [] actions = actions ≡ []
-AllDo (access ∷ accesses) actions = (own : List Action) × (others : List Action) × (actions ≡ own ▷▷ others) × Does access own × AllDo accesses others
 
 -- the number of files that the accesses install
 abbrev pub installs_in : List Access → ℕ

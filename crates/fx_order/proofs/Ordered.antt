@@ -5,7 +5,7 @@ use Rattle.fx_order.proofs.Words.{action_of, closes_in, numbers_for, Asked, runs
 use Rattle.fx_order.proofs.Words.{Looks, PermitsAll, table_with, Access, ChainAccess, table_after, removed_in, accesses_of, IsOneOrder, table_of}
 use Rattle.fx_order.proofs.Words.{contains_head, contains_tail, All-map}
 use Rattle.fx_order.proofs.Accesses.{shown, accesses_by, accesses_in, order_in, by_chain, accesses_of-order_in, permitted_along, shown-opening}
-use Rattle.fx_order.proofs.Requests.{all_explained}
+use Rattle.fx_order.proofs.Explained.{all_explained}
 use Rattle.fx_order.proofs.Removed.{removed_is_closed}
 
 abbrev pub IsWithin : ℕ → ℕ → Type 0

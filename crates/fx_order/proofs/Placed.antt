@@ -2,9 +2,8 @@
 use Rattle.fx_order.proofs.Words.{◌≡◌, ◌≢◌, ◌⊎◌, inl, inr, ⊎_elim, ℕ, ◌<◌, List, [], ◌∷◌, ◌++◌, Contains, refl, sym, ap, ◌∙◌, append_assoc, arith}
 use Rattle.fx_order.proofs.Words.{IsAt, with_file, Option, Some, None, if◌then◌else◌, option_to_list, Contains-append_right, Closed, by_equality}
 use Rattle.fx_order.proofs.Words.{contains_none, contains_head, contains_cases, Table, Looks, Puts, Clears, Takes, Allocates, Permits, PermitsAll}
-use Rattle.fx_order.proofs.Words.{table_with, table_after, removed_by, removed_in, Access, FileEntry, Place, Completed, IsReadDone, IsCloseDone}
+use Rattle.fx_order.proofs.Words.{table_with, table_after, removed_by, removed_in, Access}
 use Rattle.fx_order.proofs.Accesses.{at_itself}
-use Rattle.fx_order.proofs.RequestCases.{closes, reads}
 
 -- the file that an access places, with its slot
 abbrev pub placed_by : Access → List (ℕ × Closed)
@@ -166,11 +165,3 @@ removes_contained (x ∷ xs) g has = either (removed_by x) refl (λ later. remov
     either None is more h = inr (more h)
     either (Some f) is more h =
         ⊎_elim (λ here. inl (is ∙ ap (λ y. Some y) (sym here))) (λ later. inr (more later)) (contains_cases f (removed_in xs) g h)
-
--- a read and a close place nothing
-pub read_none : (catalogue : List FileEntry) (place : Place) (slot off len : ℕ) (accesses : List Access) (c : Completed)
-    → IsReadDone catalogue place slot off len accesses c → placed accesses ≡ []
-read_none catalogue place slot off len accesses c = reads place (λ l _. placed l ≡ []) accesses c catalogue slot off len refl refl (λ _. refl)
-
-pub close_none : (place : Place) (slot : ℕ) (accesses : List Access) (c : Completed) → IsCloseDone place slot accesses c → placed accesses ≡ []
-close_none place slot accesses c = closes place (λ l _. placed l ≡ []) accesses c slot refl (λ _. refl)

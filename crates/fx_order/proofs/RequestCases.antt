@@ -1,8 +1,15 @@
--- Properties of a request's accesses, by its cases: it was refused, it made one access, or those of a list.
-use Rattle.fx_order.proofs.Words.{◌≡◌, inl, inr, ℕ, ℤ, pos, List, [], ◌∷◌, length, refl, sym, subst, Option}
-use Rattle.fx_order.proofs.Words.{Some, None, FileEntry, Errno, EBADF, ENFILE, ENOMEM, Closed, installed, either_option, refusal_of, Operation}
-use Rattle.fx_order.proofs.Words.{Completed, completed, refusal, Place, Any, Slot, Looks, Puts, Takes, Allocates, FindsFull, Access}
-use Rattle.fx_order.proofs.Words.{gives, IsOpenDone, IsReadDone, IsCloseDone, IsUpdateDone, AreEntriesDone, IsDoneAtTable, IsRequestDone}
+-- A request's accesses and completion, by its operation. A new kind of request adds its cases here.
+use Rattle.fx_order.proofs.Words.{◌≡◌, inl, inr, ℕ, ◌<◌, ◌≤◌, ℤ, pos, negsuc, false, List, [], ◌∷◌, length, refl, sym, ap, subst, ◌∙◌, arith, Option}
+use Rattle.fx_order.proofs.Words.{Some, None, FileEntry, IsCatalogue, name_at, Errno, EBADF, ENFILE, ENOMEM, Closed, installed, either_option, both_options}
+use Rattle.fx_order.proofs.Words.{refusal_of, Operation, Opens, Reads, Closes, Updates, Target, Completed, completed, refusal, Place, Any, Slot, Looks, Puts}
+use Rattle.fx_order.proofs.Words.{Takes, Allocates, FindsFull, Access, gives, IsOpenDone, IsReadDone, IsCloseDone, IsUpdateDone, AreEntriesDone}
+use Rattle.fx_order.proofs.Words.{IsDoneAtTable, IsRequestDone, InstallsAt, installs_of, is_long_update, LONGEST_UPDATE, ltb-false, slice_get_within}
+use Rattle.std.proofs.Common.{zero-add}
+use Rattle.fx_base.proofs.Entries.{entry_named}
+use Rattle.fx_chain.proofs.Refused.{applied}
+use Rattle.fx_order.proofs.Apart.{Own, own_none, own_one, own_weaker}
+use Rattle.fx_order.proofs.EntriesMade.{IsMarked, list_few, list_own, list_placed, list_places}
+use Rattle.fx_order.proofs.Placed.{placed}
 
 module _ (place : Place) (P : List Access → Completed → Type 0) (own : List Access) (c : Completed) where
   same : (l : List Access) (d : Completed) → P l d → (own ≡ l) × (c ≡ d) → P own c
@@ -39,3 +46,123 @@ module _ (place : Place) (P : List Access → Completed → Type 0) (own : List 
   pub updates : (off : ℕ) (list : List ℤ) → (AreEntriesDone place 0 off list own → P own (completed place (pos (length list)) []))
       → IsUpdateDone place off list own c → P own c
   updates off list applied x = same own _ (applied x.0) (refl, x.1)
+
+-- the catalogue entry that a request opens, if it opens one
+abbrev IsEntryOf : List FileEntry → Operation → ℕ → Type 0
+IsEntryOf catalogue (Opens name target) entry = name_at catalogue entry ≡ Some name
+IsEntryOf catalogue operation entry = Unit {0}
+
+module _ (catalogue : List FileEntry) (size : ℕ) (place : Place) where
+  -- the files that a request places that completes with this number, and their slots
+  abbrev files_of : ℕ → Operation → ℕ → List (ℕ × Closed)
+  files_of entry (Opens name (Slot slot)) n = (slot, installed place 0 entry) ∷ []
+  files_of entry (Opens name Any) n = (n, installed place 0 entry) ∷ []
+  files_of entry (Updates off list) n = list_placed place 0 off list
+  files_of entry operation n = []
+
+  -- a request that fails places none
+  abbrev files_so : ℕ → Operation → ℤ → List (ℕ × Closed)
+  files_so entry operation (pos n) = files_of entry operation n
+  files_so entry operation (negsuc n) = []
+
+  abbrev So : ℕ → Operation → List Access → Completed → Type 0
+  So entry operation l d = (d.place ≡ place) × (placed l ≡ files_so entry operation d.res)
+
+  placed_so : (operation : Operation) (own : List Access) (c : Completed) → IsDoneAtTable catalogue place operation own c
+      → (entry : ℕ) × IsEntryOf catalogue operation entry × So entry operation own c
+  placed_so (Opens name (Slot slot)) own c x =
+      (x.0, x.1, puts place (So x.0 (Opens name (Slot slot))) own c x.0 slot (λ _. (refl, refl)) x.2)
+  placed_so (Opens name Any) own c x =
+      (x.0, x.1, allocates place (So x.0 (Opens name Any)) own c x.0 (λ _. (refl, refl)) (refl, refl) x.2)
+  placed_so (Reads slot off len) own c x =
+      (0, tt, reads place (So 0 (Reads slot off len)) own c catalogue slot off len (refl, refl) (refl, refl) (λ _. (refl, refl)) x)
+  placed_so (Closes slot) own c x = (0, tt, closes place (So 0 (Closes slot)) own c slot (refl, refl) (λ _. (refl, refl)) x)
+  placed_so (Updates off list) own c x =
+      (0, tt, updates place (So 0 (Updates off list)) own c off list (λ are. (refl, list_places place 0 off list own are)) x)
+
+  -- by the completion alone, if no name is twice in the catalogue
+  same_files : IsCatalogue catalogue → (operation : Operation) (e f : ℕ) → IsEntryOf catalogue operation e → IsEntryOf catalogue operation f
+      → (res : ℤ) → files_so e operation res ≡ files_so f operation res
+  same_files is operation e f x y (negsuc n) = refl
+  same_files is (Opens name target) e f x y (pos n) = ap (λ k. files_of k (Opens name target) n) (is.distinct e f name x y)
+  same_files is operation e f x y (pos n) = refl
+
+  pub placed_same : IsCatalogue catalogue → (operation : Operation) (one other : List Access) (c : Completed)
+      → IsRequestDone catalogue size place operation one c → IsRequestDone catalogue size place operation other c → placed one ≡ placed other
+  placed_same is operation one other c = both_options (refusal_of catalogue size operation)
+      (λ x y.
+      let p = placed_so operation one c x in
+      let q = placed_so operation other c y in
+      p.2.1 ∙ (same_files is operation p.0 q.0 p.1 q.1 c.res ∙ sym q.2.1))
+      (λ _ p q. ap placed (p.0 ∙ sym q.0))
+
+  -- no more than the request's need of numbers
+  few_of : (entry : ℕ) (operation : Operation) (n : ℕ) → length (files_of entry operation n) ≤ installs_of operation
+  few_of entry (Opens name (Slot slot)) n = omega arith
+  few_of entry (Opens name Any) n = omega arith
+  few_of entry (Updates off list) n = let all = list_few place 0 off list in omega arith
+  few_of entry operation n = omega arith
+
+  few_so : (entry : ℕ) (operation : Operation) (res : ℤ) → length (files_so entry operation res) ≤ installs_of operation
+  few_so entry operation (pos n) = few_of entry operation n
+  few_so entry operation (negsuc n) = omega arith
+
+  pub few_placed : (operation : Operation) (own : List Access) (c : Completed) → IsRequestDone catalogue size place operation own c
+      → length (placed own) ≤ installs_of operation
+  few_placed operation own c = unless_refused place (λ l _. length (placed l) ≤ installs_of operation) own c catalogue size operation
+      (λ _. omega arith) (λ _ x.
+      let p = placed_so operation own c x in
+      let is = ap length p.2.1 in
+      let few = few_so p.0 operation c.res in
+      omega arith)
+
+  abbrev entries : ℕ
+  entries = length catalogue
+
+  own_of : (operation : Operation) (entry n : ℕ) → IsEntryOf catalogue operation entry → refusal_of catalogue size operation ≡ None
+      → Own (λ f. (at : ℕ) × InstallsAt operation at × IsMarked entries place at f) (files_of entry operation n)
+  own_of (Opens name (Slot slot)) entry n named accepted =
+      own_one (0, refl, record { mark = refl; inside = entry_named catalogue entry name named; untagged = refl })
+  own_of (Opens name Any) entry n named accepted =
+      own_one (0, refl, record { mark = refl; inside = entry_named catalogue entry name named; untagged = refl })
+  own_of (Updates off list) entry n named accepted =
+      own_weaker _ (λ f l. (l.at, (l.file, l.number), rw zero-add at l.is)) (list_own place entries 0 off list (applied entries size off list accepted).good)
+  own_of operation entry n named accepted = own_none
+
+  -- the file is one that the request installed, which completed so
+  pub record IsInstalled (operation : Operation) (c : Completed) (f : Closed) : Type 0 where
+    pub at : ℕ
+    pub listed : InstallsAt operation at
+    pub is : IsMarked (length catalogue) place at f
+    pub here : c.place ≡ place
+    pub res : ℕ
+    pub accepted : c.res ≡ pos res
+
+  own_so : (operation : Operation) (entry : ℕ) (c : Completed) → IsEntryOf catalogue operation entry → refusal_of catalogue size operation ≡ None
+      → c.place ≡ place → (res : ℤ) → c.res ≡ res → Own (IsInstalled operation c) (files_so entry operation res)
+  own_so operation entry c named accepted here (pos n) is =
+      own_weaker _ (λ f x. record { at = x.0; listed = x.1; is = x.2; here = here; res = n; accepted = is }) (own_of operation entry n named accepted)
+  own_so operation entry c named accepted here (negsuc n) is = own_none
+
+  -- each file that a request places is one of its own
+  pub each_placed : (operation : Operation) (own : List Access) (c : Completed) → IsRequestDone catalogue size place operation own c
+      → Own (IsInstalled operation c) (placed own)
+  each_placed operation own c = unless_refused place (λ l d. Own (IsInstalled operation d) (placed l)) own c catalogue size operation
+      (λ _. own_none) (λ accepted x.
+      let p = placed_so operation own c x in
+      subst (Own (IsInstalled operation c)) (sym p.2.1) (own_so operation p.0 c p.1 accepted p.2.0 c.res refl))
+
+-- a list of the greatest length has no later position
+pub listed_short : (operation : Operation) (at : ℕ) → is_long_update operation ≡ false → InstallsAt operation at → at < LONGEST_UPDATE
+listed_short (Opens name target) at short is = omega arith
+listed_short (Updates off list) at short is =
+    let within = slice_get_within list at (pos is.0) is.1 in let all = ltb-false LONGEST_UPDATE (length list) short in omega arith
+listed_short operation at short is = absurd is
+
+-- a read and a close place nothing
+pub read_none : (catalogue : List FileEntry) (place : Place) (slot off len : ℕ) (accesses : List Access) (c : Completed)
+    → IsReadDone catalogue place slot off len accesses c → placed accesses ≡ []
+read_none catalogue place slot off len accesses c = reads place (λ l _. placed l ≡ []) accesses c catalogue slot off len refl refl (λ _. refl)
+
+pub close_none : (place : Place) (slot : ℕ) (accesses : List Access) (c : Completed) → IsCloseDone place slot accesses c → placed accesses ≡ []
+close_none place slot accesses c = closes place (λ l _. placed l ≡ []) accesses c slot refl (λ _. refl)

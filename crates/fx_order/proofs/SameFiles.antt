@@ -1,9 +1,8 @@
 -- Lists with the same files: the number of times that a file is in each of them.
-use Rattle.fx_order.proofs.Words.{◌≡◌, ◌≢◌, ℕ, suc, ◌+◌, ◌<◌, ◌≤◌, ◌==◌, Bool, cond, List, [], ◌∷◌, ◌++◌, length, take, drop, IsTrue}
-use Rattle.fx_order.proofs.Words.{not-true, Decides-not, nil_from_length, ◌↔◌, subst, refl, sym, ap, ◌∙◌, arith, slice_index_or}
-use Rattle.fx_order.proofs.Words.{IsPermutation, sum_by, remove, Decides-eqb, append-nil, length-append}
-use Rattle.fx_order.proofs.Words.{take_all, take_more, split_at, sum_by-IsPermutation, length_permutation, IsPermutation-more, sum_by-append}
-use Rattle.fx_order.proofs.Words.{sum_by-cons, Closed}
+use Rattle.fx_order.proofs.Words.{◌≡◌, ◌≢◌, ℕ, suc, ◌+◌, ◌<◌, ◌≤◌, ◌==◌, Bool, cond, List, [], ◌∷◌, ◌++◌, length, take, drop, IsTrue, not-true}
+use Rattle.fx_order.proofs.Words.{Decides-not, nil_from_length, ◌↔◌, subst, refl, sym, ap, ◌∙◌, arith, slice_index_or, IsPermutation, sum_by, remove}
+use Rattle.fx_order.proofs.Words.{Decides-eqb, append-nil, length-append, take_all, take_more, split_at, sum_by-IsPermutation, length_permutation}
+use Rattle.fx_order.proofs.Words.{IsPermutation-more, sum_by-append, sum_by-cons, Closed}
 use Rattle.fx_order.proofs.EqualFiles.{file_Decides, same_file}
 
 -- the number of times that a file is in a list

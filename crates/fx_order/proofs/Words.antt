@@ -35,7 +35,7 @@ pub use Rattle.fx_order.specs.Access.{accesses_of_chain, removed_by, removed_in,
 pub use Rattle.fx_order.specs.Laws.{AreKnown, IsOfNext}
 pub use Rattle.fx_order.specs.Order.{IsOneOrder, IsOrderOf, ring_left, table_of}
 pub use Rattle.fx_order.specs.Requests.{AreChainsDone, AreEntriesDone, IsChainDone, IsCloseDone, IsEntryDone, IsOpenDone, IsReadDone, IsRefused}
-pub use Rattle.fx_order.specs.Requests.{IsDoneAtTable, IsRequestDone, IsUpdateDone, Makes, gives}
+pub use Rattle.fx_order.specs.Requests.{InstallsAt, IsDoneAtTable, IsRequestDone, IsUpdateDone, Makes, gives}
 pub use Rattle.fx_order.specs.Slots.{ring_of_slots, table_of_slots, ring_with_slots}
 pub use Rattle.fx_order.specs.declared.access.Access.{Access}
 pub use Rattle.fx_order.specs.declared.access.ChainAccess.{ChainAccess}
@@ -56,7 +56,6 @@ pub use Rattle.fx_plain.specs.declared.event.Action.{Action}
 pub use Rattle.fx_plain.specs.declared.event.Action.TheVariants.{Allocate, Clear, Close, Full, Look, Put, Release, Take}
 pub use Rattle.fx_plain.specs.declared.event.Event.{Event}
 pub use Rattle.fx_plain.specs.declared.event.File.{File}
-pub use Rattle.fx_ring.proofs.Parts.{has, kept_lacking, lacks, none_within, within_lacking}
 pub use Rattle.fx_ring.proofs.Rings.{file_told, not_yet}
 pub use Rattle.fx_ring.specs.Ring.{HasClosed, IsRing, RingContents, RingState, ring_of, ring_with}
 pub use Rattle.fx_ring.specs.Submission.{ExplainsParts, IsOneHistory, Reported}

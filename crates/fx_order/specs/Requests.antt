@@ -1,7 +1,7 @@
 -- The answers that a request may get when it is done at once, by its accesses of a table of the
 -- given size. And the answers of a chain.
 use Rattle.std.specs.Prelude.{◌≡◌, ◌⊎◌, ℕ, zero, suc, ◌+◌, ◌<◌, ℤ, pos, negsuc, List, [], ◌∷◌, ◌++◌}
-use Rattle.std.specs.Prelude.{length, Option, Some, None, MatchOption}
+use Rattle.std.specs.Prelude.{length, slice_get, Option, Some, None, MatchOption}
 use Rattle.std.specs.Bool.{MatchBool}
 use Rattle.fx_base.specs.declared.errno.Errno.{Errno}
 use Rattle.fx_base.specs.declared.errno.Errno.TheVariants.{EBADF, ENOMEM, ENFILE}
@@ -90,6 +90,12 @@ IsDoneAtTable catalogue place (Reads slot off len) accesses c =
     IsReadDone catalogue place slot off len accesses c
 IsDoneAtTable catalogue place (Closes slot) accesses c = IsCloseDone place slot accesses c
 IsDoneAtTable catalogue place (Updates off list) accesses c = IsUpdateDone place off list accesses c
+
+-- the position in its list at which a request may install a file
+abbrev pub InstallsAt : Operation → ℕ → Type 0
+InstallsAt (Opens name target) entry = entry ≡ 0
+InstallsAt (Updates off list) entry = (file : ℕ) × (slice_get list entry ≡ Some (pos file))
+InstallsAt _ entry = ⊥
 
 -- the request may have this completion, having made these accesses
 abbrev pub IsRequestDone : List FileEntry → ℕ → Place → Operation → List Access → Completed → Type 0

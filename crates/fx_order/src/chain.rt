@@ -8,9 +8,7 @@ ghost use Rattle.fx_order.specs.declared.access.Access.{Access as Made};
 ghost use Rattle.fx_order.specs.Requests.{IsChainDone, IsRequestDone};
 
 use crate::access::Access;
-use crate::answer::Performed;
-use crate::request::is_request_done;
-use crate::setting::OrderSetting;
+use crate::request::{OrderSetting, Performed, is_request_done};
 use fx_base::{Errno, NoMemory};
 use fx_chain::{Completion, Op, Place, Request};
 

@@ -7,12 +7,14 @@ ghost use Rattle.fx_order.specs.Laws.{EachReportLeadsToOneRing, NoFileThatStaysI
 /// States that what one history of its table leads to for a submission, one order of its requests, done one at a time,
 /// leads to as well: the completions, the closes and the files at the slots afterwards. The report's closes are exactly
 /// the files that the requests of the order took from their slots.
+#[tactic(auto, using(crate::proofs::Ordered::each_history_is_an_order))]
 pub fn each_history_is_an_order()
     ensures { EachHistoryIsAnOrder }
 {}
 
 /// States that what one order of a submission's requests leads to, one history of its table leads to as well. So no
 /// behaviour is lost by thinking of a submission as an order.
+#[tactic(auto, using(crate::proofs::Histories::each_order_is_a_history))]
 pub fn each_order_is_a_history()
     ensures { EachOrderIsAHistory }
 {}

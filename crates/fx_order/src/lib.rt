@@ -6,20 +6,16 @@
 #![tactic(auto)]
 
 mod access;
-mod answer;
 mod chain;
 pub mod laws;
 mod listed_order;
-mod open;
 mod order;
 mod report;
 mod request;
 mod ring_slots;
-mod setting;
 mod slots;
 mod submission;
 mod submission_report;
-mod update;
 
 pub use access::{Access, ChainAccess};
 pub use chain::accesses_made;

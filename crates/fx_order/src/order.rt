@@ -38,13 +38,8 @@ pub(crate) fn accesses_of_chain(
 ) -> Result<Vec<Access>, NoMemory>
     ensures { IfOk result (λ accesses. accesses.items ≡ accesses_of_chain chain order.now) }
 {
-    let mut accesses = Vec::new(alloc);
-    for x in order {
-        if x.chain == chain {
-            accesses.push(x.access)?;
-        }
-    }
-    Ok(accesses)
+    let own = order.iter().filter(|x| x.chain == chain);
+    Ok(own.map(|x| x.access).collect(alloc)?)
 }
 
 // Returns the files that the accesses took from their slots, in order.
@@ -60,21 +55,6 @@ fn removed_in(alloc: Global, order: &[ChainAccess]) -> Result<Vec<Closed>, NoMem
     Ok(files)
 }
 
-// Returns the first position of a file in a list.
-fn first_place_of(files: &[Closed], file: Closed) -> Option<usize>
-    ensures some { IfSome result (λ i. (i < length files.now)
-        × (slice_index_or files.now i file ≡ file)) }
-    ensures none { IfNone result ((i : ℕ) (d : File) → i < length files.now
-        → slice_index_or files.now i d ≢ file) }
-{
-    for i in 0..files.len() {
-        if files[i] == file {
-            return Some(i);
-        }
-    }
-    None
-}
-
 // Returns a position of a file in a list, the last one that it has, or `None`.
 fn place_of(files: &[Closed], file: Closed) -> Option<usize>
     ensures some { IfSome result (λ i. (i < length files.now)
@@ -86,7 +66,7 @@ fn place_of(files: &[Closed], file: Closed) -> Option<usize>
     if last < files.len() && files[last] == file {
         return Some(last);
     }
-    first_place_of(files, file)
+    files.iter().position(|other| *other == file)
 }
 
 // Returns the same files, the one with the last mark first.

@@ -5,7 +5,7 @@ ghost use Rattle.fx_chain.specs.Operation.{all_asked};
 ghost use Rattle.fx_ring.specs.Submission.{reported};
 ghost use Rattle.fx_order.specs.Order.{IsOrderOf, ring_left};
 ghost use Rattle.fx_order.specs.Slots.{ring_of_slots, ring_with_slots};
-ghost use Rattle.fx_order.specs.SubmissionReport.{report_of};
+ghost use Rattle.fx_order.specs.SubmissionReport.{report_of, ring_before};
 
 use crate::access::ChainAccess;
 use crate::order::{are_closed, make_all};
@@ -23,12 +23,9 @@ fn are_within(order: &[ChainAccess], chains: usize) -> bool
     ensures { IsTrue result
         ↔ All (λ x. (1 ≤ x.chain) × (x.chain ≤ chains)) order.now }
 {
-    for x in order {
-        if x.chain == 0 || x.chain as usize > chains {
-            return false;
-        }
-    }
-    true
+    order
+        .iter()
+        .all(|x| 1 <= x.chain && x.chain as usize <= chains)
 }
 
 /// Returns the slots that an order of a submission's requests leaves, done one at a time at a table with these slots,
@@ -47,14 +44,12 @@ pub fn slots_left(
     requires accepted { IsAccepted (all_asked submitted.now.requests.now) }
     requires small { length slots.now.at.items < 2 ^ 32 }
     requires few { submitted.now.submissions + 1 < 2 ^ 32 }
-    ensures order { IfOk result (λ left. IsSome left
-        ↔ ((registrations room : ℕ) → IsOrderOf order.now
-        (ring_of_slots submitted.now.catalogue.now slots.now submitted.now.submissions registrations)
+    ensures order { IfOk result (λ left. IsSome left ↔ ((registrations room : ℕ)
+        → IsOrderOf order.now (ring_before submitted.now slots.now registrations)
         (all_asked submitted.now.requests.now) (report_of submitted.now room))) }
     ensures left { IfOk result (λ left. IfSome left (λ new. (registrations : ℕ)
-        → ring_of_slots submitted.now.catalogue.now new (submitted.now.submissions + 1) registrations
-        ≡ ring_left order.now (ring_of_slots submitted.now.catalogue.now slots.now
-        submitted.now.submissions registrations))) }
+        → ring_of_slots submitted.now.catalogue.now new (submitted.now.submissions + 1)
+        registrations ≡ ring_left order.now (ring_before submitted.now slots.now registrations))) }
 {
     let chains = cut(alloc, submitted.requests)?;
     if !are_within(order, chains.len()) {

@@ -1,18 +1,96 @@
 //! Checking a request's accesses and completion, by the cases of its operation.
-ghost use Rattle.std.specs.Prelude.{◌≡◌, ◌≢◌, ◌↔◌, IfNone, IfOk, IfSome, IsTrue, Option, [], ◌∷◌};
+ghost use Rattle.std.specs.Prelude.{◌≡◌, ◌≢◌, ◌<◌, ◌+◌, ◌^◌, ◌↔◌, IfNone, IfOk, IfSome, IsTrue, Option, [], ◌∷◌, length, ℕ};
+ghost use Rattle.std.specs.Prelude.{Some};
+ghost use Rattle.fx_base.specs.Catalogue.{name_at};
 ghost use Rattle.fx_base.specs.declared.open_file.Closed.{Closed as File};
-ghost use Rattle.fx_chain.specs.Completed.{completed_of};
-ghost use Rattle.fx_chain.specs.Operation.{operation_of};
+ghost use Rattle.fx_chain.specs.Answers.{installed};
+ghost use Rattle.fx_chain.specs.Completed.{completed, completed_of};
+ghost use Rattle.fx_chain.specs.Operation.{Opens, operation_of};
 ghost use Rattle.fx_order.specs.Access.{Looks};
-ghost use Rattle.fx_order.specs.Requests.{IsReadDone, IsCloseDone, IsRequestDone, gives};
+ghost use Rattle.fx_order.specs.Requests.{AreEntriesDone, IsCloseDone, IsDoneAtTable, IsEntryDone, IsReadDone, IsRefused, IsRequestDone};
+ghost use Rattle.fx_order.specs.Requests.{IsUpdateDone, gives};
 
 use crate::access::Access;
-use crate::answer::Performed;
-use crate::open::is_open_done;
-use crate::setting::OrderSetting;
-use crate::update::is_update_done;
-use fx_base::{Closed, Errno, NoMemory};
-use fx_chain::{Op, Request, refusal_of};
+use fx_base::{Catalogue, Closed, Errno, NoMemory};
+use fx_chain::{Completion, Op, Place, Request, Target, refusal_of};
+use std::alloc::Global;
+
+/// The values that stay the same while a submission's requests are checked: the catalogue, and the number of slots of
+/// the table.
+#[derive(Drop)]
+pub(crate) struct OrderSetting<'a> {
+    pub(crate) alloc: Global,
+    pub(crate) catalogue: &'a Catalogue,
+    pub(crate) size: u32,
+}
+
+/// The accesses and the completion that a request is said to have made.
+#[derive(Drop)]
+pub(crate) struct Performed<'a> {
+    pub(crate) place: Place,
+    pub(crate) own: &'a [Access],
+    pub(crate) c: &'a Completion,
+}
+
+impl Performed<'_> {
+    // Checks whether the completion has this result and these bytes.
+    fn says(&self, res: i32, got: &[u8]) -> bool
+        ensures { IsTrue result
+            ↔ (completed_of self.now.c.now ≡ completed self.now.place res got.now) }
+    {
+        self.c.is_answer(self.place, res, got)
+    }
+
+    // Checks whether the request made no access and failed with this error.
+    fn is_refusal(&self, errno: Errno) -> bool
+        ensures { IsTrue result
+            ↔ IsRefused self.now.place errno self.now.own.now (completed_of self.now.c.now) }
+    {
+        self.own.is_empty() && self.c.is_refusal(self.place, errno)
+    }
+}
+
+// Checks whether an entry exists and has this name.
+fn is_named(catalogue: &Catalogue, entry: u8, name: &str) -> bool
+    ensures { IsTrue result ↔ (name_at catalogue.now entry ≡ Some name.now) }
+{
+    u32::from(entry) < catalogue.len() && catalogue.name_of(entry) == name
+}
+
+// Checks whether this is a file that an open of the name installs.
+fn is_opened(catalogue: &Catalogue, name: &str, place: Place, file: &Closed) -> bool
+    ensures { IsTrue result ↔ ((entry : ℕ) × (name_at catalogue.now entry ≡ Some name.now)
+        × (file.now ≡ installed place 0 entry)) }
+{
+    is_named(catalogue, file.entry, name) && *file == place.installed(0, file.entry)
+}
+
+// Checks whether an open made these accesses and has this completion.
+#[tactic(auto, using(crate::proofs::Opened::has_name_at))]
+fn is_open_done(catalogue: &Catalogue, name: &str, target: Target, answer: &Performed<'_>) -> bool
+    ensures { IsTrue result ↔ IsDoneAtTable catalogue.now answer.now.place (Opens name.now target)
+        answer.now.own.now (completed_of answer.now.c.now) }
+{
+    match target {
+        Target::Slot(slot) => match answer.own {
+            [Access::Puts(at, file, _)] => {
+                *at == slot && is_opened(catalogue, name, answer.place, file) && answer.says(0, &[])
+            }
+            _ => false,
+        },
+        Target::Any => match answer.own {
+            [Access::Allocates(slot, file)] => {
+                i64::from(answer.c.res) == i64::from(*slot)
+                    && is_opened(catalogue, name, answer.place, file)
+                    && answer.says(answer.c.res, &[])
+            }
+            [Access::FindsFull] => {
+                catalogue.find(name).is_some() && answer.says(-Errno::ENFILE.code(), &[])
+            }
+            _ => false,
+        },
+    }
+}
 
 // Checks whether a read of a file has this completion.
 fn is_given(
@@ -73,6 +151,57 @@ fn is_close_done(slot: u32, answer: &Performed<'_>) -> bool
         [Access::Takes(at, Some(_))] => *at == slot && answer.says(0, &[]),
         _ => false,
     }
+}
+
+// Checks whether this access is that of one entry, which isn't a skip.
+fn is_entry_done(place: Place, in_list: u32, slot: u32, entry: i32, access: &Access) -> bool
+    ensures { IsTrue result ↔ IsEntryDone place in_list slot entry (access.now ∷ []) }
+{
+    match access {
+        Access::Puts(at, file, _) => {
+            *at == slot
+                && i32::from(file.entry) == entry
+                && *file == place.installed(in_list, file.entry)
+        }
+        Access::Clears(at, _) => entry == -1 && *at == slot,
+        _ => false,
+    }
+}
+
+// Checks whether the entries of a list made these accesses, one after another.
+fn are_entries_done(
+    place: Place,
+    in_list: u32,
+    slot: u32,
+    list: &[i32],
+    accesses: &[Access],
+) -> bool
+    requires in_list { in_list + length list.now < 2 ^ 32 }
+    requires slot { slot + length list.now < 2 ^ 32 }
+    ensures { IsTrue result ↔ AreEntriesDone place in_list slot list.now accesses.now }
+{
+    let [entry, entries @ ..] = list else {
+        return accesses.is_empty();
+    };
+    if *entry < -1 {
+        return are_entries_done(place, in_list + 1, slot + 1, entries, accesses);
+    }
+    let [access, others @ ..] = accesses else {
+        return false;
+    };
+    is_entry_done(place, in_list, slot, *entry, access)
+        && are_entries_done(place, in_list + 1, slot + 1, entries, others)
+}
+
+// Checks whether an update made these accesses and has this completion.
+fn is_update_done(off: u32, list: &[i32], answer: &Performed<'_>) -> bool
+    requires { off + length list.now < 2 ^ 32 }
+    ensures { IsTrue result ↔ IsUpdateDone answer.now.place off list.now answer.now.own.now
+        (completed_of answer.now.c.now) }
+{
+    are_entries_done(answer.place, 0, off, list, answer.own)
+        && i64::from(answer.c.res) == list.len() as i64
+        && answer.says(answer.c.res, &[])
 }
 
 /// Checks whether a request made these accesses and has this completion.

@@ -28,8 +28,8 @@ fn is_at(at: &[Option<Closed>], slot: u32, found: Option<Closed>) -> bool
 
 // Checks whether each slot of a range has a file.
 fn is_full(at: &[Option<Closed>], range: (u32, u32)) -> bool
-    ensures { IsTrue result ↔ ((slot : ℕ) → slot < length at.now
-        → (range.0 ≤ slot) × (slot < range.0 + range.1) → IsSome (slice_index_or at.now slot None)) }
+    ensures { IsTrue result ↔ ((slot : ℕ) → slot < length at.now → (range.0 ≤ slot)
+        × (slot < range.0 + range.1) → IsSome (slice_index_or at.now slot None)) }
 {
     for slot in 0..at.len() {
         let inside = range.0 as usize <= slot && slot < range.0 as usize + range.1 as usize;

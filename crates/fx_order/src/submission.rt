@@ -8,7 +8,7 @@ ghost use Rattle.fx_order.specs.Requests.{AreChainsDone};
 use crate::access::ChainAccess;
 use crate::chain::is_chain_done;
 use crate::order::accesses_of_chain;
-use crate::setting::OrderSetting;
+use crate::request::OrderSetting;
 use fx_base::{Catalogue, NoMemory};
 use fx_chain::{Chain, Completion, MOST_MEMBERS, Place, Request};
 use std::alloc::Global;
