@@ -1,8 +1,7 @@
 -- The lines of closed files and of tags, part by part.
 use Rattle.check_lines.proofs.Words.{◌≡◌, ℕ, ◌<◌, ◌^◌, true, List, ◌∷◌, ◌++◌, refl, sym, ap, ◌∙◌, codes, decimal, append_assoc, Mark, IsCutPart}
 use Rattle.check_lines.proofs.Words.{close_text, cut_text, IsCloseInRange, IsMarkInRange, NamedClose, is_without, line_of_tag, named_line}
-use Rattle.check_lines.proofs.Words.{IsPrintedFrom}
-use Rattle.check_lines.proofs.Words.{and_parts, mark_text}
+use Rattle.check_lines.proofs.Words.{IsPrintedFrom, and_parts, mark_text}
 use Rattle.std.specs.Prelude.{not, ◌==◌}
 use Rattle.check_lines.proofs.Cuts.{without_between, without_right}
 use Rattle.check_lines.proofs.Decimals.{decimal_without}

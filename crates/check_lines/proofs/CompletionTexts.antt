@@ -1,8 +1,7 @@
 -- The lines of completions, part by part.
 use Rattle.check_lines.proofs.Words.{◌≡◌, ℕ, true, List, [], ◌∷◌, ◌++◌, refl, ap, ◌∙◌, inl, inr, ℤ, signed_decimal, append_assoc, Completed, Place}
 use Rattle.check_lines.proofs.Words.{IsCutPart, answer_text, completion_text, cut_text, place_digits, IsCompletionInRange, IsPlaceInRange}
-use Rattle.check_lines.proofs.Words.{IsResultInRange}
-use Rattle.check_lines.proofs.Words.{is_without, IsPrintedFrom, completion_line}
+use Rattle.check_lines.proofs.Words.{IsResultInRange, is_without, IsPrintedFrom, completion_line}
 use Rattle.check_lines.proofs.AnswerTexts.{FitsAnswer, alone_or_cut}
 use Rattle.check_lines.proofs.Cuts.{without_between}
 use Rattle.check_lines.proofs.Hexes.{hex_without}

@@ -1,8 +1,7 @@
 -- Lines that are read one after another.
 use Rattle.check_lines.proofs.Words.{◌≡◌, ℕ, true, List, [], ◌∷◌, ◌++◌, length, take, drop, refl, sym, ap, subst, ◌∙◌, All, None, take-append-drop}
 use Rattle.check_lines.proofs.Words.{StartsWith, flat_map, append_assoc, append-nil, append_cancel_left, take_at, All-head, IsCutPart, FitsFront}
-use Rattle.check_lines.proofs.Words.{cut_text}
-use Rattle.check_lines.proofs.Words.{lines_before, is_without, ReadsPrinted, IsPrintedFrom}
+use Rattle.check_lines.proofs.Words.{cut_text, lines_before, is_without, ReadsPrinted, IsPrintedFrom}
 use Rattle.std.proofs.lemmas.List.{flat_map_more}
 use Rattle.std.proofs.lemmas.List.Elements.{All-push, All-tail}
 use Rattle.check_lines.proofs.Readings.{parts_are}

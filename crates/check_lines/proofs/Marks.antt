@@ -1,8 +1,7 @@
 -- Places and marks by their numbers.
 use Rattle.check_lines.proofs.Words.{◌≡◌, ℕ, ◌<◌, ◌^◌, List, [], ◌∷◌, ◌++◌, refl, sym, ap, ◌∙◌, arith, Option, Some, None, decimal, append_assoc}
 use Rattle.check_lines.proofs.Words.{and_from, is_digit, Mark, Place, number_text, place_digits, IsMarkInRange, IsPlaceInRange, is_without}
-use Rattle.check_lines.proofs.Words.{IsPrintedFrom}
-use Rattle.check_lines.proofs.Words.{ReadsPrinted, mark_text}
+use Rattle.check_lines.proofs.Words.{IsPrintedFrom, ReadsPrinted, mark_text}
 use Rattle.std.proofs.Common.{option_map}
 use Rattle.std.specs.Prelude.{not, true, false, ◌==◌}
 use Rattle.fx_base.specs.declared.mark.Mark.TheVariants.{Registered, Submitted}

@@ -1,7 +1,6 @@
 -- The result of a reading, if it is known whether there is one.
 use Rattle.check_lines.proofs.Words.{◌≡◌, ℕ, ◌<◌, ◌^◌, true, List, Option, Some, None, option_map, sym, ap, ◌∙◌, subst, IsCutPart, cut_text}
-use Rattle.check_lines.proofs.Words.{number_text}
-use Rattle.check_lines.proofs.Words.{is_without, IsPrintedFrom, ReadsPrinted}
+use Rattle.check_lines.proofs.Words.{number_text, is_without, IsPrintedFrom, ReadsPrinted}
 
 pub from_none : {A : Type 0} {print : A → List ℕ} {fits : A → Type 0} {text : List ℕ} {r : Option A} → r ≡ None
     → ReadsPrinted print fits text None → ReadsPrinted print fits text r

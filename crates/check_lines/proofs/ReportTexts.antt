@@ -1,10 +1,8 @@
 -- The lines of a report: those of its completions, then those of closed files, then those of tags.
 use Rattle.check_lines.proofs.Words.{◌≡◌, ℕ, ◌<◌, ◌^◌, true, false, List, [], ◌∷◌, ◌++◌, length, get_or, take, refl, sym, ap, ◌∙◌, Option, Some, None}
 use Rattle.check_lines.proofs.Words.{◌==◌, true≢false, codes, option_map, Bor, StartsWith, flat_map, append_assoc, take_at, Completed, AreAll}
-use Rattle.check_lines.proofs.Words.{AreSoMany}
-use Rattle.check_lines.proofs.Words.{FitsFront, lines_before, HasNoCloses, IsCloseInRange, IsCompletionInRange, NamedClose, line_of_tag, named_line}
-use Rattle.check_lines.proofs.Words.{ReadsPrinted}
-use Rattle.check_lines.proofs.Words.{completion_line, completion_lines, FileEntry, Closed, Reported}
+use Rattle.check_lines.proofs.Words.{AreSoMany, FitsFront, lines_before, HasNoCloses, IsCloseInRange, IsCompletionInRange, NamedClose, line_of_tag}
+use Rattle.check_lines.proofs.Words.{named_line, ReadsPrinted, completion_line, completion_lines, FileEntry, Closed, Reported}
 use Rattle.std.specs.Prelude.{is_some}
 use Rattle.check_lines.specs.Lines.{IsReportBefore, Lines, ReadsReport, lines_of, lines_text}
 use Rattle.check_lines.proofs.LinesInTurn.{not_begun}

@@ -1,8 +1,9 @@
 -- The calls between submissions, and refused submissions, where they find memory (this project's
 -- own).
-use Rattle.std.specs.Prelude.{◌≡◌, ℕ, ◌+◌, pos, nat_le, List, codes, length, Option, Some, None}
-use Rattle.std.specs.Prelude.{if◌then◌else◌}
+use Rattle.std.specs.Prelude.{◌≡◌, ℕ, ◌+◌, ◌≤◌, pos, nat_le, List, codes, length, Option, Some}
+use Rattle.std.specs.Prelude.{None, if◌then◌else◌, string_bytes}
 use Rattle.std.specs.Option.{MatchOption}
+use Rattle.fx_base.specs.Catalogue.{FileEntry}
 use Rattle.fx_base.specs.declared.errno.Errno.{Errno}
 use Rattle.fx_chain.specs.Completed.{negated}
 use Rattle.fx_chain.specs.Faults.{fault_of}
@@ -17,6 +18,11 @@ use Rattle.fx_language.specs.Instruction.{Instruction, MakesSparse, RegistersLis
 use Rattle.fx_language.specs.Instruction.{SetsRange, UpdatesRing, SubmitsAll}
 use Rattle.fx_print.specs.Text.{refused_line, result_line, too_many_line}
 use Rattle.fx_script.specs.Play.{PrintsClosed}
+use Rattle.fx_order.specs.Slots.{ring_with_slots, table_of_slots}
+use Rattle.fx_order.specs.declared.ring_slots.RingSlots.{RingSlots}
+use Rattle.fx_plain.specs.declared.table.TheConstants.{MOST_SLOTS}
+use Rattle.check_lines.specs.InRange.{AreInRange}
+use Rattle.check_lines.specs.declared.call_answer.CallAnswer.{CallAnswer}
 
 -- what a call leaves that may be refused
 abbrev pub unless_refused : Option Errno → RingState → RingState → RingState
@@ -90,3 +96,21 @@ count_behind count None = if nat_le MOST_SUBMISSIONS count then count else count
 abbrev pub IsCall : ℕ → Instruction → Type 0
 IsCall count (SubmitsAll asked) = count_behind count (fault_of asked) ≡ count
 IsCall count _ = Unit {0}
+
+-- the ring and the line of a call at a ring with these slots, if the call finds memory
+abbrev pub LeavesRing : List FileEntry → RingSlots → Instruction → CallAnswer → Type 0
+LeavesRing catalogue ring command called = ring_with_slots catalogue called.ring
+    ≡ after_call (ring_with_slots catalogue ring) command
+
+abbrev pub PrintsLine : List FileEntry → RingSlots → Instruction → CallAnswer → Type 0
+PrintsLine catalogue ring command called =
+    IsLineOf (ring_with_slots catalogue ring) command (string_bytes called.line)
+
+-- the ring that a call leaves has no more slots than a table may have
+abbrev pub HasFewSlots : CallAnswer → Type 0
+HasFewSlots called = length called.ring.slots.at.items ≤ MOST_SLOTS
+
+-- and its files are in range if those before the call are
+abbrev pub StaysInRange : RingSlots → CallAnswer → Type 0
+StaysInRange ring called =
+    AreInRange (table_of_slots ring.slots).at → AreInRange (table_of_slots called.ring.slots).at

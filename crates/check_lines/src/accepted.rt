@@ -38,17 +38,9 @@ pub fn accepted_in(command: &Command, submissions: u32) -> Option<&[Request]>
     ensures none { IfNone result (IsCall submissions (instruction_of command.now)) }
 {
     match command {
-        Command::Sparse(_) => None,
-        Command::Register(_, _) => None,
-        Command::Unregister => None,
-        Command::Range(_, _) => None,
-        Command::Update(_, _, _) => None,
-        Command::Submit(requests) => {
-            if is_accepted(requests, submissions) {
-                Some(requests.as_slice())
-            } else {
-                None
-            }
+        Command::Submit(requests) if is_accepted(requests, submissions) => {
+            Some(requests.as_slice())
         }
+        _ => None,
     }
 }

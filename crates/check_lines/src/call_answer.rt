@@ -14,13 +14,13 @@ ghost use Rattle.fx_order.specs.Slots.{ring_with_slots, table_of_slots};
 ghost use Rattle.fx_plain.specs.declared.table.TheConstants.{MOST_SLOTS};
 ghost use Rattle.fx_print.specs.Text.{closes_text, refused_line, result_line, too_many_line};
 ghost use Rattle.fx_ring.specs.Ring.{HasClosed, IsRing};
-ghost use Rattle.check_lines.specs.Calls.{IsLineOf, after_call};
+ghost use Rattle.check_lines.specs.Calls.{HasFewSlots, IsLineOf, LeavesRing, PrintsLine, StaysInRange, after_call};
 ghost use Rattle.check_lines.specs.InRange.{AreInRange};
 
 use crate::call_closes::{close_in_order, files_at};
 use crate::call_list::{apply_list, empty_slots};
 use crate::call_refusal::{
-    range_refusal, register_refusal, sparse_refusal, unregister_refusal, update_refusal,
+    given, range_refusal, register_refusal, sparse_refusal, unregister_refusal, update_refusal,
 };
 use fx_base::{Catalogue, Closed, Errno, NoMemory};
 use fx_chain::{Request, check};
@@ -83,13 +83,10 @@ fn sparse(
     n: u32,
 ) -> Result<CallAnswer, NoMemory>
     requires { length ring.now.slots.at.items ≤ MOST_SLOTS }
-    ensures value { IfOk result (λ called. ring_with_slots catalogue.now called.ring
-        ≡ after_call (ring_with_slots catalogue.now ring.now) (MakesSparse n)) }
-    ensures line { IfOk result (λ called. IsLineOf (ring_with_slots catalogue.now ring.now)
-        (MakesSparse n) (string_bytes called.line)) }
-    ensures few { IfOk result (λ called. length called.ring.slots.at.items ≤ MOST_SLOTS) }
-    ensures in_range { IfOk result (λ called. AreInRange (table_of_slots ring.now.slots).at
-        → AreInRange (table_of_slots called.ring.slots).at) }
+    ensures value { IfOk result (LeavesRing catalogue.now ring.now (MakesSparse n)) }
+    ensures line { IfOk result (PrintsLine catalogue.now ring.now (MakesSparse n)) }
+    ensures few { IfOk result HasFewSlots }
+    ensures in_range { IfOk result (StaysInRange ring.now) }
 {
     if let Some(errno) = sparse_refusal(catalogue, ring, n) {
         return refused(alloc, ring, "sparse", errno);
@@ -113,15 +110,12 @@ fn register(
     tags: Option<&[u64]>,
 ) -> Result<CallAnswer, NoMemory>
     requires { length ring.now.slots.at.items ≤ MOST_SLOTS }
-    ensures value { IfOk result (λ called. ring_with_slots catalogue.now called.ring
-        ≡ after_call (ring_with_slots catalogue.now ring.now)
+    ensures value { IfOk result (LeavesRing catalogue.now ring.now
         (RegistersList list.now (option_map (λ given. given.now) tags.entry))) }
-    ensures line { IfOk result (λ called. IsLineOf (ring_with_slots catalogue.now ring.now)
-        (RegistersList list.now (option_map (λ given. given.now) tags.entry))
-        (string_bytes called.line)) }
-    ensures few { IfOk result (λ called. length called.ring.slots.at.items ≤ MOST_SLOTS) }
-    ensures in_range { IfOk result (λ called. AreInRange (table_of_slots ring.now.slots).at
-        → AreInRange (table_of_slots called.ring.slots).at) }
+    ensures line { IfOk result (PrintsLine catalogue.now ring.now
+        (RegistersList list.now (option_map (λ given. given.now) tags.entry))) }
+    ensures few { IfOk result HasFewSlots }
+    ensures in_range { IfOk result (StaysInRange ring.now) }
 {
     if let Some(errno) = register_refusal(catalogue, ring, list, tags) {
         return refused(alloc, ring, "register", errno);
@@ -146,13 +140,10 @@ fn unregister(
 ) -> Result<CallAnswer, NoMemory>
     requires few { length ring.now.slots.at.items ≤ MOST_SLOTS }
     requires ring { IsRing (ring_with_slots catalogue.now ring.now) }
-    ensures value { IfOk result (λ called. ring_with_slots catalogue.now called.ring
-        ≡ after_call (ring_with_slots catalogue.now ring.now) Unregisters) }
-    ensures line { IfOk result (λ called. IsLineOf (ring_with_slots catalogue.now ring.now)
-        Unregisters (string_bytes called.line)) }
-    ensures few { IfOk result (λ called. length called.ring.slots.at.items ≤ MOST_SLOTS) }
-    ensures in_range { IfOk result (λ called. AreInRange (table_of_slots ring.now.slots).at
-        → AreInRange (table_of_slots called.ring.slots).at) }
+    ensures value { IfOk result (LeavesRing catalogue.now ring.now Unregisters) }
+    ensures line { IfOk result (PrintsLine catalogue.now ring.now Unregisters) }
+    ensures few { IfOk result HasFewSlots }
+    ensures in_range { IfOk result (StaysInRange ring.now) }
 {
     if let Some(errno) = unregister_refusal(catalogue, ring) {
         return refused(alloc, ring, "unregister", errno);
@@ -180,13 +171,10 @@ fn set_range(
     range: (u32, u32),
 ) -> Result<CallAnswer, NoMemory>
     requires { length ring.now.slots.at.items ≤ MOST_SLOTS }
-    ensures value { IfOk result (λ called. ring_with_slots catalogue.now called.ring
-        ≡ after_call (ring_with_slots catalogue.now ring.now) (SetsRange range.0 range.1)) }
-    ensures line { IfOk result (λ called. IsLineOf (ring_with_slots catalogue.now ring.now)
-        (SetsRange range.0 range.1) (string_bytes called.line)) }
-    ensures few { IfOk result (λ called. length called.ring.slots.at.items ≤ MOST_SLOTS) }
-    ensures in_range { IfOk result (λ called. AreInRange (table_of_slots ring.now.slots).at
-        → AreInRange (table_of_slots called.ring.slots).at) }
+    ensures value { IfOk result (LeavesRing catalogue.now ring.now (SetsRange range.0 range.1)) }
+    ensures line { IfOk result (PrintsLine catalogue.now ring.now (SetsRange range.0 range.1)) }
+    ensures few { IfOk result HasFewSlots }
+    ensures in_range { IfOk result (StaysInRange ring.now) }
 {
     if let Some(errno) = range_refusal(catalogue, ring, range.0, range.1) {
         return refused(alloc, ring, "range", errno);
@@ -226,15 +214,12 @@ fn update(
 ) -> Result<CallAnswer, NoMemory>
     requires few { length ring.now.slots.at.items ≤ MOST_SLOTS }
     requires ring { IsRing (ring_with_slots catalogue.now ring.now) }
-    ensures value { IfOk result (λ called. ring_with_slots catalogue.now called.ring
-        ≡ after_call (ring_with_slots catalogue.now ring.now)
+    ensures value { IfOk result (LeavesRing catalogue.now ring.now
         (UpdatesRing off list.now (option_map (λ given. given.now) tags.entry))) }
-    ensures line { IfOk result (λ called. IsLineOf (ring_with_slots catalogue.now ring.now)
-        (UpdatesRing off list.now (option_map (λ given. given.now) tags.entry))
-        (string_bytes called.line)) }
-    ensures few { IfOk result (λ called. length called.ring.slots.at.items ≤ MOST_SLOTS) }
-    ensures in_range { IfOk result (λ called. AreInRange (table_of_slots ring.now.slots).at
-        → AreInRange (table_of_slots called.ring.slots).at) }
+    ensures line { IfOk result (PrintsLine catalogue.now ring.now
+        (UpdatesRing off list.now (option_map (λ given. given.now) tags.entry))) }
+    ensures few { IfOk result HasFewSlots }
+    ensures in_range { IfOk result (StaysInRange ring.now) }
 {
     if let Some(errno) = update_refusal(catalogue, ring, off, list, tags) {
         return refused(alloc, ring, "regupdate", errno);
@@ -285,15 +270,11 @@ pub fn call(
 {
     match command {
         Command::Sparse(n) => sparse(alloc, catalogue, ring, *n),
-        Command::Register(list, None) => register(alloc, catalogue, ring, list, None),
-        Command::Register(list, Some(tags)) => {
-            register(alloc, catalogue, ring, list, Some(tags.as_slice()))
-        }
+        Command::Register(list, tags) => register(alloc, catalogue, ring, list, given(tags)),
         Command::Unregister => unregister(alloc, catalogue, ring),
         Command::Range(off, len) => set_range(alloc, catalogue, ring, (*off, *len)),
-        Command::Update(off, list, None) => update(alloc, catalogue, ring, *off, list, None),
-        Command::Update(off, list, Some(tags)) => {
-            update(alloc, catalogue, ring, *off, list, Some(tags.as_slice()))
+        Command::Update(off, list, tags) => {
+            update(alloc, catalogue, ring, *off, list, given(tags))
         }
         Command::Submit(requests) => {
             let ring = copy_of(alloc, ring)?;

@@ -23,10 +23,7 @@ pub(crate) fn empty_slots(alloc: Global, n: u32) -> Result<Slots, NoMemory>
     ensures { IfOk result (λ slots. table_of_slots slots
         ≡ record { size = n; range = (0, n); at = λ _. None }) }
 {
-    let mut at = Vec::new(alloc);
-    for _slot in 0..n {
-        at.push(None)?;
-    }
+    let at = vec![in alloc; None; n as usize]?;
     Ok(Slots { range: (0, n), at })
 }
 

@@ -131,6 +131,17 @@ pub(crate) fn update_refusal(
     None
 }
 
+/// Returns the tags of a command, if it has any.
+pub(crate) fn given(tags: &Option<Vec<u64>>) -> Option<&[u64]>
+    ensures { option_map (λ given. given.now) result
+        ≡ option_map (λ given. given.items) tags.now }
+{
+    match tags {
+        Some(tags) => Some(tags.as_slice()),
+        None => None,
+    }
+}
+
 /// Returns the word of a call that may fail to allocate, or `None` if the call is refused, sets the range or is a submission.
 pub fn memory_word(
     catalogue: &Catalogue,
@@ -142,28 +153,15 @@ pub fn memory_word(
 {
     let (refusal, word) = match command {
         Command::Sparse(n) => (sparse_refusal(catalogue, ring, *n), "sparse"),
-        Command::Register(list, None) => (
-            register_refusal(catalogue, ring, list, None),
+        Command::Register(list, tags) => (
+            register_refusal(catalogue, ring, list, given(tags)),
             "register",
         ),
-        Command::Register(list, Some(tags)) => {
-            let tags = Some(tags.as_slice());
-            (register_refusal(catalogue, ring, list, tags), "register")
-        }
         Command::Unregister => (unregister_refusal(catalogue, ring), "unregister"),
-        Command::Update(off, list, None) => {
-            (
-                update_refusal(catalogue, ring, *off, list, None),
-                "regupdate",
-            )
-        }
-        Command::Update(off, list, Some(tags)) => {
-            let tags = Some(tags.as_slice());
-            (
-                update_refusal(catalogue, ring, *off, list, tags),
-                "regupdate",
-            )
-        }
+        Command::Update(off, list, tags) => (
+            update_refusal(catalogue, ring, *off, list, given(tags)),
+            "regupdate",
+        ),
         Command::Range(_, _) => return None,
         Command::Submit(_) => return None,
     };

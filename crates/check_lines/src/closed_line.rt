@@ -23,7 +23,8 @@ pub struct ClosedLine {
 
 // Parses a word as a place and a position in a list: `S.C.M.E`.
 fn entry_of(word: &[u8]) -> Option<(Place, u32)>
-    ensures { ReadsPrinted entry_text (λ found. IsPlaceInRange found.0 × (found.1 < 2 ^ 32)) word.now result }
+    ensures { ReadsPrinted entry_text (λ found. IsPlaceInRange found.0 × (found.1 < 2 ^ 32))
+        word.now result }
 {
     let (submission, rest) = first_number(word)?;
     let (chain, rest) = first_number(rest)?;

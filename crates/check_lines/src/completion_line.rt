@@ -29,8 +29,8 @@ pub fn place_of(word: &[u8]) -> Option<Place>
 
 // Parses a word as bytes in lower case hexadecimal, at least one.
 fn bytes_of(alloc: Global, word: &[u8]) -> Result<Option<Vec<u8>>, NoMemory>
-    ensures { IfOk result (λ bytes. ReadsPrinted encode_lower (λ got. (0 < length got) × IsBytes got)
-        word.now (option_map (λ got. got.items) bytes)) }
+    ensures { IfOk result (λ bytes. ReadsPrinted encode_lower
+        (λ got. (0 < length got) × IsBytes got) word.now (option_map (λ got. got.items) bytes)) }
 {
     if word.is_empty() {
         return Ok(None);

@@ -33,7 +33,8 @@ pub fn number(word: &[u8]) -> Option<u32>
 
 // Parses the text before the first full stop as a number, and returns the rest after it.
 pub fn first_number(word: &[u8]) -> Option<(u32, &[u8])>
-    ensures { ReadsPrinted number_text (λ front. front.0 < 2 ^ 32) word.now (option_map read_with_rest result) }
+    ensures { ReadsPrinted number_text (λ front. front.0 < 2 ^ 32) word.now
+        (option_map read_with_rest result) }
 {
     let (digits, rest) = cut(word, b'.')?;
     Some((number(digits)?, rest))
