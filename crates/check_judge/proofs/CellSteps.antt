@@ -5,7 +5,7 @@ use Rattle.check_judge.proofs.ClaimWords.{IsSome, if◌then◌else◌, is_some, 
 use Rattle.check_judge.proofs.ClaimWords.{unchanged}
 use Rattle.check_judge.proofs.ClaimWords.{eq-eqb, ne_eqb, and_from, cases_Bool, list_all-from_AllPass, same_Some, same_size, Table, Permits}
 use Rattle.check_judge.proofs.ClaimWords.{table_with}
-use Rattle.check_judge.proofs.ClaimWords.{removed_by, Access, Looks, Allocates, FindsFull, Fits, LeavesSo, Wanted, touched, found_by, left_by, allows}
+use Rattle.check_judge.proofs.ClaimWords.{file_removed_by, Access, Looks, Allocates, FindsFull, Fits, LeavesSo, Wanted, touched, found_by, left_by, allows}
 use Rattle.check_judge.proofs.ClaimWords.{cell_at}
 use Rattle.check_judge.proofs.ClaimWords.{cells_after, cell_with, suits, may_leave, is_same, is_taken, IsCell, ShowsFile, has_slot, Cell, Claim, At}
 use Rattle.check_judge.proofs.ClaimWords.{Full}
@@ -76,7 +76,7 @@ module _ (closes : List Closed) where
   ]
 
   module _ (table : Table) (cells : List Cell) (a : Access) (all : All (IsCell table closes) cells) (may : Permits table a)
-      (seen : has_slot cells (touched a) ≡ true) (closed : (f : Closed) → removed_by a ≡ Some f → Contains closes f) where
+      (seen : has_slot cells (touched a) ≡ true) (closed : (f : Closed) → file_removed_by a ≡ Some f → Contains closes f) where
     shown_here : {slot : ℕ} → touched a ≡ Some slot → ShowsFile closes (found_by a) (cell_at cells slot)
     shown_here {slot} is = rw (found_at table a is may) (cell_shows cells slot all (rw is at seen))
 

@@ -31,7 +31,7 @@ pub use Rattle.check_judge.specs.declared.stop.Stop.TheVariants.{Refuted}
 pub use Rattle.check_search.specs.declared.strand.Strand.{Strand}
 pub use Rattle.fx_order.proofs.Histories.{each_order_is_a_history}
 pub use Rattle.fx_order.proofs.Shown.{NonePast, ring_with_files, shows_ring, none_past}
-pub use Rattle.fx_order.specs.Access.{Permits, PermitsAll, Table, accesses_of, accesses_of_chain, removed_by, removed_in, table_after, table_with}
+pub use Rattle.fx_order.specs.Access.{Permits, PermitsAll, Table, accesses_of, accesses_of_chain, file_removed_by, files_removed_in, table_after, table_with}
 pub use Rattle.fx_order.specs.declared.access.Access.TheVariants.{Allocates, FindsFull, Looks, Puts, Takes}
 pub use Rattle.fx_order.specs.Order.{IsOneOrder, table_of}
 pub use Rattle.fx_order.specs.Requests.{AreChainsDone, AreEntriesDone, IsChainDone, IsCloseDone, IsEntryDone, IsOpenDone, IsReadDone, IsRequestDone}

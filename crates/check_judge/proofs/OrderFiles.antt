@@ -4,7 +4,7 @@ use Rattle.check_judge.proofs.Words.{FileEntry, Submitted, Closed, AreInRange, I
 use Rattle.check_judge.proofs.Words.{each_all, RingState, Reported, accesses_of, Access, RingSlots, IsOneOrder, table_of, ring_with_slots, Has}
 use Rattle.check_judge.proofs.Words.{placed}
 use Rattle.check_judge.proofs.Words.{AreFrom, IsFileAtSlot, MayBeClosed, OneInstalled, ◌⊎◌, All-weaker, HasNone, MayCloseAll, left_from, removes_contained}
-use Rattle.check_judge.proofs.Words.{each_closed_file_is_known, in_limits, HasCounted, removed_in, fault_of, IsRingKept, MOST_SUBMISSIONS, None}
+use Rattle.check_judge.proofs.Words.{each_closed_file_is_known, in_limits, HasCounted, files_removed_in, fault_of, IsRingKept, MOST_SUBMISSIONS, None}
 use Rattle.std.proofs.lemmas.List.Sorted.{Contains-permutation, IsPermutation-sym}
 use Rattle.fx_chain.specs.Chains.{chains_of}
 use Rattle.fx_chain.proofs.Chains.{accepted-chains, members-are-runs}
@@ -78,7 +78,7 @@ module _ {catalogue : List FileEntry} {old : RingSlots} {asked : List Asked} (s 
   are_from = each_all (λ file. IsFileAtSlot old.slots file ⊎ OneInstalled asked report.completions file.mark) report.closes.files (λ file has.
       let xs : List Access = accesses_of one.order in
       let w = removed_from (table_of before) xs file one.is.permitted (removes_contained xs file
-      (Contains-permutation report.closes.files (removed_in xs) file (IsPermutation-sym (removed_in xs) report.closes.files one.is.closed.same_files) has)) in
+      (Contains-permutation report.closes.files (files_removed_in xs) file (IsPermutation-sym (files_removed_in xs) report.closes.files one.is.closed.same_files) has)) in
       ⊎_elim (λ was. inl (w.slot, was)) (λ new. inr (placed_installed w.slot file new)) w.was)
 
   next_in_range : {file : Closed} → IsOfNext before asked file → IsFileInRange file

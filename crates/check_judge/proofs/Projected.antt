@@ -5,7 +5,7 @@ use Rattle.check_judge.proofs.ClaimWords.{arith, All, Contains, slice_get, slice
 use Rattle.check_judge.proofs.ClaimWords.{option_to_list}
 use Rattle.check_judge.proofs.ClaimWords.{length-map, length-set, All-contains, Contains-append_right, slice_get_within, Closed, contains_head}
 use Rattle.check_judge.proofs.ClaimWords.{contains_tail}
-use Rattle.check_judge.proofs.ClaimWords.{Table, Permits, PermitsAll, table_with, table_after, removed_by, removed_in, accesses_of, accesses_of_chain}
+use Rattle.check_judge.proofs.ClaimWords.{Table, Permits, PermitsAll, table_with, table_after, file_removed_by, files_removed_in, accesses_of, accesses_of_chain}
 use Rattle.check_judge.proofs.ClaimWords.{Access}
 use Rattle.check_judge.proofs.ClaimWords.{ChainAccess, Fits, touched, Standing, AreClaims, HasNoOrder, table_of_slots, Vec, eq-eqb, ◌==◌, IsEndOfClaims, Ends}
 use Rattle.check_judge.proofs.ClaimWords.{cells_after, is_staying, may_stay, next, IsCell, ShowsFile, starting, AreStrands, has_slot, seen, Cell}
@@ -59,7 +59,7 @@ module _ (closes : List Closed) (strands : List Strand) (first : List Cell)
 
   -- an access of one of these slots is the next claim of its chain
   stepped : (table : Table) (at : Standing) (x : ChainAccess) (order : List ChainAccess) → has_slot first (touched x.access) ≡ true
-      → Permits table x.access → ((f : Closed) → removed_by x.access ≡ Some f → Contains closes f) → Left table at (x ∷ order)
+      → Permits table x.access → ((f : Closed) → file_removed_by x.access ≡ Some f → Contains closes f) → Left table at (x ∷ order)
       → (i : ℕ) (strand : Strand) → slice_get strands i ≡ Some strand → strand.chain ≡ x.chain
       → (mid : Standing) × (next strands at i ≡ Some mid) × Left (table_with table x.access) mid order
   stepped table at x order inside may closed left i strand is own =
@@ -121,15 +121,15 @@ module _ (closes : List Closed) (strands : List Strand) (first : List Cell)
 
   -- along the order
   along : (order : List ChainAccess) {table : Table} (at : Standing) → Left table at order → PermitsAll table (accesses_of order)
-      → ((file : Closed) → Contains (removed_in (accesses_of order)) file → Contains closes file)
+      → ((file : Closed) → Contains (files_removed_in (accesses_of order)) file → Contains closes file)
       → ((slot : ℕ) (file : Closed) → (table_after table (accesses_of order)).at slot ≡ Some file → Contains closes file → ⊥)
       → (path : List ℕ) × Ends strands at path
   along [] {table} at left may removed stay = ([], ended at left stay)
   along (x ∷ order) {table} at left may removed stay =
-      let closed : (f : Closed) → removed_by x.access ≡ Some f → Contains closes f =
-      λ f is. removed f (rw is (contains_head f (removed_in (accesses_of order)))) in
-      let later : (f : Closed) → Contains (removed_in (accesses_of order)) f → Contains closes f =
-      λ f has. removed f (Contains-append_right (option_to_list (removed_by x.access)) (removed_in (accesses_of order)) f has) in
+      let closed : (f : Closed) → file_removed_by x.access ≡ Some f → Contains closes f =
+      λ f is. removed f (rw is (contains_head f (files_removed_in (accesses_of order)))) in
+      let later : (f : Closed) → Contains (files_removed_in (accesses_of order)) f → Contains closes f =
+      λ f has. removed f (Contains-append_right (option_to_list (file_removed_by x.access)) (files_removed_in (accesses_of order)) f has) in
       elim (cases_Bool (has_slot first (touched x.access))) [
         | inl inside ↦ elim (left.each x (contains_head x order)) [
           | inl there ↦

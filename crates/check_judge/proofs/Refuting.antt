@@ -1,7 +1,7 @@
 -- Where there is no order of a table's accesses, what was told comes of none.
 use Rattle.check_judge.proofs.ClaimWords.{◌≡◌, ℕ, ◌+◌, List, [], ◌∷◌, length, refl, ap, ◌∙◌, Vec, AllByRecursion, all_completed, Asked, RingState}
 use Rattle.check_judge.proofs.ClaimWords.{IsRing}
-use Rattle.check_judge.proofs.ClaimWords.{Table, Permits, PermitsAll, table_with, removed_in, accesses_of, Access, Allocates, ChainAccess, IsOneOrder}
+use Rattle.check_judge.proofs.ClaimWords.{Table, Permits, PermitsAll, table_with, files_removed_in, accesses_of, Access, Allocates, ChainAccess, IsOneOrder}
 use Rattle.check_judge.proofs.ClaimWords.{table_of, AreDone, AreClaims, IsAllocationInRange, IsOutcome, Claim, same_size}
 use Rattle.std.proofs.lemmas.List.Sorted.{IsPermutation-sym, Contains-permutation}
 use Rattle.fx_chain.specs.Runs.{runs_of}
@@ -42,7 +42,7 @@ module _ (old : RingState) (requests : List Asked) (told : Told) where
       → (o : PartVerdict) → IsOutcome (table_of old) told.closes.items chains o → IsToldOutcome old requests told o
   outcome_told ring chains many claims (Refuted reason) none = λ room left one.
       let closed = told.closes.items in
-      let removed = removed_in (accesses_of one.order) in
+      let removed = files_removed_in (accesses_of one.order) in
       none one.order
       (record {
         permitted = one.is.permitted;

@@ -50,7 +50,7 @@ pub use Rattle.check_lines.specs.declared.report_lines.ReportLines.{ReportLines}
 pub use Rattle.fx_order.proofs.ChainFront.{length-done, both_parts}
 pub use Rattle.fx_order.proofs.Placed.{Has, placed, has_either, placed-append, left_from, removes_contained}
 pub use Rattle.fx_order.proofs.RequestCases.{allocates, close_none, puts, read_none, unless_refused, updates}
-pub use Rattle.fx_order.specs.Access.{Table, accesses_of, accesses_of_chain, removed_in}
+pub use Rattle.fx_order.specs.Access.{Table, accesses_of, accesses_of_chain, files_removed_in}
 pub use Rattle.fx_order.specs.declared.access.Access.TheVariants.{Allocates, Puts, Looks}
 pub use Rattle.fx_order.specs.Order.{IsOneOrder, table_of, IsOrderOf, ring_left}
 pub use Rattle.fx_order.specs.Requests.{AreChainsDone, IsChainDone, IsDoneAtTable, IsOpenDone, IsRequestDone, IsEntryDone, AreEntriesDone}

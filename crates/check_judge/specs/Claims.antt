@@ -5,7 +5,7 @@ use Rattle.std.specs.Global.{Vec}
 use Rattle.std.specs.List.{AllZip, AllByRecursion}
 use Rattle.fx_base.specs.Identity.{Identity}
 use Rattle.fx_base.specs.declared.open_file.Closed.{Closed}
-use Rattle.fx_order.specs.Access.{removed_by, accesses_of_chain}
+use Rattle.fx_order.specs.Access.{file_removed_by, accesses_of_chain}
 use Rattle.fx_order.specs.declared.access.Access.TheVariants.{Looks, Puts, Clears, Takes, Allocates}
 use Rattle.fx_order.specs.declared.access.Access.TheVariants.{FindsFull}
 use Rattle.fx_order.specs.declared.access.Access.{Access}
@@ -59,7 +59,7 @@ Wanted (Bytes fits) found =
 
 -- the access removed what it found, if it found a file
 abbrev pub RemovesFound : Access → Type 0
-RemovesFound access = removed_by access ≡ found_by access
+RemovesFound access = file_removed_by access ≡ found_by access
 
 -- what the claim says of the slot then
 abbrev pub LeavesSo : List Closed → Leaves → Access → Type 0

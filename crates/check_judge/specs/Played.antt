@@ -4,7 +4,7 @@ use Rattle.std.specs.Prelude.{IsTrue}
 use Rattle.std.specs.Global.{Vec}
 use Rattle.fx_base.specs.Identity.{Identity}
 use Rattle.fx_base.specs.declared.open_file.Closed.{Closed}
-use Rattle.fx_order.specs.Access.{Table, IsInRange, PermitsAll, table_after, removed_in}
+use Rattle.fx_order.specs.Access.{Table, IsInRange, PermitsAll, table_after, files_removed_in}
 use Rattle.fx_order.specs.Access.{accesses_of}
 use Rattle.fx_order.specs.declared.access.ChainAccess.{ChainAccess}
 use Rattle.check_judge.specs.Claims.{AreClaims}
@@ -34,10 +34,10 @@ pub record IsPlayed (table : Table) (closes : List Closed) (chains : ℕ) (order
     : Type 0 where
   pub permitted : PermitsAll table (accesses_of order)
   pub within : All (λ x. (1 ≤ x.chain) × (x.chain ≤ chains)) order
-  pub removed : (file : Identity) → Contains (removed_in (accesses_of order)) file
+  pub removed : (file : Identity) → Contains (files_removed_in (accesses_of order)) file
       → Contains closes file
   pub all : (file : Identity) → Contains closes file
-      → Contains (removed_in (accesses_of order)) file
+      → Contains (files_removed_in (accesses_of order)) file
   pub stay : (slot : ℕ) (file : Identity)
       → (table_after table (accesses_of order)).at slot ≡ Some file → Contains closes file → ⊥
 

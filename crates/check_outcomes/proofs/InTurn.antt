@@ -2,7 +2,7 @@
 -- a part looks at slots.
 use Rattle.fx_order.proofs.Words.{◌≡◌, ◌⊎◌, inl, inr, ℕ, ◌<◌, ◌≤◌, ◌==◌, suc, Bool, true, false, List, [], ◌∷◌, ◌++◌, filter, cond, refl, sym, ap, ◌∙◌}
 use Rattle.fx_order.proofs.Words.{arith, Option, All, All-nil, All-cons, All-tail, cases_lt, false≢true, append_assoc, accesses_of}
-use Rattle.fx_order.proofs.Words.{accesses_of_chain, removed_by, removed_in, Closed, Table, IsPermutation, IsPermutation-refl, IsPermutation-cons}
+use Rattle.fx_order.proofs.Words.{accesses_of_chain, file_removed_by, files_removed_in, Closed, Table, IsPermutation, IsPermutation-refl, IsPermutation-cons}
 use Rattle.fx_order.proofs.Words.{IsPermutation-sym, IsPermutation-trans, IsPermutation-middle, option_to_list}
 use Rattle.check_outcomes.proofs.ChoiceWords.{Access, ChainAccess, Looks, cases_eq, ne_eqb, Identity}
 use Rattle.std.proofs.lemmas.List.Sorted.{All-permutation, IsPermutation-append_comm, IsPermutation-append_left, IsPermutation-append_right}
@@ -61,10 +61,10 @@ module _ (part : ℕ → ℕ) where
 
   -- the files that the accesses take from their slots
   abbrev removed : List ChainAccess → List Closed
-  removed l = removed_in (accesses_of l)
+  removed l = files_removed_in (accesses_of l)
 
   abbrev taken : ChainAccess → List Closed
-  taken x = option_to_list (removed_by x.access)
+  taken x = option_to_list (file_removed_by x.access)
 
   module _ (size : ℕ) (range : ℕ × ℕ) (of_slot : ℕ → ℕ) where
     -- an access uses slots of its chain's part alone

@@ -1,6 +1,6 @@
 -- An order goes through the states of a closed list with what is told, up to one where no chain has an access left.
 use Rattle.fx_order.proofs.Words.{◌≡◌, ℕ, ◌≤◌, List, [], ◌∷◌, ◌++◌, refl, ap, append_assoc, FileEntry, append-nil, ◌==◌, length, Asked, Completed}
-use Rattle.fx_order.proofs.Words.{Table, table_after, removed_in, Closed, accesses_of, IsPermutation, Contains, true, IsPermutation-trans}
+use Rattle.fx_order.proofs.Words.{Table, table_after, files_removed_in, Closed, accesses_of, IsPermutation, Contains, true, IsPermutation-trans}
 use Rattle.fx_order.proofs.Words.{IsPermutation-sym}
 use Rattle.check_outcomes.proofs.Words.{ChainAccess, Access, rules_of, IsOver, has_none, Parts, AreToldClosed, LeadsOn, ToldState}
 use Rattle.check_outcomes.proofs.Playing.{OfChain, as_reader, steps_on, told_whole}
@@ -17,7 +17,7 @@ module _ (catalogue : List FileEntry) (size chains : ℕ) (finals : ℕ → List
   -- an order goes on from a state
   pub record Comes (here : ToldState) (order : List ChainAccess) : Type 0 where
     pub goes : OrderGoesOn chains here.state.table (Each here) order
-    pub closed : IsPermutation (here.removed ++ removed_in (accesses_of order)) files
+    pub closed : IsPermutation (here.removed ++ files_removed_in (accesses_of order)) files
 
   -- behind its first access, which is one that its chain may make next
   past : {here next : ToldState} {x : ChainAccess} {order : List ChainAccess} → Comes here (x ∷ order)
@@ -26,7 +26,7 @@ module _ (catalogue : List FileEntry) (size chains : ℕ) (finals : ℕ → List
     goes = past_first chains comes.goes (Each next) to.leads.table
         (rw (to.leads.own, to.own) (steps_on catalogue size _ _ _ x.access _ (its_first chains comes.goes)).1)
         (λ chain low apart still. rw (to.leads.others chain low apart, to.others chain low apart) still);
-    closed = IsPermutation-trans _ _ _ (IsPermutation-sym _ _ (IsPermutation-append_left (removed_in (accesses_of order)) _ next.removed to.removed))
+    closed = IsPermutation-trans _ _ _ (IsPermutation-sym _ _ (IsPermutation-append_left (files_removed_in (accesses_of order)) _ next.removed to.removed))
         (rw append_assoc comes.closed);
   }
 

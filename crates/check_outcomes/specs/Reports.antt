@@ -10,7 +10,7 @@ use Rattle.fx_chain.specs.Operation.{Asked}
 use Rattle.fx_chain.specs.Runs.{runs_of}
 use Rattle.fx_ring.specs.Ring.{RingState}
 use Rattle.fx_ring.specs.Submission.{Reported}
-use Rattle.fx_order.specs.Access.{Permits, removed_by}
+use Rattle.fx_order.specs.Access.{Permits, file_removed_by}
 use Rattle.fx_order.specs.declared.access.Access.{Access}
 use Rattle.fx_order.specs.Order.{IsOneOrder, table_of}
 use Rattle.check_outcomes.specs.Rests.{HasMemory, IsNext, Rules, rules_of, settled_at, step}
@@ -32,7 +32,7 @@ pub record LeadsOn (rules : Rules) (here : ToldState) (chain : ℕ) (a : Access)
   pub leads : LeadsByAccess rules here.state chain a next.state
   pub own : next.told chain ≡ here.told chain ++ (step rules (here.state.rests chain) a).0
   pub others : (other : ℕ) → 1 ≤ other → (other ≡ chain → ⊥) → next.told other ≡ here.told other
-  pub removed : IsPermutation (here.removed ++ option_to_list (removed_by a)) next.removed
+  pub removed : IsPermutation (here.removed ++ option_to_list (file_removed_by a)) next.removed
 
 -- the list has each one to which an access leads from one of it, of a chain that has its turn
 abbrev pub AreToldClosed : List FileEntry → ℕ → Parts → ℕ → List ToldState → Type 0

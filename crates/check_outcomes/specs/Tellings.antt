@@ -5,7 +5,7 @@ use Rattle.std.specs.Option.{option_to_list}
 use Rattle.std.specs.Global.{Vec}
 use Rattle.fx_chain.specs.Completed.{Completed, all_completed}
 use Rattle.fx_chain.specs.declared.completion.Completion.{Completion}
-use Rattle.fx_order.specs.Access.{removed_by}
+use Rattle.fx_order.specs.Access.{file_removed_by}
 use Rattle.fx_order.specs.declared.access.Access.{Access}
 use Rattle.check_outcomes.specs.declared.telling.WayReport.{WayReport}
 
@@ -24,5 +24,5 @@ pub record IsToldOn (before : WayReport) (i : ℕ) (a : Access) (own : List Comp
   pub there : i < length before.answers.items
   pub answers : answers_of after.answers.items ≡ slice_set (answers_of before.answers.items) i
       (slice_index_or (answers_of before.answers.items) i [] ++ own)
-  pub removed : IsPermutation (before.removed.items ++ option_to_list (removed_by a))
+  pub removed : IsPermutation (before.removed.items ++ option_to_list (file_removed_by a))
       after.removed.items

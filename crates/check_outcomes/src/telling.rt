@@ -2,7 +2,7 @@
 ghost use Rattle.std.specs.Prelude.{◌≡◌, ◌++◌, ◌<◌, IfOk, IsPermutation, IsTrue, length};
 ghost use Rattle.std.specs.Option.{option_to_list};
 ghost use Rattle.fx_chain.specs.Completed.{all_completed};
-ghost use Rattle.fx_order.specs.Access.{removed_by};
+ghost use Rattle.fx_order.specs.Access.{file_removed_by};
 ghost use Rattle.check_outcomes.specs.Tellings.{IsToldOn, answers_of};
 
 use fx_base::{Closed, NoMemory};
@@ -74,7 +74,7 @@ fn removed_after(
     access: &Access,
 ) -> Result<Vec<Closed>, NoMemory>
     ensures { IfOk result (λ after. IsPermutation
-        (removed.now ++ option_to_list (removed_by access.now)) after.items) }
+        (removed.now ++ option_to_list (file_removed_by access.now)) after.items) }
 {
     let mut after = Vec::from_slice(alloc, removed)?;
     if let Some(file) = access.removed() {

@@ -11,7 +11,7 @@ use Rattle.fx_table.proofs.Tasks.{idle_task, holding_task, retiring_task}
 use Rattle.fx_table.specs.Tasks.{activity_of, retiring}
 use Rattle.fx_table.specs.Pass.{IsFileHold, retired_of}
 use Rattle.fx_table.specs.Calls.{IsNewFile, Adds, no_use, one_number, ReleasesFile, RetiresFile, one_look, HasRetired, Released}
-use Rattle.fx_baton.specs.Turns.{holds_now, actions_of, doing_of, events_of, use_of, table_of_slots}
+use Rattle.fx_baton.specs.Turns.{holds_now, actions_of, doing_of, events_of, use_of, table_of_seats}
 use Rattle.atomic_table.specs.Lent.{seat_with}
 use Rattle.fx_plain.specs.Step.{Allows}
 use Rattle.fx_plain.proofs.Leading.{same_size}
@@ -61,9 +61,9 @@ some_found {tell} {x} P (Some f) e a = (f, (let z : Some x ≡ Some (tell f) = e
 
 -- a pass took the table, and was lent what it took
 module _ {id : TableId} {k : Start} {u : PassView} {c : Contents} {p : BatonPass}
-    (took : HasTable id k u (table_of_slots p.seat.me.1) (table_of_slots p.seat.me.1) p) (value : p.seat.me.1 ≡ (0, c) ∷ rest p.seat.me.1) where
+    (took : HasTable id k u (table_of_seats p.seat.me.1) (table_of_seats p.seat.me.1) p) (value : p.seat.me.1 ≡ (0, c) ∷ rest p.seat.me.1) where
   h : HasTable id k u c c p
-  h = subst (λ (x : Contents). HasTable id k u x x p) (ap table_of_slots value) took
+  h = subst (λ (x : Contents). HasTable id k u x x p) (ap table_of_seats value) took
 
   abbrev lent : Contents → BatonPass
   lent d = record p { seat = seat_with p.seat 0 d }

@@ -7,7 +7,7 @@ use Rattle.fx_baton.proofs.Words.{begin_of, Takes, lent_view, log_behind, view_b
 use Rattle.fx_baton.proofs.Words.{HasSeenMore, UsesNext, HasCalled, HasGivenBack, pass_behind}
 use Rattle.fx_table.specs.Tasks.{activity_of}
 use Rattle.fx_table.specs.Calls.{Adds}
-use Rattle.fx_baton.specs.Turns.{by, actions_of, doing_of, use_of, events_of, table_of_slots, table_of_loan}
+use Rattle.fx_baton.specs.Turns.{by, actions_of, doing_of, use_of, events_of, table_of_seats, table_of_loan}
 use Rattle.fx_baton.specs.declared.view.Call.TheVariants.{Look as LookCall, Release as ReleaseCall, Retire as RetireCall}
 
 -- a legal history leads to the state at its end
@@ -54,8 +54,8 @@ module _ {id : TableId} {k : Start} {p : BatonPass} (fits : IsPassOf id k p) (se
     knows = assumption (seen, taken.knows);
   }
 
-  pub has_table : HasTable id k (view_of p) (table_of_slots seat.me.1) (table_of_slots seat.me.1) (record p { seat = seat })
-  has_table = subst (λ (m : Seated). HasTable id k (view_of p) (table_of_slots m.1) (table_of_slots m.1) (took m)) is_me took_table
+  pub has_table : HasTable id k (view_of p) (table_of_seats seat.me.1) (table_of_seats seat.me.1) (record p { seat = seat })
+  has_table = subst (λ (m : Seated). HasTable id k (view_of p) (table_of_seats m.1) (table_of_seats m.1) (took m)) is_me took_table
 
 -- a close installs nothing
 next_close : (p chain : ℕ) (o : Option File) (own : List Event) → number_behind (map (by p chain) (close_of o) ++ own) ≡ number_behind own
@@ -160,5 +160,5 @@ module _ {id : TableId} {k : Start} {call : Call} {idle : Bool} {p : BatonPass} 
   gives_back = subst (λ (m : Seated). HasGivenBack id k call p (gave m)) (sym is_seated) record {
     fits = fits_again;
     adds = adds_so;
-    end = sym legal_now.leads.1 ∙ ap (λ l. state_of (table_of_slots l)) (sym t.has.slots);
+    end = sym legal_now.leads.1 ∙ ap (λ l. state_of (table_of_seats l)) (sym t.has.slots);
   }

@@ -20,7 +20,7 @@ use Rattle.fx_baton.specs.declared.view.Call.{Call}
 use Rattle.fx_baton.specs.declared.view.Call.TheVariants.{Put as PutCall, Allocate as AllocateCall}
 use Rattle.fx_baton.specs.declared.pass.BatonPass.{BatonPass}
 use Rattle.fx_baton.specs.Rule.{opening_of, Knows, IsTurn}
-use Rattle.fx_baton.specs.Turns.{actions_of, doing_of, events_of, use_of, table_of_slots}
+use Rattle.fx_baton.specs.Turns.{actions_of, doing_of, events_of, use_of, table_of_seats}
 
 abbrev pub first_front : List Log → List Event
 first_front [] = []
@@ -134,4 +134,4 @@ pub record HasGivenBack (id : TableId) (k : Start) (call : Call) (p q : BatonPas
       → Adds (opening_of k) u (actions_of c p.seat.me.0.doing call) (activity_of (doing_of c call))
       (use_of call) (view_of q)
   -- its front leads to the state of the table that it put back
-  pub end : state_at (opening_of k) (view_of q).front ≡ state_of (table_of_slots p.seat.me.1)
+  pub end : state_at (opening_of k) (view_of q).front ≡ state_of (table_of_seats p.seat.me.1)

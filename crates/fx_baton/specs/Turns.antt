@@ -28,9 +28,9 @@ abbrev pub table_of_loan : Option Contents → Contents
 table_of_loan None = empty_table
 table_of_loan (Some c) = c
 
-abbrev pub table_of_slots : List (ℕ × Contents) → Contents
-table_of_slots [] = empty_table
-table_of_slots (x ∷ xs) = x.1
+abbrev pub table_of_seats : List (ℕ × Contents) → Contents
+table_of_seats [] = empty_table
+table_of_seats (x ∷ xs) = x.1
 
 -- the activity of a pass that found this file
 abbrev pub holds_now : Option File → Task

@@ -5,7 +5,7 @@ ghost use Rattle.fx_table.specs.declared.limits.TheConstants.{MAX_CHAINS, MAX_PA
 ghost use Rattle.fx_table.specs.Opening.{size_of, range_of};
 ghost use Rattle.fx_baton.specs.declared.view.Log.{Log};
 ghost use Rattle.fx_baton.specs.Rule.{Takes, opening_of, view_behind};
-ghost use Rattle.fx_baton.specs.Turns.{table_of_slots, use_of};
+ghost use Rattle.fx_baton.specs.Turns.{table_of_seats, use_of};
 ghost use Rattle.fx_baton.specs.Passes.{view_of, pass_behind, IsPassOf, HasTable, HasPlayed, HasCalled, HasGivenBack};
 
 use crate::kinds::{Give, Grab, OneHistory, Turn};
@@ -59,7 +59,7 @@ impl BatonTable {
     pub(crate) fn borrow<R: Wait>(&self, rt: &R, pass: &mut BatonPass)
         requires { IsPassOf self.now.table.shared.table_id self.now.table.shared.key pass.old }
         ensures { let t = self.now.table.shared in
-            let c = table_of_slots pass.new.seat.me.1 in
+            let c = table_of_seats pass.new.seat.me.1 in
             HasTable t.table_id t.key (view_of pass.old) c c pass.new }
     {
         self.grab(rt, &mut pass.seat)

@@ -5,7 +5,7 @@ pub use Rattle.fx_chain.specs.Accepted.{IsAccepted, IsChain, IsShortRun, IsWithi
 pub use Rattle.fx_chain.specs.Answers.{Answers, AppliesEntry, AppliesList, MayClose, Refuses, is_bad_entry}
 pub use Rattle.fx_chain.specs.Chains.{chains_from, chains_of}
 pub use Rattle.fx_chain.specs.Completed.{Completed, all_completed, completed_of, next_member, refusal}
-pub use Rattle.fx_chain.specs.Contexts.{Does, IsKept, view_of}
+pub use Rattle.fx_chain.specs.Contexts.{PlayerActs, IsSamePlayer, player_view}
 pub use Rattle.fx_chain.specs.Explains.{AnswersBehind, Explains, canceled, first_member, severs}
 pub use Rattle.fx_chain.specs.Faults.{HasNoFault, IsFirstFault, fault_after, fault_behind, fault_of, first_fault, has_bad_flags, is_long_read}
 pub use Rattle.fx_chain.specs.Faults.{is_long_update, or_later}

@@ -3,7 +3,7 @@ ghost use Rattle.std.specs.Prelude.{◌≡◌, ◌<◌, ◌≤◌, None, length}
 ghost use Rattle.fx_table.specs.Opening.{size_of};
 ghost use Rattle.fx_chain.specs.Answers.{AnswersAtTable, OpensAt};
 ghost use Rattle.fx_chain.specs.Completed.{completed_of};
-ghost use Rattle.fx_chain.specs.Contexts.{Does, IsKept, IsReady};
+ghost use Rattle.fx_chain.specs.Contexts.{PlayerActs, IsSamePlayer, IsReady};
 ghost use Rattle.fx_chain.specs.Operation.{Opens};
 ghost use Rattle.fx_chain.specs.Refusal.{refusal_of};
 ghost use Rattle.fx_chain.specs.declared.request.Target.TheVariants.{Slot, Any};
@@ -27,8 +27,8 @@ fn open_at<T: SharedTable, R: Wait>(
     requires entry { entry < length context.now.catalogue.now }
     requires slot { slot < size_of (T.opening context.now.table.now) }
     requires ready { IsReady T.view (T.fits context.now.table.now) player.old 0 1 1 }
-    ensures kept { IsKept (T.fits context.now.table.now) player.old player.new }
-    ensures opened { Does (T.opening context.now.table.now) T.view player.old 0 1 1
+    ensures kept { IsSamePlayer (T.fits context.now.table.now) player.old player.new }
+    ensures opened { PlayerActs (T.opening context.now.table.now) T.view player.old 0 1 1
         (λ actions. OpensAt context.now.place entry (Slot slot) actions (completed_of result))
         player.new }
 {
@@ -46,8 +46,8 @@ fn open_any<T: SharedTable, R: Wait>(
     requires size { size_of (T.opening context.now.table.now) ≤ MOST_SLOTS }
     requires entry { entry < length context.now.catalogue.now }
     requires ready { IsReady T.view (T.fits context.now.table.now) player.old 0 1 1 }
-    ensures kept { IsKept (T.fits context.now.table.now) player.old player.new }
-    ensures opened { Does (T.opening context.now.table.now) T.view player.old 0 1 1
+    ensures kept { IsSamePlayer (T.fits context.now.table.now) player.old player.new }
+    ensures opened { PlayerActs (T.opening context.now.table.now) T.view player.old 0 1 1
         (λ actions. OpensAt context.now.place entry Any actions (completed_of result)) player.new }
 {
     let file = context.catalogue.open(entry, context.place.mark(0), 0);
@@ -71,8 +71,8 @@ pub(crate) fn open<T: SharedTable, R: Wait>(
     requires accepted { refusal_of context.now.catalogue.now
         (size_of (T.opening context.now.table.now)) (Opens name.now target) ≡ None }
     requires ready { IsReady T.view (T.fits context.now.table.now) player.old 0 1 1 }
-    ensures kept { IsKept (T.fits context.now.table.now) player.old player.new }
-    ensures opened { Does (T.opening context.now.table.now) T.view player.old 0 1 1
+    ensures kept { IsSamePlayer (T.fits context.now.table.now) player.old player.new }
+    ensures opened { PlayerActs (T.opening context.now.table.now) T.view player.old 0 1 1
         (λ actions. AnswersAtTable context.now.catalogue.now context.now.place
         (Opens name.now target) actions (completed_of result)) player.new }
 {

@@ -4,7 +4,7 @@ ghost use Rattle.fx_table.specs.Pass.{IsIdle};
 ghost use Rattle.fx_table.specs.Opening.{size_of};
 ghost use Rattle.fx_chain.specs.Answers.{TakesAt};
 ghost use Rattle.fx_chain.specs.Completed.{completed_of, all_completed};
-ghost use Rattle.fx_chain.specs.Contexts.{Does, IsKept, IsReady, view_of};
+ghost use Rattle.fx_chain.specs.Contexts.{PlayerActs, IsSamePlayer, IsReady, player_view};
 ghost use Rattle.fx_chain.specs.Freed.{all_room, room_of};
 ghost use Rattle.fx_chain.specs.Operation.{operation_of, asked_of, all_asked};
 ghost use Rattle.fx_chain.specs.Performs.{AnswersNext, Performs, PlaysChain, player};
@@ -32,8 +32,8 @@ fn close<T: SharedTable, R: Wait>(
 ) -> Completion
     requires slot { slot < size_of (T.opening context.now.table.now) }
     requires ready { IsReady T.view (T.fits context.now.table.now) player.old 0 0 1 }
-    ensures kept { IsKept (T.fits context.now.table.now) player.old player.new }
-    ensures emptied { Does (T.opening context.now.table.now) T.view player.old 0 0 1
+    ensures kept { IsSamePlayer (T.fits context.now.table.now) player.old player.new }
+    ensures emptied { PlayerActs (T.opening context.now.table.now) T.view player.old 0 0 1
         (λ actions. TakesAt context.now.place slot actions (completed_of result)) player.new }
 {
     if !take(context, player, slot) {
@@ -51,10 +51,10 @@ fn answer<T: SharedTable, R: Wait>(
     requires ready { IsReady T.view (T.fits context.now.table.now) player.old 1
         (installs_of (operation_of request.now.op))
         (room_of (T.opening context.now.table.now).lasts (operation_of request.now.op)) }
-    ensures kept { IsKept (T.fits context.now.table.now) player.old player.new }
+    ensures kept { IsSamePlayer (T.fits context.now.table.now) player.old player.new }
     ensures performed { Performs (T.opening context.now.table.now) context.now.catalogue.now
-        context.now.place (asked_of request.now) (view_of T.view player.old)
-        (completed_of result) (view_of T.view player.new) }
+        context.now.place (asked_of request.now) (player_view T.view player.old)
+        (completed_of result) (player_view T.view player.new) }
 {
     if let Some(errno) = refusal_of(context.catalogue, context.table.size(), request) {
         return context.refusal(errno);
@@ -118,10 +118,10 @@ fn next_answer<T: SharedTable, R: Wait, G: Gate>(
     requires ready { IsReady T.view (T.fits context.now.table.now) player.old 1
         (installs_of (operation_of request.now.op))
         (room_of (T.opening context.now.table.now).lasts (operation_of request.now.op)) }
-    ensures kept { IsKept (T.fits context.now.table.now) player.old player.new }
+    ensures kept { IsSamePlayer (T.fits context.now.table.now) player.old player.new }
     ensures answered { AnswersNext (T.opening context.now.table.now) context.now.catalogue.now
-        context.now.place severed (asked_of request.now) (view_of T.view player.old)
-        (completed_of result) (view_of T.view player.new) }
+        context.now.place severed (asked_of request.now) (player_view T.view player.old)
+        (completed_of result) (player_view T.view player.new) }
 {
     if severed {
         return context.refusal(Errno::ECANCELED);

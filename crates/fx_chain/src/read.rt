@@ -3,7 +3,7 @@ ghost use Rattle.std.specs.Prelude.{◌≡◌, ◌<◌, None, true};
 ghost use Rattle.fx_table.specs.Opening.{size_of};
 ghost use Rattle.fx_chain.specs.Answers.{ReadsAt};
 ghost use Rattle.fx_chain.specs.Completed.{completed_of};
-ghost use Rattle.fx_chain.specs.Contexts.{Does, IsKept, IsReady, view_of};
+ghost use Rattle.fx_chain.specs.Contexts.{PlayerActs, IsSamePlayer, IsReady, player_view};
 ghost use Rattle.fx_chain.specs.Freed.{MayFree, room_of};
 ghost use Rattle.fx_chain.specs.Operation.{Reads};
 ghost use Rattle.fx_chain.specs.Refusal.{refusal_of};
@@ -26,9 +26,9 @@ fn look<T: SharedTable, R: Wait>(
     requires ready { IsReady T.view (T.fits context.now.table.now) player.old 1 0 0 }
     requires room { (T.opening context.now.table.now).lasts ≡ true
         → 0 < player.old.closes.now.room }
-    ensures kept { IsKept (T.fits context.now.table.now) player.old player.new }
-    ensures looked { IsLookUp (T.opening context.now.table.now) (view_of T.view player.old) slot
-        result (view_of T.view player.new) }
+    ensures kept { IsSamePlayer (T.fits context.now.table.now) player.old player.new }
+    ensures looked { IsLookUp (T.opening context.now.table.now) (player_view T.view player.old) slot
+        result (player_view T.view player.new) }
 {
     let LookUp { found, freed } = context.table.look_up(context.rt, player.pass, slot);
     if let Some(file) = freed {
@@ -50,8 +50,8 @@ pub(crate) fn read<T: SharedTable, R: Wait>(
         (size_of (T.opening context.now.table.now)) (Reads slot off len) ≡ None }
     requires ready { IsReady T.view (T.fits context.now.table.now) player.old 1 0
         (room_of (T.opening context.now.table.now).lasts (Reads slot off len)) }
-    ensures kept { IsKept (T.fits context.now.table.now) player.old player.new }
-    ensures read { Does (T.opening context.now.table.now) T.view player.old 1 0
+    ensures kept { IsSamePlayer (T.fits context.now.table.now) player.old player.new }
+    ensures read { PlayerActs (T.opening context.now.table.now) T.view player.old 1 0
         (room_of (T.opening context.now.table.now).lasts (Reads slot off len))
         (MayFree (T.opening context.now.table.now).lasts (λ actions.
         ReadsAt context.now.catalogue.now context.now.place slot off len actions

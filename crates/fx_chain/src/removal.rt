@@ -6,7 +6,7 @@ ghost use Rattle.fx_plain.specs.History.{◌▷◌};
 ghost use Rattle.fx_table.specs.Pass.{IsHoldOf};
 ghost use Rattle.fx_table.specs.Opening.{size_of};
 ghost use Rattle.fx_chain.specs.Answers.{MayClose};
-ghost use Rattle.fx_chain.specs.Contexts.{Does, IsKept, IsReady, view_of};
+ghost use Rattle.fx_chain.specs.Contexts.{PlayerActs, IsSamePlayer, IsReady, player_view};
 ghost use Rattle.fx_chain.specs.Removals.{IsRemovedBy, IsRelease, IsRetirement};
 
 use crate::context::{Context, Player};
@@ -24,9 +24,9 @@ fn retire<T: SharedTable, R: Wait>(
     requires fits { T.fits context.now.table.now player.old.pass.now }
     requires removed { IsRemovedBy (T.view player.old.pass.now) removed }
     requires room { 0 < player.old.closes.now.room }
-    ensures kept { IsKept (T.fits context.now.table.now) player.old player.new }
+    ensures kept { IsSamePlayer (T.fits context.now.table.now) player.old player.new }
     ensures retired { IsRetirement (T.opening context.now.table.now)
-        (view_of T.view player.old) removed (view_of T.view player.new) }
+        (player_view T.view player.old) removed (player_view T.view player.new) }
 {
     let Some(retired) = removed else {
         return;
@@ -45,9 +45,9 @@ pub(crate) fn release<T: SharedTable, R: Wait>(
     requires fits { T.fits context.now.table.now player.old.pass.now }
     requires held { IsHoldOf (T.view player.old.pass.now) hold }
     requires room { 0 < player.old.closes.now.room }
-    ensures kept { IsKept (T.fits context.now.table.now) player.old player.new }
+    ensures kept { IsSamePlayer (T.fits context.now.table.now) player.old player.new }
     ensures released { IsRelease (T.opening context.now.table.now)
-        (view_of T.view player.old) (view_of T.view player.new) }
+        (player_view T.view player.old) (player_view T.view player.new) }
 {
     if let Some(file) = context.table.release(context.rt, player.pass, hold) {
         player.closes.close(file);
@@ -62,9 +62,9 @@ pub(crate) fn take<T: SharedTable, R: Wait>(
 ) -> bool
     requires ready { IsReady T.view (T.fits context.now.table.now) player.old 0 0 1 }
     requires slot { slot < size_of (T.opening context.now.table.now) }
-    ensures kept { IsKept (T.fits context.now.table.now) player.old player.new }
+    ensures kept { IsSamePlayer (T.fits context.now.table.now) player.old player.new }
     ensures removed { (removed : Option File) × (result ≡ is_some removed)
-        × Does (T.opening context.now.table.now) T.view player.old 0 0 1
+        × PlayerActs (T.opening context.now.table.now) T.view player.old 0 0 1
         (MayClose ([] ▷ Take slot removed) removed) player.new }
 {
     let removed = context.table.take(context.rt, player.pass, slot).ok();
@@ -81,9 +81,9 @@ pub(crate) fn clear<T: SharedTable, R: Wait>(
 )
     requires ready { IsReady T.view (T.fits context.now.table.now) player.old 0 0 1 }
     requires slot { slot < size_of (T.opening context.now.table.now) }
-    ensures kept { IsKept (T.fits context.now.table.now) player.old player.new }
+    ensures kept { IsSamePlayer (T.fits context.now.table.now) player.old player.new }
     ensures removed { (removed : Option File)
-        × Does (T.opening context.now.table.now) T.view player.old 0 0 1
+        × PlayerActs (T.opening context.now.table.now) T.view player.old 0 0 1
         (MayClose ([] ▷ Clear slot removed) removed) player.new }
 {
     let removed = context.table.clear(context.rt, player.pass, slot);
@@ -99,9 +99,9 @@ pub(crate) fn put<T: SharedTable, R: Wait>(
 )
     requires ready { IsReady T.view (T.fits context.now.table.now) player.old 0 1 1 }
     requires slot { slot < size_of (T.opening context.now.table.now) }
-    ensures kept { IsKept (T.fits context.now.table.now) player.old player.new }
+    ensures kept { IsSamePlayer (T.fits context.now.table.now) player.old player.new }
     ensures removed { (new : File) × (removed : Option File) × (new.identity ≡ file)
-        × Does (T.opening context.now.table.now) T.view player.old 0 1 1
+        × PlayerActs (T.opening context.now.table.now) T.view player.old 0 1 1
         (MayClose ([] ▷ Put slot new removed) removed) player.new }
 {
     let removed = context.table.put(context.rt, player.pass, slot, file);

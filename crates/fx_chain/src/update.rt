@@ -4,7 +4,7 @@ ghost use Rattle.std.specs.List.{list_any};
 ghost use Rattle.fx_table.specs.Opening.{size_of};
 ghost use Rattle.fx_chain.specs.Answers.{AppliesAt, AppliesEntry, AppliesList};
 ghost use Rattle.fx_chain.specs.Completed.{completed_of};
-ghost use Rattle.fx_chain.specs.Contexts.{Does, IsKept, IsReady};
+ghost use Rattle.fx_chain.specs.Contexts.{PlayerActs, IsSamePlayer, IsReady};
 ghost use Rattle.fx_chain.specs.Operation.{Updates};
 ghost use Rattle.fx_chain.specs.Refusal.{is_bad_entry, refusal_of};
 ghost use Rattle.fx_chain.specs.Weights.{entry_installs, list_installs};
@@ -30,8 +30,8 @@ fn apply_entry<T: SharedTable, R: Wait>(
     requires good { is_bad_entry (length context.now.catalogue.now) entry ≡ false }
     requires ready { IsReady T.view (T.fits context.now.table.now) player.old 0
         (entry_installs entry) 1 }
-    ensures kept { IsKept (T.fits context.now.table.now) player.old player.new }
-    ensures applied { Does (T.opening context.now.table.now) T.view player.old 0
+    ensures kept { IsSamePlayer (T.fits context.now.table.now) player.old player.new }
+    ensures applied { PlayerActs (T.opening context.now.table.now) T.view player.old 0
         (entry_installs entry) 1
         (λ actions. AppliesEntry context.now.place in_list slot entry actions) player.new }
 {
@@ -59,8 +59,8 @@ fn apply_list<T: SharedTable, R: Wait>(
     requires good { list_any (is_bad_entry (length context.now.catalogue.now)) list.now ≡ false }
     requires ready { IsReady T.view (T.fits context.now.table.now) player.old 0
         (list_installs list.now) (length list.now) }
-    ensures kept { IsKept (T.fits context.now.table.now) player.old player.new }
-    ensures applied { Does (T.opening context.now.table.now) T.view player.old 0
+    ensures kept { IsSamePlayer (T.fits context.now.table.now) player.old player.new }
+    ensures applied { PlayerActs (T.opening context.now.table.now) T.view player.old 0
         (list_installs list.now) (length list.now)
         (λ actions. AppliesList context.now.place 0 off list.now actions) player.new }
 {
@@ -84,8 +84,8 @@ pub(crate) fn update<T: SharedTable, R: Wait>(
         (size_of (T.opening context.now.table.now)) (Updates off list.now) ≡ None }
     requires ready { IsReady T.view (T.fits context.now.table.now) player.old 0
         (list_installs list.now) (length list.now) }
-    ensures kept { IsKept (T.fits context.now.table.now) player.old player.new }
-    ensures updated { Does (T.opening context.now.table.now) T.view player.old 0
+    ensures kept { IsSamePlayer (T.fits context.now.table.now) player.old player.new }
+    ensures updated { PlayerActs (T.opening context.now.table.now) T.view player.old 0
         (list_installs list.now) (length list.now) (λ actions. AppliesAt context.now.place
         off list.now actions (completed_of result)) player.new }
 {

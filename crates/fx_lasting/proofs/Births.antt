@@ -1,9 +1,9 @@
 -- A pass finds a free node of its block, takes its place, and lays a node to rest.
 use Rattle.fx_lasting.proofs.Words.{◌≡◌, ◌≢◌, ℕ, ◌+◌, ◌-◌, ◌*◌, ◌<◌, ◌≤◌, List, [], ◌∷◌, set, sym, refl, ap, ◌∙◌, subst, arith, Option, Some, None}
 use Rattle.fx_lasting.proofs.Words.{none, some, keeps, takes, gives, rest, set_here, set_else, Closed, WorkAgrees, MayBeUnmarked, IsInBlock, slots_of}
-use Rattle.fx_lasting.proofs.Words.{nodes_of, word_of, hold_of, held_in, if_file, taken_of, taking, owed, Phase, free, placed, seated, leaving}
+use Rattle.fx_lasting.proofs.Words.{nodes_of, word_of, hold_word_of, held_in, if_file, taken_of, taking, owed, Phase, free, placed, seated, leaving}
 use Rattle.fx_lasting.proofs.Words.{retired, emptied, owner, file_in, removed_in, changed_here, Log, Work, Idle, Searching, Placing, Emptying, Seeks}
-use Rattle.fx_lasting.proofs.Words.{Births, Rests, SeeksKeep, BirthsKeep, RestsKeep, born, step, inl, inr, ⊎_elim, ◌⊎◌, dite, ℕ_discrete, sum_by}
+use Rattle.fx_lasting.proofs.Words.{Births, Rests, SeeksKeep, BirthsKeep, RestsKeep, birth_word, step, inl, inr, ⊎_elim, ◌⊎◌, dite, ℕ_discrete, sum_by}
 use Rattle.fx_lasting.proofs.Words.{sum_set, length-set, block_for, block_start, Start, mul-le-mul_right, Agrees, zero, suc, first_log}
 use Rattle.fx_lasting.proofs.Histories.{grows_none, each_changed}
 use Rattle.fx_lasting.proofs.Frames.{busy, does_now}
@@ -150,15 +150,15 @@ module _ (turn : Turn) where
     homes₁ = set st.homes n none
 
     abbrev words₁ : List ℕ
-    words₁ = node_words turn n its.0 born
+    words₁ = node_words turn n its.0 birth_word
 
     abbrev born_after : After turn
     born_after = after turn n its.0 (placed id) r.history words₁ homes₁ r.debt (Placing n) v.glance
 
     birth : Agrees v.start (end turn born_after)
-    birth = let o = its_log turn in let h = rw works at o.hold in let node = in_phase turn its.0 its.1 in let same = node_slot turn n its.0 born in
+    birth = let o = its_log turn in let h = rw works at o.hold in let node = in_phase turn its.0 its.1 in let same = node_slot turn n its.0 birth_word in
         node_kept turn n its.0 (placed id) r.history words₁ homes₁ r.debt (Placing n) v.glance record {
-          words = length-set st.words (word_of v.start n) born;
+          words = length-set st.words (word_of v.start n) birth_word;
           homes = length-set st.homes n none;
           grows = grows_none x.number r.history;
           legal = r.legal;
@@ -167,8 +167,8 @@ module _ (turn : Turn) where
           removed = λ m. r.removed m ∙ sym (each_changed (λ i z. removed_in m z ≡ removed_in m (r.phase i)) r.phase
               (λ is. sym (ap (λ (i : ℕ). removed_in m (r.phase i)) is ∙ ap (removed_in m) its.1)) (λ _. refl));
           slot_words = same;
-          control_word = node_control turn n its.0 born;
-          node_words = λ m l other. node_else turn n its.0 born m other;
+          control_word = node_control turn n its.0 birth_word;
+          node_words = λ m l other. node_else turn n its.0 birth_word m other;
           home_else = λ m l other. set_else st.homes n m none other;
           owed_else = λ m other. refl;
           taken_else = λ m other. sym (ap (taking m) works);
@@ -178,9 +178,9 @@ module _ (turn : Turn) where
           at_slot = λ s f is. cc (sym its.1 ∙ is);
           open_file = λ j u f other there holds is. let bad : None ≡ Some f = sym (ap file_in its.1) ∙ is in cc bad;
           guards = λ p e other range. guards_else turn n its.0 (placed id) r.history words₁ homes₁ r.debt (Placing n) v.glance same p e
-              (node_hold turn n its.0 born p range.1) refl (λ may. rw its.1 at may);
+              (node_hold turn n its.0 birth_word p range.1) refl (λ may. rw its.1 at may);
           node = let t = sum_set (taken_of n) st.views id v (w turn born_after) here in let a = ap (taking n) works in let b = node.untaken in
-              rw (node_here turn n its.0 born) record {
+              rw (node_here turn n its.0 birth_word) record {
                 counts = refl;
                 at_home = set_here st.homes n none (let a = r.shape.homes in let b = its.0 in omega arith);
                 untaken = omega arith;
@@ -190,12 +190,12 @@ module _ (turn : Turn) where
           held = o.held ∙ ap held_in works;
           search = rw works at o.search;
           its_own = own_keeps turn n its.0 (placed id) r.history words₁ homes₁ r.debt (Placing n) v.glance same refl
-              (node_hold turn n its.0 born x.number (in_range turn).1 ∙ h.0, h.1) tt (its.0, changed_here r.phase n (placed id) n refl);
+              (node_hold turn n its.0 birth_word x.number (in_range turn).1 ∙ h.0, h.1) tt (its.0, changed_here r.phase n (placed id) n refl);
           holds = λ m. let a = ap (λ (d : Work). if_file m (held_in d)) works in omega arith;
         }
 
     pub births : (slots : ℕ) (carried : List (ℕ × Option Closed))
-        → Made turn carried (word_of v.start n) (λ _. born) (λ _. Births (step slots (word_of v.start n) born 0 none) (v, carried) born)
+        → Made turn carried (word_of v.start n) (λ _. birth_word) (λ _. Births (step slots (word_of v.start n) birth_word 0 none) (v, carried) birth_word)
     births slots carried = (
       w turn born_after,
       takes n None,
@@ -220,7 +220,7 @@ module _ (turn : Turn) where
 
     -- what the pass does has nothing to do with files
     its_calm : (held_in v.work ≡ None) × (busy v.work ≡ n + 1) × ((m : ℕ) → taking m v.work ≡ 0)
-        × (word_at st.words (hold_of v.start x.number) ≡ 0) × (r.debt x.number ≡ 0)
+        × (word_at st.words (hold_word_of v.start x.number) ≡ 0) × (r.debt x.number ≡ 0)
     its_calm = let o = its_log turn in ⊎_elim
         (λ (e : v.work ≡ Emptying n). let h = rw e at o.hold in (ap held_in e, ap busy e, λ m. ap (taking m) e, h.0, h.1))
         (λ (e : v.work ≡ Placing n). let h = rw e at o.hold in (ap held_in e, ap busy e, λ m. ap (taking m) e, h.0, h.1)) works
@@ -306,8 +306,8 @@ seeks_keep k slots id i n m x has searches installs block place = by_turn slots 
     (λ st r here so fits. seek (turn_of m x has.1 id st r here) searches so.0 n so.1 slots m.1)
 
 pub births_keep : BirthsKeep Births
-births_keep k slots id i n m x has works place = by_turn slots (λ _. Unit {0}) (λ k. word_of k n) (λ _. born)
-    (λ i _. Births (step slots i born 0 none) m born) has tt place
+births_keep k slots id i n m x has works place = by_turn slots (λ _. Unit {0}) (λ k. word_of k n) (λ _. birth_word)
+    (λ i _. Births (step slots i birth_word 0 none) m birth_word) has tt place
     (λ st r here _ fits. births (turn_of m x has.1 id st r here) n works slots m.1)
 
 pub rests_keep : RestsKeep Rests

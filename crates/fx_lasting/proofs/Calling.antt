@@ -1,6 +1,6 @@
 -- The places of a call's steps.
 use Rattle.fx_lasting.proofs.Words.{◌≡◌, ◌<◌, ◌≤◌, ℕ, ◌*◌, arith, ⊎_elim, Start, LastingTable, slot_place, hold_place}
-use Rattle.fx_lasting.proofs.Words.{node_place, word_of, hold_of, nodes_of, slots_of, block_for, block_start, HasPlace, IsAtWork, Sat, Emptying, Placing}
+use Rattle.fx_lasting.proofs.Words.{node_place, word_of, hold_word_of, nodes_of, slots_of, block_for, block_start, HasPlace, IsAtWork, Sat, Emptying, Placing}
 use Rattle.fx_lasting.proofs.Words.{Option, Closed, IsInBlock, mul-le-mul_right}
 use Rattle.fx_lasting.proofs.Births.{block_inside}
 use Rattle.fx_lasting.proofs.Running.{its_inside}
@@ -17,7 +17,7 @@ slot_inside t {slot} l is = omega (arith, l, is, t.words)
 pub hold_inside : (t : LastingTable) {p i : ℕ} → p ≤ t.table.shared.key.passes → i ≡ hold_place t.size p → i < t.table.shared.table_id.words
 hold_inside t {p} l is = omega (arith, l, is, t.words, t.key.0)
 
-pub hold_word : (t : LastingTable) {p q i : ℕ} → q ≡ p → i ≡ hold_place t.size p → i ≡ hold_of t.table.shared.key q
+pub hold_word : (t : LastingTable) {p q i : ℕ} → q ≡ p → i ≡ hold_place t.size p → i ≡ hold_word_of t.table.shared.key q
 hold_word t {p} {q} same is = omega (arith, same, is, t.same_size)
 
 -- the word of a node is one of the table

@@ -1,7 +1,7 @@
 -- Steps at which no slot and no node changes: they change the pass alone, and perhaps its hold word or the control word.
 use Rattle.fx_lasting.proofs.Words.{◌≡◌, ◌≢◌, ℕ, ◌+◌, ◌<◌, List, set, length, refl, ap, ◌∙◌, subst, arith, Option, Bool, held_by, File, Event}
-use Rattle.fx_lasting.proofs.Words.{range_of, NodeAgrees, SearchAgrees, Agrees, ControlCounts, slots_of, nodes_of, IsHistory, state_after_all}
-use Rattle.fx_lasting.proofs.Words.{held_in, held_of, taken_of, taking, Work, Glance, Change, ⊎_elim, ◌⊎◌, inr, control_place, word_of, hold_of}
+use Rattle.fx_lasting.proofs.Words.{range_at_start, NodeAgrees, SearchAgrees, Agrees, ControlCounts, slots_of, nodes_of, IsHistory, state_after_all}
+use Rattle.fx_lasting.proofs.Words.{held_in, held_of, taken_of, taking, Work, Glance, Change, ⊎_elim, ◌⊎◌, inr, control_place, word_of, hold_word_of}
 use Rattle.fx_lasting.proofs.Words.{count_in, name_in, HoldAgrees, GuardAgrees, WorkAgrees, sum_set, sum_by, get_elem?, length-set, set-get_or}
 use Rattle.fx_lasting.proofs.Words.{owed, seated, [], IsSeenBy, part_of_pass}
 use Rattle.fx_lasting.proofs.Histories.{Grows}
@@ -39,8 +39,8 @@ module _ (turn : Turn) (h' front : List Event) (words' : List ℕ) (d : Work) (g
     pub removed : (state_after_all v.start h').removed ≡ (state_after_all v.start r.history).removed
     pub slot_words : (s : ℕ) → s < slots_of v.start → slot_word words' s ≡ slot_word st.words s
     pub node_words : (n : ℕ) → word_at words' (word_of v.start n) ≡ word_at st.words (word_of v.start n)
-    pub hold_words : (p : ℕ) → p ≢ x.number → 0 < p → word_at words' (hold_of v.start p) ≡ word_at st.words (hold_of v.start p)
-    pub control : ControlCounts (state_after_all v.start r.history).at (range_of v.start) (set st.views id (w turn calm_after)) (word_at words' control_place)
+    pub hold_words : (p : ℕ) → p ≢ x.number → 0 < p → word_at words' (hold_word_of v.start p) ≡ word_at st.words (hold_word_of v.start p)
+    pub control : ControlCounts (state_after_all v.start r.history).at (range_at_start v.start) (set st.views id (w turn calm_after)) (word_at words' control_place)
     pub taken : (n : ℕ) → taking n d ≡ taking n v.work
     pub owners : (d ≡ v.work) ⊎ (busy v.work ≡ 0)
     pub held : held_by h' x.number ≡ held_in d
@@ -117,7 +117,7 @@ module _ (turn : Turn) (new : ℕ) (d : Work) where
   pub own_kept : {h' : List Event} → Own h' → Agrees v.start (end turn (own_after h'))
   own_kept {h'} s = let low = (in_range turn).0 in let high = (in_range turn).1 in let same = hold_slot turn x.number low high new in
       let o = its_log turn in calm_kept turn h' h' own_words d v.glance v.change record {
-        words = length-set st.words (hold_of v.start x.number) new;
+        words = length-set st.words (hold_word_of v.start x.number) new;
         grows = s.grows;
         legal = s.legal;
         seen = ([], refl);

@@ -1,9 +1,9 @@
 -- Steps on the control word keep the rule: lower, raise and ask.
 use Rattle.fx_lasting.proofs.Words.{◌≡◌, ◌≢◌, ℕ, zero, suc, ◌+◌, ◌-◌, ◌%◌, ◌^◌, ◌<◌, ◌≤◌, List, [], ◌∷◌, set, length, sym, refl, ap, ◌∙◌, subst}
 use Rattle.fx_lasting.proofs.Words.{arith, get_or-set_other, get_or-set_same, Option, IsSome, dite, some, none, some-injective, some-ne-none}
-use Rattle.fx_lasting.proofs.Words.{ℕ_discrete, get_elem?, keeps, step, sum_by, sum_by-cons, Closed, File, Full, ◌▷◌, Event, event_of, sum_set}
-use Rattle.fx_lasting.proofs.Words.{sum_le_at, bias, range_of, Agrees, ControlCounts, WorkAgrees, lengths, owing, owing_of}
-use Rattle.fx_lasting.proofs.Words.{full_in, control_place, slot_place, word_of, hold_of, slots_of}
+use Rattle.fx_lasting.proofs.Words.{ℕ_discrete, get_elem?, keeps, step, sum_by, sum_by-cons, Closed, File, Full, ◌▷◌, Event, pass_event, sum_set}
+use Rattle.fx_lasting.proofs.Words.{sum_le_at, bias, range_at_start, Agrees, ControlCounts, WorkAgrees, lengths, owing, owing_of}
+use Rattle.fx_lasting.proofs.Words.{full_in, control_place, slot_place, word_of, hold_word_of, slots_of}
 use Rattle.fx_lasting.proofs.Words.{state_after_all, IsHistory, Change, Outside, Inside, Log, Start, View, Work, Shared, IsInside, Turns, Asks, Stepped}
 use Rattle.fx_lasting.proofs.Words.{LowersKeep, RaisesKeep, AsksKeep, length-set, inl, held_by, Idle, Announced, Counted, Guarded, Owing, Yielding}
 use Rattle.fx_lasting.proofs.Words.{Searching, Placing, Retiring, Emptying, State, Phase}
@@ -49,8 +49,8 @@ module _ (k : Start) (s : Shared) (r : Agrees k s) where
       go [] is = let a = ap owing ((r.each_view j u there).empty is).2 in omega arith
       go (z ∷ l) is = let a = one_at_most u.change in let b = ap (length {A = Log}) is in omega arith
 
-  pub few_full : full_in (state_after_all k r.history).at (range_of k).0 (range_of k).1 ≤ 256
-  few_full = let a = full_few (state_after_all k r.history).at (range_of k).0 (range_of k).1 in
+  pub few_full : full_in (state_after_all k r.history).at (range_at_start k).0 (range_at_start k).1 ≤ 256
+  few_full = let a = full_few (state_after_all k r.history).at (range_at_start k).0 (range_at_start k).1 in
       let b = r.shape.range in let c = r.shape.slots in omega arith
 
 -- A step that leaves the pass at its work
@@ -64,7 +64,7 @@ module _ (turn : Turn) where
   at_now = (state_after_all v.start r.history).at
 
   abbrev pub range : ℕ × ℕ
-  range = range_of v.start
+  range = range_at_start v.start
 
   pub its_inside : IsInside v.start v.work
   its_inside = is_inside v.start r.phase id v.work (its_work turn)
@@ -80,7 +80,7 @@ module _ (turn : Turn) where
   no_event = record { grows = grows_none x.number r.history; legal = r.legal; state = refl; held = refl }
 
   abbrev h₁ : List Event
-  h₁ = event_of x Full ∷ r.history
+  h₁ = pass_event x Full ∷ r.history
 
   told_full : ((slot : ℕ) → range.0 ≤ slot → slot < range.0 + range.1 → IsSome (at_now slot)) → Quiet h₁
   told_full each = record {
@@ -89,7 +89,7 @@ module _ (turn : Turn) where
         let a = ap (λ (p : ℕ × ℕ). p.0) z in let b = ap (λ (p : ℕ × ℕ). p.1) z in
         each slot (omega (arith, a, b, in_range.0)) (omega (arith, a, b, in_range.1))) tt;
     state = refl;
-    held = held_mine (event_of x Full) r.history refl;
+    held = held_mine (pass_event x Full) r.history refl;
   }
 
   -- the word becomes y
@@ -106,7 +106,7 @@ module _ (turn : Turn) where
     wrote : Quiet h' → ControlCounts at_now range (set st.views id (w turn turn_after)) y → Agrees v.start (end turn turn_after)
     wrote q counts = let o = its_log turn in let same : (s : ℕ) → s < slots_of v.start → slot_word words' s ≡ slot_word st.words s =
         λ s l. read_else (slot_place s) (λ bad. omega arith) in
-        let own = guards_same turn turn_after x.number v.work (read_else (hold_of v.start x.number) (λ bad. let a = (in_range turn).0 in omega arith)) refl
+        let own = guards_same turn turn_after x.number v.work (read_else (hold_word_of v.start x.number) (λ bad. let a = (in_range turn).0 in omega arith)) refl
         (covers_same turn words' same x.number) o.hold o.guarded in calm_kept turn h' h' words' v.work v.glance c record {
           words = length-set st.words control_place y;
           grows = q.grows;
@@ -118,7 +118,7 @@ module _ (turn : Turn) where
           removed = ap (λ (z : State). z.removed) q.state;
           slot_words = same;
           node_words = λ n. read_else (word_of v.start n) (λ bad. omega arith);
-          hold_words = λ p other low. read_else (hold_of v.start p) (λ bad. omega arith);
+          hold_words = λ p other low. read_else (hold_word_of v.start p) (λ bad. omega arith);
           control = subst (ControlCounts at_now range (set st.views id (w turn turn_after)))
               (sym (get_or-set_same st.words control_place y 0 (let a = r.shape.words in omega arith))) counts;
           taken = λ n. refl;

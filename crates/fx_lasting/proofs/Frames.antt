@@ -3,7 +3,7 @@ use Rattle.fx_lasting.proofs.Words.{◌≡◌, ◌≢◌, ℕ, ◌+◌, ◌-◌,
 use Rattle.fx_lasting.proofs.Words.{inr, some, some-injective, get_elem?, set_here, set_else, stands_at, Bool, true, false, ⊎_elim, ◌⊎◌, dite}
 use Rattle.fx_lasting.proofs.Words.{ℕ_discrete, sum_set, mul-le-mul_right, dec_le, SlotAgrees, NodeAgrees, OwnerAgrees, WorkAgrees, LogAgrees}
 use Rattle.fx_lasting.proofs.Words.{ControlCounts, HoldAgrees, GuardAgrees, Does, GlanceAgrees, Heats, MayBeUnmarked, IsInBlock, IsHot, HoldsAt, Home}
-use Rattle.fx_lasting.proofs.Words.{HasFile, IsVacant, name_in, count_in, word_of, hold_of, slots_of, nodes_of, state_after_all, held_in, Nodes}
+use Rattle.fx_lasting.proofs.Words.{IsFileOfNode, IsVacant, name_in, count_in, word_of, hold_word_of, slots_of, nodes_of, state_after_all, held_in, Nodes}
 use Rattle.fx_lasting.proofs.Words.{block_for, block_start, Start, tally, Phase, free, placed, seated, leaving, retired, emptied, owner, Glance, Log}
 use Rattle.fx_lasting.proofs.Words.{View, Work, Idle, Announced, Counted, Guarded, Owing, Yielding, Searching, Placing, Retiring, Emptying, Nothing}
 use Rattle.fx_lasting.proofs.Words.{Hot, Cold, Heating, taken_of, owed, sum_by, suc, owing_of, owing}
@@ -66,8 +66,8 @@ module _ (views : List View) (id : ℕ) (v w : View) (here : get_elem? views id 
       let a = sum_set owing_of views id v w here in let d = ap owing change in let u = ok.counts in rw same record { counts = omega arith }
 
 -- a file whose number and place have not changed
-pub file_same : {node_of : Nodes} {next next' n : ℕ} {home home' : Home} {f : File} → next ≤ next' → home' ≡ home → HasFile node_of next n home f
-    → HasFile node_of next' n home' f
+pub file_same : {node_of : Nodes} {next next' n : ℕ} {home home' : Home} {f : File} → next ≤ next' → home' ≡ home → IsFileOfNode node_of next n home f
+    → IsFileOfNode node_of next' n home' f
 file_same later homed o = let u = o.used in record {
   at_home = homed ∙ o.at_home;
   its_node = o.its_node;
@@ -159,8 +159,8 @@ module _ (turn : Turn) (a : After turn) where
   pub record Leaves : Type 0 where
     -- their hold words, their debts, and the files that they hold by them
     pub guards : (q : ℕ) (d : Work) → q ≢ x.number → (0 < q) × (q ≤ v.start.passes)
-        → HoldAgrees (word_at st.words (hold_of v.start q)) (r.debt q) d → GuardAgrees (slot_word st.words) r.phase q (r.debt q) d
-        → HoldAgrees (word_at a.words (hold_of v.start q)) (a.debt q) d × GuardAgrees (slot_word a.words) a.phase q (a.debt q) d
+        → HoldAgrees (word_at st.words (hold_word_of v.start q)) (r.debt q) d → GuardAgrees (slot_word st.words) r.phase q (r.debt q) d
+        → HoldAgrees (word_at a.words (hold_word_of v.start q)) (a.debt q) d × GuardAgrees (slot_word a.words) a.phase q (a.debt q) d
     pub owned : (n : ℕ) → owner (r.phase n) ≢ 0 → owner (r.phase n) ≢ id + 1 → a.phase n ≡ r.phase n
     pub spare : (n q : ℕ) → r.phase n ≡ free → 0 < q → IsInBlock v.start q n → q ≢ x.number → a.phase n ≡ free
     pub open_file : (j : ℕ) (u : View) (f : File) (n : ℕ) → j ≢ id → get_elem? st.views j ≡ some u → held_in u.work ≡ Some f
@@ -199,10 +199,10 @@ module _ (turn : Turn) (a : After turn) where
     }
 
   -- hold words and debts that are as they were
-  pub guards_same : (q : ℕ) (d : Work) → word_at a.words (hold_of v.start q) ≡ word_at st.words (hold_of v.start q) → a.debt q ≡ r.debt q
+  pub guards_same : (q : ℕ) (d : Work) → word_at a.words (hold_word_of v.start q) ≡ word_at st.words (hold_word_of v.start q) → a.debt q ≡ r.debt q
       → ((n : ℕ) → MayBeUnmarked (slot_word st.words) q (r.phase n) → MayBeUnmarked (slot_word a.words) q (a.phase n))
-      → HoldAgrees (word_at st.words (hold_of v.start q)) (r.debt q) d → GuardAgrees (slot_word st.words) r.phase q (r.debt q) d
-      → HoldAgrees (word_at a.words (hold_of v.start q)) (a.debt q) d × GuardAgrees (slot_word a.words) a.phase q (a.debt q) d
+      → HoldAgrees (word_at st.words (hold_word_of v.start q)) (r.debt q) d → GuardAgrees (slot_word st.words) r.phase q (r.debt q) d
+      → HoldAgrees (word_at a.words (hold_word_of v.start q)) (a.debt q) d × GuardAgrees (slot_word a.words) a.phase q (a.debt q) d
   guards_same q d same owes covers hold guard = rw (same, owes) (hold, go d guard)
     where
       go : (d : Work) → GuardAgrees (slot_word st.words) r.phase q (r.debt q) d → GuardAgrees (slot_word a.words) a.phase q (r.debt q) d

@@ -1,7 +1,7 @@
 -- A block has more nodes than slots and passes can use, so one of them is free.
 use Rattle.fx_lasting.proofs.Words.{◌≡◌, ℕ, zero, suc, ◌+◌, ◌<◌, ◌≤◌, List, [], ◌∷◌, length, sym, refl, ap, ◌∙◌, subst, arith, some, get_elem?}
 use Rattle.fx_lasting.proofs.Words.{⊎_elim, ◌⊎◌, inl, inr, dite, ℕ_discrete, eqb, one_if, sum_by, sum_by-cons, sum_at, sum_le_at, bit_here, bit_else}
-use Rattle.fx_lasting.proofs.Words.{NodeAgrees, OwnerAgrees, HoldAgrees, Names, slots_of, nodes_of, word_of, hold_of, state_after_all, taken_of}
+use Rattle.fx_lasting.proofs.Words.{NodeAgrees, OwnerAgrees, HoldAgrees, Names, slots_of, nodes_of, word_of, hold_word_of, state_after_all, taken_of}
 use Rattle.fx_lasting.proofs.Words.{taking, owed, count_in, name_in, lengths, Phase, free, placed, seated, leaving, retired, emptied, Log, View, Work}
 use Rattle.fx_lasting.proofs.Words.{Idle, Announced, Counted, Guarded, Owing, Yielding, Searching, Placing, Retiring, Emptying, Does, Agrees, Shared}
 use Rattle.fx_lasting.proofs.Words.{Start}
@@ -134,7 +134,7 @@ module _ {k : Start} {st : Shared} (r : Agrees k st) where
   used n l (retired f) is not_free o own = dite (ℕ_discrete (sum_by (taken_of n) st.views) 0)
       (λ none. let z = owed_found r.debt k.passes n (let a = o.somebody in omega arith) in let y = find_pass r z.1 z.2 in
       let h = ((r.each_view y.0 y.1 y.3).logs y.2 y.4).hold in
-      let h' = subst (λ (p : ℕ). HoldAgrees (word_at st.words (hold_of k p)) (r.debt p) y.1.work) y.5 h in
+      let h' = subst (λ (p : ℕ). HoldAgrees (word_at st.words (hold_word_of k p)) (r.debt p) y.1.work) y.5 h in
       let a = used_by n y.0 y.1 y.3 (owes_use n _ y.1.work (rw z.3 at h')) in omega arith)
       (λ some_taken. let a = sum_le_at (taken_of n) (uses n) st.views (λ i u e. takes_use n u.work) in omega arith)
   used n l (emptied j) is not_free o own = let a = does_use n j own refl in omega arith

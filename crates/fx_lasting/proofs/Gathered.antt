@@ -1,7 +1,7 @@
 -- Passes as they are dealt out, and all of them in one seat again: what the one history says of each.
 use Rattle.fx_lasting.proofs.Words.{◌≡◌, ◌≢◌, ℕ, ◌+◌, ◌≤◌, List, [], ◌∷◌, sym, refl, ap, ◌∙◌, subst, arith, Option, All, TableId}
 use Rattle.fx_lasting.proofs.Words.{take, drop, map, length, reverse, Closed, Sat, new_log, pass_of, view_of, IsPassOf, IsSeatOf, IsBetweenCalls}
-use Rattle.fx_lasting.proofs.Words.{LastingPass, Log, Start, View, IsNewPass, dealt, numbers_of, block_start, slots_of, some, get_elem?}
+use Rattle.fx_lasting.proofs.Words.{LastingPass, Log, Start, View, IsNewPass, dealt, numbers_of_pass, block_start, slots_of, some, get_elem?}
 use Rattle.fx_lasting.proofs.Words.{Contains, sum_by, Contents, state_of, IsSettled, contains_head, contains_map, Agrees, LogAgrees, logs_in, Shared}
 use Rattle.fx_lasting.proofs.Words.{opening_of, state_after_all, first_log, Event, HasNoFile, inl, IsAtWork, IsInBlock, IsHistory}
 use Rattle.atomic_table.specs.declared.shared.Seat.{Seat}
@@ -28,7 +28,7 @@ shown p = record (view_of p) { numbers_left = 0 }
 -- it is that, and the files that it can install
 shown_one : {id : TableId} {k : Start} (p : LastingPass) → IsPassOf id k p
     → view_of p ≡ as_first k.installing (shown p)
-shown_one p fits = λ i. record (view_of p) { numbers_left = numbers_of (fits.seated.at.pass.0 i).installing (view_of p).number }
+shown_one p fits = λ i. record (view_of p) { numbers_left = numbers_of_pass (fits.seated.at.pass.0 i).installing (view_of p).number }
 
 shown_all : {id : TableId} {k : Start} (ps : List LastingPass) → ((p : LastingPass) → Contains ps p → IsPassOf id k p)
     → map view_of ps ≡ map (as_first k.installing) (map shown ps)

@@ -1,6 +1,6 @@
 -- Histories that grow by one event.
 use Rattle.fx_lasting.proofs.Words.{◌≡◌, ◌≢◌, ℕ, List, [], ◌∷◌, ◌++◌, sym, refl, ap, ◌∙◌, eq-eqb, ne_eqb, held_after, held_by, IsSeenBy, part_of_pass, Event}
-use Rattle.fx_lasting.proofs.Words.{start_of, range_of, slots_of, state_after_all, Start, ReleasesItsOwn, map, action_of, IsHistory, changed_at, cond}
+use Rattle.fx_lasting.proofs.Words.{state_at_start, range_at_start, slots_of, state_after_all, Start, ReleasesItsOwn, map, action_of, IsHistory, changed_at, cond}
 use Rattle.fx_lasting.proofs.Words.{by_equality}
 use Rattle.fx_plain.specs.Step.{Allows}
 use Rattle.fx_plain.proofs.Leading.{same_shape as shape_of_state}
@@ -45,5 +45,5 @@ legal_before k h [] legal = legal
 legal_before k h (e ∷ since) legal = legal_before k h since record { leads = (legal.leads.0.0, refl); releases = legal.releases.0 }
 
 -- no history changes the size or the range
-pub same_shape : (k : Start) (h : List Event) → ((state_after_all k h).size ≡ slots_of k) × ((state_after_all k h).range ≡ range_of k)
-same_shape k h = shape_of_state (start_of k) (map action_of h)
+pub same_shape : (k : Start) (h : List Event) → ((state_after_all k h).size ≡ slots_of k) × ((state_after_all k h).range ≡ range_at_start k)
+same_shape k h = shape_of_state (state_at_start k) (map action_of h)

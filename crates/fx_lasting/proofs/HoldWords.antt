@@ -1,7 +1,7 @@
 -- Steps of a pass on its own hold word keep the rule: it announces a node, withdraws, or steps down.
 use Rattle.fx_lasting.proofs.Words.{◌≡◌, ℕ, ◌+◌, ◌<◌, List, [], ◌∷◌, sym, refl, ap, ◌∙◌, subst, arith, Option, none}
 use Rattle.fx_lasting.proofs.Words.{keeps, Closed, File, Event, Release, ◌▷◌, WorkAgrees, HoldAgrees, GuardAgrees, NamesNode, HoldsAt, state_after_all, nodes_of}
-use Rattle.fx_lasting.proofs.Words.{hold_of, held_in, held_of, if_file, taking, event_of, Work, Idle, Announced, Guarded, Owing}
+use Rattle.fx_lasting.proofs.Words.{hold_word_of, held_in, held_of, if_file, taking, pass_event, Work, Idle, Announced, Guarded, Owing}
 use Rattle.fx_lasting.proofs.Words.{Yielding, Hot, Announces, Withdraws, StepsDown, AnnouncesKeep, WithdrawsKeep, StepsDownKeep, Goes, announced}
 use Rattle.fx_lasting.proofs.Words.{step, inl, ⊎_elim, dite, ℕ_discrete, one_less_at, bit_here, sum_at, IsInside}
 use Rattle.fx_lasting.proofs.Words.{SearchAgrees}
@@ -14,7 +14,7 @@ module _ (turn : Turn) (carried : List (ℕ × Option Closed)) where
   open turn use {st, v, r, id, x, here, one}
 
   abbrev word : ℕ
-  word = word_at st.words (hold_of v.start x.number)
+  word = word_at st.words (hold_word_of v.start x.number)
 
   -- a step that adds nothing to the history
   module _ (new : ℕ) (d : Work) (calm : busy v.work ≡ 0) (untaken : (n : ℕ) → taking n d ≡ taking n v.work) (holds : held_in d ≡ held_in v.work) where
@@ -42,8 +42,8 @@ module _ (turn : Turn) (carried : List (ℕ × Option Closed)) where
       carried = refl;
     }
 
-  announce : (slots s n : ℕ) → v.work ≡ Idle → v.glance ≡ Hot s n → Made turn carried (hold_of v.start x.number) (λ _. announced n)
-      (λ _. Announces (step slots (hold_of v.start x.number) (announced n) 0 none) (v, carried) (announced n))
+  announce : (slots s n : ℕ) → v.work ≡ Idle → v.glance ≡ Hot s n → Made turn carried (hold_word_of v.start x.number) (λ _. announced n)
+      (λ _. Announces (step slots (hold_word_of v.start x.number) (announced n) 0 none) (v, carried) (announced n))
   announce slots s n is saw = let o = rw is at (its_log turn).hold in
       let inside : n < nodes_of v.start = (rw saw at (its_log turn).sees).1 in
       let calm = ap busy is in let taken = λ (k : ℕ). sym (ap (taking k) is) in let holds = sym (ap held_in is) in (
@@ -57,8 +57,8 @@ module _ (turn : Turn) (carried : List (ℕ × Option Closed)) where
         },
       )
 
-  withdraw : (slots n : ℕ) → v.work ≡ Announced n → Made turn carried (hold_of v.start x.number) (λ _. 0)
-      (Withdraws (step slots (hold_of v.start x.number) 0 0 none) (v, carried))
+  withdraw : (slots n : ℕ) → v.work ≡ Announced n → Made turn carried (hold_word_of v.start x.number) (λ _. 0)
+      (Withdraws (step slots (hold_word_of v.start x.number) 0 0 none) (v, carried))
   withdraw slots n is = let o : NamesNode word (r.debt x.number) n = rw is at (its_log turn).hold in
       let inside : n < nodes_of v.start = subst (WorkAgrees v.start r.phase id) is (its_work turn) in
       let calm = ap busy is in let holds = sym (ap held_in is) in dite (ℕ_discrete word (announced n))
@@ -90,7 +90,7 @@ module _ (turn : Turn) (carried : List (ℕ × Option Closed)) where
   -- a release by the hold word
   module _ (f : File) (n : ℕ) (is : v.work ≡ Guarded f n) where
     abbrev h₁ : List Event
-    h₁ = event_of x (Release f) ∷ r.history
+    h₁ = pass_event x (Release f) ∷ r.history
 
     held_now : 0 < (state_after_all v.start r.history).holds f.number
     held_now = let a = ap (λ (d : Work). if_file f.number (held_in d)) is in let b = bit_here f.number f.number refl in
@@ -105,7 +105,7 @@ module _ (turn : Turn) (carried : List (ℕ × Option Closed)) where
       removed = refl;
       taken = λ k. sym (ap (taking k) is);
       owners = ap busy is;
-      held = held_mine (event_of x (Release f)) r.history refl;
+      held = held_mine (pass_event x (Release f)) r.history refl;
       search = tt;
       hold = (refl, none_owed);
       guarded = tt;
@@ -114,8 +114,8 @@ module _ (turn : Turn) (carried : List (ℕ × Option Closed)) where
           let b = ap (λ (d : Work). if_file m (held_in d)) is in omega arith;
     }
 
-    step_down : (slots : ℕ) → Made turn carried (hold_of v.start x.number) (λ _. 0)
-        (StepsDown (step slots (hold_of v.start x.number) 0 0 none) (v, carried))
+    step_down : (slots : ℕ) → Made turn carried (hold_word_of v.start x.number) (λ _. 0)
+        (StepsDown (step slots (hold_word_of v.start x.number) 0 0 none) (v, carried))
     step_down slots = let o : NamesNode word (r.debt x.number) n = rw is at (its_log turn).hold in
         let its : HoldsAt v.start r.phase f n = subst (WorkAgrees v.start r.phase id) is (its_work turn) in dite (ℕ_discrete word (announced n))
         (λ clean. let none_owed : r.debt x.number ≡ 0 = ⊎_elim (λ (c : (word ≡ n + 1) × (r.debt x.number ≡ 0)). c.1)
@@ -148,14 +148,14 @@ module _ (turn : Turn) (carried : List (ℕ × Option Closed)) where
         ))
 
 pub announces_keep : AnnouncesKeep Announces
-announces_keep k slots id i s n m x has is saw place = by_turn slots (λ _. Unit {0}) (λ k. hold_of k x.number) (λ _. announced n)
+announces_keep k slots id i s n m x has is saw place = by_turn slots (λ _. Unit {0}) (λ k. hold_word_of k x.number) (λ _. announced n)
     (λ i _. Announces (step slots i (announced n) 0 none) m (announced n)) has tt place
     (λ st r here _ fits. announce (turn_of m x has.1 id st r here) m.1 slots s n is saw)
 
 pub withdraws_keep : WithdrawsKeep Withdraws
-withdraws_keep k slots id i n m x has is place = by_turn slots (λ _. Unit {0}) (λ k. hold_of k x.number) (λ _. 0)
+withdraws_keep k slots id i n m x has is place = by_turn slots (λ _. Unit {0}) (λ k. hold_word_of k x.number) (λ _. 0)
     (λ i. Withdraws (step slots i 0 0 none) m) has tt place (λ st r here _ fits. withdraw (turn_of m x has.1 id st r here) m.1 slots n is)
 
 pub steps_down_keep : StepsDownKeep StepsDown
-steps_down_keep k slots id i n f m x has is place = by_turn slots (λ _. Unit {0}) (λ k. hold_of k x.number) (λ _. 0)
+steps_down_keep k slots id i n f m x has is place = by_turn slots (λ _. Unit {0}) (λ k. hold_word_of k x.number) (λ _. 0)
     (λ i. StepsDown (step slots i 0 0 none) m) has tt place (λ st r here _ fits. step_down (turn_of m x has.1 id st r here) m.1 f n is slots)

@@ -4,8 +4,8 @@ use Rattle.fx_lasting.proofs.Words.{refl, ap, ◌∙◌, subst, arith, get_or, O
 use Rattle.fx_lasting.proofs.Words.{Action, sum_by, sum_set, sum_at, sum_of, sum_two, Bool, true, ⊎_elim, one_if, bit_here, once_is, held_by}
 use Rattle.fx_lasting.proofs.Words.{IsSeenBy, at_set, Allows, stepped, Act, Valid, carried_after, SlotAgrees, NodeAgrees, OwnerAgrees, WorkAgrees}
 use Rattle.fx_lasting.proofs.Words.{LogAgrees, ViewAgrees, lengths, Agrees, ControlCounts, HoldAgrees, GuardAgrees, GlanceAgrees, Heats, SearchAgrees}
-use Rattle.fx_lasting.proofs.Words.{count_in, control_place, slot_place, word_of, hold_of, Shared, slots_of, nodes_of, range_of, state_after_all}
-use Rattle.fx_lasting.proofs.Words.{IsHistory, held_in, held_of, taken_of, logs_of, owed, Sat, Stepped, IsInside, event_of, HasPass, Phase}
+use Rattle.fx_lasting.proofs.Words.{count_in, control_place, slot_place, word_of, hold_word_of, Shared, slots_of, nodes_of, range_at_start, state_after_all}
+use Rattle.fx_lasting.proofs.Words.{IsHistory, held_in, held_of, taken_of, logs_of, owed, Sat, Stepped, IsInside, pass_event, HasPass, Phase}
 use Rattle.fx_lasting.proofs.Words.{free, removed_in, Change, Glance, Log, Start, View, Work, found_sum, found_by, at_index}
 use Rattle.fx_lasting.proofs.Histories.{Grows, legal_before}
 use mathlib.Core.Option as maybe
@@ -137,7 +137,7 @@ module _ (turn : Turn) where
 
     -- the pass q of another seat j relies on what is there
     pub record Keeps (j q : ℕ) (d : Work) (g : Glance) : Type 0 where
-      pub hold : HoldAgrees (word_at a.words (hold_of v.start q)) (a.debt q) d
+      pub hold : HoldAgrees (word_at a.words (hold_word_of v.start q)) (a.debt q) d
       pub guarded : GuardAgrees (slot_word a.words) a.phase q (a.debt q) d
       pub sees : GlanceAgrees v.start (slot_word a.words) (λ s. a.over s q) g
       pub heats : Heats v.start (slot_word a.words) (λ s. a.over s q) g
@@ -168,7 +168,7 @@ module _ (turn : Turn) where
       pub search : SearchAgrees v.start x.number a.work
       pub its : Keeps id x.number a.work a.glance
       pub holds : (n : ℕ) → (state_after_all v.start a.h).holds n + held_of n v ≡ (state_after_all v.start r.history).holds n + held_of n w
-      pub control : ControlCounts (state_after_all v.start a.h).at (range_of v.start) views' (word_at a.words control_place)
+      pub control : ControlCounts (state_after_all v.start a.h).at (range_at_start v.start) views' (word_at a.words control_place)
 
     module _ (s : Step) where
       other_log : (j : ℕ) (u : View) (z : Log) → j ≢ id → get_elem? st.views j ≡ some u → Contains u.logs z
@@ -250,14 +250,14 @@ module _ (turn : Turn) where
 
   -- the effect of the step on its pass
   pub tells : (a : After) (carried homes : List (ℕ × Option Closed)) (actions : List Action) → Grows x.number r.history a.front
-      → IsHistory v.start a.front → part_of_pass x.number a.front ≡ map (event_of x) actions ++ part_of_pass x.number r.history
+      → IsHistory v.start a.front → part_of_pass x.number a.front ≡ map (pass_event x) actions ++ part_of_pass x.number r.history
       → IsInside v.start a.work → Stepped (v, carried) actions a.work a.glance a.change (w a, homes)
   tells a carried homes actions grows legal own inside = let o = its_log in rw one record {
     one = (logged x a.front, refl);
     number = refl;
     seen = grows.seen x.front o.seen;
     legal = legal;
-    own = own ∙ ap (λ (l : List Event). map (event_of x) actions ++ l) o.own;
+    own = own ∙ ap (λ (l : List Event). map (pass_event x) actions ++ l) o.own;
     steps = refl;
     work = refl;
     inside = inside;

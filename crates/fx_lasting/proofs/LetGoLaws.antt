@@ -1,7 +1,7 @@
 -- A pass that subtracts a mark or a take from the word of a node keeps the rule.
 use Rattle.fx_lasting.proofs.Words.{◌≡◌, ◌≢◌, ℕ, ◌+◌, ◌-◌, ◌%◌, ◌^◌, ◌<◌, ◌≤◌, List, [], ◌∷◌, set, sym, refl, ap, ◌∙◌, subst, arith, Option, Some}
-use Rattle.fx_lasting.proofs.Words.{none, some, keeps, takes, Closed, ◌▷◌, File, Event, Release, Action, event_of, NodeAgrees, OwnerAgrees}
-use Rattle.fx_lasting.proofs.Words.{MayBeUnmarked, HoldsAt, WorkAgrees, state_after_all, slots_of, nodes_of, word_of, hold_of, held_in, held_of}
+use Rattle.fx_lasting.proofs.Words.{none, some, keeps, takes, Closed, ◌▷◌, File, Event, Release, Action, pass_event, NodeAgrees, OwnerAgrees}
+use Rattle.fx_lasting.proofs.Words.{MayBeUnmarked, HoldsAt, WorkAgrees, state_after_all, slots_of, nodes_of, word_of, hold_word_of, held_in, held_of}
 use Rattle.fx_lasting.proofs.Words.{taken_of, taking, if_file, owed, count_in, Phase, free, placed, seated, leaving, retired, emptied, owner, file_in}
 use Rattle.fx_lasting.proofs.Words.{removed_in, changed_at, changed_here, changed_else, Work, Idle, Counted, Owing, Yielding, Goes, TakesOut, Sat}
 use Rattle.fx_lasting.proofs.Words.{LettingGo, LettingGoKeeps, step, inl, inr, ⊎_elim, ◌⊎◌, dite, ℕ_discrete, eqb, one_if, sum_by, sum_at}
@@ -120,7 +120,7 @@ module _ (turn : Turn) (n : ℕ) where
 
   -- a mark that was owed for nothing
   mark_lets : v.work ≡ Owing n → {f : File} → HoldsAt v.start r.phase f n → r.debt x.number ≡ n + 1
-      → word_at st.words (hold_of v.start x.number) ≡ 0 → IsLetGo turn n f r.history paid []
+      → word_at st.words (hold_word_of v.start x.number) ≡ 0 → IsLetGo turn n f r.history paid []
   mark_lets is its owes empty = record {
     its = its;
     grows = grows_none x.number r.history;
@@ -142,7 +142,7 @@ module _ (turn : Turn) (n : ℕ) where
   -- a file that the pass holds
   module _ (f : File) (holds : held_in v.work ≡ Some f) (its : HoldsAt v.start r.phase f n) where
     abbrev h₁ : List Event
-    h₁ = event_of x (Release f) ∷ r.history
+    h₁ = pass_event x (Release f) ∷ r.history
 
     held_now : 0 < (state_after_all v.start r.history).holds f.number
     held_now = let a = ap (if_file f.number) holds in let b = bit_here f.number f.number refl in
@@ -150,7 +150,7 @@ module _ (turn : Turn) (n : ℕ) where
 
     hold_lets : (debt' : ℕ → ℕ) → busy v.work ≡ 0 → ((m : ℕ) → m ≢ n → owed debt' v.start.passes m ≡ owed r.debt v.start.passes m)
         → ((m : ℕ) → m ≢ n → taking m v.work ≡ 0) → ((q : ℕ) → q ≢ x.number → debt' q ≡ r.debt q) → debt' x.number ≡ 0
-        → word_at st.words (hold_of v.start x.number) ≡ 0 → IsLetGo turn n f h₁ debt' ([] ▷ Release f)
+        → word_at st.words (hold_word_of v.start x.number) ≡ 0 → IsLetGo turn n f h₁ debt' ([] ▷ Release f)
     hold_lets debt' calm owed_else taken_else debts no_debt empty = record {
       its = its;
       grows = grows_one x.number r.history _ refl;
@@ -161,7 +161,7 @@ module _ (turn : Turn) (n : ℕ) where
       removed = refl;
       holds = λ m. let a = one_less_at (state_after_all v.start r.history).holds f.number m held_now in
           let b = ap (if_file m) holds in omega arith;
-      held = held_mine (event_of x (Release f)) r.history refl;
+      held = held_mine (pass_event x (Release f)) r.history refl;
       owed_else = owed_else;
       taken_else = taken_else;
       debts = debts;

@@ -1,8 +1,8 @@
 -- A pass lets a file go: it subtracts a take or a mark from the word of the file's node, or it retires the file.
 use Rattle.fx_lasting.proofs.Words.{◌≡◌, ◌≢◌, ℕ, ◌+◌, ◌-◌, ◌%◌, ◌^◌, ◌<◌, ◌≤◌, List, ◌∷◌, ◌++◌, map, set, sym, refl, ap, ◌∙◌, arith, Option, Some}
-use Rattle.fx_lasting.proofs.Words.{None, none, some, set_here, set_else, Closed, ◌▷◌, File, Event, Close, Action, event_of, held_by, part_of_pass}
-use Rattle.fx_lasting.proofs.Words.{NodeAgrees, OwnerAgrees, MayBeUnmarked, HoldsAt, state_after_all, slots_of, word_of, hold_of, held_of, taken_of}
-use Rattle.fx_lasting.proofs.Words.{taking, if_file, owed, count_in, IsHistory, Phase, free, seated, emptied, owner, file_in, removed_in, if_numbered}
+use Rattle.fx_lasting.proofs.Words.{None, none, some, set_here, set_else, Closed, ◌▷◌, File, Event, Close, Action, pass_event, held_by, part_of_pass}
+use Rattle.fx_lasting.proofs.Words.{NodeAgrees, OwnerAgrees, MayBeUnmarked, HoldsAt, state_after_all, slots_of, word_of, hold_word_of, held_of, taken_of}
+use Rattle.fx_lasting.proofs.Words.{taking, if_file, owed, count_in, IsHistory, Phase, free, seated, emptied, owner, file_in, removed_in, file_if_numbered}
 use Rattle.fx_lasting.proofs.Words.{changed_at, changed_here, changed_else, View, Work, Idle, Counted, Emptying, Goes, TakesOut, length-set, inr, ◌⊎◌}
 use Rattle.fx_lasting.proofs.Words.{dite, ℕ_discrete, eq-eqb, ne_eqb, one_if, sum_by, closed_word, by_equality, sum_set, Agrees, get_elem?}
 use Rattle.fx_lasting.proofs.Histories.{Grows, grows_more, legal_more, part_mine, held_mine, each_changed}
@@ -28,7 +28,7 @@ module _ (turn : Turn) (n : ℕ) (f : File) (h₁ : List Event) (debt' : ℕ →
     pub its : HoldsAt v.start r.phase f n
     pub grows : Grows x.number r.history h₁
     pub legal : IsHistory v.start h₁
-    pub own : part_of_pass x.number h₁ ≡ map (event_of x) xs ++ part_of_pass x.number r.history
+    pub own : part_of_pass x.number h₁ ≡ map (pass_event x) xs ++ part_of_pass x.number r.history
     pub at : (state_after_all v.start h₁).at ≡ (state_after_all v.start r.history).at
     pub fresh : (state_after_all v.start h₁).fresh ≡ (state_after_all v.start r.history).fresh
     pub removed : (state_after_all v.start h₁).removed ≡ (state_after_all v.start r.history).removed
@@ -39,7 +39,7 @@ module _ (turn : Turn) (n : ℕ) (f : File) (h₁ : List Event) (debt' : ℕ →
     pub taken_else : (m : ℕ) → m ≢ n → taking m v.work ≡ 0
     pub debts : (q : ℕ) → q ≢ x.number → debt' q ≡ r.debt q
     pub no_debt : debt' x.number ≡ 0
-    pub hold : word_at st.words (hold_of v.start x.number) ≡ 0
+    pub hold : word_at st.words (hold_word_of v.start x.number) ≡ 0
     pub apart : (m : ℕ) → m ≢ n → busy v.work ≢ m + 1
 
 -- the word of the node becomes this
@@ -56,7 +56,7 @@ module _ {turn : Turn} {n : ℕ} {f : File} {h₁ : List Event} {debt' : ℕ →
   abbrev pub same_slots : (s : ℕ) → s < slots_of v.start → slot_word words₁ s ≡ slot_word st.words s
   same_slots = node_slot turn n g.its.0 less
 
-  no_hold : word_at words₁ (hold_of v.start x.number) ≡ 0
+  no_hold : word_at words₁ (hold_word_of v.start x.number) ≡ 0
   no_hold = node_hold turn n g.its.0 less x.number (in_range turn).1 ∙ g.hold
 
   -- what is counted now, whatever the pass does that holds nothing
@@ -117,7 +117,7 @@ module _ {turn : Turn} {n : ℕ} {f : File} {h₁ : List Event} {debt' : ℕ →
 
   -- The file is closed, and comes out
   abbrev pub h₂ : List Event
-  h₂ = event_of x (Close f) ∷ h₁
+  h₂ = pass_event x (Close f) ∷ h₁
 
   abbrev pub homes₂ : Homes
   homes₂ = set st.homes n none
@@ -127,7 +127,7 @@ module _ {turn : Turn} {n : ℕ} {f : File} {h₁ : List Event} {debt' : ℕ →
 
   -- the file was removed
   pub record IsGone : Type 0 where
-    pub gone : (m : ℕ) → removed_in m (r.phase n) ≡ if_numbered m f
+    pub gone : (m : ℕ) → removed_in m (r.phase n) ≡ file_if_numbered m f
     pub not_seated : (s : ℕ) (h : File) → r.phase n ≢ seated s h
     pub may : (owner (r.phase n) ≡ 0) ⊎ (owner (r.phase n) ≡ id + 1)
     pub marked : (q : ℕ) → q ≢ x.number → (0 < q) × (q ≤ v.start.passes) → MayBeUnmarked (slot_word st.words) q (r.phase n) → ⊥
@@ -193,7 +193,7 @@ module _ {turn : Turn} {n : ℕ} {f : File} {h₁ : List Event} {debt' : ℕ →
         unowed = o.none_owed;
       };
       known = does_now st.views id v (w turn out_after) (Emptying n) here refl;
-      held = held_mine (event_of x (Close f)) h₁ refl ∙ g.held;
+      held = held_mine (pass_event x (Close f)) h₁ refl ∙ g.held;
       search = tt;
       its_own = own_keeps turn n g.its.0 (emptied id) h₂ words₁ homes₂ debt' (Emptying n) v.glance same_slots refl (no_hold, g.no_debt) tt
           (g.its.0, changed_here r.phase n (emptied id) n refl);
@@ -203,6 +203,6 @@ module _ {turn : Turn} {n : ℕ} {f : File} {h₁ : List Event} {debt' : ℕ →
     pub takes_out : TakesOut (v, carried) xs f n (w turn out_after, (n, Some f.identity) ∷ carried)
     takes_out = record {
       stepped = tells turn out_after carried ((n, Some f.identity) ∷ carried) (xs ▷ Close f) grows₂ legal₂
-          (part_mine h₁ refl ∙ ap (λ (l : List Event). event_of x (Close f) ∷ l) g.own) g.its.0;
+          (part_mine h₁ refl ∙ ap (λ (l : List Event). pass_event x (Close f) ∷ l) g.own) g.its.0;
       carried = refl;
     }

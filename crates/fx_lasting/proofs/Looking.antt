@@ -1,10 +1,10 @@
 -- A look-up loads the slot's word: at first, and again when it has announced a node.
 use Rattle.fx_lasting.proofs.Words.{◌≡◌, ◌≢◌, ℕ, ◌+◌, ◌-◌, ◌<◌, List, [], ◌∷◌, sym, refl, ap, ◌∙◌, subst, arith, Option, Some, None, none, keeps}
 use Rattle.fx_lasting.proofs.Words.{Closed, File, Event, Look, ◌▷◌, WorkAgrees, GuardAgrees, GlanceAgrees, Heats, NamesNode, Names, IsSeated}
-use Rattle.fx_lasting.proofs.Words.{state_after_all, slots_of, nodes_of, held_in, if_file, taking, event_of, seated, file_in, Work, Glance, Idle}
+use Rattle.fx_lasting.proofs.Words.{state_after_all, slots_of, nodes_of, held_in, if_file, taking, pass_event, seated, file_in, Work, Glance, Idle}
 use Rattle.fx_lasting.proofs.Words.{Announced, Guarded, Hot, Cold, Heating, Nothing, Glances, Confirms, GlancesKeep, ConfirmsKeep, Goes, Shows, IsHot}
 use Rattle.fx_lasting.proofs.Words.{hot_in, name_in, slot_place, step, inl, inr, ⊎_elim, ◌⊎◌, dite, ℕ_discrete, one_more_at, Bool, true, false}
-use Rattle.fx_lasting.proofs.Words.{hold_of, IsHistory, Start, IsInside, HasNoFile}
+use Rattle.fx_lasting.proofs.Words.{hold_word_of, IsHistory, Start, IsInside, HasNoFile}
 use Rattle.fx_lasting.proofs.Histories.{grows_none, grows_one, legal_more, part_mine, held_mine, same_shape}
 use Rattle.fx_lasting.proofs.Frames.{busy}
 use Rattle.fx_lasting.proofs.Keeping.{Turn, turn_of, After, word_at, slot_word, Made, by_turn, its_log, its_work, tells, w}
@@ -99,7 +99,7 @@ module _ (turn : Turn) (s : ℕ) (inside : s < slots_of turn.v.start) where
 
   -- an empty slot
   abbrev pub h₀ : List Event
-  h₀ = event_of x (Look s None) ∷ r.history
+  h₀ = pass_event x (Look s None) ∷ r.history
 
   legal₀ : there ≡ None → IsHistory v.start h₀
   legal₀ is = legal_more v.start r.legal (size_so, sym is) tt
@@ -113,7 +113,7 @@ module _ (turn : Turn) (s : ℕ) (inside : s < slots_of turn.v.start) where
     removed = refl;
     taken = λ n. sym (no_take works n);
     owners = inr (not_busy works);
-    held = held_mine (event_of x (Look s None)) r.history refl;
+    held = held_mine (pass_event x (Look s None)) r.history refl;
     search = tt;
     its = record {
       hold = holds_none works o.hold;
@@ -175,10 +175,10 @@ module _ (turn : Turn) (s : ℕ) (inside : s < slots_of turn.v.start) where
 
     module _ (f : File) (is : there ≡ Some f) (l : n < nodes_of v.start) (at : r.phase n ≡ seated s f) (hot : IsHot word) where
       abbrev h₁ : List Event
-      h₁ = event_of x (Look s (Some f)) ∷ r.history
+      h₁ = pass_event x (Look s (Some f)) ∷ r.history
 
       -- the announcement isn't marked
-      unmarked : NamesNode (word_at st.words (hold_of v.start x.number)) (r.debt x.number) n
+      unmarked : NamesNode (word_at st.words (hold_word_of v.start x.number)) (r.debt x.number) n
       unmarked = rw works at (its_log turn).hold
 
       found_file : Reads turn (Guarded f n) Nothing h₁
@@ -190,7 +190,7 @@ module _ (turn : Turn) (s : ℕ) (inside : s < slots_of turn.v.start) where
         removed = refl;
         taken = λ k. sym (ap (taking k) works);
         owners = inr (ap busy works);
-        held = held_mine (event_of x (Look s (Some f))) r.history refl;
+        held = held_mine (pass_event x (Look s (Some f))) r.history refl;
         search = tt;
         its = record { hold = unmarked; guarded = guarded; sees = tt; heats = heats_all calm_hot Nothing; work = (l, ap file_in at) };
         holds = λ m. let a = one_more_at (state_after_all v.start r.history).holds f.number m in

@@ -1,8 +1,8 @@
 -- A step on one node, at which no slot changes: on its word and place, or on the hold word of a pass that names it.
 use Rattle.fx_lasting.proofs.Words.{◌≡◌, ◌≢◌, ℕ, ◌+◌, ◌<◌, ◌≤◌, List, [], set, length, sym, refl, ap, ◌∙◌, subst, arith, Option, Some, Bool, some}
-use Rattle.fx_lasting.proofs.Words.{get_elem?, held_by, changed_at, File, Event, range_of, NodeAgrees, OwnerAgrees, WorkAgrees, SearchAgrees, Agrees}
+use Rattle.fx_lasting.proofs.Words.{get_elem?, held_by, changed_at, File, Event, range_at_start, NodeAgrees, OwnerAgrees, WorkAgrees, SearchAgrees, Agrees}
 use Rattle.fx_lasting.proofs.Words.{full_in, slots_of, nodes_of, IsHistory, state_after_all, held_in, held_of, taken_of, taking, owed, Phase, free}
-use Rattle.fx_lasting.proofs.Words.{seated, owner, file_in, removed_in, View, Work, ⊎_elim, ◌⊎◌, inr, control_place, word_of, hold_of, count_in}
+use Rattle.fx_lasting.proofs.Words.{seated, owner, file_in, removed_in, View, Work, ⊎_elim, ◌⊎◌, inr, control_place, word_of, hold_word_of, count_in}
 use Rattle.fx_lasting.proofs.Words.{name_in, IsInBlock, sum_by, sum_set, HoldAgrees, GuardAgrees, MayBeUnmarked, Glance}
 use Rattle.fx_lasting.proofs.Histories.{Grows, each_changed}
 use Rattle.fx_lasting.proofs.Frames.{busy, owner_stays, slot_same, node_same, control_same, Leaves, keeps_other, one_block}
@@ -56,8 +56,8 @@ module _ (turn : Turn) (q : ℕ) (its : q < nodes_of turn.v.start) (ph : Phase) 
     pub open_file : (j : ℕ) (u : View) (f : File) → j ≢ id → get_elem? st.views j ≡ some u → held_in u.work ≡ Some f
         → file_in (r.phase q) ≡ Some f → file_in ph ≡ Some f
     pub guards : (p : ℕ) (e : Work) → p ≢ x.number → (0 < p) × (p ≤ v.start.passes)
-        → HoldAgrees (word_at st.words (hold_of v.start p)) (r.debt p) e → GuardAgrees (slot_word st.words) r.phase p (r.debt p) e
-        → HoldAgrees (word_at words' (hold_of v.start p)) (debt' p) e × GuardAgrees (slot_word words') (changed_at r.phase q ph) p (debt' p) e
+        → HoldAgrees (word_at st.words (hold_word_of v.start p)) (r.debt p) e → GuardAgrees (slot_word st.words) r.phase p (r.debt p) e
+        → HoldAgrees (word_at words' (hold_word_of v.start p)) (debt' p) e × GuardAgrees (slot_word words') (changed_at r.phase q ph) p (debt' p) e
     pub node : NodeAgrees before (slots_of v.start) (λ s. count_in (slot_word st.words s)) r.node_of r.next_number q
         (word_at words' (word_of v.start q)) (sum_by (taken_of q) (set st.views id (w turn after))) (owed debt' v.start.passes q)
         (get_elem? homes' q) ph
@@ -70,7 +70,7 @@ module _ (turn : Turn) (q : ℕ) (its : q < nodes_of turn.v.start) (ph : Phase) 
 
   -- The pass itself, where no slot's word has changed and it sees what it saw
   pub own_keeps : ((s : ℕ) → s < slots_of v.start → slot_word words' s ≡ slot_word st.words s) → v.glance ≡ g
-      → HoldAgrees (word_at words' (hold_of v.start x.number)) (debt' x.number) d
+      → HoldAgrees (word_at words' (hold_word_of v.start x.number)) (debt' x.number) d
       → GuardAgrees (slot_word words') (changed_at r.phase q ph) x.number (debt' x.number) d → WorkAgrees v.start (changed_at r.phase q ph) id d
       → Keeps turn after id x.number d g
   own_keeps same is hold guard work = let o = its_log turn in record {
@@ -83,10 +83,10 @@ module _ (turn : Turn) (q : ℕ) (its : q < nodes_of turn.v.start) (ph : Phase) 
 
   -- another pass, whose hold word and debt have not changed
   pub guards_else : ((s : ℕ) → s < slots_of v.start → slot_word words' s ≡ slot_word st.words s) → (p : ℕ) (e : Work)
-      → word_at words' (hold_of v.start p) ≡ word_at st.words (hold_of v.start p) → debt' p ≡ r.debt p
+      → word_at words' (hold_word_of v.start p) ≡ word_at st.words (hold_word_of v.start p) → debt' p ≡ r.debt p
       → (MayBeUnmarked (slot_word st.words) p (r.phase q) → MayBeUnmarked (slot_word words') p ph)
-      → HoldAgrees (word_at st.words (hold_of v.start p)) (r.debt p) e → GuardAgrees (slot_word st.words) r.phase p (r.debt p) e
-      → HoldAgrees (word_at words' (hold_of v.start p)) (debt' p) e × GuardAgrees (slot_word words') (changed_at r.phase q ph) p (debt' p) e
+      → HoldAgrees (word_at st.words (hold_word_of v.start p)) (r.debt p) e → GuardAgrees (slot_word st.words) r.phase p (r.debt p) e
+      → HoldAgrees (word_at words' (hold_word_of v.start p)) (debt' p) e × GuardAgrees (slot_word words') (changed_at r.phase q ph) p (debt' p) e
   guards_else same p e held owes here = guards_same turn after p e held owes (λ n. each_changed
       (λ m z. MayBeUnmarked (slot_word st.words) p (r.phase m) → MayBeUnmarked (slot_word words') p z) r.phase
       (λ is may. here (rw is at may)) (λ _. covers_same turn words' same p n))
@@ -145,7 +145,7 @@ module _ (turn : Turn) (q : ℕ) (its : q < nodes_of turn.v.start) (ph : Phase) 
       search = s.search;
       its = s.its_own;
       holds = s.holds;
-      control = control_same st.views id v (w turn after) here (ap (λ (f : ℕ → Option File). full_in f (range_of v.start).0 (range_of v.start).1) s.at)
+      control = control_same st.views id v (w turn after) here (ap (λ (f : ℕ → Option File). full_in f (range_at_start v.start).0 (range_at_start v.start).1) s.at)
           s.control_word refl r.control;
     }
       where

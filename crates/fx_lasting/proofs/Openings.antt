@@ -1,8 +1,8 @@
 -- A table that is opened keeps the rule.
 use Rattle.fx_lasting.proofs.Words.{◌≡◌, ℕ, zero, suc, ◌+◌, ◌<◌, ◌≤◌, Bool, nat_lt, cond, List, [], ◌∷◌, map, sym, refl, ap, ◌∙◌, subst, arith}
 use Rattle.fx_lasting.proofs.Words.{lt-ltb, le-ltb, inr, Option, Some, None, slice_index, dite, some, some-injective, some-ne-none, dec_le, get_elem?}
-use Rattle.fx_lasting.proofs.Words.{Closed, state_of, State, File, born, name_made, entry_made, takes_made, SlotAgrees, NodeAgrees, OwnerAgrees}
-use Rattle.fx_lasting.proofs.Words.{LogAgrees, ViewAgrees, Agrees, new_logs, word_of, slot_place, count_in, slots_of, range_of, nodes_of}
+use Rattle.fx_lasting.proofs.Words.{Closed, state_of, State, File, birth_word, name_made, entry_made, takes_made, SlotAgrees, NodeAgrees, OwnerAgrees}
+use Rattle.fx_lasting.proofs.Words.{LogAgrees, ViewAgrees, Agrees, new_logs, word_of, slot_place, count_in, slots_of, range_at_start, nodes_of}
 use Rattle.fx_lasting.proofs.Words.{state_after_all, new_log, Phase, free, seated, Log, Start, View, Idle, Nothing, length-map, at_map, first_view}
 use Rattle.fx_lasting.proofs.Words.{contains_map, once_is, counted_once, range_with_len, one_if, removed_in, length-map-range_with_len, owed, ne_eqb}
 use Rattle.fx_lasting.proofs.Words.{false, Contains, eqb, sum_of, word_for, node_for, home_for, OpensWith, first_file, bit_here}
@@ -79,7 +79,7 @@ module _ (k : Start) (words : List ℕ) (homes : List (Option Closed)) (o : Open
         untaken = refl;
         unowed = none_owed k.passes n;
       }
-      slot_node low (Some f) is = let w : slice_index words (word_of k n) ≡ born = o.node_words n low ∙ ap node_for is in
+      slot_node low (Some f) is = let w : slice_index words (word_of k n) ≡ birth_word = o.node_words n low ∙ ap node_for is in
           let z = takes_made f.number f.identity.entry in let e = o.slot_words n low ∙ ap word_for is in let c = ap count_in e in
           let q = its_number n f is in record {
             file = record {
@@ -163,5 +163,5 @@ module _ (k : Start) (words : List ℕ) (homes : List (Option Closed)) (o : Open
     passes = λ p. let a = counted_once (λ (y : Log). y.number) new_log (λ n. refl) p k.passes in omega arith;
     whole = let a = length-map-range_with_len new_log 1 k.passes in omega arith;
     authors = λ p none. refl;
-    control = let a = o.control in let b = full_few (first_file k) (range_of k).0 (range_of k).1 in record { counts = omega arith };
+    control = let a = o.control in let b = full_few (first_file k) (range_at_start k).0 (range_at_start k).1 in record { counts = omega arith };
   }

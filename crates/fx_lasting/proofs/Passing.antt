@@ -2,13 +2,13 @@
 use Rattle.fx_lasting.proofs.Words.{◌≡◌, ℕ, ◌+◌, ◌-◌, ◌≤◌, ◌<◌, ◌^◌, ◌⊎◌, List, [], sym, refl, ap, ◌∙◌, subst, arith, Bool, true, false, Option, Some, None}
 use Rattle.fx_lasting.proofs.Words.{Start, Sat, Work, Glance, Change, Nothing, Outside, Runs, Stepped, IsAtWork, IsInBlock}
 use Rattle.fx_lasting.proofs.Words.{part_of_pass, TableId, Idle, Counted, Guarded, Retiring, LastingPass, LastingTable, IsSeatOf, IsPassOf, IsPassOfTable, IsBetweenCalls}
-use Rattle.fx_lasting.proofs.Words.{opening_of, view_of, pass_of, pass_in, numbers_of, doing_in, hold_at, retired_at, retiring, IsHistory}
+use Rattle.fx_lasting.proofs.Words.{opening_of, view_of, pass_of, pass_in, numbers_of_pass, doing_in, hold_at, retired_at, retiring_work, IsHistory}
 use Rattle.fx_lasting.proofs.Words.{Action, ◌▷◌, Put, Clear, Take, Release, Close, Look, File, Closed, numbered, name_in, count_in, LetsFileGo}
 use Rattle.std.specs.Prelude.{option_map, Result, Ok, Err, ok_or, is_err, is_some, not, ◌==◌, ◌≢◌}
 use Rattle.std.proofs.lemmas.Bool.{not-false, not-true}
 use Rattle.fx_table.specs.Calls.{Use, no_use, one_number, one_look, Adds, IsNewFile, Placed, Cleared, Taken, ReleasesFile, LookedAfter, LookedUp}
 use Rattle.fx_table.proofs.Calls.{adds_then, adds_nothing}
-use Rattle.fx_lasting.proofs.Words.{TakesAt, LetsMarkGo, Announced, first_visit, hot_in, cond, inl, inr}
+use Rattle.fx_lasting.proofs.Words.{LooksByTake, LetsMarkGo, Announced, first_visit, hot_in, cond, inl, inr}
 use Rattle.fx_table.specs.Opening.{Opening}
 use Rattle.fx_table.specs.declared.limits.TheConstants.{PASS_LOOKS}
 use Rattle.fx_table.specs.Pass.{PassView, IsIdle, IsFileRemoval}
@@ -38,7 +38,7 @@ module _ {id : TableId} {k : Start} {p : LastingPass} (seated : IsSeatOf id k p)
     chain = refl;
     drawn = refl;
     no_chains_left = refl;
-    numbers_left = λ i. numbers_of (r.start i).installing (r.number i);
+    numbers_left = λ i. numbers_of_pass (r.start i).installing (r.number i);
     looks_left = refl;
   }
 
@@ -77,7 +77,7 @@ same_view p {m'} r front same = λ i. record {
   chain = 0;
   drawn = [];
   no_chains_left = false;
-  numbers_left = numbers_of (r.start i).installing (r.number i);
+  numbers_left = numbers_of_pass (r.start i).installing (r.number i);
   looks_left = PASS_LOOKS;
   doing = (ap doing_in r.work ∙ same) i;
 }
@@ -199,17 +199,17 @@ module _ (k : Start) (v : PassView) (slot found : ℕ) (w : PassView) where
   is_removal f = record { entry = refl; same = λ e. absurd (cc e) }
 
   pub cleared_so : (file : Option File) (removed : Option Retired) → removed ≡ value_of file
-      → Adds o v ([] ▷ Clear slot file) (doing_in (retiring k found file)) no_use w → Cleared o v slot removed w
+      → Adds o v ([] ▷ Clear slot file) (doing_in (retiring_work k found file)) no_use w → Cleared o v slot removed w
   cleared_so None removed is adds = rw is adds
   cleared_so (Some f) removed is adds = rw is (f, is_removal f, adds)
 
   pub taken_so : (file : Option File) (removed : Option Retired) → removed ≡ value_of file → (result : Result Retired Empty) (empty : Empty)
-      → result ≡ ok_or removed empty → Adds o v ([] ▷ Take slot file) (doing_in (retiring k found file)) no_use w → Taken o v slot result w
+      → result ≡ ok_or removed empty → Adds o v ([] ▷ Take slot file) (doing_in (retiring_work k found file)) no_use w → Taken o v slot result w
   taken_so None removed is result empty answer adds = rw (answer, is) adds
   taken_so (Some f) removed is result empty answer adds = rw (answer, is) (f, is_removal f, adds)
 
   pub placed_so : (file : Option File) (removed : Option Retired) → removed ≡ value_of file → (n : ℕ) (its : Closed)
-      → Adds o v ([] ▷ Put slot (numbered n its) file) (doing_in (retiring k found file)) one_number w → Placed o v slot its removed w
+      → Adds o v ([] ▷ Put slot (numbered n its) file) (doing_in (retiring_work k found file)) one_number w → Placed o v slot its removed w
   placed_so None removed is n its adds = rw is (numbered n its, record { identity = refl; same = λ e. absurd (cc e) }, adds)
   placed_so (Some f) removed is n its adds =
       rw is (numbered n its, record { identity = refl; same = λ e. absurd (cc e) }, (f, is_removal f, adds))
@@ -234,7 +234,7 @@ at_ease {p = p} seated {m'} {xs} {w} {g} {n} r = subst (λ (z : Change). Runs p.
 -- A look-up
 module _ {id : TableId} {k : Start} {p : LastingPass} (seated : IsSeatOf id k p) (slot : ℕ) (m' : Sat) where
   -- a pass that took what the slot names
-  pub looked_so : (r : Result Hold LookFault) → TakesAt slot p.seat.me r m'
+  pub looked_so : (r : Result Hold LookFault) → LooksByTake slot p.seat.me r m'
       → LookedAfter (opening_of k) (view_of p) [] slot r (pass_of m'.0)
   looked_so (Ok hold) t = (
     t.0,
@@ -246,13 +246,13 @@ module _ {id : TableId} {k : Start} {p : LastingPass} (seated : IsSeatOf id k p)
   looked_so (Err EmptySlot) t = adds_so seated t one_look
 
   -- it is one run of steps, and the pass knows how it ended
-  pub took_run : (r : Result Hold LookFault) → TakesAt slot p.seat.me r m' → (idle : Bool) → is_err r ≡ idle → (passes visit next : ℕ)
+  pub took_run : (r : Result Hold LookFault) → LooksByTake slot p.seat.me r m' → (idle : Bool) → is_err r ≡ idle → (passes visit next : ℕ)
       → (xs : List Action) × (w : Work) × Runs p.seat.me xs w Nothing p.seat.me.0.change 2 m' × IsBetweenCalls passes idle false visit next w
   took_run (Ok hold) t idle is passes visit next = ([] ▷ Look slot (Some t.0), Counted t.0 hold.node, t.2, (sym is, refl))
   took_run (Err Spent) t idle is passes visit next = absurd t
   took_run (Err EmptySlot) t idle is passes visit next = ([] ▷ Look slot None, Idle, t, sym is)
 
-  pub never_spent : (r : Result Hold LookFault) → TakesAt slot p.seat.me r m' → r ≢ Err Spent
+  pub never_spent : (r : Result Hold LookFault) → LooksByTake slot p.seat.me r m' → r ≢ Err Spent
   never_spent (Ok hold) t is = cc is
   never_spent (Err Spent) t is = t
   never_spent (Err EmptySlot) t is = cc is
@@ -310,7 +310,7 @@ marks_run m m' n (Some file) lets = ([] ▷ Close lets.0, lets.2)
 -- a removal, and a pass that knows of it
 pub knows_removed : (k : Start) (found : ℕ) (file : Option File) (removed : Option Retired) (idle guarded : Bool) (visit next : ℕ)
     → removed ≡ option_map (λ (f : File). retired_at f (name_in found - 1) (count_in found)) file → is_some removed ≡ not idle
-    → visit ≡ first_visit k.passes found → IsBetweenCalls k.passes idle guarded visit next (retiring k found file)
+    → visit ≡ first_visit k.passes found → IsBetweenCalls k.passes idle guarded visit next (retiring_work k found file)
 knows_removed k found None removed idle guarded visit next is says first = not-false idle (sym says ∙ ap is_some is)
 knows_removed k found (Some f) removed idle guarded visit next is says first = (
   not-true idle (sym says ∙ ap is_some is),
@@ -335,10 +335,10 @@ account_so range slot found (Some f) removed inside was_empty is says at =
 
 -- a pass that was idle, once a slot's old file is with it
 pub at_ease_looking : {id : TableId} {k : Start} {p : LastingPass} → IsPassOf id k p → {m' : Sat} {xs : List Action} {j : Start} (found : ℕ)
-    (file : Option File) {n : ℕ} → Runs p.seat.me xs (retiring j found file) p.seat.me.0.glance Outside n m' → j ≡ k
-    → Runs p.seat.me xs (retiring k found file) Nothing Outside n m'
+    (file : Option File) {n : ℕ} → Runs p.seat.me xs (retiring_work j found file) p.seat.me.0.glance Outside n m' → j ≡ k
+    → Runs p.seat.me xs (retiring_work k found file) Nothing Outside n m'
 at_ease_looking {p = p} fits {m'} {xs} found file {n = n} r same =
-    subst (λ (z : Start × Glance). Runs p.seat.me xs (retiring z.0 found file) z.1 Outside n m') (λ i. (same i, fits.calm i)) r
+    subst (λ (z : Start × Glance). Runs p.seat.me xs (retiring_work z.0 found file) z.1 Outside n m') (λ i. (same i, fits.calm i)) r
 
 -- the first visit of a retirement, as the table counts its passes
 pub first_by : (t : LastingTable) (found : ℕ) → first_visit t.passes found ≡ first_visit t.table.shared.key.passes found
@@ -347,8 +347,8 @@ first_by t found = ap (λ (n : ℕ). first_visit n found) t.key.0
 -- a pass that can install a file is one of those that install
 pub may_install : {id : TableId} {k : Start} {p : LastingPass} → IsSeatOf id k p → 0 < (view_of p).numbers_left → p.number ≤ k.installing
 may_install {k = k} {p = p} seated some_left = dite (dec_le p.number k.installing) (λ few. few)
-    (λ many. let none_left : numbers_of k.installing p.number ≡ 0 = ap (λ (b : Bool). cond b 0 64) (lt-ltb k.installing p.number (omega (arith, many))) in
-    let same : (view_of p).numbers_left ≡ numbers_of k.installing p.number = λ i. numbers_of (seated.at.pass.0 i).installing (number_is seated.at i) in
+    (λ many. let none_left : numbers_of_pass k.installing p.number ≡ 0 = ap (λ (b : Bool). cond b 0 64) (lt-ltb k.installing p.number (omega (arith, many))) in
+    let same : (view_of p).numbers_left ≡ numbers_of_pass k.installing p.number = λ i. numbers_of_pass (seated.at.pass.0 i).installing (number_is seated.at i) in
     absurd (omega (arith, some_left, same, none_left)))
 
 -- the seat of an idle pass

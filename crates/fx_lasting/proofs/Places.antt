@@ -1,6 +1,6 @@
 -- Places are inside, and apart; and what a write to one of them leaves as it was.
 use Rattle.fx_lasting.proofs.Words.{◌≡◌, ◌≢◌, ℕ, ◌<◌, ◌≤◌, List, set, arith, get_or-set_other, get_or-set_same, control_place, slot_place, word_of}
-use Rattle.fx_lasting.proofs.Words.{hold_of, slots_of, nodes_of, slot_of, pass_at, Start}
+use Rattle.fx_lasting.proofs.Words.{hold_word_of, slots_of, nodes_of, slot_of, pass_at, Start}
 use Rattle.fx_lasting.specs.Layout.{PlacesAreInside, PlacesAreApart}
 use Rattle.fx_lasting.proofs.Keeping.{Turn, word_at, slot_word}
 
@@ -28,7 +28,7 @@ places_apart size passes = record {
 pub slot_back : (s : ℕ) → slot_of (slot_place s) ≡ s
 slot_back s = omega arith
 
-pub pass_back : (k : Start) (p : ℕ) → pass_at k (hold_of k p) ≡ p
+pub pass_back : (k : Start) (p : ℕ) → pass_at k (hold_word_of k p) ≡ p
 pass_back k p = omega arith
 
 -- the word of a node is written
@@ -50,7 +50,7 @@ module _ (turn : Turn) (q : ℕ) (its : q < nodes_of turn.v.start) (new : ℕ) w
   pub node_slot : (s : ℕ) → s < slots_of v.start → slot_word node_words s ≡ slot_word st.words s
   node_slot s l = node_apart (λ same. omega arith)
 
-  pub node_hold : (p : ℕ) → p ≤ v.start.passes → word_at node_words (hold_of v.start p) ≡ word_at st.words (hold_of v.start p)
+  pub node_hold : (p : ℕ) → p ≤ v.start.passes → word_at node_words (hold_word_of v.start p) ≡ word_at st.words (hold_word_of v.start p)
   node_hold p l = node_apart (λ same. omega arith)
 
   pub node_control : word_at node_words control_place ≡ word_at st.words control_place
@@ -61,13 +61,13 @@ module _ (turn : Turn) (p : ℕ) (low : 0 < p) (high : p ≤ turn.v.start.passes
   open turn use {st, v, r}
 
   abbrev pub hold_words : List ℕ
-  hold_words = set st.words (hold_of v.start p) new
+  hold_words = set st.words (hold_word_of v.start p) new
 
-  pub hold_here : word_at hold_words (hold_of v.start p) ≡ new
-  hold_here = get_or-set_same st.words (hold_of v.start p) new 0 (let a = r.shape.words in omega arith)
+  pub hold_here : word_at hold_words (hold_word_of v.start p) ≡ new
+  hold_here = get_or-set_same st.words (hold_word_of v.start p) new 0 (let a = r.shape.words in omega arith)
 
-  hold_apart : {place : ℕ} → place ≢ hold_of v.start p → word_at hold_words place ≡ word_at st.words place
-  hold_apart {place} other = get_or-set_other st.words (hold_of v.start p) place new 0 other
+  hold_apart : {place : ℕ} → place ≢ hold_word_of v.start p → word_at hold_words place ≡ word_at st.words place
+  hold_apart {place} other = get_or-set_other st.words (hold_word_of v.start p) place new 0 other
 
   pub hold_node : (n : ℕ) → word_at hold_words (word_of v.start n) ≡ word_at st.words (word_of v.start n)
   hold_node n = hold_apart (λ same. omega arith)
@@ -75,7 +75,7 @@ module _ (turn : Turn) (p : ℕ) (low : 0 < p) (high : p ≤ turn.v.start.passes
   pub hold_slot : (s : ℕ) → s < slots_of v.start → slot_word hold_words s ≡ slot_word st.words s
   hold_slot s l = hold_apart (λ same. omega arith)
 
-  pub hold_else : (q : ℕ) → q ≢ p → word_at hold_words (hold_of v.start q) ≡ word_at st.words (hold_of v.start q)
+  pub hold_else : (q : ℕ) → q ≢ p → word_at hold_words (hold_word_of v.start q) ≡ word_at st.words (hold_word_of v.start q)
   hold_else q other = hold_apart (λ same. other (omega arith))
 
   pub hold_control : word_at hold_words control_place ≡ word_at st.words control_place
@@ -100,7 +100,7 @@ module _ (turn : Turn) (s : ℕ) (inside : s < slots_of turn.v.start) (new : ℕ
   pub slot_else : (i : ℕ) → i ≢ s → slot_word slot_words i ≡ slot_word st.words i
   slot_else i other = slot_apart (λ same. other (omega arith))
 
-  pub slot_hold : (p : ℕ) → 0 < p → word_at slot_words (hold_of v.start p) ≡ word_at st.words (hold_of v.start p)
+  pub slot_hold : (p : ℕ) → 0 < p → word_at slot_words (hold_word_of v.start p) ≡ word_at st.words (hold_word_of v.start p)
   slot_hold p low = slot_apart (λ same. omega arith)
 
   pub slot_control : word_at slot_words control_place ≡ word_at st.words control_place

@@ -2,7 +2,7 @@
 use Rattle.fx_lasting.proofs.Words.{◌≡◌, ℕ, ◌+◌, ◌-◌, ◌%◌, ◌^◌, ◌<◌, ◌≤◌, List, [], sym, refl, ap, ◌∙◌, subst, arith, Option, Some, none, keeps}
 use Rattle.fx_lasting.proofs.Words.{takes, Closed, File, WorkAgrees, MayBeUnmarked, state_after_all, nodes_of, word_of, held_in, if_file, taken_of}
 use Rattle.fx_lasting.proofs.Words.{taking, owed, leaving, retired, owner, file_in, removed_in, Work, Retiring, Retires, RetiresKeep}
-use Rattle.fx_lasting.proofs.Words.{retire_amount_of, step, inr, dite, ℕ_discrete, eq-eqb, sum_by}
+use Rattle.fx_lasting.proofs.Words.{retirement_amount, step, inr, dite, ℕ_discrete, eq-eqb, sum_by}
 use Rattle.fx_lasting.proofs.Histories.{grows_none}
 use Rattle.fx_lasting.proofs.Frames.{busy}
 use Rattle.fx_lasting.proofs.Keeping.{Turn, turn_of, word_at, slot_word, Made, by_turn, its_log, its_work, w}
@@ -39,7 +39,7 @@ module _ (turn : Turn) (f : File) (n t nx m : ℕ) (works : turn.v.work ≡ Reti
   }
 
   abbrev amount : ℕ
-  amount = retire_amount_of t m
+  amount = retirement_amount t m
 
   abbrev found : ℕ
   found = word_at st.words (word_of v.start n)
@@ -102,6 +102,6 @@ module _ (turn : Turn) (f : File) (n t nx m : ℕ) (works : turn.v.work ≡ Reti
 pub retires_keep : RetiresKeep Retires
 retires_keep k slots id i n t nx m amount f s x has works done place by = rw by
     (by_turn slots (λ (k : _). (p : ℕ) → nx ≤ p → p ≤ k.passes → p ≡ x.number) (λ k. word_of k n)
-    (λ word. (word + (2 ^ 64 - retire_amount_of t m)) % 2 ^ 64)
-    (λ i. Retires (step slots i (retire_amount_of t m) 0 none) s) has done place
+    (λ word. (word + (2 ^ 64 - retirement_amount t m)) % 2 ^ 64)
+    (λ i. Retires (step slots i (retirement_amount t m) 0 none) s) has done place
     (λ st r here done fits. retires_either (turn_of s x has.1 id st r here) f n t nx m works done slots s.1 fits))

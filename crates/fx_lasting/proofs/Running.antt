@@ -3,7 +3,7 @@ use Rattle.fx_lasting.proofs.Words.{◌≡◌, ◌≤◌, ℕ, ◌+◌, List, []
 use Rattle.fx_lasting.proofs.Words.{IsAtWork, Log, first_log, ◌∷◌, ◌-◌, ◌<◌, ⊎_elim, inl, dite, ℕ_discrete, eq-eqb, ne_eqb, Option, Some, None, Closed, File}
 use Rattle.fx_lasting.proofs.Words.{◌▷◌, Release, Close, Look, Idle, Owing, Yielding, Counted, Cold, TakesOut, LettingGo, Takes, glance_after}
 use Rattle.fx_lasting.proofs.Words.{LetsMarkGo, LetsFileGo, HasPlace, IsReleasing, HasToLetGo, nodes_of, name_in, node_in, At}
-use Rattle.fx_lasting.proofs.Words.{Glance, Work, Start, IsHistory, pass_in, event_of, part_of_pass, IsInside, rested}
+use Rattle.fx_lasting.proofs.Words.{Glance, Work, Start, IsHistory, pass_in, pass_event, part_of_pass, IsInside, rested}
 use Rattle.std.proofs.Common.{append_assoc}
 use mathlib.Core.List.{map-append}
 use Rattle.fx_table.proofs.Calls.{seen_further}
@@ -18,13 +18,13 @@ runs_then {m} {m'} {m''} {xs} {ys} {w' = w'} {n = n} {n' = n'} a b = record {
   number = b.number ∙ a.number;
   seen = seen_further (pass_in m).front (pass_in m').front (pass_in m'').front a.seen b.seen;
   legal = subst (λ (k : Start). IsHistory k (pass_in m'').front) a.start b.legal;
-  own = let same : (λ (z : Action). event_of (pass_in m') z) ≡ (λ (z : Action). event_of (pass_in m) z) =
+  own = let same : (λ (z : Action). pass_event (pass_in m') z) ≡ (λ (z : Action). pass_event (pass_in m) z) =
       λ i z. record { pass = a.number i; chain = 0; action = z } in
       ap (λ (p : ℕ). part_of_pass p (pass_in m'').front) (sym a.number) ∙ (b.own
       ∙ ((λ i. map (same i) ys ++ part_of_pass (a.number i) (pass_in m').front)
-      ∙ (ap (λ (l : List Event). map (event_of (pass_in m)) ys ++ l) a.own
-      ∙ (sym (append_assoc (map (event_of (pass_in m)) ys) (map (event_of (pass_in m)) xs) (part_of_pass (pass_in m).number (pass_in m).front))
-      ∙ ap (λ (l : List Event). l ++ part_of_pass (pass_in m).number (pass_in m).front) (sym (map-append (event_of (pass_in m)) ys xs))))));
+      ∙ (ap (λ (l : List Event). map (pass_event (pass_in m)) ys ++ l) a.own
+      ∙ (sym (append_assoc (map (pass_event (pass_in m)) ys) (map (pass_event (pass_in m)) xs) (part_of_pass (pass_in m).number (pass_in m).front))
+      ∙ ap (λ (l : List Event). l ++ part_of_pass (pass_in m).number (pass_in m).front) (sym (map-append (pass_event (pass_in m)) ys xs))))));
   steps = let p = a.steps in let q = b.steps in omega arith;
   work = b.work;
   inside = subst (λ (k : Start). IsInside k w') a.start b.inside;

@@ -1,12 +1,12 @@
 -- An installation, a clear, a take and an exchange keep the rule.
 use Rattle.fx_lasting.proofs.Words.{◌≡◌, ◌≢◌, ℕ, ◌+◌, ◌^◌, ◌<◌, List, [], ◌∷◌, set, sym, refl, ap, ◌∙◌, subst, arith, Option, Some, None, none, some}
 use Rattle.fx_lasting.proofs.Words.{keeps, gives, rest, get_elem?, false, inl, inr, ◌⊎◌, eqb, Closed, File, numbered, Event, Action}
-use Rattle.fx_lasting.proofs.Words.{Put, Clear, Take, Allocate, ◌▷◌, State, with_removed, changed_at, changed_here, changed_else, event_of, held_by}
+use Rattle.fx_lasting.proofs.Words.{Put, Clear, Take, Allocate, ◌▷◌, State, with_removed, changed_at, changed_here, changed_else, pass_event, held_by}
 use Rattle.fx_lasting.proofs.Words.{Agrees, NodeAgrees, OwnerAgrees, WorkAgrees, IsHistory, state_after_all, slots_of, nodes_of, slot_place, word_of}
 use Rattle.fx_lasting.proofs.Words.{count_in, name_in, slot_word_of, name_made, entry_made, taken_of, taking, held_in, owed, sum_by, sum_set, Phase}
 use Rattle.fx_lasting.proofs.Words.{placed, seated, removed_in, Change, Idle, Placing, Removes, Installs, Exchanges, Stepped, IsOffCount}
-use Rattle.fx_lasting.proofs.Words.{IsInRange, ClearsKeep, TakesOutKeep, InstallsKeep, ExchangesKeep, account, owing, uncounted, is_in, range_of, Outside, Bool, true, step, set_here, set_else}
-use Rattle.fx_lasting.proofs.Words.{length-set, exchanged, IsInside, retiring, takes_made}
+use Rattle.fx_lasting.proofs.Words.{IsInRange, ClearsKeep, TakesOutKeep, InstallsKeep, ExchangesKeep, account, owing, uncounted, is_in, range_at_start, Outside, Bool, true, step, set_here, set_else}
+use Rattle.fx_lasting.proofs.Words.{length-set, exchanged, IsInside, retiring_work, takes_made}
 use Rattle.fx_lasting.proofs.Words.{◌*◌, ◌≤◌, HasNoFile}
 use Rattle.std.proofs.lemmas.Nat.{mod-mul-add}
 use Rattle.std.proofs.Math.Nat.{le-mul_of_pos_right}
@@ -25,7 +25,7 @@ use Rattle.fx_lasting.proofs.Choosing.{no_file, no_take, not_busy, holds_none}
 
 -- the action empties a slot, whatever it is for
 abbrev pub IsRemoval : (ℕ → Option File → Action) → Type 0
-IsRemoval act = (turn : Turn) (s : ℕ) → s < slots_of turn.v.start → let h = event_of turn.x (act s ((state_after_all turn.v.start turn.r.history).at s)) ∷ turn.r.history in
+IsRemoval act = (turn : Turn) (s : ℕ) → s < slots_of turn.v.start → let h = pass_event turn.x (act s ((state_after_all turn.v.start turn.r.history).at s)) ∷ turn.r.history in
     IsHistory turn.v.start h
     × (state_after_all turn.v.start h ≡ record (state_after_all turn.v.start turn.r.history) {
       at = changed_at (state_after_all turn.v.start turn.r.history).at s None;
@@ -37,14 +37,14 @@ pub cleared : IsRemoval Clear
 cleared turn s inside = (
   legal_more turn.v.start turn.r.legal (let z = (same_shape turn.v.start turn.r.history).0 in (omega arith, refl)) tt,
   refl,
-  held_mine (event_of turn.x (Clear s ((state_after_all turn.v.start turn.r.history).at s))) turn.r.history refl,
+  held_mine (pass_event turn.x (Clear s ((state_after_all turn.v.start turn.r.history).at s))) turn.r.history refl,
 )
 
 pub taken : IsRemoval Take
 taken turn s inside = (
   legal_more turn.v.start turn.r.legal (let z = (same_shape turn.v.start turn.r.history).0 in (omega arith, refl)) tt,
   refl,
-  held_mine (event_of turn.x (Take s ((state_after_all turn.v.start turn.r.history).at s))) turn.r.history refl,
+  held_mine (pass_event turn.x (Take s ((state_after_all turn.v.start turn.r.history).at s))) turn.r.history refl,
 )
 
 module _ (act : ℕ → Option File → Action) (does : IsRemoval act) (turn : Turn) (s : ℕ) (inside : s < slots_of turn.v.start)
@@ -55,10 +55,10 @@ module _ (act : ℕ → Option File → Action) (does : IsRemoval act) (turn : T
   old = (state_after_all v.start r.history).at s
 
   abbrev h₁ : List Event
-  h₁ = event_of x (act s old) ∷ r.history
+  h₁ = pass_event x (act s old) ∷ r.history
 
   abbrev c₁ : Change
-  c₁ = account (range_of v.start) s old
+  c₁ = account (range_at_start v.start) s old
 
   abbrev removal : After turn
   removal = swap_after turn s inside old refl h₁ 0 None st.homes r.phase r.next_number c₁
@@ -91,13 +91,13 @@ module _ (act : ℕ → Option File → Action) (does : IsRemoval act) (turn : T
     control = control_swap (state_after_all v.start r.history).at id (w turn removal) s old None here refl balance r.control;
   }
     where
-      balance : owing c₁ + counted (is_in (range_of v.start) s) old ≡ owing v.change + counted (is_in (range_of v.start) s) None
-      balance = let a = empties (is_in (range_of v.start) s) old in let b = ap owing off in let c = counted_none (is_in (range_of v.start) s) in omega arith
+      balance : owing c₁ + counted (is_in (range_at_start v.start) s) old ≡ owing v.change + counted (is_in (range_at_start v.start) s) None
+      balance = let a = empties (is_in (range_at_start v.start) s) old in let b = ap owing off in let c = counted_none (is_in (range_at_start v.start) s) in omega arith
 
       untaken : (n : ℕ) → taking n (d turn s inside old refl) ≡ 0
       untaken n = go old
         where
-          go : (o : Option File) → taking n (retiring v.start (found turn s inside) o) ≡ 0
+          go : (o : Option File) → taking n (retiring_work v.start (found turn s inside) o) ≡ 0
           go None = refl
           go (Some f) = refl
 
@@ -117,9 +117,9 @@ module _ (act : ℕ → Option File → Action) (does : IsRemoval act) (turn : T
     },
   )
     where
-      knows : (o : Option File) → old ≡ o → IsInside v.start (retiring v.start (found turn s inside) old)
-      knows None is = subst (λ (o : Option File). IsInside v.start (retiring v.start (found turn s inside) o)) (sym is) tt
-      knows (Some f) is = subst (λ (o : Option File). IsInside v.start (retiring v.start (found turn s inside) o)) (sym is)
+      knows : (o : Option File) → old ≡ o → IsInside v.start (retiring_work v.start (found turn s inside) old)
+      knows None is = subst (λ (o : Option File). IsInside v.start (retiring_work v.start (found turn s inside) o)) (sym is) tt
+      knows (Some f) is = subst (λ (o : Option File). IsInside v.start (retiring_work v.start (found turn s inside) o)) (sym is)
           (let n = (old_at turn s inside old refl is).0 in let e = old_named turn s inside old refl is in omega arith)
 
 pub clears_keep : ClearsKeep (Removes Clear)
@@ -154,7 +154,7 @@ module _ (turn : Turn) (s : ℕ) (inside : s < slots_of turn.v.start) (old : Opt
   new_file = numbered number file
 
   abbrev h₂ : List Event
-  h₂ = event_of x a ∷ r.history
+  h₂ = pass_event x a ∷ r.history
 
   its : (n < nodes_of v.start) × (r.phase n ≡ placed id)
   its = subst (WorkAgrees v.start r.phase id) works (its_work turn)
@@ -169,7 +169,7 @@ module _ (turn : Turn) (s : ℕ) (inside : s < slots_of turn.v.start) (old : Opt
   phase₁ = changed_at r.phase n (seated s new_file)
 
   abbrev c₂ : Change
-  c₂ = account (range_of v.start) s old
+  c₂ = account (range_at_start v.start) s old
 
   abbrev pub installed : After turn
   installed = swap_after turn s inside old was h₂ new_word (Some new_file) homes₁ phase₁ (number + 1) c₂
@@ -191,7 +191,7 @@ module _ (turn : Turn) (s : ℕ) (inside : s < slots_of turn.v.start) (old : Opt
   untaken : (m : ℕ) → taking m (d turn s inside old was) ≡ 0
   untaken m = go old
     where
-      go : (o : Option File) → taking m (retiring v.start (found turn s inside) o) ≡ 0
+      go : (o : Option File) → taking m (retiring_work v.start (found turn s inside) o) ≡ 0
       go None = refl
       go (Some f) = refl
 
@@ -231,8 +231,8 @@ module _ (turn : Turn) (s : ℕ) (inside : s < slots_of turn.v.start) (old : Opt
         (ap (λ (z : State). z.at i) does.state ∙ changed_else before.at s (Some new_file) i away, ap count_in (slot_else turn s inside new_word i away)))
         (r.each_node m l)
 
-    balance : owing c₂ + counted (is_in (range_of v.start) s) old ≡ owing v.change + counted (is_in (range_of v.start) s) (Some new_file)
-    balance = let a = fills (is_in (range_of v.start) s) old new_file in let b = ap owing out in omega arith
+    balance : owing c₂ + counted (is_in (range_at_start v.start) s) old ≡ owing v.change + counted (is_in (range_at_start v.start) s) (Some new_file)
+    balance = let a = fills (is_in (range_at_start v.start) s) old new_file in let b = ap owing out in omega arith
 
     installs : Swap turn s inside old was h₂ new_word (Some new_file) homes₁ phase₁ (number + 1) c₂
     installs = let o = its_log turn in let h = rw works at o.hold in let apart = not_old turn s inside old was its.1 (λ g bad. cc bad) in record {
@@ -265,13 +265,13 @@ module _ (turn : Turn) (s : ℕ) (inside : s < slots_of turn.v.start) (old : Opt
     installation_agrees = swap_kept turn s inside old was h₂ new_word (Some new_file) homes₁ phase₁ (number + 1) c₂ installs
 
     pub installation_tells : (carried homes : List (ℕ × Option Closed))
-        → Stepped (v, carried) ([] ▷ a) (retiring v.start (found turn s inside) old) v.glance c₂ (w turn installed, homes)
+        → Stepped (v, carried) ([] ▷ a) (retiring_work v.start (found turn s inside) old) v.glance c₂ (w turn installed, homes)
     installation_tells carried homes = tells turn installed carried homes ([] ▷ a) (grows_one x.number r.history _ refl) does.legal
         (part_mine r.history refl) (knows old refl)
       where
-        knows : (o : Option File) → old ≡ o → IsInside v.start (retiring v.start (found turn s inside) old)
-        knows None is = subst (λ (o : Option File). IsInside v.start (retiring v.start (found turn s inside) o)) (sym is) tt
-        knows (Some f) is = subst (λ (o : Option File). IsInside v.start (retiring v.start (found turn s inside) o)) (sym is)
+        knows : (o : Option File) → old ≡ o → IsInside v.start (retiring_work v.start (found turn s inside) old)
+        knows None is = subst (λ (o : Option File). IsInside v.start (retiring_work v.start (found turn s inside) o)) (sym is) tt
+        knows (Some f) is = subst (λ (o : Option File). IsInside v.start (retiring_work v.start (found turn s inside) o)) (sym is)
             (let n = (old_at turn s inside old was is).0 in let e = old_named turn s inside old was is in omega arith)
 
 abbrev file_carried : List (ℕ × Option Closed) → Option Closed
@@ -293,7 +293,7 @@ module _ (turn : Turn) (s : ℕ) (inside : s < slots_of turn.v.start) (n : ℕ) 
   putting = record {
     legal = legal_more v.start r.legal (let z = (same_shape v.start r.history).0 in (omega arith, r.fresh number late, refl)) tt;
     state = refl;
-    held = held_mine (event_of x put_action) r.history refl;
+    held = held_mine (pass_event x put_action) r.history refl;
   }
 
   pub install_made : Made turn carried (slot_place s) (λ _. slot_word_of n file.entry)
@@ -353,7 +353,7 @@ module _ (turn : Turn) (slots s n old_word : ℕ) (file : Closed) (carried : Lis
           let p = ap (λ (p : ℕ × ℕ). p.0) y in let q = ap (λ (p : ℕ × ℕ). p.1) y in let low = in_range.0 in let high = in_range.1 in let l = within in
           (omega arith, (omega arith, omega arith), at_none, r.fresh number late)) tt;
       state = refl;
-      held = held_mine (event_of x alloc) r.history refl;
+      held = held_mine (pass_event x alloc) r.history refl;
     }
 
     won : Goal (slot_word_of n file.entry)
@@ -368,7 +368,7 @@ module _ (turn : Turn) (slots s n old_word : ℕ) (file : Closed) (carried : Lis
           sym (r.numbering number) ∙ (on_n ∙ (let same : n ≡ m = cc (sym works ∙ works') in same)),
           rw (← same_f, slot_back s)
               (subst (λ (b : Bool). Stepped (v, carried) ([] ▷ alloc) Idle v.glance (uncounted b true) (w turn (installed turn s within None at_none n file works small out number late on_n alloc), rest carried))
-              (in_range_so (range_of v.start) s in_range.0 in_range.1)
+              (in_range_so (range_at_start v.start) s in_range.0 in_range.1)
               (installation_tells turn s within None at_none n file works small out number late on_n alloc allocating carried (rest carried))),
           refl,
         );

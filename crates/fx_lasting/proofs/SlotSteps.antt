@@ -2,7 +2,7 @@
 use Rattle.fx_lasting.proofs.Words.{◌≡◌, ◌≢◌, ℕ, ◌+◌, ◌<◌, ◌≤◌, List, [], set, sym, refl, ap, ◌∙◌, subst, arith, Option, Some, None, Bool, held_by, File}
 use Rattle.fx_lasting.proofs.Words.{Event, NodeAgrees, SearchAgrees, SlotAgrees, Names, Agrees, slots_of, nodes_of, IsHistory, state_after_all}
 use Rattle.fx_lasting.proofs.Words.{held_in, held_of, taken_of, taking, Phase, free, placed, seated, leaving, retired, emptied, Work, Glance, ⊎_elim}
-use Rattle.fx_lasting.proofs.Words.{◌⊎◌, inr, dite, ℕ_discrete, slot_place, word_of, count_in, name_in, entry_in, IsHot, cold_takes, tally, born}
+use Rattle.fx_lasting.proofs.Words.{◌⊎◌, inr, dite, ℕ_discrete, slot_place, word_of, count_in, name_in, entry_in, IsHot, cold_takes, tally, birth_word}
 use Rattle.fx_lasting.proofs.Words.{owed, sum_set, sum_by, get_elem?, length-set, MayBeUnmarked, dec_le, suc}
 use Rattle.fx_lasting.proofs.Counts.{tally_same}
 use Rattle.fx_lasting.proofs.Histories.{Grows}
@@ -49,7 +49,7 @@ module _ (turn : Turn) (s : ℕ) (inside : s < slots_of turn.v.start) (new : ℕ
     pub over_other : (q : ℕ) → q ≢ x.number → over' s q ≡ r.over s q
     -- the takes of the file's node, and those of others
     pub counts : (n : ℕ) (f : File) → n < nodes_of v.start → r.phase n ≡ seated s f
-        → word_at st.words (word_of v.start n) + count_in new ≡ born + sum_by (taken_of n) (set st.views id (w turn slot_after))
+        → word_at st.words (word_of v.start n) + count_in new ≡ birth_word + sum_by (taken_of n) (set st.views id (w turn slot_after))
     pub taken : (n : ℕ) → n < nodes_of v.start → ((f : File) → r.phase n ≢ seated s f) → taking n d ≡ taking n v.work
     -- the pass
     pub owners : (d ≡ v.work) ⊎ (busy v.work ≡ 0)

@@ -3,9 +3,9 @@ use Rattle.fx_lasting.proofs.Words.{◌≡◌, ◌≢◌, ℕ, suc, ◌-◌, ◌
 use Rattle.fx_lasting.proofs.Words.{get_elem?, Bool, true, false, inl, inr, ⊎_elim, ◌⊎◌, dite, ℕ_discrete, dec_le, eq-eqb, ne_eqb, File, Event}
 use Rattle.fx_lasting.proofs.Words.{State, held_by, with_removed, changed_at, changed_here, changed_else, Agrees, NodeAgrees, OwnerAgrees, WorkAgrees}
 use Rattle.fx_lasting.proofs.Words.{SlotAgrees, Names, IsSeated, HoldAgrees, GuardAgrees, MayBeUnmarked, SearchAgrees, ControlCounts, Nodes}
-use Rattle.fx_lasting.proofs.Words.{IsHistory, state_after_all, slots_of, nodes_of, range_of, slot_place, word_of, hold_of, control_place, count_in}
+use Rattle.fx_lasting.proofs.Words.{IsHistory, state_after_all, slots_of, nodes_of, range_at_start, slot_place, word_of, hold_word_of, control_place, count_in}
 use Rattle.fx_lasting.proofs.Words.{name_in, hot_in, IsHot, owed, taken_of, taking, held_in, if_file, sum_by, sum_set, Phase, free, placed, seated}
-use Rattle.fx_lasting.proofs.Words.{leaving, retired, emptied, owner, file_in, removed_in, first_visit, retiring, Found, Work, Change, Idle, Retiring}
+use Rattle.fx_lasting.proofs.Words.{leaving, retired, emptied, owner, file_in, removed_in, first_visit, retiring_work, Found, Work, Change, Idle, Retiring}
 use Rattle.fx_lasting.proofs.Words.{length-set}
 use Rattle.fx_lasting.proofs.Counts.{tally_same}
 use Rattle.fx_lasting.proofs.Histories.{Grows, each_changed}
@@ -58,10 +58,10 @@ module _ (turn : Turn) (s : ℕ) (inside : s < slots_of turn.v.start) where
     not_old is else f o same = else f (sym is ∙ (ap r.phase same ∙ (old_at o).1))
 
     abbrev pub d : Work
-    d = retiring v.start found old
+    d = retiring_work v.start found old
 
     d_is : (f : File) → old ≡ Some f → d ≡ Retiring f (r.node_of f.number) (count_in found) (first_visit v.start.passes found) 0
-    d_is f is = let e = old_named is in ap (retiring v.start found) is
+    d_is f is = let e = old_named is in ap (retiring_work v.start found) is
         ∙ ap (λ (n : ℕ). Retiring f n (count_in found) (first_visit v.start.passes found) 0) e
 
     -- what a pass does that has a file to retire, or none
@@ -70,7 +70,7 @@ module _ (turn : Turn) (s : ℕ) (inside : s < slots_of turn.v.start) where
     by_retiring P idle retires = go old refl
       where
         go : (o : Option File) → old ≡ o → P d
-        go None is = subst P (sym (ap (retiring v.start found) is)) idle
+        go None is = subst P (sym (ap (retiring_work v.start found) is)) idle
         go (Some f) is = subst P (sym (d_is f is)) (retires f is)
 
     -- the old file's node, after the swap
@@ -134,8 +134,8 @@ module _ (turn : Turn) (s : ℕ) (inside : s < slots_of turn.v.start) where
         pub owners : (n : ℕ) → n < nodes_of v.start → NotOf r.node_of n old → OwnerAgrees (set st.views id (w turn swap_after)) n (phase₁ n)
         -- the pass
         pub idle_hands : (held_in v.work ≡ None) × ((n : ℕ) → taking n v.work ≡ 0)
-            × (word_at st.words (hold_of v.start x.number) ≡ 0) × (r.debt x.number ≡ 0)
-        pub control : ControlCounts (changed_at state.at s new) (range_of v.start) (set st.views id (w turn swap_after)) (word_at st.words control_place)
+            × (word_at st.words (hold_word_of v.start x.number) ≡ 0) × (r.debt x.number ≡ 0)
+        pub control : ControlCounts (changed_at state.at s new) (range_at_start v.start) (set st.views id (w turn swap_after)) (word_at st.words control_place)
 
       module _ (p : Swap) where
         out_here : {f : File} → old ≡ Some f → phase' (r.node_of f.number) ≡ gone_as f
@@ -288,7 +288,7 @@ module _ (turn : Turn) (s : ℕ) (inside : s < slots_of turn.v.start) where
           search = by_retiring (SearchAgrees v.start x.number) tt (λ f is. tt);
           its = record {
             hold = rw (slot_hold turn s inside new_word x.number (in_range turn).0)
-                (by_retiring (HoldAgrees (word_at st.words (hold_of v.start x.number)) (r.debt x.number)) (hands.2, hands.3) (λ f is. (hands.2, hands.3)));
+                (by_retiring (HoldAgrees (word_at st.words (hold_word_of v.start x.number)) (r.debt x.number)) (hands.2, hands.3) (λ f is. (hands.2, hands.3)));
             guarded = by_retiring (GuardAgrees (slot_word (slot_words turn s inside new_word)) phase' x.number (r.debt x.number)) tt (λ f is. tt);
             sees = sees_on v.start (slot_word st.words) (slot_word (slot_words turn s inside new_word)) (λ i. r.over i x.number) (λ i. over' i x.number)
                 (λ i l. slots_on x.number i) v.glance o.sees;

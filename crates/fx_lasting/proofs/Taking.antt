@@ -1,7 +1,7 @@
 -- A take of what a slot names, and the heat of a slot that had its takes.
 use Rattle.fx_lasting.proofs.Words.{◌≡◌, ◌≢◌, ℕ, ◌+◌, ◌%◌, ◌/◌, ◌^◌, ◌<◌, ◌≤◌, List, [], ◌∷◌, sym, refl, ap, ◌∙◌, arith, Option, Some, None, none}
 use Rattle.fx_lasting.proofs.Words.{keeps, Closed, File, Event, Look, ◌▷◌, WorkAgrees, GlanceAgrees, Heats, state_after_all, slots_of, nodes_of}
-use Rattle.fx_lasting.proofs.Words.{held_in, if_file, taken_of, taking, event_of, seated, file_in, Work, Glance, Idle, Counted, Cold, Heating}
+use Rattle.fx_lasting.proofs.Words.{held_in, if_file, taken_of, taking, pass_event, seated, file_in, Work, Glance, Idle, Counted, Cold, Heating}
 use Rattle.fx_lasting.proofs.Words.{Nothing, Takes, HeatTells, TakesOnceKeep, HeatsKeep, IsHot, hot_in, name_in, entry_in, count_in, cold_takes}
 use Rattle.fx_lasting.proofs.Words.{glance_after, hot_bit, slot_place, step, inl, inr, ⊎_elim, dite, ℕ_discrete, dec_le, one_more_at, Bool, true}
 use Rattle.fx_lasting.proofs.Words.{false, cond, lt-ltb, le-ltb, tally, sum_set, changed_at, changed_here, changed_else, one_if, bit_here, bit_else}
@@ -117,7 +117,7 @@ module _ (turn : Turn) (s : ℕ) (inside : s < slots_of turn.v.start) where
     -- what the pass does now, that found this file or none, on this node
     module _ (g : Glance) (over' : ℕ → ℕ → Bool) (so : Standing g over') where
       abbrev h₀ : List Event
-      h₀ = event_of x (Look s None) ∷ r.history
+      h₀ = pass_event x (Look s None) ∷ r.history
 
       abbrev after₀ : After turn
       after₀ = slot_after turn s inside new h₀ Idle g over'
@@ -139,7 +139,7 @@ module _ (turn : Turn) (s : ℕ) (inside : s < slots_of turn.v.start) where
         counts = λ n f l at. let e = (in_phase turn l at).there in let bad : None ≡ Some f = sym is ∙ e in absurd (cc bad);
         taken = λ n l else. sym (ap (taking n) works);
         owners = inl (sym works);
-        held = held_mine (event_of x (Look s None)) r.history refl;
+        held = held_mine (pass_event x (Look s None)) r.history refl;
         search = tt;
         its = record {
           hold = rw (slot_hold turn s inside new x.number (in_range turn).0) h;
@@ -153,7 +153,7 @@ module _ (turn : Turn) (s : ℕ) (inside : s < slots_of turn.v.start) where
 
       module _ (n : ℕ) (f : File) (is : there turn s inside ≡ Some f) (l : n < nodes_of v.start) (at : r.phase n ≡ seated s f) where
         abbrev h₁ : List Event
-        h₁ = event_of x (Look s (Some f)) ∷ r.history
+        h₁ = pass_event x (Look s (Some f)) ∷ r.history
 
         abbrev after₁ : After turn
         after₁ = slot_after turn s inside new h₁ (Counted f n) g over'
@@ -181,7 +181,7 @@ module _ (turn : Turn) (s : ℕ) (inside : s < slots_of turn.v.start) where
               let e : taking m (Counted f n) ≡ 1 = bit_here m n (sym same) in omega arith;
           taken = λ m l' else. bit_else m n (λ same. else f (ap r.phase (sym same) ∙ at)) ∙ sym (ap (taking m) works);
           owners = inr (ap busy works);
-          held = held_mine (event_of x (Look s (Some f))) r.history refl;
+          held = held_mine (pass_event x (Look s (Some f))) r.history refl;
           search = tt;
           its = record {
             hold = rw (slot_hold turn s inside new x.number (in_range turn).0) h;

@@ -1,7 +1,7 @@
 -- A pass that looks for an empty slot: what its steps leave, one after another.
 use Rattle.fx_lasting.proofs.Words.{◌≡◌, ℕ, ◌+◌, ◌<◌, ◌≤◌, true, [], ◌∷◌, sym, ap, ◌∙◌, subst, arith, Some, none, step, rest, Closed, ◌▷◌}
 use Rattle.fx_lasting.proofs.Words.{numbered, Allocate, Sat, Work, Glance, Change, Placing, Idle, Outside, Inside, Runs, Goes, Exchanges, slot_of}
-use Rattle.fx_lasting.proofs.Words.{At, Stepped, LastingTable, IsInRange, List, Action, Start, Asks, Searching, Bool, false, bias, range_of}
+use Rattle.fx_lasting.proofs.Words.{At, Stepped, LastingTable, IsInRange, List, Action, Start, Asks, Searching, Bool, false, bias, range_at_start}
 use Rattle.fx_lasting.specs.Passes.{node_of_number}
 use Rattle.fx_lasting.specs.Tries.{IsPlacing, HasAllocated, StillPlaces}
 use Rattle.fx_lasting.proofs.Running.{runs_one, runs_then, runs_goes, runs_within, turns_then, does_then}
@@ -74,8 +74,8 @@ pub still_placing : {m m' : Sat} {n a : ℕ} {file : Closed} → IsPlacing n fil
 still_placing p s = record { work = s.0.work; place = s.1 ∙ p.place }
 
 -- the word that says that the range is full
-pub full_of : (t : LastingTable) {k : Start} → k ≡ t.table.shared.key → bias + t.range_len ≡ bias + (range_of k).1
-full_of t is = ap (λ (z : ℕ × ℕ). bias + z.1) t.same_range ∙ ap (λ (z : Start). bias + (range_of z).1) (sym is)
+pub full_of : (t : LastingTable) {k : Start} → k ≡ t.table.shared.key → bias + t.range_len ≡ bias + (range_at_start k).1
+full_of t is = ap (λ (z : ℕ × ℕ). bias + z.1) t.same_range ∙ ap (λ (z : Start). bias + (range_at_start z).1) (sym is)
 
 -- a pass that found another word
 pub asked_not : (t : LastingTable) {m m' : Sat} {st : At} {found : ℕ} {b : Bool} → m.0.start ≡ t.table.shared.key → Asks st m found m'

@@ -1,7 +1,7 @@
 -- When nothing is counted and nothing is owed to a node any more, nobody holds its file.
 use Rattle.fx_lasting.proofs.Words.{Contains, contains_head, ◌≡◌, ◌≢◌, ℕ, ◌+◌, ◌<◌, ◌≤◌, List, [], ◌∷◌, sym, refl, ap, ◌∙◌, subst, arith, Some, File}
 use Rattle.fx_lasting.proofs.Words.{some, get_elem?, ⊎_elim, dite, ℕ_discrete, eq-eqb, ne_eqb, sum_by, sum_two, sum_only, NodeAgrees, WorkAgrees}
-use Rattle.fx_lasting.proofs.Words.{HoldAgrees, GuardAgrees, MayBeUnmarked, HoldsAt, slots_of, nodes_of, word_of, hold_of, state_after_all, held_in}
+use Rattle.fx_lasting.proofs.Words.{HoldAgrees, GuardAgrees, MayBeUnmarked, HoldsAt, slots_of, nodes_of, word_of, hold_word_of, state_after_all, held_in}
 use Rattle.fx_lasting.proofs.Words.{held_of, taken_of, taking, if_file, owed, count_in, Phase, seated, leaving, retired, file_in, Log, View, Work}
 use Rattle.fx_lasting.proofs.Words.{Counted, Guarded, Yielding}
 use Rattle.fx_lasting.proofs.Counts.{owed_at}
@@ -43,7 +43,7 @@ module _ (turn : Turn) where
 
       -- nor a hold of its file
       by_log : (d : Work) → (z : Log) → Contains u.logs z → u.work ≡ d
-          → WorkAgrees v.start r.phase j d → HoldAgrees (word_at st.words (hold_of v.start z.number)) (r.debt z.number) d
+          → WorkAgrees v.start r.phase j d → HoldAgrees (word_at st.words (hold_word_of v.start z.number)) (r.debt z.number) d
           → GuardAgrees (slot_word st.words) r.phase z.number (r.debt z.number) d → if_file f.number (held_in d) ≡ 0
       by_log (Counted g m) z at is w h gd = dite (ℕ_discrete g.number f.number)
           (λ same. let e = one_node its w same in absurd (
@@ -52,9 +52,9 @@ module _ (turn : Turn) where
           (λ ne. rw (ne_eqb g.number f.number ne) refl)
       by_log (Guarded g m) z at is w h gd = dite (ℕ_discrete g.number f.number)
           (λ same. let e = one_node its w same in absurd (⊎_elim
-          (λ (clean : (word_at st.words (hold_of v.start z.number) ≡ m + 1) × (r.debt z.number ≡ 0)).
+          (λ (clean : (word_at st.words (hold_word_of v.start z.number) ≡ m + 1) × (r.debt z.number ≡ 0)).
           marked z.number (not_there r here one other there z at) (its_range r j there at) (rw e at (gd clean.1)))
-          (λ (full : (word_at st.words (hold_of v.start z.number) ≡ m + 1 + 4294967296) × (r.debt z.number ≡ m + 1)).
+          (λ (full : (word_at st.words (hold_word_of v.start z.number) ≡ m + 1 + 4294967296) × (r.debt z.number ≡ m + 1)).
           owes_not z at (full.1 ∙ ap (λ (i : ℕ). i + 1) e)) h))
           (λ ne. rw (ne_eqb g.number f.number ne) refl)
       by_log (Yielding g m) z at is w h gd = dite (ℕ_discrete g.number f.number)

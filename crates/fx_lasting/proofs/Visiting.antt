@@ -1,6 +1,6 @@
 -- A pass that removed a hot file visits the hold words of the others: where one names the node, the pass marks it.
 use Rattle.fx_lasting.proofs.Words.{◌≡◌, ◌≢◌, ℕ, ◌+◌, ◌^◌, ◌<◌, ◌≤◌, List, [], set, length, sym, refl, ap, ◌∙◌, subst, arith, Option, none, keeps}
-use Rattle.fx_lasting.proofs.Words.{Closed, File, WorkAgrees, HoldAgrees, GuardAgrees, MayBeUnmarked, slots_of, nodes_of, word_of, hold_of, held_in}
+use Rattle.fx_lasting.proofs.Words.{Closed, File, WorkAgrees, HoldAgrees, GuardAgrees, MayBeUnmarked, slots_of, nodes_of, word_of, hold_word_of, held_in}
 use Rattle.fx_lasting.proofs.Words.{if_file, taken_of, taking, owed, Phase, leaving, owner, file_in, removed_in, changed_at, changed_here}
 use Rattle.fx_lasting.proofs.Words.{changed_else, Work, Idle, Announced, Counted, Guarded, Owing, Yielding, Searching, Placing, Retiring, Emptying}
 use Rattle.fx_lasting.proofs.Words.{Visits, Marks, VisitsKeep, MarksKeep, step, inr, ⊎_elim, dite, ℕ_discrete, eqb, one_if, announced, mark}
@@ -39,15 +39,15 @@ module _ (turn : Turn) (f : File) (n t nx m : ℕ) (works : turn.v.work ≡ Reti
       pub slots : (s : ℕ) → s < slots_of v.start → slot_word words' s ≡ slot_word st.words s
       pub control : word_at words' 0 ≡ word_at st.words 0
       pub nodes : (k : ℕ) → word_at words' (word_of v.start k) ≡ word_at st.words (word_of v.start k)
-      pub own : word_at words' (hold_of v.start x.number) ≡ word_at st.words (hold_of v.start x.number)
+      pub own : word_at words' (hold_word_of v.start x.number) ≡ word_at st.words (hold_word_of v.start x.number)
       pub own_debt : debt' x.number ≡ r.debt x.number
       pub owed_else : (k : ℕ) → k ≢ n → owed debt' v.start.passes k ≡ owed r.debt v.start.passes k
       pub owed_more : owed debt' v.start.passes n + m ≡ owed r.debt v.start.passes n + m'
       pub few_marks : m' < nx'
       pub few_visits : nx' ≤ 2 ^ 16
       pub guards : (p : ℕ) (e : Work) → p ≢ x.number → (0 < p) × (p ≤ v.start.passes)
-          → HoldAgrees (word_at st.words (hold_of v.start p)) (r.debt p) e → GuardAgrees (slot_word st.words) r.phase p (r.debt p) e
-          → HoldAgrees (word_at words' (hold_of v.start p)) (debt' p) e × GuardAgrees (slot_word words') (changed_at r.phase n ph) p (debt' p) e
+          → HoldAgrees (word_at st.words (hold_word_of v.start p)) (r.debt p) e → GuardAgrees (slot_word st.words) r.phase p (r.debt p) e
+          → HoldAgrees (word_at words' (hold_word_of v.start p)) (debt' p) e × GuardAgrees (slot_word words') (changed_at r.phase n ph) p (debt' p) e
 
     visited : Visited → Agrees v.start (end turn seen_after)
     visited s = let o = rw works at (its_log turn).hold in
@@ -95,7 +95,7 @@ module _ (turn : Turn) (f : File) (n t nx m : ℕ) (works : turn.v.work ≡ Reti
   module _ (pass : ℕ) (low : nx ≤ pass) (high : pass ≤ v.start.passes) (other : pass ≢ x.number)
       (between : (p : ℕ) → nx ≤ p → p < pass → p ≡ x.number) where
     abbrev word : ℕ
-    word = word_at st.words (hold_of v.start pass)
+    word = word_at st.words (hold_word_of v.start pass)
 
     -- who was not visited before isn't now, but this pass
     past : (p : ℕ) → nx ≤ p → p ≢ x.number → p ≢ pass → pass + 1 ≤ p
@@ -142,13 +142,13 @@ module _ (turn : Turn) (f : File) (n t nx m : ℕ) (works : turn.v.work ≡ Reti
 
     unnamed : word ≢ announced n → Visited st.words r.debt (pass + 1) m
     unnamed not_so = let guards : (p : ℕ) (e : Work) → p ≢ x.number → (0 < p) × (p ≤ v.start.passes)
-        → HoldAgrees (word_at st.words (hold_of v.start p)) (r.debt p) e → GuardAgrees (slot_word st.words) r.phase p (r.debt p) e
-        → HoldAgrees (word_at st.words (hold_of v.start p)) (r.debt p) e
+        → HoldAgrees (word_at st.words (hold_word_of v.start p)) (r.debt p) e → GuardAgrees (slot_word st.words) r.phase p (r.debt p) e
+        → HoldAgrees (word_at st.words (hold_word_of v.start p)) (r.debt p) e
         × GuardAgrees (slot_word st.words) (changed_at r.phase n (leaving id t (pass + 1) m f)) p (r.debt p) e =
         λ p e ne range hold guard. (
           hold,
           dite (ℕ_discrete p pass)
-              (λ same. subst (λ (p : ℕ). HoldAgrees (word_at st.words (hold_of v.start p)) (r.debt p) e
+              (λ same. subst (λ (p : ℕ). HoldAgrees (word_at st.words (hold_word_of v.start p)) (r.debt p) e
               → GuardAgrees (slot_word st.words) r.phase p (r.debt p) e
               → GuardAgrees (slot_word st.words) (changed_at r.phase n (leaving id t (pass + 1) m f)) p (r.debt p) e) (sym same) (guard_here not_so e) hold guard)
               (λ apart. guard_else st.words m (λ s l. refl) p e ne apart guard),
@@ -221,7 +221,7 @@ module _ (turn : Turn) (f : File) (n t nx m : ℕ) (works : turn.v.work ≡ Reti
 
       no_debt : r.debt pass ≡ 0
       no_debt = let a = find_pass r more high in
-          let o = subst (λ (q : ℕ). HoldAgrees (word_at st.words (hold_of v.start q)) (r.debt q) a.1.work) a.5 ((r.each_view a.0 a.1 a.3).logs a.2 a.4).hold in
+          let o = subst (λ (q : ℕ). HoldAgrees (word_at st.words (hold_word_of v.start q)) (r.debt q) a.1.work) a.5 ((r.each_view a.0 a.1 a.3).logs a.2 a.4).hold in
           clean_debt a.1.work o is
 
       owes : (k : ℕ) → owed debt₁ v.start.passes k ≡ owed r.debt v.start.passes k + one_if (eqb (n + 1) (k + 1))
@@ -231,19 +231,19 @@ module _ (turn : Turn) (f : File) (n t nx m : ℕ) (works : turn.v.work ≡ Reti
       made : Visited words₁ debt₁ (pass + 1) (m + 1)
       made = let same = hold_slot turn pass more high (announced n + mark) in
           let guards : (p : ℕ) (e : Work) → p ≢ x.number → (0 < p) × (p ≤ v.start.passes)
-          → HoldAgrees (word_at st.words (hold_of v.start p)) (r.debt p) e → GuardAgrees (slot_word st.words) r.phase p (r.debt p) e
-          → HoldAgrees (word_at words₁ (hold_of v.start p)) (debt₁ p) e
+          → HoldAgrees (word_at st.words (hold_word_of v.start p)) (r.debt p) e → GuardAgrees (slot_word st.words) r.phase p (r.debt p) e
+          → HoldAgrees (word_at words₁ (hold_word_of v.start p)) (debt₁ p) e
           × GuardAgrees (slot_word words₁) (changed_at r.phase n (leaving id t (pass + 1) (m + 1) f)) p (debt₁ p) e =
           λ p e ne range hold guard. dite (ℕ_discrete p pass)
-          (λ at. subst (λ (p : ℕ). HoldAgrees (word_at st.words (hold_of v.start p)) (r.debt p) e
-          → HoldAgrees (word_at words₁ (hold_of v.start p)) (debt₁ p) e
+          (λ at. subst (λ (p : ℕ). HoldAgrees (word_at st.words (hold_word_of v.start p)) (r.debt p) e
+          → HoldAgrees (word_at words₁ (hold_word_of v.start p)) (debt₁ p) e
           × GuardAgrees (slot_word words₁) (changed_at r.phase n (leaving id t (pass + 1) (m + 1) f)) p (debt₁ p) e) (sym at)
           (λ h. rw (hold_here turn pass more high (announced n + mark), changed_here r.debt pass (n + 1) pass refl)
           (now_marked e h is, excused (slot_word words₁) (changed_at r.phase n (leaving id t (pass + 1) (m + 1) f)) e)) hold)
           (λ apart. rw (hold_else turn pass more high (announced n + mark) p apart, changed_else r.debt pass (n + 1) p apart)
           (hold, guard_else words₁ (m + 1) same p e ne apart guard)) in
           let a = node.few_marks in let b = r.shape.passes in let c = owes n in let d = bit_here (n + 1) (n + 1) refl in record {
-            words = length-set st.words (hold_of v.start pass) (announced n + mark);
+            words = length-set st.words (hold_word_of v.start pass) (announced n + mark);
             slots = same;
             control = hold_control turn pass more high (announced n + mark);
             nodes = hold_node turn pass more high (announced n + mark);
@@ -258,11 +258,11 @@ module _ (turn : Turn) (f : File) (n t nx m : ℕ) (works : turn.v.work ≡ Reti
 
     -- a step that writes what it read
     read_so : (d : ℕ → ℕ) (nx' m' : ℕ) → Visited st.words d nx' m'
-        → Agrees v.start record { words = set st.words (hold_of v.start pass) word; homes = st.homes; views = set st.views id (w turn (seen_after st.words d nx' m')) }
-    read_so d nx' m' s = rw (set-get_or st.words (hold_of v.start pass) 0) (visited st.words d nx' m' s)
+        → Agrees v.start record { words = set st.words (hold_word_of v.start pass) word; homes = st.homes; views = set st.views id (w turn (seen_after st.words d nx' m')) }
+    read_so d nx' m' s = rw (set-get_or st.words (hold_word_of v.start pass) 0) (visited st.words d nx' m' s)
 
     pub visits_either : (slots : ℕ) (carried : List (ℕ × Option Closed))
-        → Made turn carried (hold_of v.start pass) (λ word. word) (Visits (step slots (hold_of v.start pass) 0 0 none) (v, carried))
+        → Made turn carried (hold_word_of v.start pass) (λ word. word) (Visits (step slots (hold_word_of v.start pass) 0 0 none) (v, carried))
     visits_either slots carried = dite (ℕ_discrete word (announced n))
         (λ is. (
           w turn (seen_after st.words r.debt nx m),
@@ -294,8 +294,8 @@ module _ (turn : Turn) (f : File) (n t nx m : ℕ) (works : turn.v.work ≡ Reti
 
         still : Visited st.words r.debt nx m
         still = let a = node.few_marks in let b = node.few_visits in let guards : (p : ℕ) (e : Work) → p ≢ x.number → (0 < p) × (p ≤ v.start.passes)
-            → HoldAgrees (word_at st.words (hold_of v.start p)) (r.debt p) e → GuardAgrees (slot_word st.words) r.phase p (r.debt p) e
-            → HoldAgrees (word_at st.words (hold_of v.start p)) (r.debt p) e
+            → HoldAgrees (word_at st.words (hold_word_of v.start p)) (r.debt p) e → GuardAgrees (slot_word st.words) r.phase p (r.debt p) e
+            → HoldAgrees (word_at st.words (hold_word_of v.start p)) (r.debt p) e
             × GuardAgrees (slot_word st.words) (changed_at r.phase n (leaving id t nx m f)) p (r.debt p) e =
             λ p e ne range hold guard. guards_else turn n its.0 (leaving id t nx m f) r.history st.words st.homes r.debt (Retiring f n t nx m) v.glance
             (λ s l. refl) p e refl refl (λ may. subst (MayBeUnmarked (slot_word st.words) p) its.1 may) hold guard in record {
@@ -313,8 +313,8 @@ module _ (turn : Turn) (f : File) (n t nx m : ℕ) (works : turn.v.work ≡ Reti
             }
 
     abbrev Goal : ℕ → ℕ → Type 0
-    Goal slots y = (carried : List (ℕ × Option Closed)) → Made turn carried (hold_of v.start pass) (λ _. y)
-        (Marks (step slots (hold_of v.start pass) (announced n) (announced n + mark) none) (v, carried))
+    Goal slots y = (carried : List (ℕ × Option Closed)) → Made turn carried (hold_word_of v.start pass) (λ _. y)
+        (Marks (step slots (hold_word_of v.start pass) (announced n) (announced n + mark) none) (v, carried))
 
     marks_won : (slots : ℕ) → 0 < pass → word ≡ announced n → Goal slots (announced n + mark)
     marks_won slots more is carried = (
@@ -352,15 +352,15 @@ more_than_none turn f n t nx m works low = let a = (node turn f n t nx m works).
 
 pub visits_keep : VisitsKeep Visits
 visits_keep k slots id i n t nx m pass f s x has works low high other between place = by_turn slots (λ (k : Start). pass ≤ k.passes)
-    (λ k. hold_of k pass) (λ word. word) (λ i. Visits (step slots i 0 0 none) s) has high place
+    (λ k. hold_word_of k pass) (λ word. word) (λ i. Visits (step slots i 0 0 none) s) has high place
     (λ st r here high fits. visits_either (turn_of s x has.1 id st r here) f n t nx m works pass low high other between slots s.1)
 
 pub marks_keep : MarksKeep Marks
 marks_keep k slots id i n t nx m pass f s x has works low high other between place = by_turn slots (λ (k : Start). pass ≤ k.passes)
-    (λ k. hold_of k pass) (λ word. either (eqb word (announced n)) (announced n + mark) word)
+    (λ k. hold_word_of k pass) (λ word. either (eqb word (announced n)) (announced n + mark) word)
     (λ i. Marks (step slots i (announced n) (announced n + mark) none) s) has high place
     (λ st r here high fits. let turn = turn_of s x has.1 id st r here in
-    exchanged (word_at st.words (hold_of s.0.start pass)) (announced n) (announced n + mark)
+    exchanged (word_at st.words (hold_word_of s.0.start pass)) (announced n) (announced n + mark)
     (λ y. Goal turn f n t nx m works pass low high other between slots y)
     (λ is. marks_won turn f n t nx m works pass low high other between slots (more_than_none turn f n t nx m works low) is)
     (λ not_so. marks_lost turn f n t nx m works pass low high other between slots not_so) s.1)

@@ -4,12 +4,12 @@ pub use Rattle.atomic_table.specs.Seated.{TableId}
 pub use Rattle.atomic_table.specs.Table.{Act, keeps, Valid, stepped, carried_after, step, gives, rest, takes, Allows}
 pub use Rattle.fx_base.specs.declared.open_file.Closed.{Closed}
 pub use Rattle.fx_lasting.specs.Agrees.{HoldAgrees, MayBeUnmarked, GuardAgrees, GlanceAgrees, Heats, LogAgrees, ViewAgrees, Agrees, NodeAgrees, Does}
-pub use Rattle.fx_lasting.specs.Agrees.{OwnerAgrees, HoldsAt, WorkAgrees, SearchAgrees, NamesNode, Nodes, Names, IsSeated, SlotAgrees, Home, HasFile}
+pub use Rattle.fx_lasting.specs.Agrees.{OwnerAgrees, HoldsAt, WorkAgrees, SearchAgrees, NamesNode, Nodes, Names, IsSeated, SlotAgrees, Home, IsFileOfNode}
 pub use Rattle.fx_lasting.specs.Agrees.{IsVacant}
 pub use Rattle.fx_lasting.specs.AtWork.{IsAtWork, IsReleasing, HasPlace}
 pub use Rattle.fx_lasting.specs.Control.{owing, owing_of, is_in, uncounted, account, if_full, full_in, ControlCounts}
 pub use Rattle.fx_lasting.specs.Counts.{tally, owed}
-pub use Rattle.fx_lasting.specs.Ends.{LetsMarkGo, LetsFileGo, Guards, TakesAt}
+pub use Rattle.fx_lasting.specs.Ends.{LetsMarkGo, LetsFileGo, Guards, LooksByTake}
 pub use Rattle.fx_lasting.specs.Cuts.{new_logs, first_view, together, spent}
 pub use Rattle.fx_lasting.specs.Laws.{HasToLetGo, IsOffCount}
 pub use Rattle.fx_lasting.specs.Laws.{ClearsKeep, TakesOutKeep, ExchangesKeep, HasPass, GlancesKeep, AnnouncesKeep, ConfirmsKeep, WithdrawsKeep}
@@ -18,13 +18,13 @@ pub use Rattle.fx_lasting.specs.Laws.{InstallsKeep, StepsDownKeep, LettingGoKeep
 pub use Rattle.fx_lasting.specs.Laws.{RetiresKeep, IsInRange}
 pub use Rattle.fx_lasting.specs.Layout.{control_place, slot_place, hold_place, node_place, block_for, block_start}
 pub use Rattle.fx_lasting.specs.Opens.{word_for, node_for, home_for, first_file, OpensWith}
-pub use Rattle.fx_lasting.specs.Parts.{hot_bit, count_in, hot_in, IsHot, cold_takes, born, closed_word, retire_amount_of, announced, mark}
+pub use Rattle.fx_lasting.specs.Parts.{hot_bit, count_in, hot_in, IsHot, cold_takes, birth_word, closed_word, retirement_amount, announced, mark}
 pub use Rattle.fx_lasting.specs.Passes.{node_of_number, HasNoFile}
-pub use Rattle.fx_lasting.specs.Passes.{Shared, Sat, start_of, slots_of, range_of, nodes_of, IsInBlock, word_of, hold_of, logs_of, lengths}
+pub use Rattle.fx_lasting.specs.Passes.{Shared, Sat, state_at_start, slots_of, range_at_start, nodes_of, IsInBlock, word_of, hold_word_of, logs_of, lengths}
 pub use Rattle.fx_lasting.specs.Passes.{state_after_all, IsHistory, new_log, first_log, held_in, if_file, held_of, taking, taken_of}
-pub use Rattle.fx_lasting.specs.Phases.{Phase, owner, file_in, if_numbered, removed_in, free, placed, seated, leaving, retired, emptied}
+pub use Rattle.fx_lasting.specs.Phases.{Phase, owner, file_in, file_if_numbered, removed_in, free, placed, seated, leaving, retired, emptied}
 pub use Rattle.fx_lasting.specs.Runs.{Runs}
-pub use Rattle.fx_lasting.specs.Tables.{hold_at, retired_at, doing_in, numbers_of, pass_of, opening_of, view_of, steps_taken, IsBetweenCalls, IsSeatOf, IsPassOf}
+pub use Rattle.fx_lasting.specs.Tables.{hold_at, retired_at, doing_in, numbers_of_pass, pass_of, opening_of, view_of, steps_taken, IsBetweenCalls, IsSeatOf, IsPassOf}
 pub use Rattle.fx_lasting.specs.Tables.{opening_of_table, IsPassOfTable}
 pub use Rattle.fx_lasting.specs.declared.pass.LastingPass.{LastingPass}
 pub use Rattle.fx_lasting.specs.declared.table.LastingTable.{LastingTable}
@@ -32,8 +32,8 @@ pub use Rattle.fx_lasting.specs.Tells.{LetsGo, At, rested}
 pub use Rattle.fx_lasting.specs.Visits.{Visited, HasVisited, HasMarked}
 pub use Rattle.fx_lasting.specs.Searches.{next_of}
 pub use Rattle.fx_lasting.specs.Tells.{Announces, Shows, Confirms, Withdraws, glance_after, Takes, HeatTells, StepsDown, TakesOut, slot_of, pass_at}
-pub use Rattle.fx_lasting.specs.Tells.{event_of, pass_in, IsInside, Stepped, Goes, Glances, Exchanges, LettingGo, Seeks, Births, Rests, Visits, Marks}
-pub use Rattle.fx_lasting.specs.Tells.{Retires, first_visit, retiring, Found, Installs, Removes, Turns, Asks, Peeks}
+pub use Rattle.fx_lasting.specs.Tells.{pass_event, pass_in, IsInside, Stepped, Goes, Glances, Exchanges, LettingGo, Seeks, Births, Rests, Visits, Marks}
+pub use Rattle.fx_lasting.specs.Tells.{Retires, first_visit, retiring_work, Found, Installs, Removes, Turns, Asks, Peeks}
 pub use Rattle.fx_lasting.specs.declared.view.Change.{Change}
 pub use Rattle.fx_lasting.specs.declared.view.Change.TheVariants.{Outside, Inside}
 pub use Rattle.fx_lasting.specs.declared.view.Glance.{Glance}

@@ -15,10 +15,12 @@ use Rattle.fx_words.specs.Words.{name_in, entry_in}
 use Rattle.fx_lasting.specs.Control.{ControlCounts}
 use Rattle.fx_lasting.specs.Counts.{tally, owed}
 use Rattle.fx_lasting.specs.Layout.{control_place, slot_place, words_for}
-use Rattle.fx_lasting.specs.Parts.{IsHot, count_in, cold_takes, born, closed_word, announced, mark}
-use Rattle.fx_lasting.specs.Passes.{Shared, slots_of, range_of, nodes_of, IsInBlock}
+use Rattle.fx_lasting.specs.Parts.{IsHot, count_in, cold_takes, birth_word, closed_word}
+use Rattle.fx_lasting.specs.Parts.{announced, mark}
+use Rattle.fx_lasting.specs.Passes.{Shared, slots_of, range_at_start, nodes_of, IsInBlock}
 use Rattle.fx_lasting.specs.Passes.{word_of}
-use Rattle.fx_lasting.specs.Passes.{hold_of, state_after_all, IsHistory, held_in, held_of, taken_of}
+use Rattle.fx_lasting.specs.Passes.{hold_word_of, state_after_all, IsHistory, held_in, held_of}
+use Rattle.fx_lasting.specs.Passes.{taken_of}
 use Rattle.fx_lasting.specs.Passes.{logs_of, lengths, node_of_number}
 use Rattle.fx_lasting.specs.Phases.{Phase, free, placed, seated, leaving, retired, emptied, file_in}
 use Rattle.fx_lasting.specs.Phases.{removed_in}
@@ -63,7 +65,8 @@ abbrev pub Home : Type 0
 Home = maybe.Option (maybe.Option (Option Identity))
 
 -- the file lies in the node's place, and its number is on this node
-pub record HasFile (node_of : Nodes) (next_number node : ℕ) (home : Home) (f : File) : Type 0 where
+pub record IsFileOfNode (node_of : Nodes) (next_number node : ℕ) (home : Home)
+    (f : File) : Type 0 where
   pub at_home : home ≡ some (some (Some f.identity))
   pub its_node : node_of f.number ≡ node
   pub used : f.number < next_number
@@ -80,30 +83,30 @@ module _ (at : ℕ → Option File) (size : ℕ) (takes_at : ℕ → ℕ) (node_
 
   -- its file is at the slot: nothing is owed to it
   pub record IsAtSlot (slot : ℕ) (f : File) : Type 0 where
-    pub file : HasFile node_of next_number node home f
-    pub counts : word + takes_at slot ≡ born + taken
+    pub file : IsFileOfNode node_of next_number node home f
+    pub counts : word + takes_at slot ≡ birth_word + taken
     pub unowed : owing ≡ 0
     pub inside : slot < size
     pub there : at slot ≡ Some f
 
   -- its file was removed: the takes that were found, and the marks that were made
   pub record IsLeaving (takes next marks : ℕ) (f : File) : Type 0 where
-    pub file : HasFile node_of next_number node home f
-    pub counts : word + takes + marks ≡ born + taken + owing
+    pub file : IsFileOfNode node_of next_number node home f
+    pub counts : word + takes + marks ≡ birth_word + taken + owing
     pub few_takes : takes < 2 ^ 31
     pub few_marks : marks < next
     pub few_visits : next ≤ 2 ^ 16
 
   -- its file was retired: the word counts who has still to let it go
   pub record IsRetired (f : File) : Type 0 where
-    pub file : HasFile node_of next_number node home f
+    pub file : IsFileOfNode node_of next_number node home f
     pub counts : word ≡ closed_word + taken + owing
     pub somebody : 0 < taken + owing
 
   -- what the node's phase says
   abbrev pub NodeAgrees : Phase → Type 0
   NodeAgrees free = IsVacant 0 (some (some None))
-  NodeAgrees (placed seat) = IsVacant born (some none)
+  NodeAgrees (placed seat) = IsVacant birth_word (some none)
   NodeAgrees (seated slot f) = IsAtSlot slot f
   NodeAgrees (leaving seat takes next marks f) = IsLeaving takes next marks f
   NodeAgrees (retired f) = IsRetired f
@@ -194,7 +197,7 @@ pub record LogAgrees (k : Start) (h : List Event) (words : List ℕ) (phase : �
   pub own : part_of_pass x.number h ≡ part_of_pass x.number x.front
   pub held : held_by h x.number ≡ held_in work
   pub search : SearchAgrees k x.number work
-  pub hold : HoldAgrees (slice_index words (hold_of k x.number)) (debt x.number) work
+  pub hold : HoldAgrees (slice_index words (hold_word_of k x.number)) (debt x.number) work
   pub guarded : GuardAgrees (λ s. slice_index words (slot_place s)) phase x.number
       (debt x.number) work
   pub sees : GlanceAgrees k (λ s. slice_index words (slot_place s)) (λ s. over s x.number) glance
@@ -211,7 +214,7 @@ pub record ViewAgrees (k : Start) (h : List Event) (words : List ℕ) (phase : �
 -- how large everything is
 pub record HasShape (k : Start) (s : Shared) : Type 0 where
   pub slots : slots_of k ≤ MOST_SLOTS
-  pub range : (range_of k).0 + (range_of k).1 ≤ slots_of k
+  pub range : (range_at_start k).0 + (range_at_start k).1 ≤ slots_of k
   pub passes : k.passes ≤ 1024
   pub nodes : nodes_of k ≤ 16777214
   pub words : length s.words ≡ words_for (slots_of k) k.passes (nodes_of k)
@@ -255,5 +258,5 @@ pub record Agrees (k : Start) (s : Shared) : Type 0 where
   pub passes : (p : ℕ) → sum_by (logs_of p) s.views ≡ once k.passes p
   pub whole : sum_by lengths s.views ≡ k.passes
   pub authors : (p : ℕ) → once k.passes p ≡ 0 → part_of_pass p history ≡ []
-  pub control : ControlCounts (state_after_all k history).at (range_of k) s.views
+  pub control : ControlCounts (state_after_all k history).at (range_at_start k) s.views
       (slice_index s.words control_place)

@@ -39,8 +39,8 @@ Guards slot node m (Some entry) m' = (f : File) × (entry ≡ f.identity.entry)
 Guards slot node m None m' = Runs m [] (Announced node) (Cold slot) m.0.change 2 m'
 
 -- a pass that took what the slot names: it holds that file, or the slot is empty
-abbrev pub TakesAt : ℕ → Sat → Result Hold LookFault → Sat → Type 0
-TakesAt slot m (Ok hold) m' = (f : File) × (hold ≡ hold_at f hold.node)
+abbrev pub LooksByTake : ℕ → Sat → Result Hold LookFault → Sat → Type 0
+LooksByTake slot m (Ok hold) m' = (f : File) × (hold ≡ hold_at f hold.node)
     × Runs m ([] ▷ Look slot (Some f)) (Counted f hold.node) Nothing m.0.change 2 m'
-TakesAt slot m (Err Spent) m' = ⊥
-TakesAt slot m (Err Empty) m' = Runs m ([] ▷ Look slot None) Idle Nothing m.0.change 2 m'
+LooksByTake slot m (Err Spent) m' = ⊥
+LooksByTake slot m (Err Empty) m' = Runs m ([] ▷ Look slot None) Idle Nothing m.0.change 2 m'

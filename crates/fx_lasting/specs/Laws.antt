@@ -12,8 +12,9 @@ use Rattle.fx_words.specs.Words.{name_in, slot_word_of}
 use Rattle.fx_lasting.specs.Agrees.{Agrees}
 use Rattle.fx_lasting.specs.Control.{is_in, uncounted}
 use Rattle.fx_lasting.specs.Layout.{control_place, slot_place}
-use Rattle.fx_lasting.specs.Parts.{hot_bit, born, announced, mark, retire_amount_of}
-use Rattle.fx_lasting.specs.Passes.{Sat, HasNoFile, slots_of, range_of, word_of, hold_of, IsInBlock}
+use Rattle.fx_lasting.specs.Parts.{hot_bit, birth_word, announced, mark, retirement_amount}
+use Rattle.fx_lasting.specs.Passes.{Sat, HasNoFile, slots_of, range_at_start, word_of}
+use Rattle.fx_lasting.specs.Passes.{hold_word_of, IsInBlock}
 use Rattle.fx_lasting.specs.Tells.{At}
 use Rattle.fx_lasting.specs.declared.view.Change.{Change}
 use Rattle.fx_lasting.specs.declared.view.Change.TheVariants.{Outside, Inside}
@@ -53,7 +54,7 @@ GlancesKeep tells = (k : Start) (slots id i slot : ℕ) (m : Sat) (x : Log) → 
 -- a pass that saw a hot slot stores its node's name in its hold word
 abbrev pub AnnouncesKeep : Kind → Type 0
 AnnouncesKeep tells = (k : Start) (slots id i slot node : ℕ) (m : Sat) (x : Log) → HasPass k m x
-    → m.0.work ≡ Idle → m.0.glance ≡ Hot slot node → i ≡ hold_of k x.number
+    → m.0.work ≡ Idle → m.0.glance ≡ Hot slot node → i ≡ hold_word_of k x.number
     → Allows (Agrees k) slots id m i (λ _. announced node)
     (λ _. tells (step slots i (announced node) 0 none) m (announced node))
 
@@ -66,7 +67,7 @@ ConfirmsKeep tells = (k : Start) (slots id i slot node : ℕ) (m : Sat) (x : Log
 -- it swaps its announcement for 0
 abbrev pub WithdrawsKeep : Kind → Type 0
 WithdrawsKeep tells = (k : Start) (slots id i node : ℕ) (m : Sat) (x : Log) → HasPass k m x
-    → m.0.work ≡ Announced node → i ≡ hold_of k x.number
+    → m.0.work ≡ Announced node → i ≡ hold_word_of k x.number
     → Allows (Agrees k) slots id m i (λ _. 0) (tells (step slots i 0 0 none) m)
 
 -- a pass adds a take to the word of a slot
@@ -85,7 +86,7 @@ HeatsKeep tells = (k : Start) (slots id i slot : ℕ) (m : Sat) (x : Log) → Ha
 -- a pass swaps 0 for the name of the node whose file it holds
 abbrev pub StepsDownKeep : Kind → Type 0
 StepsDownKeep tells = (k : Start) (slots id i node : ℕ) (f : File) (m : Sat) (x : Log)
-    → HasPass k m x → m.0.work ≡ Guarded f node → i ≡ hold_of k x.number
+    → HasPass k m x → m.0.work ≡ Guarded f node → i ≡ hold_word_of k x.number
     → Allows (Agrees k) slots id m i (λ _. 0) (tells (step slots i 0 0 none) m)
 
 -- a pass subtracts the mark that it owes, or the take by which it holds a file
@@ -105,7 +106,8 @@ SeeksKeep tells = (k : Start) (slots id i node : ℕ) (m : Sat) (x : Log) → Ha
 abbrev pub BirthsKeep : Kind → Type 0
 BirthsKeep tells = (k : Start) (slots id i node : ℕ) (m : Sat) (x : Log) → HasPass k m x
     → m.0.work ≡ Searching node → i ≡ word_of k node
-    → Allows (Agrees k) slots id m i (λ _. born) (λ _. tells (step slots i born 0 none) m born)
+    → Allows (Agrees k) slots id m i (λ _. birth_word)
+    (λ _. tells (step slots i birth_word 0 none) m birth_word)
 
 -- a pass stores 0 in the word of a node whose file is closed, or which was placed in vain
 abbrev pub RestsKeep : Kind → Type 0
@@ -118,7 +120,7 @@ abbrev pub VisitsKeep : Kind → Type 0
 VisitsKeep tells = (k : Start) (slots id i node takes next marks pass : ℕ) (f : File) (m : Sat)
     (x : Log) → HasPass k m x → m.0.work ≡ Retiring f node takes next marks
     → next ≤ pass → pass ≤ k.passes → pass ≢ x.number
-    → ((p : ℕ) → next ≤ p → p < pass → p ≡ x.number) → i ≡ hold_of k pass
+    → ((p : ℕ) → next ≤ p → p < pass → p ≡ x.number) → i ≡ hold_word_of k pass
     → Allows (Agrees k) slots id m i (λ word. word) (tells (step slots i 0 0 none) m)
 
 -- it marks the hold word of that pass, if it names the node still
@@ -126,7 +128,7 @@ abbrev pub MarksKeep : Kind → Type 0
 MarksKeep tells = (k : Start) (slots id i node takes next marks pass : ℕ) (f : File) (m : Sat)
     (x : Log) → HasPass k m x → m.0.work ≡ Retiring f node takes next marks
     → next ≤ pass → pass ≤ k.passes → pass ≢ x.number
-    → ((p : ℕ) → next ≤ p → p < pass → p ≡ x.number) → i ≡ hold_of k pass
+    → ((p : ℕ) → next ≤ p → p < pass → p ≡ x.number) → i ≡ hold_word_of k pass
     → Allows (Agrees k) slots id m i
     (λ word. either (word == announced node) (announced node + mark) word)
     (tells (step slots i (announced node) (announced node + mark) none) m)
@@ -136,17 +138,17 @@ abbrev pub RetiresKeep : Kind → Type 0
 RetiresKeep tells = (k : Start) (slots id i node takes next marks amount : ℕ) (f : File) (m : Sat)
     (x : Log) → HasPass k m x → m.0.work ≡ Retiring f node takes next marks
     → ((p : ℕ) → next ≤ p → p ≤ k.passes → p ≡ x.number) → i ≡ word_of k node
-    → amount ≡ retire_amount_of takes marks
+    → amount ≡ retirement_amount takes marks
     → Allows (Agrees k) slots id m i (λ word. (word + (2 ^ 64 - amount)) % 2 ^ 64)
     (tells (step slots i amount 0 none) m)
 
 -- the slot is in the allocation range
 abbrev pub IsInRange : Start → ℕ → Type 0
-IsInRange k slot = let range = range_of k in (range.0 ≤ slot) × (slot < range.0 + range.1)
+IsInRange k slot = let range = range_at_start k in (range.0 ≤ slot) × (slot < range.0 + range.1)
 
 -- the slot is off the count, if it is in the range
 abbrev pub IsOffCount : Start → ℕ → Change → Type 0
-IsOffCount k slot change = change ≡ uncounted (is_in (range_of k) slot) true
+IsOffCount k slot change = change ≡ uncounted (is_in (range_at_start k) slot) true
 
 -- the first pass of an idle seat goes to a seat of its own
 abbrev pub SplitsKeep : (View → View) → (View → View) → Type 0

@@ -10,8 +10,9 @@ use Rattle.fx_plain.specs.declared.table.TheConstants.{MOST_SLOTS}
 use Rattle.fx_words.specs.Words.{slot_word_of, control_word_of}
 use Rattle.fx_lasting.specs.Control.{full_in}
 use Rattle.fx_lasting.specs.Layout.{control_place, slot_place, words_for}
-use Rattle.fx_lasting.specs.Parts.{born}
-use Rattle.fx_lasting.specs.Passes.{Shared, slots_of, range_of, nodes_of, word_of, hold_of}
+use Rattle.fx_lasting.specs.Parts.{birth_word}
+use Rattle.fx_lasting.specs.Passes.{Shared, slots_of, range_at_start, nodes_of}
+use Rattle.fx_lasting.specs.Passes.{word_of, hold_word_of}
 use Rattle.fx_lasting.specs.Passes.{state_after_all}
 use Rattle.fx_lasting.specs.declared.view.Start.{Start}
 use Rattle.fx_lasting.specs.declared.view.View.{View}
@@ -24,7 +25,7 @@ word_for (Some f) = slot_word_of f.number f.identity.entry
 -- the word of the node
 abbrev pub node_for : Option File → ℕ
 node_for None = 0
-node_for (Some f) = born
+node_for (Some f) = birth_word
 
 -- what lies in its place
 abbrev pub home_for : Option File → Option Identity
@@ -39,14 +40,14 @@ first_file k slot = (state_after_all k []).at slot
 -- anything or is in a change
 pub record OpensWith (k : Start) (words : List ℕ) (homes : List (Option Identity)) : Type 0 where
   pub slots : slots_of k ≤ MOST_SLOTS
-  pub range : (range_of k).0 + (range_of k).1 ≤ slots_of k
+  pub range : (range_at_start k).0 + (range_at_start k).1 ≤ slots_of k
   pub passes : k.passes ≤ 1024
   pub nodes : nodes_of k ≤ 16777214
   pub entries : (slot : ℕ) (f : File) → first_file k slot ≡ Some f → f.identity.entry < 256
   pub words_length : length words ≡ words_for (slots_of k) k.passes (nodes_of k)
   pub homes_length : length homes ≡ nodes_of k
   pub control : slice_index words control_place
-      ≡ control_word_of (full_in (first_file k) (range_of k).0 (range_of k).1)
+      ≡ control_word_of (full_in (first_file k) (range_at_start k).0 (range_at_start k).1)
   pub slot_words : (slot : ℕ) → slot < slots_of k
       → slice_index words (slot_place slot) ≡ word_for (first_file k slot)
   pub node_words : (slot : ℕ) → slot < slots_of k
@@ -55,7 +56,7 @@ pub record OpensWith (k : Start) (words : List ℕ) (homes : List (Option Identi
       → get_elem? homes slot ≡ some (home_for (first_file k slot))
   pub free_words : (n : ℕ) → slots_of k ≤ n → n < nodes_of k → slice_index words (word_of k n) ≡ 0
   pub free_places : (n : ℕ) → slots_of k ≤ n → n < nodes_of k → get_elem? homes n ≡ some None
-  pub hold_words : (p : ℕ) → 0 < p → p ≤ k.passes → slice_index words (hold_of k p) ≡ 0
+  pub hold_words : (p : ℕ) → 0 < p → p ≤ k.passes → slice_index words (hold_word_of k p) ≡ 0
 
 -- a table that begins so keeps the rule, with one seat that has all passes
 abbrev pub OpeningKeeps : (Start → Shared → Type 0) → (Start → View) → Type 0

@@ -22,15 +22,15 @@ cold_takes passes = if passes == 1 then 2 ^ 30 else 16
 
 -- the word of a node: 0 while it is free; from its birth on this, less what was dropped; 1 and the
 -- holds that are left, when its file was retired; 1 when its file is closed
-abbrev pub born : ℕ
-born = 2 ^ 32 + 1
+abbrev pub birth_word : ℕ
+birth_word = 2 ^ 32 + 1
 
 abbrev pub closed_word : ℕ
 closed_word = 1
 
 -- the number that a retirement subtracts, from the takes and the marks
-abbrev pub retire_amount_of : ℕ → ℕ → ℕ
-retire_amount_of takes marks = 2 ^ 32 - (takes + marks)
+abbrev pub retirement_amount : ℕ → ℕ → ℕ
+retirement_amount takes marks = 2 ^ 32 - (takes + marks)
 
 -- the hold word of a pass that announces a node, and what a retirement adds to it
 abbrev pub announced : ℕ → ℕ

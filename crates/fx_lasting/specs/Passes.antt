@@ -28,16 +28,16 @@ Sat = Me (Option Identity) View
 
 -- the state that passes begin with: the file at a slot has the slot's number, and every number
 -- after those of the slots is fresh
-abbrev pub start_of : Start → State
-start_of k = record (opening (state_of k.plain.value) 0) {
+abbrev pub state_at_start : Start → State
+state_at_start k = record (opening (state_of k.plain.value) 0) {
   fresh = λ number. not (nat_lt number (state_of k.plain.value).size);
 }
 
 abbrev pub slots_of : Start → ℕ
 slots_of k = (state_of k.plain.value).size
 
-abbrev pub range_of : Start → ℕ × ℕ
-range_of k = (state_of k.plain.value).range
+abbrev pub range_at_start : Start → ℕ × ℕ
+range_at_start k = (state_of k.plain.value).range
 
 -- how many nodes it has
 abbrev pub nodes_of : Start → ℕ
@@ -56,15 +56,15 @@ IsInBlock k pass node = let first = block_start (slots_of k) k.passes pass in
 abbrev pub word_of : Start → ℕ → ℕ
 word_of k node = node_place (slots_of k) k.passes node
 
-abbrev pub hold_of : Start → ℕ → ℕ
-hold_of k pass = hold_place (slots_of k) pass
+abbrev pub hold_word_of : Start → ℕ → ℕ
+hold_word_of k pass = hold_place (slots_of k) pass
 
 -- the state that a history leads to
 abbrev pub state_after_all : Start → List Event → State
-state_after_all k h = state_after (start_of k) (map action_of h)
+state_after_all k h = state_after (state_at_start k) (map action_of h)
 
 abbrev pub IsHistory : Start → List Event → Type 0
-IsHistory k h = IsLegal (start_of k) h (state_after_all k h)
+IsHistory k h = IsLegal (state_at_start k) h (state_after_all k h)
 
 -- a pass that has seen and done nothing
 abbrev pub new_log : ℕ → Log

@@ -33,11 +33,11 @@ file_in (retired f) = Some f
 file_in _ = None
 
 -- the file, if it has the number
-abbrev pub if_numbered : ℕ → File → Option File
-if_numbered number f = if f.number == number then Some f else None
+abbrev pub file_if_numbered : ℕ → File → Option File
+file_if_numbered number f = if f.number == number then Some f else None
 
 -- its file, if it was removed and has the number
 abbrev pub removed_in : ℕ → Phase → Option File
-removed_in number (leaving seat takes next marks f) = if_numbered number f
-removed_in number (retired f) = if_numbered number f
+removed_in number (leaving seat takes next marks f) = file_if_numbered number f
+removed_in number (retired f) = file_if_numbered number f
 removed_in number _ = None

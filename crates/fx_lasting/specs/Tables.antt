@@ -40,12 +40,12 @@ doing_in _ = DoesNothing
 
 -- the files that a pass can install, if those from 1 to `installing` install: none, or always as
 -- many as before
-abbrev pub numbers_of : ℕ → ℕ → ℕ
-numbers_of installing number = if nat_lt installing number then 0 else CHAIN_NUMBERS
+abbrev pub numbers_of_pass : ℕ → ℕ → ℕ
+numbers_of_pass installing number = if nat_lt installing number then 0 else CHAIN_NUMBERS
 
 -- a new pass of a lasting table
 abbrev pub as_first : ℕ → PassView → PassView
-as_first installing v = record v { numbers_left = numbers_of installing v.number }
+as_first installing v = record v { numbers_left = numbers_of_pass installing v.number }
 
 -- the passes of a table that was just opened
 abbrev pub first_passes : ℕ → ℕ → List PassView
@@ -60,7 +60,7 @@ pass_of v = let x = first_log v.logs in record {
   chain = 0;
   drawn = [];
   no_chains_left = false;
-  numbers_left = numbers_of v.start.installing x.number;
+  numbers_left = numbers_of_pass v.start.installing x.number;
   looks_left = PASS_LOOKS;
   doing = doing_in v.work;
 }

@@ -15,7 +15,7 @@ use Rattle.fx_plain.specs.declared.event.Action.TheVariants.{Close}
 use Rattle.fx_words.specs.Words.{name_in, entry_in, bias}
 use Rattle.fx_lasting.specs.Parts.{hot_in, IsHot, count_in, cold_takes, announced}
 use Rattle.fx_lasting.specs.Control.{account}
-use Rattle.fx_lasting.specs.Passes.{Sat, slots_of, nodes_of, range_of, IsInBlock, word_of}
+use Rattle.fx_lasting.specs.Passes.{Sat, slots_of, nodes_of, range_at_start, IsInBlock, word_of}
 use Rattle.fx_lasting.specs.Passes.{IsHistory, node_of_number}
 use Rattle.fx_lasting.specs.Passes.{first_log, state_after_all}
 use Rattle.fx_lasting.specs.declared.view.Change.{Change}
@@ -43,8 +43,8 @@ abbrev pub pass_at : Start → ℕ → ℕ
 pass_at k place = (place - 8 * slots_of k) / 8
 
 -- an action of a pass: a lasting table knows no chains
-abbrev pub event_of : Log → Action → Event
-event_of x action = record { pass = x.number; chain = 0; action = action }
+abbrev pub pass_event : Log → Action → Event
+pass_event x action = record { pass = x.number; chain = 0; action = action }
 
 -- the pass of a seat
 abbrev pub pass_in : Sat → Log
@@ -72,7 +72,7 @@ pub record Stepped (m : Sat) (actions : List Action) (w : Work) (g : Glance) (c 
   pub seen : IsSeenBy (pass_in m).front (pass_in m').front
   pub legal : IsHistory m.0.start (pass_in m').front
   pub own : part_of_pass (pass_in m).number (pass_in m').front
-      ≡ map (event_of (pass_in m)) actions ++ part_of_pass (pass_in m).number (pass_in m).front
+      ≡ map (pass_event (pass_in m)) actions ++ part_of_pass (pass_in m).number (pass_in m).front
   pub steps : (pass_in m').steps ≡ (pass_in m).steps + 1
   pub work : m'.0.work ≡ w
   pub inside : IsInside m.0.start w
@@ -224,9 +224,9 @@ abbrev pub first_visit : ℕ → ℕ → ℕ
 first_visit passes found = if hot_in found == 1 then 1 else passes + 1
 
 -- what a pass does that removed this file, or found none
-abbrev pub retiring : Start → ℕ → Option File → Work
-retiring k found None = Idle
-retiring k found (Some f) =
+abbrev pub retiring_work : Start → ℕ → Option File → Work
+retiring_work k found None = Idle
+retiring_work k found (Some f) =
     Retiring f (name_in found - 1) (count_in found) (first_visit k.passes found) 0
 
 -- what a swap found
@@ -242,8 +242,8 @@ pub record Installs (st : At) (m : Sat) (found : ℕ) (m' : Sat) : Type 0 where
   pub stepped : (n : ℕ) (file : Identity) → m.0.work ≡ Placing n → m.1 ≡ (n, Some file) ∷ []
       → (number : ℕ) × (node_of_number m.0.start number ≡ n)
       × Stepped m ([] ▷ Put (slot_of st.word) (numbered number file) replaced)
-      (retiring m.0.start found replaced) m.0.glance
-      (account (range_of m.0.start) (slot_of st.word) replaced) m'
+      (retiring_work m.0.start found replaced) m.0.glance
+      (account (range_at_start m.0.start) (slot_of st.word) replaced) m'
   pub carried : m'.1 ≡ rest m.1
 
 -- Swap, to an empty slot's word, by a clear or by a take
@@ -251,8 +251,8 @@ pub record Removes (action : ℕ → Option File → Action)
     (st : At) (m : Sat) (found : ℕ) (m' : Sat) : Type 0 where
   pub file : Option File
   pub names : Found found file
-  pub stepped : Stepped m ([] ▷ action (slot_of st.word) file) (retiring m.0.start found file)
-      m.0.glance (account (range_of m.0.start) (slot_of st.word) file) m'
+  pub stepped : Stepped m ([] ▷ action (slot_of st.word) file) (retiring_work m.0.start found file)
+      m.0.glance (account (range_at_start m.0.start) (slot_of st.word) file) m'
   pub carried : m'.1 ≡ m.1
 
 -- Lower and Raise
@@ -262,8 +262,8 @@ pub record Turns (change : Change) (st : At) (m : Sat) (found : ℕ) (m' : Sat) 
 
 -- Ask: where the word says so, every slot of the range is full
 pub record Asks (st : At) (m : Sat) (found : ℕ) (m' : Sat) : Type 0 where
-  pub full : found ≡ bias + (range_of m.0.start).1 → Goes m ([] ▷ Full) m.0.work m.0.glance m'
-  pub not_full : found ≢ bias + (range_of m.0.start).1 → Goes m [] m.0.work m.0.glance m'
+  pub full : found ≡ bias + (range_at_start m.0.start).1 → Goes m ([] ▷ Full) m.0.work m.0.glance m'
+  pub not_full : found ≢ bias + (range_at_start m.0.start).1 → Goes m [] m.0.work m.0.glance m'
 
 -- Peek: the pass learns nothing
 pub record Peeks (st : At) (m : Sat) (found : ℕ) (m' : Sat) : Type 0 where

@@ -4,7 +4,7 @@
 ghost use Rattle.std.specs.Prelude.{◌≡◌, ℕ, [], true};
 ghost use Rattle.fx_lasting.specs.AtWork.{IsAtWork};
 ghost use Rattle.fx_lasting.specs.Control.{is_in, uncounted};
-ghost use Rattle.fx_lasting.specs.Passes.{range_of};
+ghost use Rattle.fx_lasting.specs.Passes.{range_at_start};
 ghost use Rattle.fx_lasting.specs.Runs.{Runs};
 ghost use Rattle.fx_lasting.specs.declared.view.Change.TheVariants.{Outside};
 
@@ -19,7 +19,7 @@ impl LastingTable {
     // Checks whether the slot is in the allocation range.
     #[inline(always)]
     pub(crate) fn is_in_range(&self, slot: u32) -> bool
-        ensures { result ≡ is_in (range_of self.now.table.shared.key) slot }
+        ensures { result ≡ is_in (range_at_start self.now.table.shared.key) slot }
     {
         self.range_start <= slot && slot < self.range_start + self.range_len
     }

@@ -1,7 +1,7 @@
 //! The steps of a look-up: a cold file is counted at its slot, a hot one is announced in the pass's hold word.
 ghost use Rattle.std.specs.Prelude.{◌≡◌, ℕ, ◌<◌, []};
 ghost use Rattle.fx_lasting.specs.AtWork.{IsAtWork};
-ghost use Rattle.fx_lasting.specs.Ends.{Guards, TakesAt};
+ghost use Rattle.fx_lasting.specs.Ends.{Guards, LooksByTake};
 ghost use Rattle.fx_lasting.specs.Runs.{Runs};
 ghost use Rattle.fx_lasting.specs.Tells.{glance_after};
 ghost use Rattle.fx_lasting.specs.declared.view.Glance.TheVariants.{None as Nothing, Hot, Cold};
@@ -62,7 +62,7 @@ impl LastingTable {
         requires cold { seat.old.me.0.glance ≡ Cold slot }
         requires slot { slot < self.now.size }
         ensures table { seat.new.table_id ≡ seat.old.table_id }
-        ensures takes { TakesAt slot seat.old.me result seat.new.me }
+        ensures takes { LooksByTake slot seat.old.me result seat.new.me }
         ensures places { seat.new.me.1 ≡ seat.old.me.1 }
     {
         let shared = &self.table.shared;

@@ -10,7 +10,7 @@ ghost use Rattle.fx_lasting.specs.Control.{full_in};
 ghost use Rattle.fx_lasting.specs.Firsts.{first_at, AreFirstWords, AreFirstHomes};
 ghost use Rattle.fx_lasting.specs.Layout.{slot_place, node_place, block_start};
 ghost use Rattle.fx_lasting.specs.Lives.{HasAllPasses, IsNewPass};
-ghost use Rattle.fx_lasting.specs.Parts.{born};
+ghost use Rattle.fx_lasting.specs.Parts.{birth_word};
 ghost use Rattle.fx_lasting.specs.Shells.{IsShellOf};
 ghost use Rattle.fx_lasting.specs.Tables.{view_of, opening_of_table, first_passes, IsPassOfTable};
 ghost use Rattle.fx_lasting.specs.declared.layout.TheConstants.{MOST_NODES, MOST_PASSES, MOST_INSTALLING};
@@ -180,7 +180,7 @@ fn write_slot(words: &mut Vec<u64>, size: u32, passes: u32, slot: u32, entry: u8
     requires inside { node_place size passes slot < vec_len words.old }
     ensures entry { entry < 256 }
     ensures words { words.new.items ≡ slice_set (slice_set words.old.items
-        (slot_place slot) (slot_word_of slot entry)) (node_place size passes slot) born }
+        (slot_place slot) (slot_word_of slot entry)) (node_place size passes slot) birth_word }
 {
     words[slot_place(slot)] = slot_word(slot, entry);
     words[node_place(size, passes, slot)] = BORN;

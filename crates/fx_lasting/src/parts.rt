@@ -1,7 +1,7 @@
 //! The parts of words that `fx_words` doesn't have: a slot's heat and takes, and what a retirement subtracts.
 ghost use Rattle.std.specs.Prelude.{◌≡◌, ◌+◌, ◌≤◌, ◌^◌, ◌↔◌, IsTrue};
 ghost use Rattle.fx_words.specs.Words.{name_in, bias};
-ghost use Rattle.fx_lasting.specs.Parts.{hot_bit, count_in, hot_in, IsHot, announced, mark, retire_amount_of, born, cold_takes};
+ghost use Rattle.fx_lasting.specs.Parts.{hot_bit, count_in, hot_in, IsHot, announced, mark, retirement_amount, birth_word, cold_takes};
 
 // The bit of a slot's word that says that its file is looked up by hold words.
 pub(crate) const HOT: u64 = 1 << 31;
@@ -54,7 +54,7 @@ pub(crate) fn marked(node: u32) -> u64
 // Returns the amount that the retirement of a file with these takes and marks subtracts from its node's word.
 pub(crate) fn retire_amount(takes: u32, marks: u32) -> u64
     requires { takes + marks ≤ 2 ^ 32 }
-    ensures { result ≡ retire_amount_of takes marks }
+    ensures { result ≡ retirement_amount takes marks }
 {
     (1 << 32) - (u64::from(takes) + u64::from(marks))
 }

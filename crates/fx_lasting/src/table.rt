@@ -4,7 +4,7 @@ ghost use Rattle.fx_plain.specs.Contents.{state_of, IsPrepared};
 ghost use Rattle.fx_plain.specs.declared.table.TheConstants.{MOST_SLOTS};
 ghost use Rattle.fx_lasting.specs.declared.layout.TheConstants.{MOST_PASSES, MOST_INSTALLING};
 ghost use Rattle.fx_lasting.specs.Layout.{words_for};
-ghost use Rattle.fx_lasting.specs.Passes.{slots_of, range_of, nodes_of};
+ghost use Rattle.fx_lasting.specs.Passes.{slots_of, range_at_start, nodes_of};
 ghost use Rattle.fx_lasting.specs.Shells.{IsShellOf};
 
 use crate::kinds::OneHistory;
@@ -35,7 +35,7 @@ pub struct LastingTable {
     pub ghost key: { (passes ≡ table.shared.key.passes)
         × (installing ≡ table.shared.key.installing) },
     pub ghost same_size: { size ≡ slots_of table.shared.key },
-    pub ghost same_range: { (range_start, range_len) ≡ range_of table.shared.key },
+    pub ghost same_range: { (range_start, range_len) ≡ range_at_start table.shared.key },
     pub ghost few_slots: { size ≤ MOST_SLOTS },
     pub ghost range_inside: { range_start + range_len ≤ size },
     pub ghost emptied: { IsShellOf (state_of table.shared.key.plain.value) (state_of shell) },

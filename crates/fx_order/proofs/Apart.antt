@@ -2,7 +2,7 @@
 -- once.
 use Rattle.fx_order.proofs.Words.{◌≡◌, ◌≢◌, ◌⊎◌, inl, inr, ⊎_elim, ℕ, List, [], ◌∷◌, ◌++◌, sym, subst, ◌∙◌, Some, Closed, Table, Puts, Allocates, Permits}
 use Rattle.fx_order.proofs.Words.{not-true, Decides-not, Contains-get_or, recursion_from_All, IsDistinct-cons, PermitsAll, table_with, table_after}
-use Rattle.fx_order.proofs.Words.{removed_by, Access, removed_in, Bool, None, Option, false, refl, slice_index_or, option_to_list}
+use Rattle.fx_order.proofs.Words.{file_removed_by, Access, files_removed_in, Bool, None, Option, false, refl, slice_index_or, option_to_list}
 use Rattle.std.specs.List.{IsDistinct}
 use Rattle.fx_order.proofs.Placed.{Has, Removes, emptied, has_either, has_left, has_right, left_from, placed, placed_by, removed_from, removes_contained}
 use Rattle.fx_order.proofs.Placed.{step_from}
@@ -87,7 +87,7 @@ module _ (t : Table) (x : Access) (xs : List Access) (apart : IsApart t (placed_
   }
 
   -- the file that it removed is at no slot then, and isn't placed again
-  gone : (g : Closed) → Permits t x → removed_by x ≡ Some g → (s : ℕ) (f : Closed) → ((table_with t x).at s ≡ Some f) ⊎ Has (placed xs) s f
+  gone : (g : Closed) → Permits t x → file_removed_by x ≡ Some g → (s : ℕ) (f : Closed) → ((table_with t x).at s ≡ Some f) ⊎ Has (placed xs) s f
       → g.mark ≢ f.mark
   gone g may is s f (inl now) =
       let e = emptied t x g may is in
@@ -107,15 +107,15 @@ abbrev pub alike : Closed → Closed → Bool
 alike f g = same_mark f.mark g.mark
 
 -- no mark is removed twice
-pub removes_once : (t : Table) (xs : List Access) → IsApart t (placed xs) → PermitsAll t xs → IsDistinct alike (removed_in xs)
+pub removes_once : (t : Table) (xs : List Access) → IsApart t (placed xs) → PermitsAll t xs → IsDistinct alike (files_removed_in xs)
 unfolding IsDistinct
 removes_once t [] apart may = tt
-removes_once t (x ∷ xs) apart may = first (removed_by x) refl (removes_once (table_with t x) xs (apart_then t x xs apart) may.1)
+removes_once t (x ∷ xs) apart may = first (file_removed_by x) refl (removes_once (table_with t x) xs (apart_then t x xs apart) may.1)
   where
-    first : (found : Option Closed) → removed_by x ≡ found → IsDistinct alike (removed_in xs)
-        → IsDistinct alike (option_to_list found ++ removed_in xs)
+    first : (found : Option Closed) → file_removed_by x ≡ found → IsDistinct alike (files_removed_in xs)
+        → IsDistinct alike (option_to_list found ++ files_removed_in xs)
     first None now rest = rest
-    first (Some f) now rest = IsDistinct-cons alike f (removed_in xs) (recursion_from_All (λ g. alike f g ≡ false) (removed_in xs) (λ k d lt.
-        let g = slice_index_or (removed_in xs) k d in
-        let w = removed_from (table_with t x) xs g may.1 (removes_contained xs g (Contains-get_or (removed_in xs) k d lt)) in
+    first (Some f) now rest = IsDistinct-cons alike f (files_removed_in xs) (recursion_from_All (λ g. alike f g ≡ false) (files_removed_in xs) (λ k d lt.
+        let g = slice_index_or (files_removed_in xs) k d in
+        let w = removed_from (table_with t x) xs g may.1 (removes_contained xs g (Contains-get_or (files_removed_in xs) k d lt)) in
         not-true _ ((Decides-not _ (mark_Decides f.mark g.mark)).1 (gone t x xs apart f may.0 now w.slot g w.was)))) rest

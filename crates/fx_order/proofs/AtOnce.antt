@@ -3,7 +3,7 @@ use Rattle.fx_order.proofs.Words.{◌≡◌, ℕ, ◌+◌, ◌-◌, ◌<◌, ◌
 use Rattle.fx_order.proofs.Words.{ReleasesItsOwn, IsSome, if◌then◌else◌, option_to_list, Closed, File, Event, Action, Look, Release, Put, Clear, Take}
 use Rattle.fx_order.proofs.Words.{Allocate, Full, Close, State, IsSettled, ◌▷◌, ◌▷▷◌, state_after, AllowsAll, AllReleaseTheirOwn, held_by, close_of}
 use Rattle.fx_order.proofs.Words.{closes_in, identity_of, by_equality, Looks, Puts, Clears, Takes, Allocates, FindsFull, Permits, table_with}
-use Rattle.fx_order.proofs.Words.{removed_by, Access, table_after, closed_by, Allows, after, with_removed, ap}
+use Rattle.fx_order.proofs.Words.{file_removed_by, Access, table_after, closed_by, Allows, after, with_removed, ap}
 use Rattle.fx_order.proofs.Accesses.{accesses_by, at_itself, shown, shown-after}
 use Rattle.fx_order.proofs.Placed.{placed_by}
 
@@ -43,7 +43,7 @@ pub record Done (st : State) (number : ℕ) (access : Access) : Type 0 where
   pub settled : IsSettled (state_after st own)
   pub fresh : (n : ℕ) → number + installs access ≤ n → (state_after st own).fresh n ≡ st.fresh n
   pub releases : (chain : ℕ) (h : List Event) → AllReleaseTheirOwn h → AllReleaseTheirOwn (map (by chain) own ++ h)
-  pub closes : closes_in own ≡ option_to_list (removed_by access)
+  pub closes : closes_in own ≡ option_to_list (file_removed_by access)
 
 pub no_file : (x : Option File) → None ≡ identity_of x → x ≡ None
 no_file None is = refl
@@ -58,7 +58,7 @@ module _ (st : State) (number : ℕ) (settled : IsSettled st) where
   at_once : {access : Access} (a : Action) (x : Option File) → Does access ([] ▷ a ▷▷ close_of x) → Allows st a
       → table_after (shown st) (accesses_by a) ≡ table_with (shown st) access → (after st a).holds ≡ st.holds
       → (after st a).removed ≡ with_removed st.removed x → ((n : ℕ) → number + installs access ≤ n → (after st a).fresh n ≡ st.fresh n)
-      → ((held : Option File) → ReleasesItsOwn held a) → closed_by a ≡ [] → identity_of x ≡ removed_by access → Done st number access
+      → ((held : Option File) → ReleasesItsOwn held a) → closed_by a ≡ [] → identity_of x ≡ file_removed_by access → Done st number access
   at_once a None does may shows holds removed fresh releases closes is = record {
     own = [] ▷ a;
     does = does;

@@ -3,7 +3,7 @@ use Rattle.fx_order.proofs.Words.{◌≡◌, ℕ, ◌+◌, ◌<◌, ◌≤◌, �
 use Rattle.fx_order.proofs.Words.{All-contains, arith, All, Contains, append-nil, map-append, All-head, All-tail, Contains-append_cases}
 use Rattle.fx_order.proofs.Words.{filter-append, Event, Action, State, IsSettled, ◌▷▷◌, action_of, part_of_chain, AllowsAll, Leads}
 use Rattle.fx_order.proofs.Words.{AllReleaseTheirOwn, state_after, closes_in, by_equality, Table, PermitsAll, access_of, accesses_of}
-use Rattle.fx_order.proofs.Words.{accesses_of_chain, removed_in, table_after, Access, ChainAccess, leads_then, closes_in-then, contains_none, ⊎_elim}
+use Rattle.fx_order.proofs.Words.{accesses_of_chain, files_removed_in, table_after, Access, ChainAccess, leads_then, closes_in-then, contains_none, ⊎_elim}
 use Rattle.fx_order.proofs.Words.{All-map}
 use Rattle.fx_order.proofs.Accesses.{of_all, of_author, shown}
 use Rattle.fx_order.proofs.AtOnce.{AllDo, Done, by, done, installs}
@@ -23,7 +23,7 @@ pub record Made (chains : ℕ) (st : State) (order : List ChainAccess) : Type 0 
   pub settled : IsSettled (state_after st (map action_of history))
   pub authors : (e : Event) → Contains history e → IsWithin chains e.chain
   pub parts : (chain : ℕ) → AllDo (accesses_of_chain chain order) (map action_of (part_of_chain chain history))
-  pub closes : closes_in (map action_of history) ≡ removed_in (accesses_of order)
+  pub closes : closes_in (map action_of history) ≡ files_removed_in (accesses_of order)
 
 module _ (chains : ℕ) (st : State) (number : ℕ) (x : ChainAccess) (order : List ChainAccess) (within : IsWithin chains x.chain)
     (one : Done st number x.access) (rest : Made chains (state_after st one.own) order) where

@@ -3,7 +3,7 @@ use Rattle.fx_order.proofs.Words.{◌≡◌, inl, inr, ⊎_elim, ℕ, ◌+◌, �
 use Rattle.fx_order.proofs.Words.{not_yet, same_from_decides, IsDistinct-IsPermutation, apart_from_distinct, get_or_from_slice_get, slice_get_within}
 use Rattle.fx_order.proofs.Words.{IsDistinct, Contains, slice_get, slice_index_or, All-map, Contains-permutation, IsPermutation-sym, IsCatalogue}
 use Rattle.fx_order.proofs.Words.{Submitted, Closed, IsAccepted, members_of, chains_of, first_member, Asked, runs_of, accepted-chains}
-use Rattle.fx_order.proofs.Words.{members-are-runs, RingState, IsRing, Reported, table_after, removed_in, accesses_of, accesses_of_chain, AreKnown}
+use Rattle.fx_order.proofs.Words.{members-are-runs, RingState, IsRing, Reported, table_after, files_removed_in, accesses_of, accesses_of_chain, AreKnown}
 use Rattle.fx_order.proofs.Words.{IsOfNext, IsOneOrder, IsOrderOf, table_of, Access, ChainAccess, ◌<◌, cases_lt, false≢true, Decides-like}
 use Rattle.fx_order.proofs.Apart.{IsApart, alike, removed_is_gone, removes_once}
 use Rattle.fx_order.proofs.Placed.{Has, Removes, contains_removed, left_from, left_or_removed, placed, removed_from, removes_contained}
@@ -45,8 +45,8 @@ module _ (old : RingState) (requests : List Asked) (report : Reported) (is : IsR
     }
 
     closed_is_removed : (f : Closed) → Contains report.closes.files f → Removes (accesses_of order) f
-    closed_is_removed f closed = removes_contained (accesses_of order) f (Contains-permutation report.closes.files (removed_in (accesses_of order)) f
-        (IsPermutation-sym (removed_in (accesses_of order)) report.closes.files o.closed.same_files) closed)
+    closed_is_removed f closed = removes_contained (accesses_of order) f (Contains-permutation report.closes.files (files_removed_in (accesses_of order)) f
+        (IsPermutation-sym (files_removed_in (accesses_of order)) report.closes.files o.closed.same_files) closed)
 
     -- a file that the order leaves isn't closed
     left_stays : (s : ℕ) (f : Closed) → (table_after (table_of old) (accesses_of order)).at s ≡ Some f → Contains report.closes.files f → ⊥
@@ -66,7 +66,7 @@ module _ (old : RingState) (requests : List Asked) (report : Reported) (is : IsR
     left_too : (s : ℕ) {f : Closed} → (table_after (table_of old) (accesses_of one)).at s ≡ Some f
         → (table_after (table_of old) (accesses_of other)).at s ≡ Some f
     left_too s {f} at = ⊎_elim (λ left. left)
-        (λ gone. absurd (left_stays one o s f at (Contains-permutation (removed_in (accesses_of other)) report.closes.files f p.closed.same_files
+        (λ gone. absurd (left_stays one o s f at (Contains-permutation (files_removed_in (accesses_of other)) report.closes.files f p.closed.same_files
         (contains_removed (accesses_of other) gone))))
         (left_or_removed (table_of old) (accesses_of other) p.permitted
         (⊎_elim (λ was. inl was) (λ new. inr (placed_too s f new)) (left_from (table_of old) (accesses_of one) s f at)))
@@ -137,7 +137,7 @@ each_closed_file_is_known old requests report left is accepted o =
           ⊎_elim (λ was. inl (w.slot, w.inside, was)) (λ has. inr (of_next old report is o.is accepted w.slot has)) w.was;
       distinct = places_apart report.closes.files (IsDistinct-IsPermutation alike
           (λ x y. same_from_decides _ _ (mark_Decides x.mark y.mark) (Decides-like _ (λ e. sym e) (λ e. sym e) (mark_Decides y.mark x.mark)))
-          (removed_in xs) report.closes.files o.is.closed.same_files
+          (files_removed_in xs) report.closes.files o.is.closed.same_files
           (removes_once (table_of old) xs (apart old requests report is o.order o.is) o.is.permitted));
     }
 

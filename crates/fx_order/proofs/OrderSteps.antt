@@ -1,9 +1,9 @@
 -- An order with one more access.
 use Rattle.fx_order.proofs.Words.{◌≡◌, ℕ, ◌+◌, ◌<◌, List, [], ◌∷◌, ◌++◌, length, take, sym, ap, ◌∙◌, slice_index_or, Option, zero, suc, arith}
 use Rattle.fx_order.proofs.Words.{append-nil, map-append, take_more, option_to_list, Closed, Table, Permits, PermitsAll, table_with, table_after}
-use Rattle.fx_order.proofs.Words.{removed_by, removed_in, access_of, accesses_of, ChainAccess, Access}
+use Rattle.fx_order.proofs.Words.{file_removed_by, files_removed_in, access_of, accesses_of, ChainAccess, Access}
 use Rattle.fx_order.proofs.Accesses.{PermitsAll-append, table_after-append}
-use Rattle.fx_order.proofs.Removed.{removed_in-append}
+use Rattle.fx_order.proofs.Removed.{files_removed_in-append}
 
 module _ (order : List ChainAccess) (i : ℕ) (d : ChainAccess) (within : i < length order) where
   abbrev x : Access
@@ -20,10 +20,10 @@ module _ (order : List ChainAccess) (i : ℕ) (d : ChainAccess) (within : i < le
     made ∙ ((λ j. table_with (is j) x) ∙ sym (table_after-append start (accesses_of (take i order)) (x ∷ []))),
   )
 
-  pub more_removed : {before now : List Closed} {found : Option Closed} → before ≡ removed_in (accesses_of (take i order))
-      → found ≡ removed_by x → now ≡ before ++ option_to_list found → now ≡ removed_in (accesses_of (take (i + 1) order))
+  pub more_removed : {before now : List Closed} {found : Option Closed} → before ≡ files_removed_in (accesses_of (take i order))
+      → found ≡ file_removed_by x → now ≡ before ++ option_to_list found → now ≡ files_removed_in (accesses_of (take (i + 1) order))
   more_removed so_far is grown =
-      rw (accesses_more, removed_in-append (accesses_of (take i order)) (x ∷ []), append-nil (option_to_list (removed_by x)))
+      rw (accesses_more, files_removed_in-append (accesses_of (take i order)) (x ∷ []), append-nil (option_to_list (file_removed_by x)))
       (grown ∙ (λ j. so_far j ++ option_to_list (is j)))
 
 -- each access of an order is permitted at its place

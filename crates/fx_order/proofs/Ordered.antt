@@ -2,7 +2,7 @@
 use Rattle.fx_order.proofs.Words.{◌≡◌, ℕ, ◌+◌, ◌≤◌, List, [], ◌∷◌, map, length, refl, sym, ap, subst, ◌∙◌, All, Contains, Option, IsPermutation}
 use Rattle.fx_order.proofs.Words.{opening_is_start, All-nil, All-append, IsPermutation-trans, Closed, Event, Action, State, opening, state_of}
 use Rattle.fx_order.proofs.Words.{action_of, closes_in, numbers_for, Asked, runs_of, RingContents, RingState, ring_of, IsOneHistory, Reported, Table}
-use Rattle.fx_order.proofs.Words.{Looks, PermitsAll, table_with, Access, ChainAccess, table_after, removed_in, accesses_of, IsOneOrder, table_of}
+use Rattle.fx_order.proofs.Words.{Looks, PermitsAll, table_with, Access, ChainAccess, table_after, files_removed_in, accesses_of, IsOneOrder, table_of}
 use Rattle.fx_order.proofs.Words.{contains_head, contains_tail, All-map}
 use Rattle.fx_order.proofs.Accesses.{shown, accesses_by, accesses_in, order_in, by_chain, accesses_of-order_in, permitted_along, shown-opening}
 use Rattle.fx_order.proofs.Explained.{all_explained}
@@ -51,8 +51,8 @@ each_history_is_an_order old new requests report h =
         chains = order_within h.history h.chains;
         done = all_explained old.catalogue (state_of old.table).size report.submission 1 (runs_of requests) h.history report.completions h.explained;
         closed = record {
-          same_files = IsPermutation-trans (removed_in (accesses_of order)) (closes_in acts) report.closes.files
-              (subst (λ (l : List Access). IsPermutation (removed_in l) (closes_in acts)) (sym are)
+          same_files = IsPermutation-trans (files_removed_in (accesses_of order)) (closes_in acts) report.closes.files
+              (subst (λ (l : List Access). IsPermutation (files_removed_in l) (closes_in acts)) (sym are)
               (removed_is_closed h.history (opening_is_start (state_of old.table) numbers) h.legal.leads.0 h.legal.leads.1 h.settled))
               h.closed.same_files;
           in_order = h.closed.in_order;

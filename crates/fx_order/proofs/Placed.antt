@@ -2,7 +2,7 @@
 use Rattle.fx_order.proofs.Words.{◌≡◌, ◌≢◌, ◌⊎◌, inl, inr, ⊎_elim, ℕ, ◌<◌, List, [], ◌∷◌, ◌++◌, Contains, refl, sym, ap, ◌∙◌, append_assoc, arith}
 use Rattle.fx_order.proofs.Words.{IsAt, with_file, Option, Some, None, if◌then◌else◌, option_to_list, Contains-append_right, Closed, by_equality}
 use Rattle.fx_order.proofs.Words.{contains_none, contains_head, contains_cases, Table, Looks, Puts, Clears, Takes, Allocates, Permits, PermitsAll}
-use Rattle.fx_order.proofs.Words.{table_with, table_after, removed_by, removed_in, Access}
+use Rattle.fx_order.proofs.Words.{table_with, table_after, file_removed_by, files_removed_in, Access}
 use Rattle.fx_order.proofs.Accesses.{at_itself}
 
 -- the file that an access places, with its slot
@@ -43,7 +43,7 @@ has_either (x ∷ xs) ys slot file (inr later) = ⊎_elim (λ first. inl (inr fi
 -- the accesses remove the file
 abbrev pub Removes : List Access → Closed → Type 0
 Removes [] file = ⊥
-Removes (access ∷ accesses) file = (removed_by access ≡ Some file) ⊎ Removes accesses file
+Removes (access ∷ accesses) file = (file_removed_by access ≡ Some file) ⊎ Removes accesses file
 
 -- a file that is at a slot after a write was there, and the write was elsewhere, or it is the written one
 written : (t : Table) {slot : ℕ} {new : Option Closed} {s : ℕ} {f : Closed} → (with_file t slot new).at s ≡ Some f
@@ -79,7 +79,7 @@ kept t slot removed new s f found was =
     (λ same. inr (found ∙ (ap t.at (sym same) ∙ was))) (λ _. inl was)
 
 -- a file at a slot is there after an access, or the access removed it
-step_kept : (t : Table) (x : Access) {s : ℕ} {f : Closed} → Permits t x → t.at s ≡ Some f → ((table_with t x).at s ≡ Some f) ⊎ (removed_by x ≡ Some f)
+step_kept : (t : Table) (x : Access) {s : ℕ} {f : Closed} → Permits t x → t.at s ≡ Some f → ((table_with t x).at s ≡ Some f) ⊎ (file_removed_by x ≡ Some f)
 step_kept t (Puts slot file removed) {s} {f} may was = kept t slot removed (Some file) s f may.1 was
 step_kept t (Clears slot removed) {s} {f} may was = kept t slot removed None s f may.1 was
 step_kept t (Takes slot removed) {s} {f} may was = kept t slot removed None s f may.1 was
@@ -122,7 +122,7 @@ emptied_at {t} {slot} {new} may is left puts = record {
   behind = λ s f now. ⊎_elim (λ o. inl o) (λ h. inr (puts s f h)) (written t (left s f now));
 }
 
-pub emptied : (t : Table) (x : Access) (g : Closed) → Permits t x → removed_by x ≡ Some g → IsEmptied t x g
+pub emptied : (t : Table) (x : Access) (g : Closed) → Permits t x → file_removed_by x ≡ Some g → IsEmptied t x g
 emptied t (Puts slot file removed) g may is = emptied_at may is (λ s f now. now) (λ s f h. is_placed h)
 emptied t (Clears slot removed) g may is = emptied_at may is (λ s f now. now) (λ s f h. absurd (cc (h.1)))
 emptied t (Takes slot removed) g may is = emptied_at may is (λ s f now. now) (λ s f h. absurd (cc (h.1)))
@@ -151,17 +151,17 @@ removed_from t (x ∷ xs) g may (inr later) =
     }
 
 -- the list of what was removed has exactly the removed files
-pub contains_removed : (xs : List Access) {g : Closed} → Removes xs g → Contains (removed_in xs) g
+pub contains_removed : (xs : List Access) {g : Closed} → Removes xs g → Contains (files_removed_in xs) g
 contains_removed [] gone = absurd gone
-contains_removed (x ∷ xs) {g} (inl now) = rw now (contains_head g (removed_in xs))
-contains_removed (x ∷ xs) {g} (inr later) = Contains-append_right (option_to_list (removed_by x)) (removed_in xs) g (contains_removed xs later)
+contains_removed (x ∷ xs) {g} (inl now) = rw now (contains_head g (files_removed_in xs))
+contains_removed (x ∷ xs) {g} (inr later) = Contains-append_right (option_to_list (file_removed_by x)) (files_removed_in xs) g (contains_removed xs later)
 
-pub removes_contained : (xs : List Access) (g : Closed) → Contains (removed_in xs) g → Removes xs g
+pub removes_contained : (xs : List Access) (g : Closed) → Contains (files_removed_in xs) g → Removes xs g
 removes_contained [] g has = absurd (contains_none g has)
-removes_contained (x ∷ xs) g has = either (removed_by x) refl (λ later. removes_contained xs g later) has
+removes_contained (x ∷ xs) g has = either (file_removed_by x) refl (λ later. removes_contained xs g later) has
   where
-    either : (found : Option Closed) → removed_by x ≡ found → (Contains (removed_in xs) g → Removes xs g)
-        → Contains (option_to_list found ++ removed_in xs) g → (removed_by x ≡ Some g) ⊎ Removes xs g
+    either : (found : Option Closed) → file_removed_by x ≡ found → (Contains (files_removed_in xs) g → Removes xs g)
+        → Contains (option_to_list found ++ files_removed_in xs) g → (file_removed_by x ≡ Some g) ⊎ Removes xs g
     either None is more h = inr (more h)
     either (Some f) is more h =
-        ⊎_elim (λ here. inl (is ∙ ap (λ y. Some y) (sym here))) (λ later. inr (more later)) (contains_cases f (removed_in xs) g h)
+        ⊎_elim (λ here. inl (is ∙ ap (λ y. Some y) (sym here))) (λ later. inr (more later)) (contains_cases f (files_removed_in xs) g h)

@@ -3,7 +3,7 @@ use Rattle.fx_order.proofs.Words.{◌≡◌, ◌≢◌, ℕ, ◌<◌, ◌≤◌,
 use Rattle.fx_order.proofs.Words.{IsPermutation-push_more, if◌then◌else◌, arith, IsPermutation, append-nil, IsPermutation-refl, IsPermutation-sym}
 use Rattle.fx_order.proofs.Words.{IsPermutation-trans, IsPermutation-cons, IsPermutation-middle, IsPermutation-map, IsPermutation-pop_more}
 use Rattle.fx_order.proofs.Words.{option_to_list, Closed, File, Event, Action, Look, Put, Clear, Take, Close, State, IsSettled, Allows, after}
-use Rattle.fx_order.proofs.Words.{with_removed, state_after, AllowsAll, action_of, closes_in, closed_by, IsStart, by_equality, removed_by, removed_in}
+use Rattle.fx_order.proofs.Words.{with_removed, state_after, AllowsAll, action_of, closes_in, closed_by, IsStart, by_equality, file_removed_by, files_removed_in}
 use Rattle.fx_order.proofs.Words.{Access, named, named_same, present, placed_one, tally, tally_all, tally_start, changed_at, nat_tests}
 use Rattle.fx_order.proofs.Accesses.{accesses_in, accesses_by, at_itself}
 
@@ -102,7 +102,7 @@ not_waiting st {slot} {f} lt is few =
     none_present (st.removed f.number) (omega arith)
 
 accounts_after : (st : State) (a : Action) {removed : List Closed} (closed : List Closed) → Allows st a → ((n : ℕ) → tally n st ≤ 1)
-    → Accounts st.removed removed closed → Accounts (after st a).removed (removed ++ removed_in (accesses_by a)) (closed ++ closed_by a)
+    → Accounts st.removed removed closed → Accounts (after st a).removed (removed ++ files_removed_in (accesses_by a)) (closed ++ closed_by a)
 accounts_after st (Look slot None) {removed} closed may few so_far = kept removed closed so_far
 accounts_after st (Put slot f (Some g)) {removed} closed may few so_far = leaves removed closed g (not_waiting st may.0 may.2 (few g.number)) so_far
 accounts_after st (Clear slot (Some g)) {removed} closed may few so_far = leaves removed closed g (not_waiting st may.0 may.1 (few g.number)) so_far
@@ -110,19 +110,19 @@ accounts_after st (Take slot (Some g)) {removed} closed may few so_far = leaves 
 accounts_after st (Close f) {removed} closed may few so_far = closed_one removed closed f may.0 so_far
 accounts_after st a {removed} closed may few so_far = kept removed closed so_far
 
-pub removed_in-append : (xs ys : List Access) → removed_in (xs ++ ys) ≡ removed_in xs ++ removed_in ys
-removed_in-append [] ys = refl
-removed_in-append (x ∷ xs) ys = ap (λ (l : List Closed). option_to_list (removed_by x) ++ l) (removed_in-append xs ys)
-    ∙ sym (append_assoc (option_to_list (removed_by x)) (removed_in xs) (removed_in ys))
+pub files_removed_in-append : (xs ys : List Access) → files_removed_in (xs ++ ys) ≡ files_removed_in xs ++ files_removed_in ys
+files_removed_in-append [] ys = refl
+files_removed_in-append (x ∷ xs) ys = ap (λ (l : List Closed). option_to_list (file_removed_by x) ++ l) (files_removed_in-append xs ys)
+    ∙ sym (append_assoc (option_to_list (file_removed_by x)) (files_removed_in xs) (files_removed_in ys))
 
 accounts_along : {start : State} (h : List Event) → IsStart start → AllowsAll start (map action_of h)
-    → Accounts (state_after start (map action_of h)).removed (removed_in (accesses_in (map action_of h))) (closes_in (map action_of h))
+    → Accounts (state_after start (map action_of h)).removed (files_removed_in (accesses_in (map action_of h))) (closes_in (map action_of h))
 accounts_along [] begins may = record { waiting = []; found = begins.settled.closed; apart = tt; same_files = IsPermutation-refl [] }
 accounts_along {start} (e ∷ h) begins may =
     let st : State = state_after start (map action_of h) in
     let few : (n : ℕ) → tally n st ≤ 1 = λ n. let once = tally_start start n begins in let all = tally_all start h n once may.0 in omega arith in
     subst (λ (l : List Closed). Accounts (after st e.action).removed l (closes_in (map action_of (e ∷ h))))
-    (sym (removed_in-append (accesses_in (map action_of h)) (accesses_by e.action)))
+    (sym (files_removed_in-append (accesses_in (map action_of h)) (accesses_by e.action)))
     (accounts_after st e.action (closes_in (map action_of h)) may.1 few (accounts_along h begins may.0))
 
 none_waits : {left : ℕ → Option File} (waiting : List File) → ((n : ℕ) → left n ≡ None) → ((n : ℕ) → left n ≡ found_in n waiting) → waiting ≡ []
@@ -133,9 +133,9 @@ none_waits (f ∷ waiting) settled found =
 -- at a settled end, what was taken from the slots was closed
 pub removed_is_closed : {start end : State} (h : List Event) → IsStart start → AllowsAll start (map action_of h)
     → end ≡ state_after start (map action_of h) → IsSettled end
-    → IsPermutation (removed_in (accesses_in (map action_of h))) (closes_in (map action_of h))
+    → IsPermutation (files_removed_in (accesses_in (map action_of h))) (closes_in (map action_of h))
 removed_is_closed h begins may is settled =
     let all = accounts_along h begins may in
     let none : all.waiting ≡ [] = none_waits all.waiting (subst IsSettled is settled).closed all.found in
-    subst (IsPermutation (removed_in (accesses_in (map action_of h))))
+    subst (IsPermutation (files_removed_in (accesses_in (map action_of h))))
     (ap (λ (l : List File). closes_in (map action_of h) ++ map identity l) none ∙ append-nil (closes_in (map action_of h))) all.same_files

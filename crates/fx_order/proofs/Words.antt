@@ -31,7 +31,7 @@ pub use Rattle.fx_chain.specs.declared.request.Target.{Target}
 pub use Rattle.fx_chain.specs.declared.request.Target.TheVariants.{Any, Slot}
 pub use Rattle.fx_chain.specs.declared.request.TheConstants.{LONGEST_UPDATE}
 pub use Rattle.fx_order.specs.Access.{Allocates, Clears, FindsFull, Looks, Permits, PermitsAll, Puts, Table, Takes, access_of, accesses_of}
-pub use Rattle.fx_order.specs.Access.{accesses_of_chain, removed_by, removed_in, table_after, table_with, IsAt, with_file}
+pub use Rattle.fx_order.specs.Access.{accesses_of_chain, file_removed_by, files_removed_in, table_after, table_with, IsAt, with_file}
 pub use Rattle.fx_order.specs.Laws.{AreKnown, IsOfNext}
 pub use Rattle.fx_order.specs.Order.{IsOneOrder, IsOrderOf, ring_left, table_of}
 pub use Rattle.fx_order.specs.Requests.{AreChainsDone, AreEntriesDone, IsChainDone, IsCloseDone, IsEntryDone, IsOpenDone, IsReadDone, IsRefused}

@@ -50,11 +50,11 @@ table_with table (Allocates slot file) = with_file table slot (Some file)
 table_with table FindsFull = table
 
 -- the file that an access takes from its slot, if there is one
-abbrev pub removed_by : Access → Option Identity
-removed_by (Puts slot file removed) = removed
-removed_by (Clears slot removed) = removed
-removed_by (Takes slot removed) = removed
-removed_by _ = None
+abbrev pub file_removed_by : Access → Option Identity
+file_removed_by (Puts slot file removed) = removed
+file_removed_by (Clears slot removed) = removed
+file_removed_by (Takes slot removed) = removed
+file_removed_by _ = None
 
 -- the accesses are permitted one after another, in order
 abbrev pub PermitsAll : Table → List Access → Type 0
@@ -68,9 +68,10 @@ table_after table [] = table
 table_after table (access ∷ accesses) = table_after (table_with table access) accesses
 
 -- the files that the accesses took from their slots, in order
-abbrev pub removed_in : List Access → List Closed
-removed_in [] = []
-removed_in (access ∷ accesses) = option_to_list (removed_by access) ++ removed_in accesses
+abbrev pub files_removed_in : List Access → List Closed
+files_removed_in [] = []
+files_removed_in (access ∷ accesses) =
+    option_to_list (file_removed_by access) ++ files_removed_in accesses
 
 abbrev pub access_of : ChainAccess → Access
 access_of x = x.access

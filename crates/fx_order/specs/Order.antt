@@ -5,7 +5,7 @@ use Rattle.fx_chain.specs.Operation.{Asked}
 use Rattle.fx_chain.specs.Runs.{runs_of}
 use Rattle.fx_ring.specs.Ring.{RingState, HasClosed}
 use Rattle.fx_ring.specs.Submission.{Reported}
-use Rattle.fx_order.specs.Access.{Table, PermitsAll, table_after, removed_in, accesses_of}
+use Rattle.fx_order.specs.Access.{Table, PermitsAll, table_after, files_removed_in, accesses_of}
 use Rattle.fx_order.specs.declared.access.ChainAccess.{ChainAccess}
 use Rattle.fx_order.specs.Requests.{AreChainsDone}
 
@@ -25,7 +25,7 @@ pub record IsOrderOf (order : List ChainAccess) (old : RingState) (requests : Li
   pub done : AreChainsDone old.catalogue old.size report.submission 1 (runs_of requests) order
       report.completions
   -- the report's closes are the files that were taken from their slots, in order of mark
-  pub closed : HasClosed (removed_in (accesses_of order)) report.closes
+  pub closed : HasClosed (files_removed_in (accesses_of order)) report.closes
   pub submission : report.submission ≡ old.submissions + 1
 
 -- the ring that an order leaves: it has the files that the order left at the slots, the submission

@@ -1,6 +1,6 @@
 //! Accesses: what requests do to a table when they are done one at a time.
 ghost use Rattle.std.specs.Prelude.{◌≡◌};
-ghost use Rattle.fx_order.specs.Access.{removed_by};
+ghost use Rattle.fx_order.specs.Access.{file_removed_by};
 
 use fx_base::Closed;
 
@@ -26,7 +26,7 @@ pub enum Access {
 impl Access {
     /// Returns the file that the access takes from its slot, or `None` if it takes none.
     pub fn removed(&self) -> Option<Closed>
-        ensures { result ≡ removed_by self.now }
+        ensures { result ≡ file_removed_by self.now }
     {
         match self {
             Access::Puts(_, _, removed) => *removed,

@@ -2,7 +2,7 @@
 ghost use Rattle.std.specs.Prelude.{◌≡◌, ℕ, ◌<◌, ◌↔◌, ◌≢◌, IfNone, IfOk, IfSome, IsTrue, IsPermutation, length, slice_index_or};
 ghost use Rattle.fx_base.specs.CloseList.{IsInOrderOfMark};
 ghost use Rattle.fx_base.specs.declared.open_file.Closed.{Closed as File};
-ghost use Rattle.fx_order.specs.Access.{PermitsAll, table_after, accesses_of, accesses_of_chain, removed_in};
+ghost use Rattle.fx_order.specs.Access.{PermitsAll, table_after, accesses_of, accesses_of_chain, files_removed_in};
 ghost use Rattle.fx_order.specs.Slots.{table_of_slots};
 
 use crate::access::{Access, ChainAccess};
@@ -44,7 +44,7 @@ pub(crate) fn accesses_of_chain(
 
 // Returns the files that the accesses took from their slots, in order.
 fn removed_in(alloc: Global, order: &[ChainAccess]) -> Result<Vec<Closed>, NoMemory>
-    ensures { IfOk result (λ files. files.items ≡ removed_in (accesses_of order.now)) }
+    ensures { IfOk result (λ files. files.items ≡ files_removed_in (accesses_of order.now)) }
 {
     let mut files = Vec::new(alloc);
     for x in order {
@@ -111,7 +111,7 @@ fn is_in_order(files: &[Closed]) -> bool
 /// `NoMemory` if an allocation for a list of the files fails.
 pub fn are_closed(alloc: Global, order: &[ChainAccess], closes: &[Closed]) -> Result<bool, NoMemory>
     ensures { IfOk result (λ yes. IsTrue yes
-        ↔ (IsPermutation (removed_in (accesses_of order.now)) closes.now
+        ↔ (IsPermutation (files_removed_in (accesses_of order.now)) closes.now
         × IsInOrderOfMark closes.now)) }
 {
     let files = removed_in(alloc, order)?;

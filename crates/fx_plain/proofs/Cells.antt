@@ -2,7 +2,7 @@
 use Rattle.fx_plain.proofs.Words.{◌≡◌, ◌≢◌, ℕ, zero, suc, replicate, ◌<◌, Bool, true, false, List, length, refl, sym, ap, ◌∙◌, slice_index_or}
 use Rattle.fx_plain.proofs.Words.{slice_set, subst, ◌==◌, if◌then◌else◌, inl, inr, get_or-set_same, get_or-set_other, eqb-true, cases_lt}
 use Rattle.fx_plain.proofs.Words.{get_or-eq_default, changed_at, IsSome, Option, Some, None, Closed, Contents, IsTable, state_of, slot_at, node_at}
-use Rattle.fx_plain.proofs.Words.{file_at, placed_at, leaving, removed_at, is_fresh, is_leaving, is_retired, file_in, Fresh, At, Leaving, Retired}
+use Rattle.fx_plain.proofs.Words.{file_at, placed_at, leaving, removed_at, is_fresh, is_leaving, is_retired, identity_in, Fresh, At, Leaving, Retired}
 use Rattle.fx_plain.proofs.Words.{Gone, Node}
 use Rattle.std.proofs.Common.{eq-eqb, ne_eqb}
 use Rattle.std.proofs.lemmas.Bool.Decides.{not_from_Decides, Decides-eqb}
@@ -60,8 +60,8 @@ inside_told told nodes n none is = inside_of nodes n Gone (λ (gone : node_at no
     let e : false ≡ true = sym none ∙ ap told (sym gone) ∙ is in cc)
 
 -- a node has a file, at a slot or removed
-pub has_file-At : (nodes : List Node) (n : ℕ) {slot : ℕ} {file : Closed} → node_at nodes n ≡ At slot file → IsSome (file_in (node_at nodes n))
-has_file-At nodes n is = subst (λ (node : Node). IsSome (file_in node)) (sym is) refl
+pub has_file-At : (nodes : List Node) (n : ℕ) {slot : ℕ} {file : Closed} → node_at nodes n ≡ At slot file → IsSome (identity_in (node_at nodes n))
+has_file-At nodes n is = subst (λ (node : Node). IsSome (identity_in node)) (sym is) refl
 
 -- a node, by the results of its tests
 pub fresh_is : (node : Node) → is_fresh node ≡ true → node ≡ Fresh

@@ -3,7 +3,7 @@ use Rattle.fx_plain.proofs.Words.{◌≡◌, ◌≢◌, ℕ, ◌+◌, ◌-◌, �
 use Rattle.fx_plain.proofs.Words.{◌∙◌, slice_index, slice_index_or, slice_set, Option, Some, None, arith, length-set, get_or-set_same}
 use Rattle.fx_plain.proofs.Words.{get_or-set_other, Closed, File, Look, Release, Steps, changed_at, after, Leads, close_of, ◌▷▷◌, Contents, IsTable}
 use Rattle.fx_plain.proofs.Words.{IsCounted, state_of, slot_at, node_at, file_at, placed_at, leaving, removed_at, is_fresh, is_leaving, is_retired}
-use Rattle.fx_plain.proofs.Words.{file_in, node_after_retirement, removed_count_of, At, Leaving, Retired, Gone, numbered, identity_of}
+use Rattle.fx_plain.proofs.Words.{identity_in, node_after_retirement, removed_count_of, At, Leaving, Retired, Gone, numbered, identity_of}
 use Rattle.fx_plain.proofs.Words.{closed_by_retirement, EndsHold, Node, get_or-le-sum_by, sum_by-set, ◌▷◌, closed_by_release}
 use Rattle.fx_plain.proofs.Cells.{by_equality, each_set, unchanged, written, inside_of, IsOff, inside_of-At, inside_told, leaving_is, retired_is}
 use Rattle.fx_plain.proofs.Cells.{state_of-holds, state_of-nodes, leaving-nodes, same_file}
@@ -228,9 +228,9 @@ module _ {c : Contents} (n : ℕ) (t : IsTable c) (some_hold : 0 < slice_index c
         (keeps_node Gone t retired_off retired_inside (λ (is : false ≡ true). cc) refl) some_hold
         (λ is. let e : false ≡ true = ap is_retired (sym (get_or-set_same c.nodes n Gone Gone retired_inside)) ∙ is in cc)
 
-    pub let_go_releases : {out : Option Closed} → out ≡ file_in (node_at c.nodes n) → EndsHold c let_go n out
+    pub let_go_releases : {out : Option Closed} → out ≡ identity_in (node_at c.nodes n) → EndsHold c let_go n out
     let_go_releases is = record {
-      answer = is ∙ ap file_in was_retired.1 ∙ sym (ap identity_of closing);
+      answer = is ∙ ap identity_in was_retired.1 ∙ sym (ap identity_of closing);
       steps = let_go_steps;
       numbers = refl;
       sound = let_go_keeps;

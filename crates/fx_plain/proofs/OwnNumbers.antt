@@ -1,7 +1,7 @@
 -- Each file moves to the node of its slot's number, one slot after another, and slots outside the span have such numbers.
 use Rattle.fx_plain.proofs.Words.{◌≡◌, ◌≢◌, ℕ, ◌<◌, ◌≤◌, List, length, sym, ◌∙◌, arith, slice_set, Option, Some, None, length-set, get_or-set_other}
 use Rattle.fx_plain.proofs.Words.{slot_at, SlotSpan, IsOutside, HaveOwnOutside, ◌+◌, [], ◌∷◌, ◌++◌, refl, ap, set-set, get_or_append_left, Closed}
-use Rattle.fx_plain.proofs.Words.{AllPlaced, IsFiled, subst, node_at, file_named, file_in, opening_slot, moved_node, nodes_without, file_count_of, At}
+use Rattle.fx_plain.proofs.Words.{AllPlaced, IsFiled, subst, node_at, file_named, identity_in, opening_slot, moved_node, nodes_without, file_count_of, At}
 use Rattle.fx_plain.proofs.Words.{Gone, sum_by, Node, sum_by-set, set-get_or, HaveOwnNumbers}
 use Rattle.fx_plain.proofs.Cells.{each_set, by_equality, inside_of-At}
 use Rattle.std.proofs.Math.Seq.{get_or-append_seam}
@@ -34,7 +34,7 @@ own_of_none slots span few none = record {
 -- Each file moves to the node of its slot's number, one slot after another.
 file_named_same : (old new : List Node) (x : Option ℕ) → ((n : ℕ) → x ≡ Some n → node_at new n ≡ node_at old n) → file_named new x ≡ file_named old x
 file_named_same old new None same = refl
-file_named_same old new (Some n) same = ap file_in (same n refl)
+file_named_same old new (Some n) same = ap identity_in (same n refl)
 
 -- the files of the slots from `s` on are as they were
 abbrev pub IsLeft : List (Option ℕ) → List Node → List Node → ℕ → Type 0

@@ -2,7 +2,7 @@
 use Rattle.fx_plain.proofs.Words.{◌≡◌, ℕ, ◌&&◌, not, nat_lt, ap, subst, sym, ◌∙◌, None, Some, File, Option, IsSettled, State, opening, refl}
 use Rattle.fx_plain.proofs.Words.{file_numbered, identity_of, arith, numbered, ◌<◌, ◌≤◌, ◌^◌, true, false, List, length, replicate, slice_index, inl}
 use Rattle.fx_plain.proofs.Words.{inr, length-replicate, cases_lt, get_or-eq_default, Closed, Contents, IsTable, IsCounted, state_of, slot_at}
-use Rattle.fx_plain.proofs.Words.{node_at, file_at, removed_at, is_fresh, is_retired, IsRenumbered, IsVacant, moved_node, file_in, opening_slot}
+use Rattle.fx_plain.proofs.Words.{node_at, file_at, removed_at, is_fresh, is_retired, IsRenumbered, IsVacant, moved_node, identity_in, opening_slot}
 use Rattle.fx_plain.proofs.Words.{sum, removed_count_of, Fresh, At, Gone, Node, lt-ltb, le-ltb}
 use Rattle.fx_plain.specs.Laws.{IsStart}
 use Rattle.std.specs.Prelude.{option_map}
@@ -51,7 +51,7 @@ module _ {c : Contents} {slots : List (Option ℕ)} {nodes : List Node} {numbers
   prepared = record { slots = slots; range = c.range; nodes = nodes; holds = holds; numbers = numbers }
 
   -- the node of a slot's own number has its file
-  own_node : {u m : ℕ} → u < length c.slots → slot_at c.slots u ≡ Some m → node_at nodes u ≡ moved_node (file_in (node_at c.nodes m)) u
+  own_node : {u m : ℕ} → u < length c.slots → slot_at c.slots u ≡ Some m → node_at nodes u ≡ moved_node (identity_in (node_at c.nodes m)) u
   own_node {u} {m} inside is = (r.files.filed u inside).file m is
 
   -- no node of a slot's own number has a removed file

@@ -1,7 +1,7 @@
 -- The elements of a list whose first elements alone are written.
 use Rattle.fx_plain.proofs.Words.{◌≡◌, ◌≢◌, ℕ, suc, ◌+◌, ◌-◌, ◌<◌, ◌≤◌, List, [], ◌∷◌, ◌++◌, length, length-append, replicate, sym, ap, subst, ◌∙◌}
 use Rattle.fx_plain.proofs.Words.{slice_index_or, slice_set, append_assoc, IsSome, arith, inl, inr, length-set, length-replicate, get_or_append_left}
-use Rattle.fx_plain.proofs.Words.{cases_lt, get_or-eq_default, node_at, file_in, Fresh, Gone, with_rest, Node, set-set, get_or-append-add}
+use Rattle.fx_plain.proofs.Words.{cases_lt, get_or-eq_default, node_at, identity_in, Fresh, Gone, with_rest, Node, set-set, get_or-append-add}
 use Rattle.fx_plain.proofs.Words.{set-append_left, get_or-replicate}
 
 module _ {X : Type 0} (rest : X) (len : ℕ) (xs : List X) where
@@ -47,13 +47,13 @@ inside_written rest d {len} xs n few no_rest no_default = elim (cases_lt n (leng
 ]
 
 -- a node with a file was written
-pub written_inside : {len : ℕ} (xs : List Node) (n : ℕ) → length xs ≤ len → IsSome (file_in (node_at (with_rest Fresh len xs) n)) → n < length xs
+pub written_inside : {len : ℕ} (xs : List Node) (n : ℕ) → length xs ≤ len → IsSome (identity_in (node_at (with_rest Fresh len xs) n)) → n < length xs
 written_inside xs n few has = inside_written Fresh Gone xs n few
-    (λ is. let none : IsSome (file_in Fresh) = subst (λ (node : Node). IsSome (file_in node)) is has in cc none)
-    (λ is. let none : IsSome (file_in Gone) = subst (λ (node : Node). IsSome (file_in node)) is has in cc none)
+    (λ is. let none : IsSome (identity_in Fresh) = subst (λ (node : Node). IsSome (identity_in node)) is has in cc none)
+    (λ is. let none : IsSome (identity_in Gone) = subst (λ (node : Node). IsSome (identity_in node)) is has in cc none)
 
 -- a write at a node with a file of what the node becomes is a write of the whole list
-pub changed_over : (f : Node → Node) {len : ℕ} (xs : List Node) (n : ℕ) → length xs ≤ len → IsSome (file_in (node_at (with_rest Fresh len xs) n))
+pub changed_over : (f : Node → Node) {len : ℕ} (xs : List Node) (n : ℕ) → length xs ≤ len → IsSome (identity_in (node_at (with_rest Fresh len xs) n))
     → with_rest Fresh len (slice_set (slice_set xs n Gone) n (f (node_at xs n)))
     ≡ slice_set (with_rest Fresh len xs) n (f (node_at (with_rest Fresh len xs) n))
 changed_over f {len} xs n few has = let inside = written_inside xs n few has in

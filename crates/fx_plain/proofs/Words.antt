@@ -1,7 +1,7 @@
 -- The names that most proofs of this crate use.
 pub use Rattle.fx_base.specs.declared.open_file.Closed.{Closed}
 pub use Rattle.fx_plain.specs.Contents.{AllPlaced, At, Contents, Fresh, Gone, HaveOwnNumbers, IsCounted, IsTable, Leaving, Retired, SameButPlaced}
-pub use Rattle.fx_plain.specs.Contents.{file_at, file_count_of, file_in, file_named, is_fresh, is_leaving, is_retired, leaving, moved_node}
+pub use Rattle.fx_plain.specs.Contents.{file_at, file_count_of, identity_in, file_named, is_fresh, is_leaving, is_retired, leaving, moved_node}
 pub use Rattle.fx_plain.specs.Contents.{node_after_removal, node_after_retirement, node_at, nodes_without, opening_slot, placed_at, removed_at}
 pub use Rattle.fx_plain.specs.Contents.{removed_count_of, slot_at, state_of}
 pub use Rattle.fx_plain.specs.History.{AllowsAll, IsLegal, Leads, action_of, close_of, closed_by, closes_in, state_after, ◌▷▷◌, ◌▷◌}

@@ -128,11 +128,11 @@ node_after_retirement (Leaving file) = Retired file
 node_after_retirement node = node
 
 -- the file of a node in any state that has one
-abbrev pub file_in : Node → Option Identity
-file_in (At slot file) = Some file
-file_in (Leaving file) = Some file
-file_in (Retired file) = Some file
-file_in _ = None
+abbrev pub identity_in : Node → Option Identity
+identity_in (At slot file) = Some file
+identity_in (Leaving file) = Some file
+identity_in (Retired file) = Some file
+identity_in _ = None
 
 -- the node of a slot's own number when passes begin, for the file that was at the slot
 abbrev pub moved_node : Option Identity → ℕ → Node
@@ -141,7 +141,7 @@ moved_node (Some file) slot = At slot file
 
 abbrev pub file_named : List Node → Option ℕ → Option Identity
 file_named nodes None = None
-file_named nodes (Some number) = file_in (node_at nodes number)
+file_named nodes (Some number) = identity_in (node_at nodes number)
 
 -- a slot when passes begin: its file has the slot's own number
 abbrev pub opening_slot : Option ℕ → ℕ → Option ℕ

@@ -1,7 +1,8 @@
 -- Files that get their slots' own numbers.
 use Rattle.std.specs.Prelude.{◌≡◌, ℕ, ◌<◌, ◌≤◌, ◌⊎◌, false, List, length, Option, Some, None}
 use Rattle.std.specs.Prelude.{sum_by}
-use Rattle.fx_plain.specs.Contents.{slot_at, node_at, file_in, is_fresh, moved_node, opening_slot}
+use Rattle.fx_plain.specs.Contents.{slot_at, node_at, identity_in, is_fresh, moved_node}
+use Rattle.fx_plain.specs.Contents.{opening_slot}
 use Rattle.fx_plain.specs.Contents.{removed_count_of, file_count_of, Fresh}
 use Rattle.fx_plain.specs.declared.node.Node.{Node}
 use Rattle.fx_plain.specs.declared.slot_span.SlotSpan.{SlotSpan}
@@ -29,7 +30,7 @@ AreVacant slots nodes = (slot : ℕ) → slot < length slots → slot_at slots s
 pub record IsFiled (slots : List (Option ℕ)) (nodes : List Node) (slot : ℕ) (node : Node)
     : Type 0 where
   pub file : (number : ℕ) → slot_at slots slot ≡ Some number
-      → node ≡ moved_node (file_in (node_at nodes number)) slot
+      → node ≡ moved_node (identity_in (node_at nodes number)) slot
   pub vacant : slot_at slots slot ≡ None → IsVacant node
 
 -- each file now has its slot's number, and is in the node of that number

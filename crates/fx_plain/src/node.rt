@@ -1,6 +1,6 @@
 //! Nodes: the state of the file with a given number.
 ghost use Rattle.std.specs.Prelude.{◌≡◌, MatchOption, Some, None};
-ghost use Rattle.fx_plain.specs.Contents.{is_fresh, is_leaving, is_retired, file_in, node_after_removal, node_after_retirement};
+ghost use Rattle.fx_plain.specs.Contents.{is_fresh, is_leaving, is_retired, identity_in, node_after_removal, node_after_retirement};
 
 use fx_base::OpenFile;
 
@@ -38,8 +38,8 @@ pub(crate) fn is_retired(node: &Node) -> bool
 
 // Returns the file of a node in any state that has one.
 pub(crate) fn file_in(node: &Node) -> Option<&OpenFile>
-    ensures { MatchOption result (file_in node.now ≡ None)
-        (λ file. file_in node.now ≡ Some file.now) }
+    ensures { MatchOption result (identity_in node.now ≡ None)
+        (λ file. identity_in node.now ≡ Some file.now) }
 {
     match node {
         Node::At(_, file) | Node::Leaving(file) | Node::Retired(file) => Some(file),
@@ -49,7 +49,7 @@ pub(crate) fn file_in(node: &Node) -> Option<&OpenFile>
 
 // Takes the file out of a node, if it has one, for a caller that consumes it.
 pub(crate) fn into_file(node: Node) -> Option<OpenFile>
-    ensures { result ≡ file_in node }
+    ensures { result ≡ identity_in node }
 {
     match node {
         Node::At(_, file) | Node::Leaving(file) | Node::Retired(file) => Some(file),

@@ -1,7 +1,7 @@
 //! The nodes of a table by number. Memory for all of them is reserved at once, and a node is written when its number is
 //! first used, so that unused numbers cost no time.
 ghost use Rattle.std.specs.Prelude.{◌≡◌, ◌<◌, ◌≤◌, ℕ, [], false, length, take, slice_index_or, slice_set, vec_len, vec_capacity, IsSome, IsTrue, Some};
-ghost use Rattle.fx_plain.specs.Contents.{node_at, is_fresh, is_leaving, is_retired, file_in, node_after_removal, node_after_retirement, KeepsFirst, Fresh, Gone};
+ghost use Rattle.fx_plain.specs.Contents.{node_at, is_fresh, is_leaving, is_retired, identity_in, node_after_removal, node_after_retirement, KeepsFirst, Fresh, Gone};
 ghost use Rattle.fx_plain.specs.Reserved.{with_rest};
 
 use crate::node::{
@@ -119,8 +119,8 @@ impl NodeList {
 
     // Returns the file of a number in any state that has one.
     pub(crate) fn file(&self, number: u32) -> &OpenFile
-        requires { IsSome (file_in (node_at self.now number)) }
-        ensures { Some result.now ≡ file_in (node_at self.now number) }
+        requires { IsSome (identity_in (node_at self.now number)) }
+        ensures { Some result.now ≡ identity_in (node_at self.now number) }
     {
         let Some(file) = file_in(&self.written[number as usize]) else {
             unreachable!()
@@ -139,8 +139,8 @@ impl NodeList {
 
     // Takes the file of a number out of its node.
     pub(crate) fn take_file(&mut self, number: u32) -> OpenFile
-        requires { IsSome (file_in (node_at self.old number)) }
-        ensures answer { Some result ≡ file_in (node_at self.old number) }
+        requires { IsSome (identity_in (node_at self.old number)) }
+        ensures answer { Some result ≡ identity_in (node_at self.old number) }
         ensures after { self.new ≡ slice_set self.old number Gone }
     {
         let Some(file) = into_file(put_in(&mut self.written, number as usize, Node::Gone)) else {
@@ -151,7 +151,7 @@ impl NodeList {
 
     // Marks the file of a number as leaving: it has left its slot.
     pub(crate) fn leave(&mut self, number: u32)
-        requires { IsSome (file_in (node_at self.old number)) }
+        requires { IsSome (identity_in (node_at self.old number)) }
         ensures { self.new
             ≡ slice_set self.old number (node_after_removal (node_at self.old number)) }
     {
@@ -161,7 +161,7 @@ impl NodeList {
 
     // Marks the leaving file of a number as retired.
     pub(crate) fn retire(&mut self, number: u32)
-        requires { IsSome (file_in (node_at self.old number)) }
+        requires { IsSome (identity_in (node_at self.old number)) }
         ensures { self.new
             ≡ slice_set self.old number (node_after_retirement (node_at self.old number)) }
     {

@@ -2,7 +2,7 @@
 ghost use Rattle.std.specs.Prelude.{◌≡◌, ◌+◌, ◌<◌, ◌≤◌, ◌↔◌, ◌++◌, ℕ, length, IsTrue, IfSome, IsSome, Some, None, vec_len, vec_capacity, sum_by};
 ghost use Rattle.fx_plain.specs.State.{IsSettled};
 ghost use Rattle.fx_plain.specs.Step.{changed_at};
-ghost use Rattle.fx_plain.specs.Contents.{state_of, numbers_of, IsPrepared, IsTable, slot_at, node_at, file_at, file_in, file_named, nodes_without, removed_count_of, AllPlaced, SameButPlaced};
+ghost use Rattle.fx_plain.specs.Contents.{state_of, numbers_of, IsPrepared, IsTable, slot_at, node_at, file_at, identity_in, file_named, nodes_without, removed_count_of, AllPlaced, SameButPlaced};
 ghost use Rattle.fx_plain.specs.Table.{numbered, slots_in_order};
 
 use crate::node::Node;
@@ -63,7 +63,7 @@ impl PlainTable {
 
 // Takes the file that a slot names out of its node.
 fn take_named(slot: Option<u32>, nodes: &mut NodeList) -> Option<OpenFile>
-    requires { IfSome slot (λ n. IsSome (file_in (node_at nodes.old n))) }
+    requires { IfSome slot (λ n. IsSome (identity_in (node_at nodes.old n))) }
     ensures file { result ≡ file_named nodes.old slot }
     ensures nodes { nodes.new ≡ nodes_without nodes.old slot }
 {

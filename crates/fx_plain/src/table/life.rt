@@ -4,7 +4,7 @@ ghost use Rattle.std.specs.Option.{option_to_list};
 ghost use Rattle.fx_base.specs.declared.open_file.Closed.{Closed};
 ghost use Rattle.fx_plain.specs.State.{vacant, opening, IsSettled, files_of, files_in_order};
 ghost use Rattle.fx_plain.specs.OwnNumbers.{HaveOwnOutside, AreVacant, AreFiled, IsRenumbered};
-ghost use Rattle.fx_plain.specs.Contents.{state_of, numbers_of, IsTable, IsPrepared, slot_at, node_at, moved_node, file_in, file_named, nodes_without, opening_slot, file_at, AllPlaced, HaveOwnNumbers, SameButPlaced, removed_count_of, At};
+ghost use Rattle.fx_plain.specs.Contents.{state_of, numbers_of, IsTable, IsPrepared, slot_at, node_at, moved_node, identity_in, file_named, nodes_without, opening_slot, file_at, AllPlaced, HaveOwnNumbers, SameButPlaced, removed_count_of, At};
 
 use crate::hold_list::HoldList;
 use crate::node::Node;
@@ -102,7 +102,7 @@ impl PlainTable {
 fn move_file(slots: &mut Vec<Option<u32>>, nodes: &mut NodeList, slot: usize) -> Node
     requires slot { (slot < vec_len slots.old) × (slot < 2 ^ 32) }
     requires inside { IfSome (slot_at slots.old.items slot)
-        (λ n. IsSome (file_in (node_at nodes.old n))) }
+        (λ n. IsSome (identity_in (node_at nodes.old n))) }
     ensures node { result ≡ moved_node (file_named nodes.old (slot_at slots.old.items slot)) slot }
     ensures slots { slots.new.items
         ≡ slice_set slots.old.items slot (opening_slot (slot_at slots.old.items slot) slot) }
@@ -198,7 +198,7 @@ fn renumber_in_place(slots: &mut Vec<Option<u32>>, nodes: &mut NodeList, span: &
 
 // Closes the file that a slot names, if there is one.
 fn close_file(slot: Option<u32>, nodes: &mut NodeList, closes: &mut CloseList)
-    requires inside { IfSome slot (λ n. IsSome (file_in (node_at nodes.old n))) }
+    requires inside { IfSome slot (λ n. IsSome (identity_in (node_at nodes.old n))) }
     requires room { length (option_to_list (file_named nodes.old slot)) ≤ closes.old.room }
     ensures files { closes.new.files
         ≡ closes.old.files ++ option_to_list (file_named nodes.old slot) }

@@ -1,9 +1,9 @@
 use Rattle.fx_lasting.proofs.Words.{◌≡◌, ℕ, ◌<◌, ◌≤◌, refl, ap, ◌∙◌, subst, arith, Put, numbered, ◌▷◌, [], slot_of, opening_of, view_of, pass_of, Runs}
-use Rattle.fx_lasting.proofs.Words.{rest, retiring, doing_in, Start, Glance, Outside, slot_word_of, IsAtWork}
+use Rattle.fx_lasting.proofs.Words.{rest, retiring_work, doing_in, Start, Glance, Outside, slot_word_of, IsAtWork}
 use Rattle.fx_table.specs.Calls.{Adds, one_number}
 use Rattle.fx_lasting.proofs.Calling.{slot_inside, slot_low, in_block, few_nodes}
 use Rattle.fx_lasting.proofs.Words.{node_of_number}
-use Rattle.fx_lasting.proofs.Words.{account, range_of}
+use Rattle.fx_lasting.proofs.Words.{account, range_at_start}
 use Rattle.fx_lasting.proofs.Places.{slot_back}
 use Rattle.fx_lasting.proofs.Running.{still_at_work, does_then, runs_then, runs_one, turns_then}
 use Rattle.fx_lasting.proofs.SlotLaws.{installs_keep}
@@ -64,7 +64,7 @@ raise-requires-clause-change c =
     let born = c.put_in.ensures in
     let stepped = (went.stepped c.seek-node.result c.args.file born.born.work born.place).2 in
     let here : slot_of c.slot_place.result ≡ c.args.slot = ap slot_of c.slot_place.ensures ∙ slot_back c.args.slot in
-    stepped.change ∙ ((λ i. account (range_of ((its_seat a).pass.0 i)) (here i) went.replaced) ∙ account_so (range_of k) c.args.slot c.swap-found.result
+    stepped.change ∙ ((λ i. account (range_at_start ((its_seat a).pass.0 i)) (here i) went.replaced) ∙ account_so (range_at_start k) c.args.slot c.swap-found.result
     went.replaced c.removed_in-replaced.result c.is_in_range-inside.result c.is_none.result
     (c.removed_in-replaced.ensures went.replaced went.names) c.is_none.ensures c.is_in_range-inside.ensures)
 
@@ -86,12 +86,12 @@ returns c =
     let start : c.put_in.new.seat.me.0.start ≡ k = first.start ∙ s.at.pass.0 in
     let around = turns_then (runs_one stepped.2) c.raise.ensures.runs in
     let run = at_ease_looking fits found replaced (runs_then first (subst (λ (g : Glance). Runs c.put_in.new.seat.me
-    ([] ▷ Put (slot_of c.slot_place.result) (numbered stepped.0 file) replaced) (retiring c.put_in.new.seat.me.0.start found replaced)
+    ([] ▷ Put (slot_of c.slot_place.result) (numbered stepped.0 file) replaced) (retiring_work c.put_in.new.seat.me.0.start found replaced)
     g Outside 2 c.raise.new.seat.me) first.glance around)) start in
     let v = view_of p in
     let w = pass_of c.raise.new.seat.me.0 in
     let here : slot_of c.slot_place.result ≡ c.args.slot = ap slot_of c.slot_place.ensures ∙ slot_back c.args.slot in
-    let adds = subst (λ (z : ℕ). Adds (opening_of k) v ([] ▷ Put z (numbered stepped.0 file) replaced) (doing_in (retiring k found replaced)) one_number
+    let adds = subst (λ (z : ℕ). Adds (opening_of k) v ([] ▷ Put z (numbered stepped.0 file) replaced) (doing_in (retiring_work k found replaced)) one_number
     w) here (adds_so s run one_number) in
     record {
       fits = still_pass s _ run refl (c.raise.ensures.table ∙ (c.swap-found.ensures.0 ∙ (born.table ∙ c.seek-node.ensures.table)))

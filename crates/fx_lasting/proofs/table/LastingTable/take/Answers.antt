@@ -1,5 +1,5 @@
-use Rattle.fx_lasting.proofs.Words.{◌≡◌, ℕ, ◌<◌, refl, ap, ◌∙◌, subst, arith, Take, ◌▷◌, [], slot_of, opening_of, view_of, pass_of, retiring, doing_in}
-use Rattle.fx_lasting.proofs.Words.{Start, Bool, true, uncounted, account, range_of}
+use Rattle.fx_lasting.proofs.Words.{◌≡◌, ℕ, ◌<◌, refl, ap, ◌∙◌, subst, arith, Take, ◌▷◌, [], slot_of, opening_of, view_of, pass_of, retiring_work, doing_in}
+use Rattle.fx_lasting.proofs.Words.{Start, Bool, true, uncounted, account, range_at_start}
 use Rattle.fx_table.specs.Calls.{Adds, no_use}
 use Rattle.fx_lasting.proofs.Calling.{slot_inside, slot_low}
 use Rattle.fx_lasting.proofs.Places.{slot_back}
@@ -31,7 +31,7 @@ raise-requires-clause-change c =
     let went = c.swap-found.ensures.2 in
     let start : c.lower.new.seat.me.0.start ≡ k = c.lower.ensures.runs.start ∙ c.requires.fits.seated.at.pass.0 in
     let here : slot_of c.slot_place.result ≡ c.args.slot = ap slot_of c.slot_place.ensures ∙ slot_back c.args.slot in
-    went.stepped.change ∙ ((λ i. account (range_of (start i)) (here i) went.file) ∙ account_so (range_of k) c.args.slot c.swap-found.result went.file
+    went.stepped.change ∙ ((λ i. account (range_at_start (start i)) (here i) went.file) ∙ account_so (range_at_start k) c.args.slot c.swap-found.result went.file
     c.removed_in-removed.result c.is_in_range-inside.result c.is_none.result (c.removed_in-removed.ensures went.file went.names) c.is_none.ensures
     c.is_in_range-inside.ensures)
 
@@ -51,7 +51,7 @@ returns c =
     let v = view_of c.args.pass.now in
     let w = pass_of c.raise.new.seat.me.0 in
     let here : slot_of c.slot_place.result ≡ c.args.slot = ap slot_of c.slot_place.ensures ∙ slot_back c.args.slot in
-    let adds = subst (λ (z : ℕ). Adds (opening_of k) v ([] ▷ Take z file) (doing_in (retiring k found file)) no_use w) here (adds_so s run no_use) in
+    let adds = subst (λ (z : ℕ). Adds (opening_of k) v ([] ▷ Take z file) (doing_in (retiring_work k found file)) no_use w) here (adds_so s run no_use) in
     record {
       fits = still_pass s _ run refl (c.raise.ensures.table ∙ (c.swap-found.ensures.0 ∙ began.table))
           (c.raise.ensures.places ∙ (went.carried ∙ (began.places ∙ s.places))) s.block
