@@ -54,11 +54,11 @@ reads_here submission state i own left {progress} run is behind are =
     are ∙ (all_reads left ∙ (rw (less_one i, is, ← run, ← behind) (ap are_reads (sym (requests_for _ (all_asked left) progress.made)))))
 
 -- a chain that stands where its requests settle
-pub at_start_by : {rules : Rules} (P : Completed → Type 0) {place : Place} {run : List Asked} {before : List Completion} (after : List Completion)
-    {done : ℕ} {progress : Progress} → Settles rules place run (all_completed before) (all_completed after) done → before ≡ []
+pub at_start_by : (rules : Rules) (P : Completed → Type 0) {place : Place} {run : List Asked} {before : List Completion} (after : List Completion)
+    {done : ℕ} {progress : Progress} → Settles (settled_at rules place run) place run (all_completed before) (all_completed after) done → before ≡ []
     → All (λ c. P (completed_of c)) after → progress.done ≡ done → progress.made ≡ 0
     → AllByRecursion P (settled_at rules place run).0 × (rest_in place run progress ≡ (settled_at rules place run).1)
-at_start_by P {place} {run} after settles none all at made =
+at_start_by rules P {place} {run} after settles none all at made =
     let told = rw none at settles.told in (
       rw (← told) (recursion_from_All P (map completed_of after) (All-map P completed_of after all)),
       (λ i. rest_for (moved place (at i)) (drop (at i) run) (made i)) ∙ sym settles.rest,

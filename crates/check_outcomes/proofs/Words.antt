@@ -5,7 +5,7 @@ pub use Rattle.check_outcomes.specs.Listed.{states_of, tables_behind, told_by, t
 pub use Rattle.check_outcomes.specs.Outcomes.{HasEachAnswer, HasEachEnd, HasEachReport, IsAnswer, IsEnd, IsPossible, IsReportBy, MayReport, TellsOf}
 pub use Rattle.check_outcomes.specs.Outcomes.{ring_behind}
 pub use Rattle.check_outcomes.specs.Reports.{AreToldAtStart, AreToldClosed, EachReportIsListed, HasReport, LeadsOn, ToldState}
-pub use Rattle.check_outcomes.specs.Stands.{Settles, StepsChain, asks_from, moved, rest_for, rest_in}
+pub use Rattle.check_outcomes.specs.Stands.{Settles, StepsChain, asks_from, gone_on, moved, rest_for, rest_in}
 pub use Rattle.check_outcomes.specs.Tellings.{IsToldOn, all_told, answers_of}
 pub use Rattle.check_outcomes.specs.Views.{ArePartsIn, IsInPart, IsOverIn, IsStepTo, is_state_idle, is_idle_at, not_begun, parts_by_numbers, rules_in}
 pub use Rattle.check_outcomes.specs.Views.{HasReadsAloneIn, IsTurnAt, IsTurnOfPart, IsTurnOfReader, Waits, has_reads_at, run_at}

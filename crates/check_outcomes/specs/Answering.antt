@@ -1,18 +1,24 @@
--- What a request that finds memory answers, by its accesses: as functions.
-use Rattle.std.specs.Prelude.{ℕ, ℤ, pos, negsuc, int_le, List, [], length, filter, Option, Some}
-use Rattle.std.specs.Prelude.{None}
+-- What each kind of request does at the table if no allocation fails: how many accesses it makes,
+-- its answer by the last of them, and the slots that it may access.
+use Rattle.std.specs.Prelude.{◌≡◌, ℕ, ◌+◌, ◌<◌, ◌≤◌, ℤ, pos, negsuc, int_le, List, []}
+use Rattle.std.specs.Prelude.{◌∷◌, ◌++◌, length, filter, Option, Some, None}
 use Rattle.fx_base.specs.Catalogue.{FileEntry}
 use Rattle.fx_base.specs.declared.errno.Errno.{Errno}
 use Rattle.fx_base.specs.declared.errno.Errno.TheVariants.{EBADF, ENFILE}
+use Rattle.fx_chain.specs.Answers.{installed}
 use Rattle.fx_chain.specs.Completed.{Completed, completed, refusal}
 use Rattle.fx_chain.specs.Operation.{Operation, Opens, Reads, Closes, Updates}
 use Rattle.fx_chain.specs.Refusal.{refusal_of}
 use Rattle.fx_chain.specs.declared.completion.Place.{Place}
 use Rattle.fx_chain.specs.declared.request.Target.{Target}
 use Rattle.fx_chain.specs.declared.request.Target.TheVariants.{Slot, Any}
+use Rattle.fx_order.specs.Access.{IsInRange, Table}
 use Rattle.fx_order.specs.declared.access.Access.{Access}
 use Rattle.fx_order.specs.declared.access.Access.TheVariants.{Looks, Takes, Allocates}
-use Rattle.fx_order.specs.Requests.{gives}
+use Rattle.fx_order.specs.Requests.{AreEntriesDone, gives}
+use Rattle.check_outcomes.specs.Choices.{Intends}
+use Rattle.check_outcomes.specs.declared.choice.Intent.{Intent}
+use Rattle.check_outcomes.specs.declared.choice.Intent.TheVariants.{Clear, Put}
 
 -- the entries of a list that aren't skips
 abbrev pub done_entries : List ℤ → List ℤ
@@ -67,3 +73,22 @@ abbrev pub answer_of : List FileEntry → ℕ → Place → Operation → Option
 answer_of catalogue size place operation last =
     refusal_or place (refusal_of catalogue size operation)
     (answer_at_table catalogue place operation last)
+
+-- what an entry of an update that isn't a skip is to do at its slot
+abbrev pub entry_intent : Place → ℕ → ℕ → ℤ → Intent
+entry_intent place in_list slot (pos entry) = Put slot (installed place in_list entry)
+entry_intent place in_list slot (negsuc n) = Clear slot
+
+-- what the entries of a list are to do behind so many accesses
+abbrev pub IsListIntent : Place → ℕ → ℕ → List ℤ → ℕ → Option Intent → Type 0
+IsListIntent place in_list slot list made intent =
+    (a : Access) (front behind : List Access) → length front ≡ made
+    → AreEntriesDone place in_list slot list (front ++ a ∷ behind) → Intends intent a
+
+-- the request may come to the slot
+abbrev pub MayComeTo : Table → Operation → ℕ → Type 0
+MayComeTo table (Opens name (Slot own)) slot = slot ≡ own
+MayComeTo table (Opens name Any) slot = IsInRange table slot
+MayComeTo table (Reads own off len) slot = slot ≡ own
+MayComeTo table (Closes own) slot = slot ≡ own
+MayComeTo table (Updates off list) slot = (off ≤ slot) × (slot < off + length list)

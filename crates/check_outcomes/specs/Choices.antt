@@ -1,36 +1,45 @@
 -- What a request may do next.
-use Rattle.std.specs.Prelude.{◌≡◌, ℕ, List, ◌∷◌, ◌++◌, length, Contains}
+use Rattle.std.specs.Prelude.{◌≡◌, ◌⊎◌, ℕ, List, ◌∷◌, ◌++◌, length, Contains, Option, Some, None}
 use Rattle.fx_base.specs.Catalogue.{FileEntry}
+use Rattle.fx_base.specs.declared.open_file.Closed.{Closed}
 use Rattle.fx_chain.specs.Completed.{Completed}
 use Rattle.fx_chain.specs.Operation.{Operation}
 use Rattle.fx_chain.specs.declared.completion.Place.{Place}
 use Rattle.fx_order.specs.Access.{Table, Permits}
 use Rattle.fx_order.specs.declared.access.Access.{Access}
-use Rattle.fx_order.specs.Requests.{AreEntriesDone, IsOpenDone, IsRequestDone}
-use Rattle.fx_chain.specs.declared.request.Target.{Target}
-use Rattle.std.specs.Prelude.{ℤ, Option, Some}
+use Rattle.fx_order.specs.declared.access.Access.TheVariants.{Looks, Puts, Clears, Takes}
+use Rattle.fx_order.specs.declared.access.Access.TheVariants.{Allocates, FindsFull}
+use Rattle.fx_order.specs.Requests.{IsRequestDone}
+use Rattle.check_outcomes.specs.declared.choice.Intent.{Intent}
+use Rattle.check_outcomes.specs.declared.choice.Intent.TheVariants.{Look, Put, Clear, Take}
+use Rattle.check_outcomes.specs.declared.choice.Intent.TheVariants.{Allocate}
 
--- behind so many accesses the request may make this one, and the table permits it
-abbrev pub MayMake : List FileEntry → Table → Place → Operation → ℕ → Access → Type 0
-MayMake catalogue table place operation made a =
+-- behind so many accesses the request may make this one
+abbrev pub IsNextAccess : List FileEntry → ℕ → Place → Operation → ℕ → Access → Type 0
+IsNextAccess catalogue size place operation made a =
     (front : List Access) × (behind : List Access) × (c : Completed) × (length front ≡ made)
-    × IsRequestDone catalogue table.size place operation (front ++ a ∷ behind) c × Permits table a
+    × IsRequestDone catalogue size place operation (front ++ a ∷ behind) c
 
--- the list has each access that the request may make next
+-- the list has each access that the request may make next, behind so many, and the table permits
 abbrev pub HasEach : List FileEntry → Table → Place → Operation → ℕ → List Access → Type 0
 HasEach catalogue table place operation made choices =
-    (a : Access) → MayMake catalogue table place operation made a → Contains choices a
-
--- the same of an open of an entry
-abbrev pub HasEachOpen : Table → Place → ℕ → Target → List Access → Type 0
-HasEachOpen table place entry target choices =
-    (a : Access) (front behind : List Access) (c : Completed)
-    → IsOpenDone place entry target (front ++ a ∷ behind) c → Permits table a
+    (a : Access) → IsNextAccess catalogue table.size place operation made a → Permits table a
     → Contains choices a
 
--- the access that the entries of a list make behind so many
-abbrev pub IsEntryChoice : Table → Place → ℕ → ℕ → List ℤ → ℕ → Option Access → Type 0
-IsEntryChoice table place in_list slot list made choice =
-    (a : Access) (front behind : List Access) → length front ≡ made
-    → AreEntriesDone place in_list slot list (front ++ a ∷ behind) → Permits table a
-    → choice ≡ Some a
+-- the access is what was to be made, whatever it finds
+abbrev pub IsOf : Intent → Access → Type 0
+IsOf (Look slot) a = (found : Option Closed) × (a ≡ Looks slot found)
+IsOf (Put slot file) a = (removed : Option Closed) × (a ≡ Puts slot file removed)
+IsOf (Clear slot) a = (removed : Option Closed) × (a ≡ Clears slot removed)
+IsOf (Take slot) a = (removed : Option Closed) × (a ≡ Takes slot removed)
+IsOf (Allocate file) a = ((slot : ℕ) × (a ≡ Allocates slot file)) ⊎ (a ≡ FindsFull)
+
+-- there is one to be made, and this is it
+abbrev pub Intends : Option Intent → Access → Type 0
+Intends None a = ⊥
+Intends (Some intent) a = IsOf intent a
+
+-- the list has each access that is what was to be made, and the table permits
+abbrev pub HasEachOf : Table → Intent → List Access → Type 0
+HasEachOf table intent choices =
+    (a : Access) → IsOf intent a → Permits table a → Contains choices a

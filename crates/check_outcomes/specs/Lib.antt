@@ -1,9 +1,9 @@
+pub mod Choices
 pub mod Answering
 pub mod Rests
 pub mod Parts
 pub mod Idle
 pub mod Nodes
-pub mod Choices
 pub mod Stands
 pub mod Tellings
 pub mod Views

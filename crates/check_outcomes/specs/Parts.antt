@@ -1,23 +1,15 @@
 -- Chains that share no slot stand in different parts of a submission, and no access of one part
 -- matters to another. So the parts may be played one after another.
-use Rattle.std.specs.Prelude.{◌≡◌, ℕ, ◌+◌, ◌<◌, ◌≤◌, List, [], ◌∷◌, length, All}
-use Rattle.fx_chain.specs.Operation.{Operation, Opens, Reads, Closes, Updates, Asked}
-use Rattle.fx_chain.specs.declared.request.Target.TheVariants.{Slot, Any}
-use Rattle.fx_order.specs.Access.{IsInRange, Table}
+use Rattle.std.specs.Prelude.{◌≡◌, ℕ, ◌+◌, ◌<◌, List, [], ◌∷◌, All}
+use Rattle.fx_chain.specs.Operation.{Operation, Asked}
+use Rattle.fx_order.specs.Access.{Table}
+use Rattle.check_outcomes.specs.Answering.{MayComeTo}
 
 -- the number of the part that each chain is in, by the chain's number from 1, and of the part that
 -- each slot belongs to
 pub record Parts : Type 0 where
   pub of_chain : ℕ → ℕ
   pub of_slot : ℕ → ℕ
-
--- the request may come to the slot
-abbrev pub MayComeTo : Table → Operation → ℕ → Type 0
-MayComeTo table (Opens name (Slot own)) slot = slot ≡ own
-MayComeTo table (Opens name Any) slot = IsInRange table slot
-MayComeTo table (Reads own off len) slot = slot ≡ own
-MayComeTo table (Closes own) slot = slot ≡ own
-MayComeTo table (Updates off list) slot = (off ≤ slot) × (slot < off + length list)
 
 -- each slot of the table that the request may come to belongs to this part
 abbrev pub StaysIn : Table → (ℕ → ℕ) → ℕ → Operation → Type 0

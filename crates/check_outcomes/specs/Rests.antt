@@ -1,5 +1,5 @@
 -- Where a chain is between two of its accesses, and where its next access leads it.
-use Rattle.std.specs.Prelude.{◌≡◌, ℕ, ◌+◌, ◌==◌, List, [], ◌∷◌, ◌++◌, length, Option, Some, None}
+use Rattle.std.specs.Prelude.{◌≡◌, ℕ, ◌+◌, ◌==◌, List, [], ◌∷◌, Option, Some, None}
 use Rattle.std.specs.Prelude.{if◌then◌else◌}
 use Rattle.fx_base.specs.Catalogue.{FileEntry}
 use Rattle.fx_base.specs.declared.errno.Errno.TheVariants.{ENOMEM}
@@ -8,8 +8,8 @@ use Rattle.fx_chain.specs.Explains.{canceled, first_member, severs}
 use Rattle.fx_chain.specs.Operation.{Asked}
 use Rattle.fx_chain.specs.declared.completion.Place.{Place}
 use Rattle.fx_order.specs.declared.access.Access.{Access}
-use Rattle.fx_order.specs.Requests.{IsRequestDone}
 use Rattle.check_outcomes.specs.Answering.{answer_of, count_of}
+use Rattle.check_outcomes.specs.Choices.{IsNextAccess}
 
 -- the request found memory
 abbrev pub HasMemory : Completed → Type 0
@@ -81,8 +81,7 @@ module _ (rules : Rules) where
 abbrev pub IsNextOf : List FileEntry → ℕ → Place → List Asked → ℕ → Access → Type 0
 IsNextOf catalogue size place [] made a = ⊥
 IsNextOf catalogue size place (request ∷ requests) made a =
-    (front : List Access) × (behind : List Access) × (c : Completed) × (length front ≡ made)
-    × IsRequestDone catalogue size place request.operation (front ++ a ∷ behind) c
+    IsNextAccess catalogue size place request.operation made a
 
 abbrev pub IsNext : List FileEntry → ℕ → Rest → Access → Type 0
 IsNext catalogue size rest a = IsNextOf catalogue size rest.place rest.requests rest.made a

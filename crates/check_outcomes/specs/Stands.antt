@@ -7,7 +7,7 @@ use Rattle.fx_chain.specs.Operation.{Asked}
 use Rattle.fx_chain.specs.declared.completion.Place.{Place}
 use Rattle.fx_order.specs.Access.{Table, Permits}
 use Rattle.fx_order.specs.declared.access.Access.{Access}
-use Rattle.check_outcomes.specs.Rests.{IsNext, Rest, Rules, over, rest_at, settled_at, step}
+use Rattle.check_outcomes.specs.Rests.{IsNext, Rest, Rules, behind, over, rest_at, step}
 use Rattle.check_outcomes.specs.declared.chain.Progress.{Progress}
 
 -- the place of a member, so many behind this one
@@ -23,14 +23,20 @@ abbrev pub rest_in : Place → List Asked → Progress → Rest
 rest_in place run progress =
     rest_for (moved place progress.done) (drop progress.done run) progress.made
 
--- the requests from this place on that don't come to the table were answered, so many of them or
--- the whole chain, behind what was told before
-pub record Settles (rules : Rules) (place : Place) (requests : List Asked)
+-- these completions come after `before`, and the chain is where so many of these requests from this
+-- place on are done
+pub record Settles (now : List Completed × Rest) (place : Place) (requests : List Asked)
     (before after : List Completed) (passed : ℕ) : Type 0 where
-  pub told : after ≡ before ++ (settled_at rules place requests).0
-  pub rest : (settled_at rules place requests).1
-      ≡ rest_for (moved place passed) (drop passed requests) 0
+  pub told : after ≡ before ++ now.0
+  pub rest : now.1 ≡ rest_for (moved place passed) (drop passed requests) 0
   pub within : passed ≤ length requests
+
+-- what is answered from a request on, by the last of its accesses, up to the next one that comes to
+-- the table, and where the chain is then
+abbrev pub gone_on :
+    Rules → Place → Asked → List Asked → Option Access → List Completed × Rest
+gone_on rules place request requests last =
+    behind rules place request requests (rules.answer place request last)
 
 -- an access leads a chain on, and this is told behind what was told before
 pub record StepsChain (rules : Rules) (place : Place) (run : List Asked) (progress : Progress)

@@ -1,18 +1,33 @@
-//! The answer of a request and the number of its accesses, if no allocation fails.
-ghost use Rattle.std.specs.Prelude.{◌≡◌, ◌<◌, ◌^◌, ℕ, IfOk, Some, length};
+//! What each kind of request does at the table if no allocation fails: its accesses, its answer, and the slots that it may access.
+ghost use Rattle.std.specs.Prelude.{◌≡◌, ◌+◌, ◌<◌, ◌≤◌, ◌^◌, ℕ, IfOk, Some, false, int_le, length, negsuc};
+ghost use Rattle.std.specs.List.{list_any};
+ghost use Rattle.fx_base.specs.Catalogue.{IsCatalogue};
 ghost use Rattle.fx_base.specs.declared.open_file.Closed.{Closed as File};
 ghost use Rattle.fx_chain.specs.Accepted.{IsWithinLimits};
 ghost use Rattle.fx_chain.specs.Completed.{completed_of};
 ghost use Rattle.fx_chain.specs.Operation.{asked_of, operation_of};
+ghost use Rattle.fx_chain.specs.Refusal.{is_bad_entry};
+ghost use Rattle.fx_order.specs.Slots.{table_of_slots};
+ghost use Rattle.fx_order.specs.declared.access.Access.{Access as Made};
 ghost use Rattle.fx_order.specs.declared.access.Access.TheVariants.{Allocates};
-ghost use Rattle.check_outcomes.specs.Answering.{answer_of, close_answer, count_of, done_entries, open_answer, read_answer};
+ghost use Rattle.check_outcomes.specs.Answering.{IsListIntent, MayComeTo, answer_of, close_answer, count_of, done_entries, entry_intent};
+ghost use Rattle.check_outcomes.specs.Answering.{open_answer, read_answer};
+ghost use Rattle.check_outcomes.specs.Choices.{Intends, IsNextAccess};
 
-use fx_base::{Catalogue, Errno, NoMemory};
+use crate::choice::Intent;
+use fx_base::{Catalogue, Errno, MOST_ENTRIES, NoMemory};
 use fx_chain::{Completion, Op, Place, Request, Target, refusal_of};
-use fx_order::Access;
+use fx_order::{Access, Slots};
 use std::alloc::Global;
 
-// How many entries of a list aren't skips.
+// Checks whether an entry of a list isn't a skip.
+fn is_done(entry: i32) -> bool
+    ensures { result ≡ int_le (negsuc 0) entry }
+{
+    entry >= -1
+}
+
+// Returns the number of entries of a list that aren't skips.
 fn entries_done(list: &[i32]) -> usize
     ensures { result ≡ length (done_entries list.now) }
 {
@@ -32,7 +47,87 @@ pub fn count(catalogue: &Catalogue, size: u32, request: &Request) -> usize
     }
 }
 
-// What an open answers.
+// Returns what an entry of an update that isn't a skip is to do at its slot.
+fn entry_intent(place: Place, entries: u32, at: (u32, u32), entry: i32) -> Intent
+    requires few { entries ≤ MOST_ENTRIES }
+    requires good { is_bad_entry entries entry ≡ false }
+    ensures { result ≡ entry_intent place at.0 at.1 entry }
+{
+    let (in_list, slot) = at;
+    if entry >= 0 {
+        return Intent::Put(slot, place.installed(in_list, entry as u8));
+    }
+    Intent::Clear(slot)
+}
+
+// Returns what the entries of an update are to do after `made` accesses, or `None` if they make no other.
+fn list_intent(
+    place: Place,
+    entries: u32,
+    at: (u32, u32),
+    list: &[i32],
+    made: usize,
+) -> Option<Intent>
+    requires few { entries ≤ MOST_ENTRIES }
+    requires in_list { at.0 + length list.now < 2 ^ 32 }
+    requires slot { at.1 + length list.now < 2 ^ 32 }
+    requires good { list_any (is_bad_entry entries) list.now ≡ false }
+    ensures { IsListIntent place at.0 at.1 list.now made result }
+{
+    let [entry, others @ ..] = list else {
+        return None;
+    };
+    let next = (at.0 + 1, at.1 + 1);
+    if !is_done(*entry) {
+        return list_intent(place, entries, next, others, made);
+    }
+    if made > 0 {
+        return list_intent(place, entries, next, others, made - 1);
+    }
+    Some(entry_intent(place, entries, at, *entry))
+}
+
+/// Returns what a request is to do at a table of `size` slots after `made` of its accesses, or `None` if it makes no other.
+pub(crate) fn intent_of(
+    catalogue: &Catalogue,
+    size: u32,
+    place: Place,
+    request: &Request,
+    made: usize,
+) -> Option<Intent>
+    requires catalogue { IsCatalogue catalogue.now }
+    requires limits { IsWithinLimits (asked_of request.now) }
+    ensures { (a : Made)
+        → IsNextAccess catalogue.now size place (operation_of request.now.op) made a
+        → Intends result a }
+{
+    match &request.op {
+        Op::Open { name, target } => {
+            let Some(entry) = catalogue.find(name) else {
+                return None;
+            };
+            let file = place.installed(0, entry);
+            match target {
+                Target::Slot(slot) => Some(Intent::Put(*slot, file)),
+                Target::Any => Some(Intent::Allocate(file)),
+            }
+        }
+        Op::Read {
+            slot,
+            off: _,
+            len: _,
+        } => Some(Intent::Look(*slot)),
+        Op::Close { slot } => Some(Intent::Take(*slot)),
+        Op::Update { off, list } => {
+            if refusal_of(catalogue, size, request).is_some() {
+                return None;
+            }
+            list_intent(place, catalogue.len(), (0, *off), list, made)
+        }
+    }
+}
+
+// Returns the answer of an open.
 fn open_answer(alloc: Global, place: Place, target: Target, last: Option<Access>) -> Completion
     requires { (slot : ℕ) (file : File) → last ≡ Some (Allocates slot file) → slot < 2 ^ 31 }
     ensures { completed_of result ≡ open_answer place target last }
@@ -46,7 +141,7 @@ fn open_answer(alloc: Global, place: Place, target: Target, last: Option<Access>
     }
 }
 
-// What a read answers.
+// Returns the answer of a read.
 fn read_answer(
     alloc: Global,
     catalogue: &Catalogue,
@@ -72,7 +167,7 @@ fn read_answer(
     }
 }
 
-// What a close answers.
+// Returns the answer of a close.
 fn close_answer(alloc: Global, place: Place, last: Option<Access>) -> Completion
     ensures { completed_of result ≡ close_answer place last }
 {
@@ -96,7 +191,8 @@ pub fn answer(
 ) -> Result<Completion, NoMemory>
     requires slot { (slot : ℕ) (file : File) → last ≡ Some (Allocates slot file) → slot < 2 ^ 31 }
     requires limits { IsWithinLimits (asked_of request.now) }
-    ensures { IfOk result (λ c. completed_of c ≡ answer_of catalogue.now size place (operation_of request.now.op) last) }
+    ensures { IfOk result (λ c. completed_of c
+        ≡ answer_of catalogue.now size place (operation_of request.now.op) last) }
 {
     if let Some(errno) = refusal_of(catalogue, size, request) {
         return Ok(Completion::refusal(alloc, place, errno));
@@ -106,5 +202,28 @@ pub fn answer(
         Op::Read { slot: _, off, len } => read_answer(alloc, catalogue, place, *off, *len, last),
         Op::Close { slot: _ } => Ok(close_answer(alloc, place, last)),
         Op::Update { off: _, list } => Ok(Completion::number(alloc, place, list.len() as u32)),
+    }
+}
+
+/// Returns the first slot that a request may access, and the one after the last.
+pub(crate) fn slots_of(slots: &Slots, op: &Op) -> (usize, usize)
+    ensures { (slot : ℕ) → MayComeTo (table_of_slots slots.now) (operation_of op.now) slot
+        → (result.0 ≤ slot) × (slot < result.1) }
+{
+    match op {
+        Op::Open { name: _, target } => match target {
+            Target::Slot(slot) => (*slot as usize, *slot as usize + 1),
+            Target::Any => {
+                let (first, len) = slots.range;
+                (first as usize, first as usize + len as usize)
+            }
+        },
+        Op::Read {
+            slot,
+            off: _,
+            len: _,
+        } => (*slot as usize, *slot as usize + 1),
+        Op::Close { slot } => (*slot as usize, *slot as usize + 1),
+        Op::Update { off, list } => (*off as usize, *off as usize + list.len()),
     }
 }

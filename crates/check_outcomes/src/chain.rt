@@ -4,12 +4,12 @@ ghost use Rattle.std.specs.Prelude.{All, IfOk, Some, drop, length};
 ghost use Rattle.fx_base.specs.Catalogue.{IsCatalogue};
 ghost use Rattle.fx_base.specs.declared.open_file.Closed.{Closed as File};
 ghost use Rattle.fx_chain.specs.Accepted.{IsWithinLimits};
-ghost use Rattle.fx_chain.specs.Completed.{all_completed};
+ghost use Rattle.fx_chain.specs.Completed.{all_completed, next_member};
 ghost use Rattle.fx_chain.specs.Explains.{canceled};
 ghost use Rattle.fx_chain.specs.Operation.{all_asked, asked_of};
 ghost use Rattle.fx_order.specs.declared.access.Access.TheVariants.{Allocates};
-ghost use Rattle.check_outcomes.specs.Rests.{rules_of};
-ghost use Rattle.check_outcomes.specs.Stands.{HasEachNext, Settles, StepsChain, moved, rest_in};
+ghost use Rattle.check_outcomes.specs.Rests.{rules_of, settled_at};
+ghost use Rattle.check_outcomes.specs.Stands.{HasEachNext, Settles, StepsChain, gone_on, moved, rest_in};
 ghost use Rattle.fx_order.specs.Slots.{table_of_slots};
 
 use crate::answering::{answer, count};
@@ -29,7 +29,7 @@ pub struct Progress {
     pub made: usize,
 }
 
-/// The place of a member, so many behind this one.
+/// Returns the place of a member, so many behind this one.
 pub(crate) fn moved(place: Place, members: u32) -> Place
     requires { place.member + members < 2 ^ 32 }
     ensures { result ≡ moved place members }
@@ -60,6 +60,7 @@ fn cancel(
 
 /// Answers the requests of a chain from this place on that don't come to the table, up to the first one that does. How many
 /// members are done then.
+#[cycle(settling)]
 pub(crate) fn settle(
     setting: &SearchSetting<'_>,
     place: Place,
@@ -68,8 +69,10 @@ pub(crate) fn settle(
 ) -> Result<usize, NoMemory>
     requires limits { All (λ r. IsWithinLimits (asked_of r)) requests.now }
     requires members { place.member + length requests.now < 2 ^ 32 }
-    ensures { IfOk result (Settles (rules_of setting.now.catalogue.now setting.now.size) place
-        (all_asked requests.now) (all_completed told.old.items) (all_completed told.new.items)) }
+    ensures { IfOk result (Settles
+        (settled_at (rules_of setting.now.catalogue.now setting.now.size) place
+        (all_asked requests.now)) place (all_asked requests.now)
+        (all_completed told.old.items) (all_completed told.new.items)) }
 {
     let [request, behind @ ..] = requests else {
         return Ok(0);
@@ -77,18 +80,41 @@ pub(crate) fn settle(
     if count(setting.catalogue, setting.size, request) != 0 {
         return Ok(0);
     }
-    let alloc = setting.alloc;
-    let c = answer(alloc, setting.catalogue, setting.size, place, request, None)?;
-    let severs = request.severs(&c);
-    told.push(c)?;
-    if severs {
-        cancel(alloc, moved(place, 1), behind, told)?;
-        return Ok(requests.len());
-    }
-    Ok(1 + settle(setting, moved(place, 1), behind, told)?)
+    Ok(1 + go_on(setting, place, request, behind, None, told)?)
 }
 
-/// The members of a chain behind so many.
+// Answers a request by the last of its accesses, and settles those behind it. Returns how many of these are done then.
+#[cycle(settling)]
+fn go_on(
+    setting: &SearchSetting<'_>,
+    place: Place,
+    request: &Request,
+    behind: &[Request],
+    last: Option<Access>,
+    told: &mut Vec<Completion>,
+) -> Result<usize, NoMemory>
+    requires own { IsWithinLimits (asked_of request.now) }
+    requires limits { All (λ r. IsWithinLimits (asked_of r)) behind.now }
+    requires members { place.member + 1 + length behind.now < 2 ^ 32 }
+    requires slot { (slot : ℕ) (file : File) → last ≡ Some (Allocates slot file) → slot < 2 ^ 31 }
+    ensures { IfOk result (Settles
+        (gone_on (rules_of setting.now.catalogue.now setting.now.size) place (asked_of request.now)
+        (all_asked behind.now) last) (next_member place) (all_asked behind.now)
+        (all_completed told.old.items) (all_completed told.new.items)) }
+{
+    let (alloc, catalogue) = (setting.alloc, setting.catalogue);
+    let c = answer(alloc, catalogue, setting.size, place, request, last)?;
+    let severs = request.severs(&c);
+    told.push(c)?;
+    let next = moved(place, 1);
+    if severs {
+        cancel(alloc, next, behind, told)?;
+        return Ok(behind.len());
+    }
+    settle(setting, next, behind, told)
+}
+
+/// Returns the members of a chain behind so many.
 pub(crate) fn left(members: &[Request], done: usize) -> &[Request]
     requires { All (λ r. IsWithinLimits (asked_of r)) members.now }
     ensures left { all_asked result.now ≡ drop done (all_asked members.now) }
@@ -101,7 +127,7 @@ pub(crate) fn left(members: &[Request], done: usize) -> &[Request]
     &members[done..]
 }
 
-/// Where an access leads a chain that has its first member at this place, and what is answered on the way.
+/// Returns where an access leads a chain that has its first member at this place, and what is answered on the way.
 pub(crate) fn step(
     setting: &SearchSetting<'_>,
     place: Place,
@@ -129,32 +155,14 @@ pub(crate) fn step(
         });
     }
     let here = moved(place, done as u32);
-    let alloc = setting.alloc;
-    let c = answer(
-        alloc,
-        setting.catalogue,
-        setting.size,
-        here,
-        request,
-        Some(access),
-    )?;
-    let severs = request.severs(&c);
-    told.push(c)?;
-    if severs {
-        cancel(alloc, moved(here, 1), behind, told)?;
-        return Ok(Progress {
-            done: members.len(),
-            made: 0,
-        });
-    }
-    let passed = settle(setting, moved(here, 1), behind, told)?;
+    let passed = go_on(setting, here, request, behind, Some(access), told)?;
     Ok(Progress {
         done: done + 1 + passed,
         made: 0,
     })
 }
 
-/// What a chain may do next that has its first member at this place, and perhaps more.
+/// Returns what a chain may do next that has its first member at this place, and perhaps more.
 pub(crate) fn chain_accesses(
     setting: &SearchSetting<'_>,
     slots: &Slots,
@@ -173,13 +181,6 @@ pub(crate) fn chain_accesses(
         return Ok(Vec::new(setting.alloc));
     };
     let here = moved(place, progress.done as u32);
-    let alloc = setting.alloc;
-    next_accesses(
-        alloc,
-        setting.catalogue,
-        slots,
-        here,
-        request,
-        progress.made,
-    )
+    let (alloc, catalogue) = (setting.alloc, setting.catalogue);
+    next_accesses(alloc, catalogue, slots, here, request, progress.made)
 }

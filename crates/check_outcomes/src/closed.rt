@@ -22,12 +22,12 @@ use fx_base::NoMemory;
 use fx_chain::{Completion, Place};
 use fx_order::{Access, Slots};
 
-/// Whether a completion is among these.
+/// Checks whether a completion is among these.
 pub(crate) fn is_among(completions: &[Completion], c: &Completion) -> bool {
     completions.contains(c)
 }
 
-// Whether a completion is one of these answers.
+// Checks whether a completion is one of these answers.
 fn is_answered(answers: &[PossibleAnswer], c: &Completion) -> bool
     ensures { IsTrue result → Contains (answered answers.now) (completed_of c.now) }
 {
@@ -39,7 +39,7 @@ fn is_answered(answers: &[PossibleAnswer], c: &Completion) -> bool
     false
 }
 
-// Whether what was answered at the place is among the answers.
+// Checks whether what was answered at the place is among the answers.
 fn are_listed(place: Option<Place>, answers: &[PossibleAnswer], told: &[Completion]) -> bool
     ensures { IsTrue result → All (λ c. says place answers.now (completed_of c)) told.now }
 {
@@ -59,7 +59,7 @@ pub(crate) struct Claimed<'a> {
     pub(crate) answers: &'a [PossibleAnswer],
 }
 
-// Whether an access, if the table permits it, leads to one of the states, and what is answered at the place on the way is among
+// Checks whether an access, if the table permits it, leads to one of the states, and what is answered at the place on the way is among
 // the answers.
 fn is_explored(
     claimed: &Claimed<'_>,
@@ -83,7 +83,7 @@ fn is_explored(
     claimed.found.has(&next)
 }
 
-// Whether each of these accesses of a chain that the table permits is explored.
+// Checks whether each of these accesses of a chain that the table permits is explored.
 fn are_explored(
     claimed: &Claimed<'_>,
     state: &PlayState,
@@ -102,7 +102,7 @@ fn are_explored(
     Ok(true)
 }
 
-// Whether each access that a chain may make next is explored.
+// Checks whether each access that a chain may make next is explored.
 fn is_chain_explored(claimed: &Claimed<'_>, state: &PlayState, i: usize) -> Result<bool, NoMemory>
     requires { i < length claimed.now.submission.now.chains.now }
     ensures { IfOk result (λ yes. IsTrue yes → IsChainExploredBy claimed.now state.now i) }
@@ -152,7 +152,7 @@ fn is_state_explored(claimed: &Claimed<'_>, state: &PlayState) -> Result<bool, N
     Ok(true)
 }
 
-// Whether this is what a chain was told on the way to a state, where the submission keeps it.
+// Checks whether this is what a chain was told on the way to a state, where the submission keeps it.
 fn has_told(
     submission: &PlayedSubmission<'_>,
     state: &PlayState,
@@ -172,14 +172,14 @@ fn has_told(
     }
 }
 
-// Whether no file was removed on the way to a state, where the submission keeps it.
+// Checks whether no file was removed on the way to a state, where the submission keeps it.
 fn has_removed_none(submission: &PlayedSubmission<'_>, state: &PlayState) -> bool
     ensures { IsTrue result → IsTrue submission.now.tells → state.now.telling.removed.items ≡ [] }
 {
     !submission.tells || state.telling.removed.is_empty()
 }
 
-// Whether a chain of a state is at its first access, and what it answered before is listed.
+// Checks whether a chain of a state is at its first access, and what it answered before is listed.
 fn is_at_start(claimed: &Claimed<'_>, state: &PlayState, i: usize) -> Result<bool, NoMemory>
     requires { i < length claimed.now.submission.now.chains.now }
     ensures { IfOk result (λ yes. IsTrue yes → IsAtStartBy claimed.now state.now i) }
@@ -198,7 +198,7 @@ fn is_at_start(claimed: &Claimed<'_>, state: &PlayState, i: usize) -> Result<boo
     Ok(are_listed(claimed.submission.asked, claimed.answers, &told))
 }
 
-// Whether each chain of a state is at its first access.
+// Checks whether each chain of a state is at its first access.
 fn are_at_start(claimed: &Claimed<'_>, state: &PlayState) -> Result<bool, NoMemory>
     ensures { IfOk result (λ yes. IsTrue yes → AreAtStartBy claimed.now state.now) }
 {
@@ -210,7 +210,7 @@ fn are_at_start(claimed: &Claimed<'_>, state: &PlayState) -> Result<bool, NoMemo
     Ok(true)
 }
 
-// Whether all states are explored.
+// Checks whether all states are explored.
 fn are_states_explored(claimed: &Claimed<'_>) -> Result<bool, NoMemory>
     ensures { IfOk result (λ yes. IsTrue yes
         → All (IsStateExploredBy claimed.now) claimed.now.found.now.states.items) }
@@ -223,7 +223,7 @@ fn are_states_explored(claimed: &Claimed<'_>) -> Result<bool, NoMemory>
     Ok(true)
 }
 
-/// Whether a search says that it reached its end, and the states that it found, the first one of which has these slots, are
+/// Checks whether a search says that it reached its end, and the states that it found, the first one of which has these slots, are
 /// all of the submission, and what is answered at the place on the way is among the answers.
 pub(crate) fn are_all_states(claimed: &Claimed<'_>, slots: &Slots) -> Result<bool, NoMemory>
     ensures { IfOk result (λ yes. IsTrue yes → AreAllBy claimed.now slots.now) }

@@ -10,7 +10,7 @@ use fx_base::{Errno, NoMemory};
 use fx_chain::{Completion, Place};
 use fx_order::{Slots, SubmissionReport, slots_left};
 
-// Whether no request lacked memory.
+// Checks whether no request lacked memory.
 fn have_memory(completions: &[Completion]) -> bool
     ensures { IsTrue result → All (λ c. HasMemory (completed_of c)) completions.now }
 {
@@ -22,7 +22,7 @@ fn have_memory(completions: &[Completion]) -> bool
     true
 }
 
-/// What is answered at a place.
+/// Returns what is answered at a place.
 pub(crate) fn answer_at(completions: &[Completion], place: Place) -> Option<&Completion>
     ensures inside { IfSome result (λ c.
         Contains (all_completed completions.now) (completed_of c.now)) }
@@ -36,7 +36,7 @@ pub(crate) fn answer_at(completions: &[Completion], place: Place) -> Option<&Com
     None
 }
 
-/// The slots that a play leaves which begins at these, where its order is one of the submission, comes to these completions
+/// Returns the slots that a play leaves which begins at these, where its order is one of the submission, comes to these completions
 /// and closes, and each request finds memory.
 pub(crate) fn confirm(
     submission: &PlayedSubmission<'_>,

@@ -40,7 +40,7 @@ pub struct PossibleEnds {
     pub are_all: bool,
 }
 
-// The end of an order that begins with the steps up to this one, if it is confirmed.
+// Returns the end of an order that begins with the steps up to this one, if it is confirmed.
 fn confirmed(
     submission: &PlayedSubmission<'_>,
     slots: &Slots,
@@ -59,28 +59,7 @@ fn confirmed(
     }))
 }
 
-// The end that a state is, if no chain has an access left there and it is confirmed.
-fn end_at(
-    submission: &PlayedSubmission<'_>,
-    slots: &Slots,
-    found: &FoundStates,
-    i: usize,
-) -> Result<Option<PossibleEnd>, NoMemory>
-    ensures { IfOk result (λ end. IfSome end (IsEndIn submission.now slots.now)) }
-{
-    let Some(state) = found.states.get(i) else {
-        return Ok(None);
-    };
-    let Some(by) = found.from.get(i) else {
-        return Ok(None);
-    };
-    if !state.is_over(submission) {
-        return Ok(None);
-    }
-    confirmed(submission, slots, found, *by)
-}
-
-// The ends that a search met and that are confirmed, in the order of the states.
+// Returns the ends that a search met and that are confirmed, in the order of the states.
 fn all_confirmed(
     submission: &PlayedSubmission<'_>,
     slots: &Slots,
@@ -89,15 +68,16 @@ fn all_confirmed(
     ensures { IfOk result (λ ends. All (IsEndIn submission.now slots.now) ends.items) }
 {
     let mut ends = Vec::new(submission.setting.alloc);
-    for i in 0..found.states.len() {
-        if let Some(end) = end_at(submission, slots, found, i)? {
+    let steps = found.last_steps(submission)?;
+    for by in &steps {
+        if let Some(end) = confirmed(submission, slots, found, *by)? {
             ends.push(end)?;
         }
     }
     Ok(ends)
 }
 
-// Whether the ring that a state leaves where no chain has an access left is that of the end with this number.
+// Checks whether the ring that a state leaves where no chain has an access left is that of the end with this number.
 fn is_listed(
     submission: &PlayedSubmission<'_>,
     state: &PlayState,
@@ -115,7 +95,7 @@ fn is_listed(
     }
 }
 
-// Whether the ends are those of the states, in their order.
+// Checks whether the ends are those of the states, in their order.
 fn are_listed(submission: &PlayedSubmission<'_>, states: &[PlayState], ends: &[PossibleEnd]) -> bool
     ensures { IsTrue result → All (IsEndListed submission.now ends.now) states.now }
 {
@@ -129,7 +109,7 @@ fn are_listed(submission: &PlayedSubmission<'_>, states: &[PlayState], ends: &[P
     true
 }
 
-// Whether the states that a search met are all of the submission, and the ends are those of them.
+// Checks whether the states that a search met are all of the submission, and the ends are those of them.
 fn are_all_ends(
     claimed: &Claimed<'_>,
     slots: &Slots,

@@ -16,11 +16,11 @@ use fx_order::{Access, Slots};
 use indexmap::IndexSet;
 use std::alloc::Global;
 
-/// The first state of a submission at these slots. What each chain answers there is added to its list.
+/// Returns the first state of a submission at these slots. Appends what each chain answers there.
 pub(crate) fn start(
     submission: &PlayedSubmission<'_>,
     slots: &Slots,
-    told: &mut Vec<Completion>,
+    told: &mut Vec<Vec<Completion>>,
 ) -> Result<PlayState, NoMemory> {
     let alloc = submission.setting.alloc;
     let mut chains = Vec::new(alloc);
@@ -30,10 +30,12 @@ pub(crate) fn start(
         let mut answers = Vec::new(alloc);
         let done = settle(&submission.setting, submission.first(i), own, &mut answers)?;
         chains.push(Progress { done, made: 0 })?;
-        push_copies(alloc, told, &answers)?;
         if submission.tells {
-            telling.answers.push(answers)?;
+            let mut copy = Vec::new(alloc);
+            push_copies(alloc, &mut copy, &answers)?;
+            telling.answers.push(copy)?;
         }
+        told.push(answers)?;
     }
     Ok(PlayState {
         slots: slots.copy(alloc)?,
@@ -42,7 +44,7 @@ pub(crate) fn start(
     })
 }
 
-/// The accesses that a chain may make next in a state, by the chain's number from 0.
+/// Returns the accesses that a chain may make next in a state, by the chain's number from 0.
 pub(crate) fn accesses_of(
     submission: &PlayedSubmission<'_>,
     state: &PlayState,
@@ -59,16 +61,13 @@ pub(crate) fn accesses_of(
     chain_accesses(setting, &state.slots, submission.first(i), own, *progress)
 }
 
-// What a state keeps of a request: its answer, the bytes of a read, and the files that it removed, each with its numbers in the
+// Returns what a state keeps of a request: its answer, the bytes of a read, and the files that it removed, each with its numbers in the
 // key.
 fn weight_of(request: &Request) -> usize {
-    let removed: usize = match &request.op {
-        Op::Update { list, .. } => list.len(),
-        _ => 1,
-    };
-    let got = match &request.op {
-        Op::Read { len, .. } => *len as usize,
-        _ => 0,
+    let (removed, got): (usize, usize) = match &request.op {
+        Op::Read { len, .. } => (1, *len as usize),
+        Op::Update { list, .. } => (list.len(), 0),
+        _ => (1, 0),
     };
     removed
         .saturating_mul(56)
@@ -76,7 +75,7 @@ fn weight_of(request: &Request) -> usize {
         .saturating_add(48)
 }
 
-// What a state keeps of what was told on the way to it.
+// Returns what a state keeps of what was told on the way to it.
 fn weight_told(submission: &PlayedSubmission<'_>) -> usize {
     let mut weight: usize = 0;
     if !submission.tells {
@@ -88,7 +87,7 @@ fn weight_told(submission: &PlayedSubmission<'_>) -> usize {
     weight.saturating_add(submission.chains.len().saturating_mul(32))
 }
 
-// How many states may be met. A slot of a state takes 40 bytes, and its numbers in the
+// Returns how many states may be met. A slot of a state takes 40 bytes, and its numbers in the
 // key up to 48; a chain takes 16 and 16; and beside them a state has its lists, a step and a place in the hash table, whose
 // blocks may just have been doubled.
 fn room_for(submission: &PlayedSubmission<'_>, limits: Limits) -> usize {
@@ -241,7 +240,9 @@ pub(crate) fn explore(
     };
     let mut told = Vec::new(alloc);
     let first = start(submission, slots, &mut told)?;
-    search.note(submission.asked, told, None)?;
+    for own in told {
+        search.note(submission.asked, own, None)?;
+    }
     let is_whole = search.add(first, None)? && search.run(submission)?;
     let Search {
         mut found,

@@ -5,6 +5,7 @@ ghost use Rattle.check_outcomes.specs.Views.{told_state_of, view_of_state};
 
 use crate::parts::PartNumbers;
 use crate::state::PlayState;
+use crate::submission::PlayedSubmission;
 use crate::telling::WayReport;
 use fx_base::{Closed, Mark, NoMemory};
 use fx_chain::Completion;
@@ -45,45 +46,38 @@ pub struct FoundStates {
     pub is_whole: bool,
 }
 
-// Adds the numbers of a file at the end.
-fn push_file(key: &mut Vec<u32>, file: &Option<Closed>) -> Result<(), NoMemory> {
+/// Appends the numbers of the file at a slot, or 0 for none. Nothing is promised of it.
+///
+/// # Errors
+/// `NoMemory` if an allocation fails.
+pub fn push_file(key: &mut Vec<u32>, file: &Option<Closed>) -> Result<(), NoMemory> {
     let Some(file) = file else {
         key.push(0)?;
         return Ok(());
     };
     match file.mark {
-        Mark::Registered { k, i } => {
-            key.push(1)?;
-            key.push(k)?;
-            key.push(i)?;
-        }
+        Mark::Registered { k, i } => key.extend_from_slice(&[1, k, i])?,
         Mark::Submitted {
             submission,
             chain,
             member,
             entry,
-        } => {
-            key.push(2)?;
-            key.push(submission)?;
-            key.push(chain)?;
-            key.push(member)?;
-            key.push(entry)?;
-        }
+        } => key.extend_from_slice(&[2, submission, chain, member, entry])?,
     }
     Ok(())
 }
 
-// A number that is small, as it is.
+// Returns a number that is small, as it is.
 fn number_of(n: usize) -> u32 {
     n.min(u32::MAX as usize) as u32
 }
 
-// A number and one more as one number. Which number it is is the FNV-1a hash's choice.
+// Returns a number and one more as one number. Which number it is is the FNV-1a hash's choice.
 fn mixed(hash: u64, n: u64) -> u64 {
     (hash ^ n).wrapping_mul(0x100_0000_01b3)
 }
 
-// Some answers as one number.
+// Returns some answers as one number.
 fn hash_of(hash: u64, answers: &[Completion]) -> u64 {
     let mut hash = mixed(hash, answers.len() as u64);
     for c in answers {
@@ -112,7 +106,7 @@ fn push_telling(key: &mut Vec<u32>, telling: &WayReport) -> Result<(), NoMemory>
     Ok(())
 }
 
-/// A state in numbers.
+/// Returns a state in numbers.
 pub(crate) fn key_of(alloc: Global, state: &PlayState) -> Result<Vec<u32>, NoMemory> {
     let mut key = Vec::new(alloc);
     for progress in &state.chains {
@@ -127,7 +121,7 @@ pub(crate) fn key_of(alloc: Global, state: &PlayState) -> Result<Vec<u32>, NoMem
 }
 
 impl FoundStates {
-    /// No state yet.
+    /// Returns a search without states.
     pub(crate) fn new(alloc: Global, numbers: PartNumbers) -> FoundStates {
         FoundStates {
             alloc,
@@ -141,7 +135,21 @@ impl FoundStates {
         }
     }
 
-    /// Whether a state is among those that were met.
+    /// Returns the steps that led to the states in which each chain is idle. Nothing is promised of it.
+    pub(crate) fn last_steps(
+        &self,
+        submission: &PlayedSubmission<'_>,
+    ) -> Result<Vec<Option<FoundStep>>, NoMemory> {
+        let mut steps = Vec::new(self.alloc);
+        for (state, by) in self.states.iter().zip(&self.from) {
+            if state.is_over(submission) {
+                steps.push(*by)?;
+            }
+        }
+        Ok(steps)
+    }
+
+    /// Checks whether a state is among those that were met.
     pub(crate) fn has(&self, state: &PlayState) -> Result<bool, NoMemory>
         ensures view { IfOk result (λ yes. IsTrue yes → (submission : ℕ) (runs : List (List Asked))
             → Contains (map (view_of_state submission runs) self.now.states.items)

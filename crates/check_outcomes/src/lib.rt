@@ -25,5 +25,6 @@ mod turns;
 pub use answering::{answer, count};
 pub use choice::next_accesses;
 pub use end::{PossibleEnd, PossibleEnds, may_leave};
+pub use found::push_file;
 pub use outcome::{PossibleAnswer, PossibleAnswers, RequestQuestion, may_answer};
 pub use possible_report::{PossibleReport, PossibleReports, may_report};

@@ -54,7 +54,7 @@ pub struct RequestQuestion<'a> {
     pub limits: Limits,
 }
 
-// What is answered at a place, once more.
+// Returns what is answered at a place, once more.
 fn answer_of(
     alloc: Global,
     completions: &[Completion],
@@ -71,7 +71,7 @@ fn answer_of(
     Ok(Some(copy))
 }
 
-// What is answered at a place by an order that begins with the steps up to this one, if that is confirmed.
+// Returns what is answered at a place by an order that begins with the steps up to this one, if that is confirmed.
 fn confirmed(
     submission: &PlayedSubmission<'_>,
     slots: &Slots,
@@ -96,7 +96,7 @@ fn confirmed(
     }))
 }
 
-// The answers that a search met and that are confirmed.
+// Returns the answers that a search met and that are confirmed.
 fn all_confirmed(
     submission: &PlayedSubmission<'_>,
     slots: &Slots,

@@ -1,14 +1,15 @@
 //! The parts of a submission: chains that may come to one slot are in one part. The parts are played one after another, so that
 //! the states of one aren't met again beside each state of another.
 ghost use Rattle.std.specs.Prelude.{◌≡◌, ◌<◌, ◌≤◌, ℕ, All, IsTrue, length, slice_index_or};
-ghost use Rattle.fx_chain.specs.Operation.{asked_of, operation_of};
+ghost use Rattle.fx_chain.specs.Operation.{asked_of};
 ghost use Rattle.fx_order.specs.Slots.{table_of_slots};
-ghost use Rattle.check_outcomes.specs.Parts.{MayComeTo, StaysIn};
+ghost use Rattle.check_outcomes.specs.Parts.{StaysIn};
 ghost use Rattle.check_outcomes.specs.Views.{ArePartsIn, IsInPart, parts_by_numbers};
 
+use crate::answering::slots_of;
 use crate::submission::PlayedSubmission;
 use fx_base::NoMemory;
-use fx_chain::{Op, Request, Target};
+use fx_chain::Request;
 use fx_order::Slots;
 
 /// The number of the part that each chain is in, the first one first, and of the part that each slot belongs to. Each is a hint,
@@ -21,30 +22,7 @@ pub struct PartNumbers {
     pub of_slot: Vec<usize>,
 }
 
-// The slots that a request may come to: the first one, and the one behind the last one.
-fn slots_of(slots: &Slots, op: &Op) -> (usize, usize)
-    ensures { (slot : ℕ) → MayComeTo (table_of_slots slots.now) (operation_of op.now) slot
-        → (result.0 ≤ slot) × (slot < result.1) }
-{
-    match op {
-        Op::Open { name: _, target } => match target {
-            Target::Slot(slot) => (*slot as usize, *slot as usize + 1),
-            Target::Any => {
-                let (first, len) = slots.range;
-                (first as usize, first as usize + len as usize)
-            }
-        },
-        Op::Read {
-            slot,
-            off: _,
-            len: _,
-        } => (*slot as usize, *slot as usize + 1),
-        Op::Close { slot } => (*slot as usize, *slot as usize + 1),
-        Op::Update { off, list } => (*off as usize, *off as usize + list.len()),
-    }
-}
-
-// Whether each slot from one up to another belongs to a part.
+// Checks whether each slot from one up to another belongs to a part.
 fn belong_to(of_slot: &[usize], part: usize, from: usize, to: usize) -> bool
     ensures { IsTrue result → (slot : ℕ) → slot < length of_slot.now → from ≤ slot → slot < to
         → slice_index_or of_slot.now slot 0 ≡ part }
@@ -57,17 +35,17 @@ fn belong_to(of_slot: &[usize], part: usize, from: usize, to: usize) -> bool
     true
 }
 
-// Whether a request stays in a part.
+// Checks whether a request stays in a part.
 fn stays_in(numbers: &PartNumbers, slots: &Slots, part: usize, request: &Request) -> bool
     requires { length slots.now.at.items ≤ length numbers.now.of_slot.items }
-    ensures { IsTrue result → StaysIn (table_of_slots slots.now) (parts_by_numbers numbers.now).of_slot part
-        (asked_of request.now).operation }
+    ensures { IsTrue result → StaysIn (table_of_slots slots.now)
+        (parts_by_numbers numbers.now).of_slot part (asked_of request.now).operation }
 {
     let (from, to) = slots_of(slots, &request.op);
     belong_to(&numbers.of_slot, part, from, to)
 }
 
-// Whether each of these requests stays in a part.
+// Checks whether each of these requests stays in a part.
 fn stay_in(numbers: &PartNumbers, slots: &Slots, part: usize, requests: &[Request]) -> bool
     requires { length slots.now.at.items ≤ length numbers.now.of_slot.items }
     ensures { IsTrue result → All (λ r. StaysIn (table_of_slots slots.now)
@@ -81,7 +59,7 @@ fn stay_in(numbers: &PartNumbers, slots: &Slots, part: usize, requests: &[Reques
     true
 }
 
-// Whether a chain of a submission stays in its part.
+// Checks whether a chain of a submission stays in its part.
 fn is_in_part(
     submission: &PlayedSubmission<'_>,
     slots: &Slots,
@@ -98,7 +76,7 @@ fn is_in_part(
     }
 }
 
-/// Whether each chain of a submission at these slots stays in its part.
+/// Checks whether each chain of a submission at these slots stays in its part.
 pub(crate) fn are_parts(
     submission: &PlayedSubmission<'_>,
     slots: &Slots,
@@ -159,21 +137,17 @@ impl PartNumbers {
     }
 }
 
-/// The parts of a submission at these slots, each with the number of its first chain.
+/// Returns the parts of a submission at these slots, each with the number of its first chain.
 pub(crate) fn part_numbers(
     submission: &PlayedSubmission<'_>,
     slots: &Slots,
 ) -> Result<PartNumbers, NoMemory> {
     let alloc = submission.setting.alloc;
     let mut numbers = PartNumbers {
-        of_chain: Vec::new(alloc),
-        of_slot: Vec::new(alloc),
+        of_chain: (0..submission.chains.len()).collect(alloc)?,
+        of_slot: vec![in alloc; NO_PART; slots.at.len()]?,
     };
-    for _ in &slots.at {
-        numbers.of_slot.push(NO_PART)?;
-    }
     for i in 0..submission.chains.len() {
-        numbers.of_chain.push(i)?;
         for request in submission.members(i) {
             let (from, to) = slots_of(slots, &request.op);
             for slot in from..to.min(slots.at.len()) {

@@ -22,7 +22,7 @@ pub(crate) struct OrderPlay {
     pub(crate) closes: Vec<Closed>,
 }
 
-// The steps that led to a state, and the last one.
+// Returns the steps that led to a state, and the last one.
 fn steps_to(
     submission: &PlayedSubmission<'_>,
     found: &FoundStates,
@@ -91,21 +91,11 @@ impl Player {
     }
 }
 
-// The play of a submission at its start.
+// Returns the play of a submission at its start.
 fn begin(submission: &PlayedSubmission<'_>, slots: &Slots) -> Result<Player, NoMemory> {
     let alloc = submission.setting.alloc;
-    let mut all = Vec::new(alloc);
-    let state = start(submission, slots, &mut all)?;
     let mut told = Vec::new(alloc);
-    for _ in submission.chains {
-        told.push(Vec::new(alloc))?;
-    }
-    for c in all {
-        let chain = (c.place.chain as usize).max(1) - 1;
-        if let Some(own) = told.get_mut(chain) {
-            own.push(c)?;
-        }
-    }
+    let state = start(submission, slots, &mut told)?;
     Ok(Player {
         state,
         order: Vec::new(alloc),
@@ -114,7 +104,7 @@ fn begin(submission: &PlayedSubmission<'_>, slots: &Slots) -> Result<Player, NoM
     })
 }
 
-/// A play of a submission at these slots that begins with the steps up to this one, and goes on to the end of each chain, one
+/// Returns a play of a submission at these slots that begins with the steps up to this one, and goes on to the end of each chain, one
 /// chain after another.
 pub(crate) fn play_to(
     submission: &PlayedSubmission<'_>,

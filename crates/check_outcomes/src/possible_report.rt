@@ -49,7 +49,7 @@ pub struct PossibleReports {
     pub states: usize,
 }
 
-// A list of these closes, if each file is in the catalogue.
+// Returns a list of these closes, if each file is in the catalogue.
 fn closes_of(
     alloc: Global,
     catalogue: &Catalogue,
@@ -73,7 +73,7 @@ fn closes_of(
     Ok(Some(list))
 }
 
-// The report of an order that begins with the steps up to this one, if it is confirmed.
+// Returns the report of an order that begins with the steps up to this one, if it is confirmed.
 fn confirmed(
     submission: &PlayedSubmission<'_>,
     slots: &Slots,
@@ -101,28 +101,7 @@ fn confirmed(
     }))
 }
 
-// The report that a state is, if no chain has an access left there and it is confirmed.
-fn report_at(
-    submission: &PlayedSubmission<'_>,
-    slots: &Slots,
-    found: &FoundStates,
-    i: usize,
-) -> Result<Option<PossibleReport>, NoMemory>
-    ensures { IfOk result (λ possible. IfSome possible (IsPossibleIn submission.now slots.now)) }
-{
-    let Some(state) = found.states.get(i) else {
-        return Ok(None);
-    };
-    let Some(by) = found.from.get(i) else {
-        return Ok(None);
-    };
-    if !state.is_over(submission) {
-        return Ok(None);
-    }
-    confirmed(submission, slots, found, *by)
-}
-
-// The reports that a search met and that are confirmed, in the order of the states.
+// Returns the reports that a search met and that are confirmed, in the order of the states.
 fn all_confirmed(
     submission: &PlayedSubmission<'_>,
     slots: &Slots,
@@ -131,15 +110,16 @@ fn all_confirmed(
     ensures { IfOk result (λ reports. All (IsPossibleIn submission.now slots.now) reports.items) }
 {
     let mut reports = Vec::new(submission.setting.alloc);
-    for i in 0..found.states.len() {
-        if let Some(report) = report_at(submission, slots, found, i)? {
+    let steps = found.last_steps(submission)?;
+    for by in &steps {
+        if let Some(report) = confirmed(submission, slots, found, *by)? {
             reports.push(report)?;
         }
     }
     Ok(reports)
 }
 
-// Whether these are the answers of the chains, one chain behind another.
+// Checks whether these are the answers of the chains, one chain behind another.
 fn are_told(completions: &[Completion], answers: &[Vec<Completion>]) -> bool
     ensures { IsTrue result → all_completed completions.now ≡ all_told (answers_of answers.now) }
 {
@@ -152,7 +132,7 @@ fn are_told(completions: &[Completion], answers: &[Vec<Completion>]) -> bool
     are_same_answers(&completions[..own.len()], own) && are_told(&completions[own.len()..], others)
 }
 
-// Whether a report tells of what was told on the way to a state, and leaves its ring.
+// Checks whether a report tells of what was told on the way to a state, and leaves its ring.
 fn tells_of(submission: &PlayedSubmission<'_>, state: &PlayState, possible: &PossibleReport) -> bool
     ensures { IsTrue result → IsToldOf submission.now state.now possible.now }
 {
@@ -168,7 +148,7 @@ fn tells_of(submission: &PlayedSubmission<'_>, state: &PlayState, possible: &Pos
         && report.closes.files() == telling.removed.as_slice()
 }
 
-// Whether the report with this number tells of a state, if no chain has an access left there.
+// Checks whether the report with this number tells of a state, if no chain has an access left there.
 fn is_told(
     submission: &PlayedSubmission<'_>,
     state: &PlayState,
@@ -186,7 +166,7 @@ fn is_told(
     }
 }
 
-// Whether the reports are those of the states, in their order.
+// Checks whether the reports are those of the states, in their order.
 fn are_all_told(
     submission: &PlayedSubmission<'_>,
     states: &[PlayState],
@@ -204,7 +184,7 @@ fn are_all_told(
     true
 }
 
-// Whether the states that a search met are all of the submission, and the reports are those of them.
+// Checks whether the states that a search met are all of the submission, and the reports are those of them.
 fn are_all_reports(
     claimed: &Claimed<'_>,
     slots: &Slots,

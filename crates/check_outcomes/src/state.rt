@@ -29,7 +29,7 @@ pub struct PlayState {
     pub telling: WayReport,
 }
 
-// Whether each of these requests is a read.
+// Checks whether each of these requests is a read.
 fn are_reads(requests: &[Request]) -> bool
     ensures { result ≡ list_all (λ request. is_read (asked_of request).operation) requests.now }
 {
@@ -42,7 +42,7 @@ fn are_reads(requests: &[Request]) -> bool
 }
 
 impl PlayState {
-    /// Whether both are one.
+    /// Checks whether both are one.
     pub(crate) fn is_same(&self, other: &PlayState) -> bool
         ensures table { IsTrue result
             → table_of_slots self.now.slots ≡ table_of_slots other.now.slots }
@@ -59,7 +59,7 @@ impl PlayState {
             && self.telling.removed == other.telling.removed
     }
 
-    /// How far a chain has come, by its number from 0.
+    /// Returns how far a chain has come, by its number from 0.
     pub(crate) fn progress(&self, i: usize) -> Progress
         ensures { result ≡ slice_index_or self.now.chains.items i not_begun }
     {
@@ -69,7 +69,7 @@ impl PlayState {
         }
     }
 
-    /// Whether a chain is idle, by its number from 0: no request of it is left, or nothing but reads, and nobody asks what these
+    /// Checks whether a chain is idle, by its number from 0: no request of it is left, or nothing but reads, and nobody asks what these
     /// answer.
     pub(crate) fn is_idle(&self, submission: &PlayedSubmission<'_>, i: usize) -> bool
         requires { i < length submission.now.chains.now }
@@ -94,7 +94,7 @@ impl PlayState {
         are_reads(left(submission.members(i), self.progress(i).done))
     }
 
-    /// Whether each chain is idle.
+    /// Checks whether each chain is idle.
     pub(crate) fn is_over(&self, submission: &PlayedSubmission<'_>) -> bool
         ensures { IsOverIn submission.now self.now → IsTrue result }
     {
@@ -107,7 +107,7 @@ impl PlayState {
     }
 }
 
-// The table behind an access.
+// Returns the table behind an access.
 fn slots_with(alloc: Global, slots: &Slots, access: &Access) -> Result<Slots, NoMemory>
     requires { Permits (table_of_slots slots.now) access.now }
     ensures { IfOk result (λ after.
@@ -118,7 +118,7 @@ fn slots_with(alloc: Global, slots: &Slots, access: &Access) -> Result<Slots, No
     Ok(after)
 }
 
-// How far the chains have come, where one of them has come further.
+// Returns how far the chains have come, where one of them has come further.
 fn chains_with(
     alloc: Global,
     chains: &[Progress],
@@ -133,7 +133,7 @@ fn chains_with(
     Ok(all)
 }
 
-// What was told behind an access of a chain, by the chain's number from 0, that answers this: nothing, where the submission
+// Returns what was told behind an access of a chain, by the chain's number from 0, that answers this: nothing, where the submission
 // doesn't keep it.
 fn telling_after(
     submission: &PlayedSubmission<'_>,
@@ -156,7 +156,7 @@ fn telling_after(
     Ok(Some(after))
 }
 
-/// Where an access of a chain leads, by the chain's number from 0, and what is answered on the way; `None` where the state
+/// Returns where an access of a chain leads, by the chain's number from 0, and what is answered on the way; `None` where the state
 /// isn't one of the submission, or its table doesn't permit the access.
 pub(crate) fn next_state(
     submission: &PlayedSubmission<'_>,
@@ -175,13 +175,10 @@ pub(crate) fn next_state(
     if state.slots.at.len() != submission.setting.size as usize || !state.slots.permits(access) {
         return Ok(None);
     }
-    if i >= submission.chains.len() {
-        return Ok(None);
-    }
     let Some(progress) = state.chains.get(i) else {
         return Ok(None);
     };
-    if progress.made > u32::MAX as usize {
+    if i >= submission.chains.len() || progress.made > u32::MAX as usize {
         return Ok(None);
     }
     let own = submission.members(i);

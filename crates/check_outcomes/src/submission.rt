@@ -33,7 +33,7 @@ pub(crate) struct PlayedSubmission<'a> {
 }
 
 impl PlayedSubmission<'_> {
-    /// The place of the first member of a chain, by the chain's number from 0.
+    /// Returns the place of the first member of a chain, by the chain's number from 0.
     pub(crate) fn first(&self, i: usize) -> Place
         requires { i < length self.now.chains.now }
         ensures { result ≡ first_member self.now.number (i + 1) }
@@ -45,10 +45,11 @@ impl PlayedSubmission<'_> {
         }
     }
 
-    /// Whether the request that is asked for is one of a chain, by the chain's number from 0, behind so many of its members.
+    /// Checks whether the request that is asked for is one of a chain, by the chain's number from 0, behind so many of its members.
     pub(crate) fn asks_behind(&self, i: usize, done: usize) -> bool
         requires { i < length self.now.chains.now }
-        ensures { result ≡ asks_from self.now.asked (moved (first_member self.now.number (i + 1)) done) }
+        ensures { result
+            ≡ asks_from self.now.asked (moved (first_member self.now.number (i + 1)) done) }
     {
         let first = self.first(i);
         match self.asked {
@@ -61,7 +62,7 @@ impl PlayedSubmission<'_> {
         }
     }
 
-    /// The members of a chain, by the chain's number from 0.
+    /// Returns the members of a chain, by the chain's number from 0.
     pub(crate) fn members(&self, i: usize) -> &[Request]
         requires { i < length self.now.chains.now }
         ensures run { all_asked result.now

@@ -19,14 +19,14 @@ pub struct WayReport {
     pub removed: Vec<Closed>,
 }
 
-/// Whether both lists have the same completions, in the same order.
+/// Checks whether both lists have the same completions, in the same order.
 pub(crate) fn are_same(some: &[Completion], others: &[Completion]) -> bool
     ensures { IsTrue result → all_completed some.now ≡ all_completed others.now }
 {
     some == others
 }
 
-/// Whether both lists have the same completions of each chain.
+/// Checks whether both lists have the same completions of each chain.
 pub(crate) fn are_all_same(some: &[Vec<Completion>], others: &[Vec<Completion>]) -> bool
     ensures { IsTrue result → answers_of some.now ≡ answers_of others.now }
 {
@@ -67,7 +67,7 @@ fn push_lists(
     push_lists(alloc, all, more)
 }
 
-// The files that were taken behind an access, in order of mark.
+// Returns the files that were taken behind an access, in order of mark.
 fn removed_after(
     alloc: Global,
     removed: &[Closed],
@@ -93,7 +93,7 @@ impl WayReport {
         }
     }
 
-    /// What was told behind an access of a chain, by the chain's number from 0, that answers this.
+    /// Returns what was told behind an access of a chain, by the chain's number from 0, that answers this.
     pub(crate) fn after(
         &self,
         alloc: Global,

@@ -18,24 +18,6 @@ fn earlier(turn: Option<usize>, numbers: &PartNumbers, i: usize) -> Option<usize
     }
 }
 
-// Returns the part whose turn it is, with one more chain looked at.
-fn part_with(
-    submission: &PlayedSubmission<'_>,
-    numbers: &PartNumbers,
-    state: &PlayState,
-    turn: Option<usize>,
-    i: usize,
-) -> Option<usize>
-    requires inside { i < length submission.now.chains.now }
-    requires turn { IfSome turn (IsTurnOfPart submission.now numbers.now state.now) }
-    ensures { IfSome result (IsTurnOfPart submission.now numbers.now state.now) }
-{
-    if state.is_idle(submission, i) {
-        return turn;
-    }
-    earlier(turn, numbers, i)
-}
-
 // Returns the part whose turn it is in a state: the first one with a chain that isn't idle; `None` if each chain is idle.
 fn part_at(
     submission: &PlayedSubmission<'_>,
@@ -46,7 +28,10 @@ fn part_at(
 {
     let mut turn: Option<usize> = None;
     for i in 0..submission.chains.len() {
-        turn = part_with(submission, numbers, state, turn, i);
+        if state.is_idle(submission, i) {
+            continue;
+        }
+        turn = earlier(turn, numbers, i);
     }
     turn
 }

@@ -1,6 +1,6 @@
 use Rattle.fx_order.proofs.Words.{◌∙◌, sym, ap, refl, all_asked, arith, nil_from_length}
 use Rattle.check_outcomes.proofs.Words.{first_is}
-use Rattle.check_outcomes.proofs.Settling.{pushed, steps_more, steps_on, steps_over}
+use Rattle.check_outcomes.proofs.Settling.{steps_more, steps_on, steps_over}
 use Rattle.check_outcomes.proofs.chain.step.Goals as goal
 
 pub returns-in_default : goal.returns-in_default
@@ -15,6 +15,4 @@ returns-then-count-made c =
 pub returns : goal.returns
 returns c =
     steps_on (sym c.left.ensures.left ∙ ap all_asked (first_is c.left.result.now c.request-item.result c.in-len1-up.len_at_least c.request-item.is))
-    (sym c.count.ensures ∙ c.if-count-made.false) (rw c.moved-here.ensures at c.in_ok-c.ensures)
-    (sym c.severs-severs.ensures ∙ c.if-severs.false) (pushed c.args.told.now.items c.in_ok-c.c c.in_ok-push.ensures.items refl)
-    (rw (c.moved-2.ensures, c.moved-here.ensures) at c.in_ok-passed.ensures) refl refl
+    (sym c.count.ensures ∙ c.if-count-made.false) (rw c.moved-here.ensures at c.in_ok-passed.ensures) refl refl

@@ -2,5 +2,5 @@ use Rattle.fx_order.proofs.Words.{All}
 use Rattle.check_outcomes.proofs.Words.{IsPossibleIn}
 use Rattle.check_outcomes.proofs.possible_report.all_confirmed.Given as goal
 
-abbrev pub invariant-loop-i : goal.invariant-loop-i
-invariant-loop-i l = All (IsPossibleIn l.submission l.slots) l.reports.items
+abbrev pub invariant-loop-by : goal.invariant-loop-by
+invariant-loop-by l = All (IsPossibleIn l.submission l.slots) l.reports.items

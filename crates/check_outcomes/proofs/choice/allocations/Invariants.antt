@@ -1,6 +1,6 @@
 use Rattle.fx_order.proofs.Words.{ℕ, ◌<◌, Contains}
 use Rattle.check_outcomes.proofs.ChoiceWords.{Allocates, FindsFull}
-use Rattle.check_outcomes.proofs.choice.open_any_choices.Given as goal
+use Rattle.check_outcomes.proofs.choice.allocations.Given as goal
 
 abbrev pub invariant-loop-slot : goal.invariant-loop-slot
 invariant-loop-slot l = record {

@@ -1,6 +1,6 @@
 use Rattle.fx_order.proofs.Words.{arith}
-use Rattle.check_outcomes.proofs.Choices.{one_slot_more, open_any_each}
-use Rattle.check_outcomes.proofs.choice.open_any_choices.Goals as goal
+use Rattle.check_outcomes.proofs.Choices.{each_allocation, one_slot_more}
+use Rattle.check_outcomes.proofs.choice.allocations.Goals as goal
 
 pub loop-slot-preserved : goal.loop-slot-preserved
 loop-slot-preserved c =
@@ -10,5 +10,4 @@ loop-slot-preserved c =
 pub returns : goal.returns
 returns c =
     let past = c.loop-slot-test.false in
-    open_any_each _ c.args.place c.args.entry c.loop-slot.choices.items c.loop-slot.invariant.full
-    (λ slot low. rw (← c.installed-file.ensures) (c.loop-slot.invariant.each slot (omega arith)))
+    each_allocation _ c.loop-slot.choices.items c.loop-slot.invariant.full (λ slot low. c.loop-slot.invariant.each slot (omega arith))
