@@ -1,15 +1,14 @@
 -- The rings that commands may come to where memory is found.
 use Rattle.std.specs.Prelude.{◌≡◌, ◌⊎◌, ℕ, ◌+◌, List, [], ◌∷◌, ◌++◌, map, string_bytes}
-use Rattle.std.specs.Prelude.{All, Bool, true, false, Option, Contains, IsTrue}
+use Rattle.std.specs.Prelude.{Bool, true, false, Option, Contains}
 use Rattle.fx_base.specs.Catalogue.{FileEntry}
 use Rattle.fx_chain.specs.Completed.{Completed, completed_of}
 use Rattle.fx_chain.specs.Faults.{fault_of}
 use Rattle.fx_chain.specs.Operation.{Asked, all_asked}
 use Rattle.fx_chain.specs.declared.completion.Place.{Place}
 use Rattle.fx_order.specs.declared.slots.Slots.{Slots}
-use Rattle.check_outcomes.specs.Outcomes.{HasEachReport, IsPossible, ring_behind}
+use Rattle.check_outcomes.specs.Outcomes.{ring_behind}
 use Rattle.check_outcomes.specs.declared.possible_report.PossibleReport.{PossibleReport}
-use Rattle.check_outcomes.specs.declared.possible_report.PossibleReports.{PossibleReports}
 use Rattle.fx_ring.specs.Ring.{IsRing, RingContents, RingState, ring_of}
 use Rattle.fx_ring.specs.Submission.{Reported, reported}
 use Rattle.fx_language.specs.Instruction.{Instruction, SubmitsAll, instructions_of}
@@ -78,13 +77,6 @@ abbrev pub HasEachNextStage : Bool → Stage → Instruction → List Stage → 
 HasEachNextStage keeps old command stages =
     (ring next : RingContents) (line : List ℕ) → ring_of ring ≡ old.ring
     → LeadsRing ring command next line → Contains stages (stage keeps next (old.printed ++ line))
-
--- the reports that a search found at a ring are reports of the submission, and all of them where it
--- says so
-pub record AreReportsAt (old : RingState) (asked : List Asked) (found : PossibleReports) : Type 0
-  where
-    pub each : All (IsPossible old asked) found.reports.items
-    pub all : IsTrue found.are_all → HasEachReport old asked found.reports.items
 
 -- each of the one list is where the command may lead to from one of the other
 abbrev pub AreStagesFrom : Bool → List Stage → Instruction → List Stage → Type 0

@@ -20,7 +20,7 @@ pub(crate) fn are_same(one: &RingSlots, other: &RingSlots) -> bool
     one.slots.is_same(&other.slots)
 }
 
-// Whether both are the same ring, behind the same text.
+// Checks whether both are the same ring, behind the same text.
 fn are_alike(one: &Reached, other: &Reached) -> bool
     ensures { IsTrue result → (catalogue : List FileEntry)
         → stage_of catalogue one.now ≡ stage_of catalogue other.now }
@@ -31,7 +31,7 @@ fn are_alike(one: &Reached, other: &Reached) -> bool
     false
 }
 
-// Whether a ring is in a list, behind the same text.
+// Checks whether a ring is in a list, behind the same text.
 fn has_ring(rings: &[Reached], one: &Reached) -> bool
     ensures { IsTrue result → (catalogue : List FileEntry)
         → Contains (stages_of catalogue rings.now) (stage_of catalogue one.now) }
@@ -44,8 +44,8 @@ fn has_ring(rings: &[Reached], one: &Reached) -> bool
     false
 }
 
-/// Puts a ring behind others that haven't got it. Where it is kept what was printed it isn't looked for: two ways that
-/// printed the same have come to one ring.
+/// Appends a ring unless it is already in the list. If the setting keeps texts, the check is skipped: two ways that printed the
+/// same led to one ring.
 ///
 /// # Errors
 /// `NoMemory` where the memory of the list is refused.

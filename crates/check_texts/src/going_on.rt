@@ -12,7 +12,7 @@ use crate::spent::Spent;
 use fx_base::NoMemory;
 use fx_language::Command;
 
-// One ring that a command may lead to, if one is found.
+// Returns one ring that a command may lead to, if one is found.
 fn one_next(
     setting: &WalkSetting<'_>,
     from: &Reached,
@@ -30,7 +30,7 @@ fn one_next(
     Ok(rings.pop())
 }
 
-/// Whether it was seen that commands and the end of the script lead on from a ring.
+/// Checks whether it was seen that commands and the end of the script lead on from a ring.
 ///
 /// # Errors
 /// `NoMemory` where memory is refused.

@@ -12,7 +12,6 @@ ghost use Rattle.fx_ring.specs.Ring.{IsRing};
 ghost use Rattle.fx_ring.specs.declared.ring.TheConstants.{MOST_SUBMISSIONS};
 ghost use Rattle.check_lines.specs.Calls.{IsCall};
 ghost use Rattle.check_texts.specs.Rings.{Grows, HasEachNextStage, MayLeadTo, kept_text};
-ghost use Rattle.check_texts.specs.Rings.{AreReportsAt};
 ghost use Rattle.check_texts.specs.Rings.{stage_left, stage_of, stage_reported, stages_of};
 
 use crate::distinct::push_new;
@@ -20,21 +19,21 @@ use crate::reached::{Past, Reached};
 use crate::setting::WalkSetting;
 use crate::spent::Spent;
 use check_lines::{accepted_in, call};
-use check_outcomes::{PossibleReport, PossibleReports, may_leave, may_report};
+use check_outcomes::{PossibleReport, may_leave, may_report};
 use fx_base::NoMemory;
 use fx_chain::Request;
 use fx_language::Command;
-use fx_order::{ChainAccess, RingSlots, Slots};
+use fx_order::{ChainAccess, Slots};
 use fx_script::report_text;
 
-/// Whether two things hold.
+/// Checks whether two things hold.
 pub(crate) fn both(one: bool, other: bool) -> bool
     ensures { IsTrue result → IsTrue one × IsTrue other }
 {
     one && other
 }
 
-/// A text and what is printed behind it, where that is kept; else nothing.
+/// Returns a text with a line appended if the setting keeps texts, and else an empty text.
 ///
 /// # Errors
 /// `NoMemory` where the memory of the text is refused.
@@ -65,7 +64,7 @@ struct OrderEnd<'a> {
     line: &'a str,
 }
 
-// Puts the ring that an order leaves behind others.
+// Appends the ring that an order leaves.
 fn push_end(
     setting: &WalkSetting<'_>,
     pasts: &mut Vec<Past>,
@@ -85,20 +84,8 @@ fn push_end(
         end.entry.line.now)) }
 {
     let printed = printed_behind(setting, from.printed.as_str(), end.line)?;
-    let order = Vec::from_slice(setting.alloc, end.order)?;
-    let slots = end.slots.copy(setting.alloc)?;
-    let past = pasts.len();
-    pasts.push(Past {
-        submission: from.ring.submissions + 1,
-        size: from.ring.slots.at.len(),
-        order,
-        before: from.past,
-    })?;
-    let ring = RingSlots {
-        slots,
-        submissions: from.ring.submissions + 1,
-        registrations: from.ring.registrations,
-    };
+    let ring = from.ring_after(setting.alloc, end.slots)?;
+    let past = from.push_past(setting.alloc, pasts, end.order)?;
     push_new(
         setting,
         rings,
@@ -111,8 +98,7 @@ fn push_end(
     Ok(())
 }
 
-// Puts the rings that an accepted submission may leave of one behind others, where it isn't kept what is printed, and says
-// whether these are all of them.
+// Appends the rings that an accepted submission may leave, if no text is kept. Returns whether these are all.
 fn push_ends(
     setting: &WalkSetting<'_>,
     pasts: &mut Vec<Past>,
@@ -152,7 +138,7 @@ fn push_ends(
     Ok(found.are_all)
 }
 
-// Puts the ring that a report leaves behind others, with its lines.
+// Appends the ring that a report leaves, with its lines.
 fn push_report(
     setting: &WalkSetting<'_>,
     pasts: &mut Vec<Past>,
@@ -182,37 +168,7 @@ fn push_report(
     Ok(())
 }
 
-// The same of the reports that a search at the ring found.
-fn push_found(
-    setting: &WalkSetting<'_>,
-    pasts: &mut Vec<Past>,
-    rings: &mut Vec<Reached>,
-    from: &Reached,
-    requests: &[Request],
-    found: &PossibleReports,
-) -> Result<bool, NoMemory>
-    requires accepted { IsAccepted (all_asked requests.now) }
-    requires faultless { fault_of (all_asked requests.now) ≡ None }
-    requires few { from.now.ring.submissions < MOST_SUBMISSIONS }
-    requires ring { IsRing (ring_with_slots setting.now.catalogue.now from.now.ring) }
-    requires found { AreReportsAt (ring_with_slots setting.now.catalogue.now from.now.ring)
-        (all_asked requests.now) found.now }
-    ensures grows { IfOk result (λ _. Grows
-        (MayLeadTo setting.now.keeps (stage_of setting.now.catalogue.now from.now)
-        (SubmitsAll (all_asked requests.now)))
-        (stages_of setting.now.catalogue.now rings.old.items)
-        (stages_of setting.now.catalogue.now rings.new.items)) }
-    ensures all { IfOk result (λ all. IsTrue all → HasEachNextStage setting.now.keeps
-        (stage_of setting.now.catalogue.now from.now) (SubmitsAll (all_asked requests.now))
-        (stages_of setting.now.catalogue.now rings.new.items)) }
-{
-    for possible in &found.reports {
-        push_report(setting, pasts, rings, from, possible)?;
-    }
-    Ok(found.are_all)
-}
-
-// The same of the reports of the submission.
+// Looks for the reports of the submission, appends the rings that they leave, and returns whether these are all.
 fn push_reports(
     setting: &WalkSetting<'_>,
     spent: &mut Spent,
@@ -243,10 +199,13 @@ fn push_reports(
         spent.left_of(setting.limits),
     )?;
     spent.count_states(found.states);
-    push_found(setting, pasts, rings, from, requests, &found)
+    for possible in &found.reports {
+        push_report(setting, pasts, rings, from, possible)?;
+    }
+    Ok(found.are_all)
 }
 
-// Puts the ring that a call between submissions leaves of one, or a refused submission, behind others.
+// Appends the ring that a call between submissions leaves, or a refused submission.
 fn push_call(
     setting: &WalkSetting<'_>,
     rings: &mut Vec<Reached>,

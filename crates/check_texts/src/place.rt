@@ -8,7 +8,7 @@ use check_lines::accepted_in;
 use fx_chain::Place;
 use fx_language::Command;
 
-/// Where the submission of a place stands among commands, if they have so many that are accepted.
+/// Returns where the submission of a place stands among commands, if they have so many that are accepted.
 pub(crate) fn asking_at(commands: &[Command], place: Place) -> Option<Inquiry<'_>>
     ensures some { IfSome result (IsAskedIn (instructions_of commands.now) place) }
     ensures none { IfNone result ((place.submission ≡ 0)

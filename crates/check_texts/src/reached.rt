@@ -1,8 +1,13 @@
 //! A ring after commands, with what they printed and the orders that lead there.
-ghost use Rattle.std.specs.Prelude.{◌≤◌, length};
+ghost use Rattle.std.specs.Prelude.{◌≡◌, ◌+◌, ◌<◌, ◌≤◌, IfOk, List, length};
+ghost use Rattle.fx_base.specs.Catalogue.{FileEntry};
+ghost use Rattle.fx_order.specs.Slots.{ring_of_slots, ring_with_slots};
 ghost use Rattle.fx_plain.specs.declared.table.TheConstants.{MOST_SLOTS};
+ghost use Rattle.fx_ring.specs.declared.ring.TheConstants.{MOST_SUBMISSIONS};
 
-use fx_order::{ChainAccess, RingSlots};
+use fx_base::NoMemory;
+use fx_order::{ChainAccess, RingSlots, Slots};
+use std::alloc::Global;
 
 /// An order of an accepted submission, with a link to the order of the submission before it.
 #[derive(Debug, Drop)]
@@ -26,4 +31,49 @@ pub(crate) struct Reached {
     /// The index of the order of the last accepted submission on the way, if there is one.
     pub(crate) past: Option<usize>,
     pub ghost few_slots: { length ring.slots.at.items ≤ MOST_SLOTS },
+}
+
+impl Reached {
+    /// Returns the ring after an accepted submission that leaves these slots.
+    ///
+    /// # Errors
+    /// `NoMemory` if an allocation fails.
+    pub(crate) fn ring_after(&self, alloc: Global, slots: &Slots) -> Result<RingSlots, NoMemory>
+        requires { self.now.ring.submissions < MOST_SUBMISSIONS }
+        ensures ring { IfOk result (λ ring. (catalogue : List FileEntry)
+            → ring_with_slots catalogue ring ≡ ring_of_slots catalogue slots.now
+            (self.now.ring.submissions + 1) self.now.ring.registrations) }
+        ensures long { IfOk result (λ ring.
+            length ring.slots.at.items ≡ length slots.now.at.items) }
+    {
+        let slots = slots.copy(alloc)?;
+        Ok(RingSlots {
+            slots,
+            submissions: self.ring.submissions + 1,
+            registrations: self.ring.registrations,
+        })
+    }
+
+    /// Appends an order of the next accepted submission. Returns its index.
+    ///
+    /// # Errors
+    /// `NoMemory` if an allocation fails.
+    pub(crate) fn push_past(
+        &self,
+        alloc: Global,
+        pasts: &mut Vec<Past>,
+        order: &[ChainAccess],
+    ) -> Result<usize, NoMemory>
+        requires { self.now.ring.submissions < MOST_SUBMISSIONS }
+    {
+        let index = pasts.len();
+        let order = Vec::from_slice(alloc, order)?;
+        pasts.push(Past {
+            submission: self.ring.submissions + 1,
+            size: self.ring.slots.at.len(),
+            order,
+            before: self.past,
+        })?;
+        Ok(index)
+    }
 }

@@ -143,7 +143,7 @@ fn rests_at_end(
     Ok(rests)
 }
 
-// The orders of a text, and that of an exit before them, if it has one.
+// Returns the orders of a text, and that of an exit before them, if it has one.
 fn orders_behind(alloc: Global, exit: &Reached, orders: &[usize]) -> Result<Vec<usize>, NoMemory> {
     let mut all = Vec::from_slice(alloc, orders)?;
     if let Some(past) = exit.past {
@@ -209,7 +209,7 @@ fn push_ways(
     Ok(())
 }
 
-// The same, if what is kept of the exit's ring is known, and no exit before it printed the same.
+// Adds the ways that begin with an exit, if what is kept of the exit's ring is known, and no exit before it printed the same.
 fn push_exit(
     setting: &WalkSetting<'_>,
     spent: &mut Spent,
@@ -225,7 +225,8 @@ fn push_exit(
         (before : List Stage)
         → MayLeadTo true (bare setting.now.catalogue.now rest.old.ring) command
         (stage_of setting.now.catalogue.now exit.now)
-        → IfSome later.entry (λ later. IsRestOf setting.now.catalogue.now commands exit.now later.now)
+        → IfSome later.entry (λ later.
+        IsRestOf setting.now.catalogue.now commands exit.now later.now)
         → AreWaysBy setting.now.catalogue.now command commands before
         (map string_bytes lines.old.keys) rest.old
         → AreWaysBy setting.now.catalogue.now command commands

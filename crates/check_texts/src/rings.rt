@@ -68,7 +68,7 @@ pub(crate) fn count_new(spent: &mut Spent, rings: &[Reached], pasts: &[Past]) {
     }
 }
 
-/// The rings that a command may lead to from some.
+/// Returns the rings that a command may lead to from some.
 ///
 /// # Errors
 /// `NoMemory` where memory is refused.
@@ -104,7 +104,7 @@ pub(crate) fn after(
     })
 }
 
-/// The rings that commands may lead to, one after another, from a ring without a table.
+/// Returns the rings that commands may lead to, one after another, from a ring without a table.
 ///
 /// # Errors
 /// `NoMemory` where memory is refused.

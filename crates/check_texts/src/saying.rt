@@ -20,7 +20,6 @@ use check_outcomes::{PossibleAnswer, RequestQuestion, may_answer};
 use fx_base::NoMemory;
 use fx_chain::Completion;
 use fx_language::Command;
-use fx_order::RingSlots;
 
 /// An answer that a request may have.
 #[derive(Debug, Drop)]
@@ -39,7 +38,7 @@ pub(crate) struct Sayings {
     pub(crate) are_all: bool,
 }
 
-// Whether an answer is in a list.
+// Checks whether an answer is in a list.
 fn has_answer(answers: &[Said], c: &Completion) -> bool
     ensures { IsTrue result → Contains (said_in answers.now) (completed_of c.now) }
 {
@@ -51,8 +50,8 @@ fn has_answer(answers: &[Said], c: &Completion) -> bool
     false
 }
 
-// Puts an answer that a ring may give behind others that haven't got it, if it was seen that the script goes on from there
-// to its end; and says whether it then is among them.
+// Appends an answer that a ring can give, unless the list has it, if it was shown that the script goes on from there to its end.
+// Returns whether the list then has it.
 fn push_answer(
     setting: &WalkSetting<'_>,
     pasts: &mut Vec<Past>,
@@ -75,12 +74,7 @@ fn push_answer(
     if has_answer(answers, &answer.completion) {
         return Ok(true);
     }
-    let slots = answer.slots.copy(setting.alloc)?;
-    let ring = RingSlots {
-        slots,
-        submissions: from.ring.submissions + 1,
-        registrations: from.ring.registrations,
-    };
+    let ring = from.ring_after(setting.alloc, &answer.slots)?;
     let reached = Reached {
         ring,
         printed: String::new(setting.alloc),
@@ -89,20 +83,13 @@ fn push_answer(
     if !goes_on(setting, reached, behind)? {
         return Ok(false);
     }
-    let order = Vec::from_slice(setting.alloc, &answer.order)?;
     let completion = answer.completion.copy(setting.alloc)?;
-    let past = pasts.len();
-    pasts.push(Past {
-        submission: from.ring.submissions + 1,
-        size: from.ring.slots.at.len(),
-        order,
-        before: from.past,
-    })?;
+    let past = from.push_past(setting.alloc, pasts, &answer.order)?;
     answers.push(Said { completion, past })?;
     Ok(true)
 }
 
-// Puts what a ring may answer behind other answers, and says whether all of it is then among them.
+// Appends the answers that a ring can give. Returns whether the list then has all of them.
 fn push_answers(
     setting: &WalkSetting<'_>,
     pasts: &mut Vec<Past>,
@@ -141,7 +128,7 @@ fn push_answers(
     Ok(all)
 }
 
-/// What the request may answer at some rings.
+/// Returns what the request may answer at some rings.
 ///
 /// # Errors
 /// `NoMemory` where memory is refused.

@@ -105,7 +105,7 @@ impl Spent {
             .saturating_add(TEXT_BYTES);
     }
 
-    // The bytes that are kept.
+    // Returns the bytes that are kept.
     fn bytes(&self) -> usize {
         self.kept
             .saturating_add(self.before)

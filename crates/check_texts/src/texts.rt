@@ -1,5 +1,5 @@
 //! The texts that a script can print.
-ghost use Rattle.std.specs.Prelude.{◌≡◌, ◌-◌, ◌<◌, ◌^◌, All, Contains, IfOk, IsTrue, List, OnOk, map};
+ghost use Rattle.std.specs.Prelude.{◌≡◌, ◌-◌, ◌<◌, ◌^◌, [], false, All, Contains, IfOk, IsTrue, List, OnOk, map};
 ghost use Rattle.std.specs.Prelude.{string_bytes, string_eq, ℕ};
 ghost use Rattle.indexmap.specs.IndexSet.{IsUnique};
 ghost use Rattle.check_texts.specs.Layers.{texts_in};
@@ -35,6 +35,26 @@ pub struct AllTexts {
     pub ways: u64,
     /// True if `ways` was shown to be the number of all ways.
     pub are_counted: bool,
+}
+
+impl AllTexts {
+    // Returns no text, where nothing was shown.
+    fn nothing(alloc: Global, orders: Vec<Past>) -> AllTexts
+        ensures texts { result.texts.keys ≡ [] }
+        ensures once { IsUnique string_eq result.texts }
+        ensures shown { result.are_all ≡ false }
+        ensures ways { result.ways ≡ 0 }
+        ensures counted { result.are_counted ≡ false }
+    {
+        AllTexts {
+            texts: IndexSet::new(alloc),
+            by: Vec::new(alloc),
+            orders,
+            are_all: false,
+            ways: 0,
+            are_counted: false,
+        }
+    }
 }
 
 // Texts, each once.
@@ -118,19 +138,11 @@ pub fn texts_of(
     let layers = layers_of(&setting, &mut spent, &mut orders, script.commands())?;
     let rests = rests_of(&setting, &mut spent, layers)?;
     let Some(rest) = rest_at(&rests, 0, &start_ring(alloc)) else {
-        return Ok(AllTexts {
-            texts: IndexSet::new(alloc),
-            by: Vec::new(alloc),
-            orders,
-            are_all: false,
-            ways: 0,
-            are_counted: false,
-        });
+        return Ok(AllTexts::nothing(alloc, orders));
     };
     let found = each_text(alloc, &rest.endings)?;
     let are_all = both(rest.are_all, rest.is_whole);
-    let exact = is_exact(rest.ways);
-    let are_counted = both(rest.are_all, exact);
+    let are_counted = both(rest.are_all, is_exact(rest.ways));
     Ok(AllTexts {
         texts: found.texts,
         by: found.by,

@@ -1,16 +1,12 @@
-use Rattle.check_texts.proofs.Words.{completed_of, Said, ◌+◌}
+use Rattle.check_texts.proofs.Words.{completed_of, Said}
 use Rattle.check_texts.proofs.Growth.{pushed}
-use Rattle.check_texts.proofs.Submitted.{copied_ring}
 use Rattle.check_texts.proofs.saying.push_answer.Goals as goal
 
 pub goes_on-requires : goal.goes_on-requires
-goes_on-requires c =
-    rw (copied_ring c.args.setting.now.catalogue.now (c.args.from.now.ring.submissions + 1)
-    c.args.from.now.ring.registrations c.in_ok-slots.ensures) c.requires.ring
+goes_on-requires c = rw (c.in_ok-ring.ensures.ring c.args.setting.now.catalogue.now) c.requires.ring
 
 pub returns-clause-grows : goal.returns-clause-grows
 returns-clause-grows c =
-    let ends = rw (copied_ring c.args.setting.now.catalogue.now (c.args.from.now.ring.submissions + 1)
-    c.args.from.now.ring.registrations c.in_ok-slots.ensures) at (c.in_ok-goes_on.ensures c.if-not-branch.false) in
+    let ends = rw (c.in_ok-ring.ensures.ring c.args.setting.now.catalogue.now) at (c.in_ok-goes_on.ensures c.if-not-branch.false) in
     pushed (λ (s : Said). completed_of s.completion) c.args.answers.now.items
-    (record { completion = c.in_ok-completion.completion; past = c.len-past.result }) c.in_ok-push-2.ensures.items (c.in_ok-completion.ensures, ends)
+    (record { completion = c.in_ok-completion.completion; past = c.in_ok-past.past }) c.in_ok-push.ensures.items (c.in_ok-completion.ensures, ends)

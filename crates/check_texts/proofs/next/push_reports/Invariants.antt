@@ -1,5 +1,5 @@
 use Rattle.check_texts.proofs.Words.{all_asked, SubmitsAll, Grows, MayLeadTo, Stage, stage_of, stage_reported, stages_of, map, take, Contains}
-use Rattle.check_texts.proofs.next.push_found.Given as goal
+use Rattle.check_texts.proofs.next.push_reports.Given as goal
 
 abbrev pub invariant-loop-possible : goal.invariant-loop-possible
 invariant-loop-possible l = record {
