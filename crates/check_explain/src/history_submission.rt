@@ -52,11 +52,12 @@ pub(crate) fn push_submission(
         }
     }
     for (i, (made, at)) in order.accesses.iter().zip(order.places.iter()).enumerate() {
-        let Some((chain, next)) = chains.get_mut((at.chain as usize).saturating_sub(1)) else {
+        let Some(turn) = chains.get_mut((at.chain as usize).saturating_sub(1)) else {
             continue;
         };
+        let chain = turn.0;
         let before = at.member.saturating_sub(1);
-        *next = push_answers(lines, answers, *next, (*chain, before), false)?;
+        turn.1 = push_answers(lines, answers, turn.1, (chain, before), false)?;
         let place = Place {
             submission: order.submission,
             chain: at.chain,
@@ -65,7 +66,7 @@ pub(crate) fn push_submission(
         let who = format!(in lines.alloc; "{}", PlaceWords(place))?;
         lines.push_access(who.as_bytes(), made.access)?;
         if is_last(order.places.get(i..).unwrap_or(&[])) {
-            *next = push_answers(lines, answers, *next, (*chain, at.member), true)?;
+            turn.1 = push_answers(lines, answers, turn.1, (chain, at.member), true)?;
         }
     }
     for (chain, next) in &chains {
