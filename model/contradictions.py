@@ -18,7 +18,7 @@ CLOSES_NO_OTHER, FEWER = "and closes no other file", re.compile("fewer of them m
 NO_MEMORY = -12
 CANCELS = "and cancels the same requests"
 # reasons that rest on the files that have no line, and those that a line's place alone shows to be wrong
-NO_LINE = re.compile(r"has no `closed` line|" + CLOSES_NO_OTHER)
+NO_LINE = re.compile(r"(?:has no|neither has a) `closed` line|" + CLOSES_NO_OTHER)
 PLACE_ALONE = re.compile(r"a file is closed once|closed files (stand|are) in order")
 # with more requests than these not all orders are looked at
 LARGEST_SUBMISSION = 24

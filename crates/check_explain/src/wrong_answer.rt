@@ -42,6 +42,9 @@ fn why_not_read(
 // Returns the reason why a request can't have a completion, which may be empty.
 fn why_not(case: &Case<'_>, request: &Request, it: &Completion) -> Result<String, NoMemory> {
     let (alloc, res, has_bytes) = (case.alloc, it.res, !it.got.is_empty());
+    if has_bytes && res < 0 {
+        return Ok(format!(in alloc; "only a read that finds a file has bytes")?);
+    }
     if let Some(errno) = case.refusal_of(request) {
         return Ok(why_refused(case, request, errno)?);
     }
@@ -51,7 +54,7 @@ fn why_not(case: &Case<'_>, request: &Request, it: &Completion) -> Result<String
     };
     let is_read = act.effect == Effect::Looks;
     Ok(match act.slot {
-        _ if has_bytes && (!is_read || res < 0) => {
+        _ if has_bytes && !is_read => {
             format!(in alloc; "only a read that finds a file has bytes")?
         }
         None if case.slots.range.1 == 0 => format!(in alloc; "the range has no slot")?,
@@ -76,7 +79,8 @@ fn not_severed(case: &Case<'_>, first: usize, at: usize) -> Checked {
         }
     }
     lines.push(at)?;
-    let why = "-125 follows a request that fails, and no request before it in its chain fails";
+    let why =
+        "-125 follows a request that severs its chain, and no earlier request severs this chain";
     Ok(Some(Complaint::Lines(lines, why.to_owned(case.alloc)?)))
 }
 

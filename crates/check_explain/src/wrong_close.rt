@@ -45,7 +45,8 @@ fn complaint_of(
     let name = name_of(case.catalogue, known.file.entry);
     if name.as_bytes() != line.name.as_slice() {
         let expected = format!(in case.alloc; "closed {} {name}", MarkWords(line.mark))?;
-        return wrong(case, at, expected.as_str(), "the file has that name");
+        let why = format!(in case.alloc; "{} is {name}", MarkWords(line.mark))?;
+        return wrong(case, at, expected.as_str(), why.as_str());
     }
     if let Some(earlier) = known.closed {
         return conflict(case, earlier, at, "a file is closed once");
@@ -82,7 +83,7 @@ fn complaint_after(case: &Case<'_>, report: &KnownReport, rest: &[u8]) -> Checke
         let line = line_at(rest, 0);
         if line.strip_suffix(b"\n") != Some(expected.as_bytes()) {
             let number = case.line.saturating_add(closed.unwrap_or(0));
-            let why = format!(in case.alloc; "it is the tag of the file of line {number}")?;
+            let why = format!(in case.alloc; "{expected} is that of the file of line {number}")?;
             return Ok(Some(Complaint::Line(at, expected, why)));
         }
         rest = rest_after(rest, line);

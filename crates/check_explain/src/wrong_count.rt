@@ -14,7 +14,7 @@ fn two_left(case: &Case<'_>, one: &Installed, other: &Installed) -> Checked {
     let (first, slot) = (FileWords(case.catalogue, one.file), one.slot);
     let second = FileWords(case.catalogue, other.file);
     let why = format!(in case.alloc;
-        "{first} and {second} are both left at slot {slot}: one has no `closed` line"
+        "{first} and {second} are both left at slot {slot}: neither has a `closed` line"
     )?;
     Ok(Some(Complaint::Lines(lines, why)))
 }
