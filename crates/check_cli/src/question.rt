@@ -20,7 +20,10 @@ pub(crate) struct Question<'a> {
 impl Question<'_> {
     /// Returns the rest of the text, from a byte on.
     pub(crate) fn rest(&self, at: usize) -> &[u8] {
-        self.text.get(at..).unwrap_or(b"")
+        match self.text.get(at..) {
+            Some(rest) => rest,
+            None => b"",
+        }
     }
 
     /// Returns the rest of the script after the lines of some commands.
