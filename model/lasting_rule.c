@@ -114,7 +114,7 @@ static void check_state(const void *state) {
     for (int who = 0; who < family->passes; who++) {
         const struct pass *it = &s->pass[who];
         check_pass(s, who);
-        uncounted += is_in_change(it);
+        uncounted += is_uncounted(it);
     }
     for (int slot = 0; slot < family->slots; slot++) {
         full += family->in_range && s->named[slot] != 0;

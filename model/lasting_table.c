@@ -275,7 +275,7 @@ static void ask(struct state *s, struct pass *it, bool has_place) {
     bool is_full = s->full == (family->in_range ? family->slots : 0);
     bool is_changed = false;
     for (int who = 0; who < family->passes; who++) {
-        is_changed |= is_in_change(&s->pass[who]);
+        is_changed |= is_uncounted(&s->pass[who]);
     }
     want(!is_full || has_full_range(s), "an allocation returns that the range is full, and a slot is empty");
     want(is_full || is_changed || !has_full_range(s), "the range is full, nobody changes it, and an allocation doesn't return so");
@@ -317,7 +317,7 @@ static void exchange(struct state *s, struct pass *it) {
 
 /* Steps */
 
-bool is_in_change(const struct pass *it) {
+bool is_uncounted(const struct pass *it) {
     return it->step == RAISE || (it->step == SWAP && it->call == REMOVE && family->in_range);
 }
 

@@ -69,4 +69,4 @@ extern int block;
 bool take_step(void *state, int who, int nth);
 
 /* Returns whether the control word counts one full slot too few, on the account of the pass. */
-bool is_in_change(const struct pass *it);
+bool is_uncounted(const struct pass *it);

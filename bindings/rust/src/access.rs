@@ -234,7 +234,8 @@ impl<T> Access<T> {
         // SAFETY: the handle is this worker's, and it installs.
         let node = unsafe { core::yacht_core_next(self.installer()) };
         // The seat has chosen this node (`chosen`), so no open file is on it, and no other seat chooses it
-        // (`chosen_nodes_are_free`): until this seat's installation, its next call, nobody reads the place.
+        // (`chosen_nodes_are_free`): until this seat's installation nobody reads the place. A round of `put_any` that
+        // installs nothing keeps the choice (`allocated`).
         self.by_node(node).store(address, Ordering::Relaxed);
         address as usize as u64
     }

@@ -11,7 +11,7 @@ use Rattle.fx_lasting.proofs.Choosing.{no_file, no_take, not_busy, holds_none}
 use Rattle.fx_lasting.proofs.Frames.{busy, owner_map, owner_stays, control_same}
 use Rattle.fx_lasting.proofs.Keeping.{word_at, slot_word}
 
--- a seat that does nothing, in no change
+-- a seat that does nothing, and on whose account no slot is uncounted
 abbrev IsIdle : View → Type 0
 IsIdle v = (v.work ≡ Idle) × (v.glance ≡ Nothing) × (v.change ≡ Outside)
 

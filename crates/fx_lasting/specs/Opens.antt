@@ -36,8 +36,8 @@ home_for (Some f) = Some f.identity
 abbrev pub first_file : Start → ℕ → Option File
 first_file k slot = (state_after_all k []).at slot
 
--- Words and places of a table that begins so: no file has been looked up, and no pass announces
--- anything or is in a change
+-- Words and places of a table that begins so: no file has been looked up, no pass announces
+-- anything, and the control word counts each full slot of the range
 pub record OpensWith (k : Start) (words : List ℕ) (homes : List (Option Identity)) : Type 0 where
   pub slots : slots_of k ≤ MOST_SLOTS
   pub range : (range_at_start k).0 + (range_at_start k).1 ≤ slots_of k

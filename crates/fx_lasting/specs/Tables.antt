@@ -87,7 +87,8 @@ IsBetweenCalls passes idle guarded visit next (Retiring f node takes first marks
     × ((first ≡ 1) ⊎ (first ≡ passes + 1))
 IsBetweenCalls passes idle guarded visit next _ = ⊥
 
--- a seat of the table, with one pass that is in no change and has no place
+-- a seat of the table, with one pass that has no place, and on whose account the control word
+-- counts no slot too few
 pub record IsSeatOf (id : TableId) (k : Start) (p : LastingPass) : Type 0 where
   pub table : p.seat.table_id ≡ id
   pub places : p.seat.me.1 ≡ []

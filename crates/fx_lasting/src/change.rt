@@ -1,5 +1,5 @@
 //! The count of full slots in the allocation range, in the control word. A pass takes a slot off the count before it empties the
-//! slot, and adds a slot after it has filled it. So the word never counts more full slots than there are, and a word that counts
+//! slot, and adds a slot after it has filled it, or if it emptied a slot that was empty. So the word never counts more full slots than there are, and a word that counts
 //! them all says that the range is full.
 ghost use Rattle.std.specs.Prelude.{◌≡◌, ℕ, [], true};
 ghost use Rattle.fx_lasting.specs.AtWork.{IsAtWork};

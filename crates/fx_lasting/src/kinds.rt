@@ -229,7 +229,8 @@ impl Play<Option<OpenFile>, View> for Lowering {
     ghost then = { Turns Inside };
 }
 
-/// Raise: the control word counts one full slot more, after the pass filled that slot.
+/// Raise: the control word counts one full slot more, after the pass filled that slot, or took it off the count in vain, since
+/// it was empty.
 pub struct Raising;
 
 impl Play<Option<OpenFile>, View> for Raising {

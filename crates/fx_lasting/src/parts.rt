@@ -59,8 +59,7 @@ pub(crate) fn retire_amount(takes: u32, marks: u32) -> u64
     (1 << 32) - (u64::from(takes) + u64::from(marks))
 }
 
-// Checks whether the control word says that all `len` slots of the range are full: no pass is in a change, and `len` full
-// slots are counted.
+// Checks whether the control word counts `len` full slots. It never counts too many, so all slots of the range are full then.
 pub(crate) fn says_full(word: u64, len: u32) -> bool
     ensures { IsTrue result ↔ (word ≡ bias + len) }
 {

@@ -26,8 +26,8 @@ use std::thread;
 impl LastingTable {
     /// Installs a file at an empty slot of the allocation range, under a number that no file has had, for an idle pass
     /// (`is_idle`) that installs files (`numbers_left`), on the node that it has chosen, if it has (`next_node`), and returns
-    /// the slot (io_uring_prep_openat(3), "IORING_FILE_INDEX_ALLOC"). It tries again while other passes change the range, and yields its thread between
-    /// two tries.
+    /// the slot (io_uring_prep_openat(3), "IORING_FILE_INDEX_ALLOC"). It tries again while other passes change the range, and
+    /// yields its thread between two tries.
     ///
     /// # Errors
     /// Returns the file if every slot of the range has a file (ENFILE).

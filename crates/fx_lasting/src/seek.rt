@@ -57,9 +57,9 @@ impl LastingTable {
         unreachable!()
     }
 
-    /// Returns the node of the next file that an idle pass (`is_idle`) installs, in at most as many steps as the pass's block
-    /// has nodes. No open file is on it (`chosen_nodes_are_free`), until the pass installs a file there, looks up or empties a
-    /// slot. For a pass that isn't idle it returns the node where the pass's next search begins (this project's own).
+    /// Chooses the node of the next file of an idle pass (`is_idle`), and returns it, in at most as many steps as the pass's
+    /// block has nodes. The next installation uses it, if no look-up or removal comes between. No open file is on it until
+    /// then (`chosen_nodes_are_free`). For a pass that isn't idle it returns the node where the pass's next search begins (this project's own).
     pub fn next_node(&self, pass: &mut LastingPass) -> u32
         requires fits { IsPassOfTable self.now pass.old }
         requires numbers { 0 < (view_of pass.old).numbers_left }

@@ -8,6 +8,6 @@ pub enum TriedPut {
     At(u32),
     /// Every slot of the range had a file at one moment. The file comes back.
     Full(OpenFile),
-    /// Neither was found, since other passes changed the range meanwhile. The file comes back.
+    /// Neither was found: other passes were changing the range. The file comes back.
     Again(OpenFile),
 }
