@@ -1,5 +1,5 @@
 //! A chain on a table that lasts. No ring plays one there, so that only this test does.
-ghost use Rattle.std.specs.Prelude.{◌≡◌, true, All, length};
+ghost use Rattle.std.specs.Prelude.{◌≡◌, ◌+◌, true, All, length};
 ghost use Rattle.fx_table.specs.Pass.{IsIdle};
 ghost use Rattle.fx_lasting.specs.Tables.{IsPassOfTable, opening_of_table, view_of};
 
@@ -9,6 +9,7 @@ use fx_base::{CloseList, Closed, Mark};
 use fx_chain::{Completion, Op, OpenGate, Place, Request, SqeFlags, Target, run_chain};
 use fx_lasting::{LastingPass, LastingTable};
 use fx_plain::PlainTable;
+use fx_table::SharedTable;
 use std::alloc::Global;
 use std::process::Abort;
 use std::test::Fail;
@@ -29,6 +30,32 @@ fn open_table<R: Abort>(rt: &R, alloc: Global) -> (LastingTable, Vec<LastingPass
             plain.abandon();
             panic!(rt; "memory for a shared table")
         }
+    }
+}
+
+// Takes the last pass of the list.
+fn last_pass<T: SharedTable, R: Abort>(rt: &R, table: &T, passes: &mut Vec<T::Pass>) -> T::Pass
+    requires { All (λ p. T.fits table.now p × IsIdle (T.view p)) passes.old.items }
+    ensures pass { T.fits table.now result × IsIdle (T.view result) }
+    ensures others { All (λ p. T.fits table.now p × IsIdle (T.view p)) passes.new.items }
+{
+    let Some(pass) = passes.pop() else {
+        panic!(rt; "a pass")
+    };
+    pass
+}
+
+// Returns a pass to the list. It is idle.
+fn give_back<T: SharedTable, R: Abort>(rt: &R, table: &T, passes: &mut Vec<T::Pass>, pass: T::Pass)
+    requires list { All (λ p. T.fits table.now p × IsIdle (T.view p)) passes.old.items }
+    requires pass { T.fits table.now pass }
+    ensures list { All (λ p. T.fits table.now p × IsIdle (T.view p)) passes.new.items }
+    ensures count { length passes.new.items ≡ length passes.old.items + 1 }
+{
+    assert!(rt; table.is_idle(&pass));
+    match passes.push(pass) {
+        Ok(()) => {}
+        Err(_refused) => panic!(rt; "room for a pass"),
     }
 }
 
@@ -72,9 +99,8 @@ fn chain_on_a_table_that_lasts(rt: HostRuntime) -> Result<(), Fail> {
         panic!(rt; "memory for a list of closes")
     };
     let (table, mut passes) = open_table(&rt, alloc);
-    let Some(mut pass) = passes.pop() else {
-        unreachable!()
-    };
+    let mut pass = last_pass(&rt, &table, &mut passes);
+    assert!(rt; passes.is_empty());
     assert!(rt; 3 <= table.looks_left(&pass));
     assert!(rt; 1 <= table.numbers_left(&pass));
     run_chain(
@@ -90,8 +116,7 @@ fn chain_on_a_table_that_lasts(rt: HostRuntime) -> Result<(), Fail> {
         &mut out,
         &mut closes,
     );
-    assert!(rt; table.is_idle(&pass));
-    passes.push_reserved(pass);
+    give_back(&rt, &table, &mut passes, pass);
     table.close(passes).abandon();
     let completions: &[Completion] = out.as_slice();
     assert!(rt; completions[0].is_answer(member(1), 0, &[]));
