@@ -21,9 +21,9 @@ pub(crate) enum Stays {
 pub(crate) struct ClaimsView<'a> {
     pub case: &'a Case<'a>,
     pub report: &'a KnownReport,
-    /// Whether each slot is looked at.
+    /// For each slot, true if the search looks at it.
     pub slots: Vec<bool>,
-    /// Whether each line, from 0, is left out.
+    /// For each line, from 0, true if it is left out.
     pub out: Vec<bool>,
     pub stays: Stays,
 }

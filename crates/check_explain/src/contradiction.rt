@@ -24,16 +24,17 @@ const MOST_LINES: usize = 16;
 #[derive(Drop)]
 struct Contradiction<'a> {
     view: ClaimsView<'a>,
-    // Whether the lines have no order only if the files that are closed are those with a `closed` line.
+    // True if the lines have no order only if exactly the files with a `closed` line are closed.
     rests_on_closes: bool,
-    // Whether each line that isn't left out is known to be needed.
+    // True if each line that isn't left out is known to be needed.
     is_sure: bool,
     // The number of states that are left.
     states: usize,
 }
 
 impl Contradiction<'_> {
-    // Searches for an order of the lines that aren't left out. Returns whether there is none, or `None` if the search doesn't show it.
+    // Searches for an order of the lines that aren't left out. Returns true if no order exists, or `None` if the
+    // search reaches a limit.
     fn search(&mut self, stays: Stays) -> Result<Option<bool>, NoMemory> {
         self.view.stays = stays;
         let (alloc, bytes) = (self.view.case.alloc, BYTES);

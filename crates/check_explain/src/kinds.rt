@@ -28,9 +28,9 @@ pub(crate) struct Act {
     pub entry: Option<usize>,
     /// The line, from 0.
     pub line: usize,
-    /// Whether the access found a file, or `None` if the line doesn't show it. An open that found each slot taken found files.
+    /// True if the access found a file, or `None` if the line doesn't show it. An open that found every slot full found files.
     pub found: Option<bool>,
-    /// Whether the request succeeded.
+    /// True if the request succeeded.
     pub is_done: bool,
     /// The number of the file that it installed among the report's.
     pub file: Option<usize>,

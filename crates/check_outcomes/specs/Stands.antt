@@ -10,7 +10,7 @@ use Rattle.fx_order.specs.declared.access.Access.{Access}
 use Rattle.check_outcomes.specs.Rests.{IsNext, Rest, Rules, behind, over, rest_at, step}
 use Rattle.check_outcomes.specs.declared.chain.Progress.{Progress}
 
--- the place of a member, so many behind this one
+-- the place of the member that follows a place by a number of members
 abbrev pub moved : Place → ℕ → Place
 moved place n = record place { member = place.member + n }
 

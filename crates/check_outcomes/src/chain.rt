@@ -29,7 +29,7 @@ pub struct Progress {
     pub made: usize,
 }
 
-/// Returns the place of a member, so many behind this one.
+/// Returns the place of the member that follows a place by a number of members.
 pub(crate) fn moved(place: Place, members: u32) -> Place
     requires { place.member + members < 2 ^ 32 }
     ensures { result ≡ moved place members }
@@ -83,7 +83,7 @@ pub(crate) fn settle(
     Ok(1 + go_on(setting, place, request, behind, None, told)?)
 }
 
-// Answers a request by the last of its accesses, and settles those behind it. Returns how many of these are done then.
+// Answers a request by the last of its accesses, and settles those after it. Returns the number of these that are done then.
 #[cycle(settling)]
 fn go_on(
     setting: &SearchSetting<'_>,
