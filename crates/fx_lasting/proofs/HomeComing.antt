@@ -12,7 +12,7 @@ use Rattle.std.proofs.lemmas.List.{get_or_default}
 use Rattle.std.proofs.Math.ListN.{get_or-eq_default}
 use Rattle.fx_words.specs.Words.{named}
 use Rattle.fx_lasting.specs.Lives.{AllAreIdle, Leaves}
-use Rattle.fx_lasting.specs.Shells.{AreBack, file_in_place}
+use Rattle.fx_table.specs.Shells.{AreBack, file_in_place}
 use Rattle.fx_lasting.proofs.Ending.{home_file, file_home, one_slot, none_outside_end}
 use Rattle.fx_lasting.proofs.Histories.{same_shape}
 
