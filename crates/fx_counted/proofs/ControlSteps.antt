@@ -1,8 +1,9 @@
 -- The control word: its count of full slots, and the steps that change no slot and no number.
-use Rattle.fx_counted.proofs.Words.{◌≡◌, ◌≢◌, ℕ, zero, suc, ◌+◌, ◌<◌, ◌≤◌, List, set, sym, refl, ap, ◌⊎◌, inl, inr, arith, Option, Some, None, IsSome}
+use Rattle.fx_counted.proofs.Words.{full_all, full_else, full_few, full_here, full_one}
+use Rattle.fx_counted.proofs.Words.{◌≡◌, ◌≢◌, ℕ, zero, suc, ◌+◌, ◌<◌, ◌≤◌, List, set, sym, refl, ap, ◌⊎◌, inl, inr, arith, Option, IsSome}
 use Rattle.fx_counted.proofs.Words.{subst, dite, some, ℕ_discrete, get_elem?, changed_at, File, sum_set, in_change, added, removed_by, changes_of}
-use Rattle.fx_counted.proofs.Words.{added_of, removed_of, if_full, full_in, ControlCounts, turned, Change, Outside, Same, View, changed, changed_here}
-use Rattle.fx_counted.proofs.Words.{changed_else, length, ◌∙◌, held_by, State, Event, range_of, Agrees, looks, all_looks, word_of, control_place}
+use Rattle.fx_counted.proofs.Words.{added_of, removed_of, if_full, full_in, ControlCounts, turned, Change, Outside, Same, View, changed}
+use Rattle.fx_counted.proofs.Words.{length, ◌∙◌, held_by, State, Event, range_of, Agrees, looks, all_looks, word_of, control_place}
 use Rattle.fx_counted.proofs.Words.{draw_place, slot_place, opening_of, IsNumber, state_after_all, Log, Start, Work, sum_by, ◌-◌, ◌/◌, ◌%◌, ◌^◌, []}
 use Rattle.fx_counted.proofs.Words.{◌∷◌, get_or-set_other, get_or-set_same, none, some-injective, some-ne-none, keeps, step, sum_by-cons, Closed}
 use Rattle.fx_counted.proofs.Words.{Full, no_use, event_of, sum_at, sum_le_at, one_change, full_word_of, WorkAgrees, lengths, shown, IsInside}
@@ -12,39 +13,6 @@ use Rattle.fx_counted.proofs.Steps.{stays_same, owner_same, Grows, grows_none, I
 use Rattle.fx_counted.proofs.Steps.{log_now, slot_same, draws_same, grows_one, legal_more, held_mine, same_shape, turn_of, by_turn, went, tells_none}
 use Rattle.fx_counted.proofs.Steps.{tells_one, near, far}
 use Rattle.fx_counted.proofs.LettingGo.{sub_wraps}
-
-pub full_else : (at : ℕ → Option File) (s : ℕ) (new : Option File) (off len : ℕ) → ((i : ℕ) → i < len → off + i ≢ s)
-    → full_in (changed_at at s new) off len ≡ full_in at off len
-full_else at s new off zero other = refl
-full_else at s new off (suc len) other =
-    rw (full_else at s new off len (λ i l. other i (omega arith)), changed_else at s new (off + len) (other len (omega arith))) refl
-
-pub full_here : (at : ℕ → Option File) (s : ℕ) (new : Option File) (off len : ℕ) → off ≤ s → s < off + len
-    → full_in (changed_at at s new) off len + if_full (at s) ≡ full_in at off len + if_full new
-full_here at s new off zero a b = absurd (omega arith)
-full_here at s new off (suc len) a b = dite (ℕ_discrete (off + len) s)
-    (λ here. let e : if_full (at (off + len)) ≡ if_full (at s) = ap (λ (i : ℕ). if_full (at i)) here in
-    rw (full_else at s new off len (λ i l. λ bad. omega arith), changed_here at s new (off + len) here) (omega arith))
-    (λ else. let c = full_here at s new off len a (omega arith) in rw (changed_else at s new (off + len) else) (omega arith))
-
-pub full_one : (found : Option File) → if_full found ≤ 1
-full_one None = omega arith
-full_one (Some f) = omega arith
-
-pub full_few : (at : ℕ → Option File) (off len : ℕ) → full_in at off len ≤ len
-full_few at off zero = omega arith
-full_few at off (suc len) = let a = full_few at off len in let b = full_one (at (off + len)) in omega arith
-
-some_full : (found : Option File) → if_full found ≡ 1 → IsSome found
-some_full None e = absurd (omega arith)
-some_full (Some f) e = refl
-
--- a range that has as many full slots as slots has no empty one
-pub full_all : (at : ℕ → Option File) (off len : ℕ) → full_in at off len ≡ len → (slot : ℕ) → off ≤ slot → slot < off + len → IsSome (at slot)
-full_all at off zero e slot low high = absurd (omega arith)
-full_all at off (suc len) e slot low high = let a = full_few at off len in let b = full_one (at (off + len)) in dite (ℕ_discrete slot (off + len))
-    (λ same. subst (λ (i : ℕ). IsSome (at i)) (sym same) (some_full (at (off + len)) (omega arith)))
-    (λ else. full_all at off len (omega arith) slot low (omega arith))
 
 -- a slot's place relative to the range, and the change of the pass afterwards
 abbrev pub Stands : ℕ × ℕ → ℕ → Change → Type 0

@@ -1,46 +1,17 @@
--- Histories that grow by one event, and the frame of a step of one seat.
-use Rattle.fx_counted.proofs.Words.{◌≡◌, ◌≢◌, ℕ, ◌+◌, ◌≤◌, List, [], ◌∷◌, sym, refl, ap, ◌∙◌, arith, eq-eqb, ne_eqb, Some, None, dite, ℕ_discrete}
-use Rattle.fx_counted.proofs.Words.{held_after, held_by, IsSeenBy, part_of_pass, Event, Action, Look, start_of, range_of, looks, all_looks}
+-- Legal histories, and the frame of a step of one seat.
+use Rattle.fx_counted.proofs.Words.{◌≡◌, ◌≢◌, ℕ, ◌+◌, ◌≤◌, List, [], ◌∷◌, sym, refl, ap, ◌∙◌, arith, Some, None, dite, ℕ_discrete}
+use Rattle.fx_counted.proofs.Words.{held_by, Event, Action, Look, start_of, range_of, looks, all_looks}
 use Rattle.fx_counted.proofs.Words.{opening_of, slots_of, state_after_all, Start, ReleasesItsOwn, IsLegal, looks_after, look_in, map, action_of}
-use Rattle.fx_counted.proofs.Words.{changed_at, cond, changed_here, changed_else, by_equality, next_in, end_in, placing, ◌<◌, Contains, sum_of}
+use Rattle.fx_counted.proofs.Words.{changed_here, changed_else, next_in, end_in, placing, ◌<◌, Contains, sum_of}
 use Rattle.fx_counted.proofs.Words.{sum_by, set, subst, eqb, some, some-injective, get_elem?, set_here, set_else, File, numbered, sum_two, sum_set}
 use Rattle.fx_counted.proofs.Words.{Does, OwnerAgrees, WorkAgrees, ViewAgrees, Agrees, Shared, logs_of, Phase, spare, placed, leaving, emptied, owner}
-use Rattle.fx_counted.proofs.Words.{file_in, Log, View, Work, Idle, Placing, Holding, Retiring, Emptying, Between, stands_at, get_or_default}
-use Rattle.fx_counted.proofs.Words.{slice_index_or, one_if, bit_here, once_is, Option, Closed, State, SlotAgrees, Home, NodeAgrees, in_change, added}
+use Rattle.fx_counted.proofs.Words.{file_in, Log, View, Work, Idle, Placing, Holding, Retiring, Emptying, Between, stands_at}
+use Rattle.fx_counted.proofs.Words.{one_if, bit_here, once_is, Option, Closed, State, SlotAgrees, Home, NodeAgrees, in_change, added}
 use Rattle.fx_counted.proofs.Words.{removed_by, changes_of, added_of, removed_of, full_in, ControlCounts, DrawsCount, told_of, unborn, seated}
 use Rattle.fx_counted.proofs.Words.{retired, closed, takes_in, born, IsSeated, IsGone, times}
+use Rattle.fx_table.proofs.Growing.{Grows}
 use Rattle.fx_plain.specs.Step.{Allows}
 use Rattle.fx_plain.proofs.Leading.{same_shape as shape_of_state}
-
-pub part_mine : {p : ℕ} {e : Event} (h : List Event) → e.pass ≡ p → part_of_pass p (e ∷ h) ≡ e ∷ part_of_pass p h
-part_mine {p} {e} h is = rw (eq-eqb e.pass p is) refl
-
-pub held_mine : {p : ℕ} (e : Event) (h : List Event) → e.pass ≡ p → held_by (e ∷ h) p ≡ held_after (held_by h p) e.action
-held_mine {p} e h is = rw (eq-eqb e.pass p is) refl
-
--- a property of the changed value, and of each other one as it was, holds for each value
-pub each_changed : {Y : Type 0} (P : ℕ → Y → Type 0) (f : ℕ → Y) {k : ℕ} {v : Y} {n : ℕ} → (n ≡ k → P n v) → (n ≢ k → P n (f n))
-    → P n (changed_at f k v n)
-each_changed P f {k} {v} {n} here else = by_equality n k (λ b. P n (cond b v (f n))) here else
-
--- the history grew by events of p
-pub record Grows (p : ℕ) (h h' : List Event) : Type 0 where
-  pub seen : (f : List Event) → IsSeenBy f h → IsSeenBy f h'
-  pub parts : (q : ℕ) → p ≢ q → part_of_pass q h' ≡ part_of_pass q h
-  pub helds : (q : ℕ) → p ≢ q → held_by h' q ≡ held_by h q
-
-pub grows_none : (p : ℕ) (h : List Event) → Grows p h h
-grows_none p h = record { seen = λ f s. s; parts = λ q n. refl; helds = λ q n. refl }
-
-pub grows_more : {p : ℕ} {h h' : List Event} {e : Event} → e.pass ≡ p → Grows p h h' → Grows p h (e ∷ h')
-grows_more {h'} {e} by g = record {
-  seen = λ f s. let t = g.seen f s in (e ∷ t.0, ap (λ (l : List Event). e ∷ l) t.1);
-  parts = λ q n. rw (ne_eqb e.pass q (λ is. n (sym by ∙ is))) (g.parts q n);
-  helds = λ q n. rw (ne_eqb e.pass q (λ is. n (sym by ∙ is))) (g.helds q n);
-}
-
-pub grows_one : (p : ℕ) (h : List Event) (e : Event) → e.pass ≡ p → Grows p h (e ∷ h)
-grows_one p h e by = grows_more by (grows_none p h)
 
 abbrev pub IsHistory : Start → List Event → Type 0
 IsHistory k h = IsLegal (start_of (opening_of k)) h (state_after_all k h)
@@ -125,10 +96,6 @@ not_there {k} {st} r {id} {j} {v} {u} {x} here one other there y at same =
     let c = of_one (λ z. one_if (eqb z.number x.number)) one in let d = bit_here x.number x.number refl in
     let e = sum_of (λ z. one_if (eqb z.number x.number)) u.logs y at in let f = bit_here x.number y.number same in
     omega (arith, once_is k.passes x.number)
-
--- the read of an element that is in a list
-pub read_at : {A : Type 0} (xs : List A) (i : ℕ) {v : A} (d : A) → get_elem? xs i ≡ some v → slice_index_or xs i d ≡ v
-read_at xs i {v} d e = let at = stands_at xs i v e in get_or_default xs i d v at.0 ∙ at.1
 
 pub does_now : (views : List View) (id : ℕ) (v w : View) (d : Work) → get_elem? views id ≡ some v → w.work ≡ d → Does (set views id w) id d
 does_now views id v w d here is = (w, set_here views id w (stands_at views id v here).0, is)

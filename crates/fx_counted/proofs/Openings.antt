@@ -1,25 +1,21 @@
 -- The opening of a table: its first words and places, and the rule with them.
 use Rattle.fx_counted.proofs.Words.{mul-le-mul_right, ◌≡◌, ℕ, zero, suc, ◌+◌, ◌*◌, ◌<◌, ◌≤◌, List, length, refl, ap, arith, Option, Some, None}
-use Rattle.fx_counted.proofs.Words.{slice_index, State, file_numbered, File, full_in, if_full, first_at, control_place, draw_place, slot_place}
-use Rattle.fx_counted.proofs.Words.{words_for, word_for, node_for, length-append, files_in_order, identities_of, control_word_of, [], ◌∷◌, ◌++◌, sym}
-use Rattle.fx_counted.proofs.Words.{◌∙◌, Result, dite, some, ℕ_discrete, get_elem?, at_longer, Closed, Contents, state_of, IsSettled, identity_of}
-use Rattle.fx_counted.proofs.Words.{HasSameFiles, IsGivenBack, IsShellOf, Ok, Err, OnOk, at_last, slots_in_order, at_index, length-map-range_with_len}
+use Rattle.fx_counted.proofs.Words.{slice_index, State, file_numbered, File, full_in, first_at, control_place, draw_place, slot_place}
+use Rattle.fx_counted.proofs.Words.{words_for, word_for, node_for, control_word_of, [], ◌∷◌, sym}
+use Rattle.fx_counted.proofs.Words.{◌∙◌, dite, some, get_elem?, Closed, state_of, identity_of}
+use Rattle.fx_counted.proofs.Words.{length-map-range_with_len}
 use Rattle.fx_counted.proofs.Words.{dec_le, MAX_CHAINS, chain_numbers, AreFirstWords, AreFirstHomes, home_place, homes_for, home_for, OpensWith}
-use Rattle.fx_counted.proofs.Words.{AreBack, file_in_place, Start, MAX_PASSES, get_or-eq_default, first_file, node_place, Bool, nat_lt, cond, map}
+use Rattle.fx_counted.proofs.Words.{Start, MAX_PASSES, first_file, node_place, Bool, nat_lt, cond, map}
 use Rattle.fx_counted.proofs.Words.{subst, eqb, lt-ltb, le-ltb, inl, inr, ⊎_elim, sum_by, count_by, sum_by-cons, some-injective, some-ne-none}
 use Rattle.fx_counted.proofs.Words.{numbered, numbers_for, range_of, born, takes_in, name_made, entry_made, takes_made, Names, SlotAgrees, NodeAgrees}
 use Rattle.fx_counted.proofs.Words.{OwnerAgrees, LogAgrees, ViewAgrees, Agrees, new_logs, word_of, place_of, opening_of, slots_of, IsNumber}
 use Rattle.fx_counted.proofs.Words.{state_after_all, new_log, Phase, unborn, seated, closed, Log, View, Idle, ◌&&◌, length-map, at_map, first_view}
 use Rattle.fx_counted.proofs.Words.{contains_map, sum_zero, Between, IsSeated, one_if, once_is, counted_once, range_with_len}
-use Rattle.fx_plain.specs.State.{opening}
-use Rattle.std.proofs.lemmas.List.FromFn.{get_or-map-range_with_len}
-use Rattle.fx_table.proofs.Preparing.{prepared_again}
 use Rattle.fx_counted.proofs.Places.{high_node, low_home, high_home}
-use Rattle.fx_counted.proofs.Frames.{read_at}
-use Rattle.fx_counted.proofs.HomeComing.{none_outside}
+use Rattle.fx_table.proofs.Shells.{in_place, none_outside}
 use Rattle.std.proofs.Common.{not}
 use Rattle.atomic_table.specs.Table.{opening as table_opening}
-use Rattle.fx_counted.proofs.ControlSteps.{full_few}
+use Rattle.fx_counted.proofs.Words.{full_few}
 use Rattle.fx_plain.proofs.Prepared.{numbered_anew}
 
 -- the words of the slots below this one are written so
@@ -32,67 +28,7 @@ pub record AreWordsSoFar (st : State) (numbers done : ℕ) (words : List ℕ) : 
   pub nodes : (slot : ℕ) → slot < done → slice_index words (17 + 8 * slot) ≡ node_for (first_at st slot)
   pub rest : (place : ℕ) → 16 + 8 * done ≤ place → slice_index words place ≡ 0
 
-as_many : (found : Option File) (slot : ℕ) → length (identities_of found) ≡ if_full (file_numbered found slot)
-as_many None slot = refl
-as_many (Some f) slot = refl
-
--- the files of the first slots, and the full ones of these slots
-pub all_counted : (st : State) (n : ℕ) → length (files_in_order st.at n) ≡ full_in (first_at st) 0 n
-all_counted st zero = refl
-all_counted st (suc n) = let here : 0 + n ≡ n = omega arith in
-    omega (
-      arith,
-      length-append (files_in_order st.at n) (identities_of (st.at n)),
-      all_counted st n,
-      as_many (st.at n) n,
-      ap (λ (slot : ℕ). if_full (first_at st slot)) here,
-    )
-
--- a preparation keeps the files
-pub prepared_or_not : {E : Type 0} (old new : Contents) (numbers : ℕ) (r : Result (Unit {0}) E)
-    → OnOk r (state_of new ≡ opening (state_of old) numbers) → OnOk r (IsGivenBack old new)
-prepared_or_not old new numbers (Ok x) is = prepared_again old new numbers is
-prepared_or_not old new numbers (Err e) is = tt
-
--- a table whose files were taken out
-pub all_taken : {st : State} {same now : State} → HasSameFiles st same → IsSettled same → now ≡ record same { at = λ _. None } → IsShellOf st now
-all_taken files settled is = rw is assumption
-
-length_in_order : (at : ℕ → Option File) (n : ℕ) → length (slots_in_order at n) ≡ n
-length_in_order at = length-map-range_with_len (λ slot. identity_of (at slot)) 0
-
-in_order : (at : ℕ → Option File) (n slot : ℕ) → slot < n → get_elem? (slots_in_order at n) slot ≡ some (identity_of (at slot))
-in_order at n slot l = at_index (slots_in_order at n) slot (identity_of (at slot)) (omega (arith, length_in_order at n))
-    (sym (get_or-map-range_with_len (λ s. identity_of (at s)) 0 n slot slot (identity_of (at slot)) l (omega arith)))
-
--- the places after those of the slots are empty
-pub record AreHomesUpTo (st : State) (homes : List (Option Closed)) : Type 0 where
-  pub files : (slot : ℕ) → slot < st.size → get_elem? homes slot ≡ some (identity_of (st.at slot))
-  pub others : (place : ℕ) → st.size ≤ place → place < length homes → get_elem? homes place ≡ some None
-
--- the files that were taken out, one after another
-pub files_taken : {st same : State} {before homes : List (Option Closed)} → HasSameFiles st same → before ≡ []
-    → homes ≡ before ++ slots_in_order same.at same.size → AreHomesUpTo st homes
-files_taken {same} {homes} files none with_files =
-    let are : homes ≡ slots_in_order same.at same.size =
-    with_files ∙ ap (λ (xs : List (Option Closed)). xs ++ slots_in_order same.at same.size) none in
-    let count = ap length are ∙ (length_in_order same.at same.size ∙ files.size) in record {
-      files = λ slot l. ap (λ (xs : List (Option Closed)). get_elem? xs slot) are
-          ∙ (in_order same.at same.size slot (omega (arith, l, files.size)) ∙ ap some (files.files slot));
-      others = λ place g l. absurd (omega (arith, g, l, count));
-    }
-
-pub none_behind : {st : State} {homes new : List (Option Closed)} → new ≡ homes ++ None ∷ [] → AreHomesUpTo st homes → AreHomesUpTo st new
-none_behind {st} {homes} pushed h = record {
-  files = λ s l. ap (λ (xs : List (Option Closed)). get_elem? xs s) pushed ∙ at_longer homes (None ∷ []) s (identity_of (st.at s)) (h.files s l);
-  others = λ place g l. ap (λ (xs : List (Option Closed)). get_elem? xs place) pushed ∙ dite (ℕ_discrete place (length homes))
-      (λ same. at_last homes None place (sym same))
-      (λ ne. let d = ap length pushed in let e = length-append homes (None ∷ []) in
-      at_longer homes (None ∷ []) place None (h.others place g (omega (arith, ne, l, d, e))));
-}
-
--- A table with the words and places of a table of one thread keeps the rule; and the table that comes back if an
--- allocation fails.
+-- A table with the words and places of a table of one thread keeps the rule.
 home_is : (found : Option File) (slot : ℕ) → identity_of found ≡ home_for (file_numbered found slot)
 home_is None slot = refl
 home_is (Some f) slot = refl
@@ -102,39 +38,19 @@ module _ (k : Start) (words : List ℕ) (homes : List (Option Closed)) where
   st = state_of k.plain.value
 
   pub opens_with : st.size ≤ 256 → st.range.0 + st.range.1 ≤ st.size → k.chains ≤ MAX_CHAINS → k.passes ≤ MAX_PASSES → k.numbers ≤ 64
-      → AreFirstWords st (chain_numbers k) words → AreFirstHomes st (chain_numbers k) homes → OpensWith k words homes
+      → AreFirstWords st (chain_numbers k) words → AreFirstHomes k.plain.value (homes_for st.size (chain_numbers k)) homes → OpensWith k words homes
   opens_with few inside chains passes numbers w h =
       let entries : (slot : ℕ) (f : File) → first_file k slot ≡ Some f → f.identity.entry < 256 = λ slot f there. dite (dec_le (slot + 1) st.size)
       (λ l. w.entries slot f (omega (arith, l)) there) (λ g. let none = none_outside k.plain.value (omega (arith, g)) in
       let bad : Some f ≡ None = sym there ∙ ap (λ (x : Option File). file_numbered x slot) none in absurd (cc bad)) in
       let files : (slot : ℕ) → slot < st.size → get_elem? homes (home_place st.size slot) ≡ some (home_for (first_file k slot)) =
-      λ slot l. ap (get_elem? homes) (low_home st.size l) ∙ (h.files slot l ∙ ap some (home_is (st.at slot) slot)) in
+      λ slot l. ap (get_elem? homes) (low_home st.size l) ∙ in_place homes slot (omega (arith, l, h.count)) (h.files slot ∙ home_is (st.at slot) slot) in
       let fresh : (n : ℕ) → 256 ≤ n → n < 256 + chain_numbers k → slice_index words (node_place st.size n) ≡ 0 =
       λ n low high. w.fresh _ (let e = high_node st.size n (omega arith) in omega arith) in
       let empty : (n : ℕ) → 256 ≤ n → n < 256 + chain_numbers k → get_elem? homes (home_place st.size n) ≡ some None =
-      λ n low high. let e = high_home st.size n (omega arith) in h.others (home_place st.size n) (omega arith) (omega arith) in
+      λ n low high. let e = high_home st.size n (omega arith) in in_place homes (home_place st.size n) (omega (arith, e, low, high, h.count))
+      (h.files (home_place st.size n) ∙ ap identity_of (none_outside k.plain.value (omega (arith, e)))) in
       assumption (w, h, entries, files, fresh, empty)
-
--- the files of the slots came back
-pub given_back : {c : Contents} {numbers : ℕ} {left : State} {homes : List (Option Closed)} {back : Contents} → IsShellOf (state_of c) left
-    → AreFirstHomes (state_of c) numbers homes → AreBack left (file_in_place homes) (state_of back) → IsGivenBack c back
-given_back {c} {homes} {back} empty first b = record {
-  files = record {
-    size = b.size ∙ empty.size;
-    range = b.range ∙ empty.range;
-    files = λ slot. dite (dec_le (slot + 1) (state_of c).size) (λ l. b.files slot ∙ read_at homes slot None (first.files slot (omega (arith, l))))
-        (λ g. ap identity_of (none_outside back (let e = b.size in let d = empty.size in omega (arith, g, e, d)))
-        ∙ sym (ap identity_of (none_outside c (omega (arith, g)))));
-  };
-  settled = b.settled;
-}
-
--- the other places are empty
-pub others_empty : (c : Contents) {numbers : ℕ} {left : State} {homes : List (Option Closed)} → IsShellOf (state_of c) left
-    → AreFirstHomes (state_of c) numbers homes → {place : ℕ} → left.size ≤ place → file_in_place homes place ≡ None
-others_empty c {numbers} {homes} empty first {place} g = dite (dec_le (place + 1) (homes_for (state_of c).size numbers))
-    (λ l. read_at homes place None (first.others place (omega (arith, g, empty.size)) (omega (arith, l))))
-    (λ past. get_or-eq_default homes None (omega (arith, past, first.count)))
 
 -- A table that is opened keeps the rule.
 looks_new : (p n : ℕ) → sum_by (λ (y : Log). y.looks_left) (new_logs p n) ≡ 1048576 * n

@@ -7,11 +7,11 @@ pub use Rattle.fx_base.specs.declared.open_file.Closed.{Closed}
 pub use Rattle.fx_counted.specs.Agrees.{Agrees, Does, HasShape, Home, IsGone, IsSeated, LogAgrees, Names, NodeAgrees, OwnerAgrees, PlacesNext}
 pub use Rattle.fx_counted.specs.Agrees.{SlotAgrees, ViewAgrees, WorkAgrees, lengths}
 pub use Rattle.fx_counted.specs.Changing.{HasToTell, InRange, IsAtWork, begun, difference}
-pub use Rattle.fx_counted.specs.Control.{ControlCounts, added, added_of, changes_of, full_in, if_full, in_change, removed_by, removed_of}
+pub use Rattle.fx_counted.specs.Control.{ControlCounts, added, added_of, changes_of, in_change, removed_by, removed_of}
 pub use Rattle.fx_counted.specs.Counts.{all_looks, look_in, looks, looks_after}
 pub use Rattle.fx_counted.specs.Cuts.{first_alone, first_view, new_logs, spent, together, without_first}
 pub use Rattle.fx_counted.specs.Draws.{DrawsCount}
-pub use Rattle.fx_counted.specs.Firsts.{AreFirstHomes, AreFirstWords, first_at}
+pub use Rattle.fx_counted.specs.Firsts.{AreFirstWords}
 pub use Rattle.fx_counted.specs.Goes.{Goes}
 pub use Rattle.fx_counted.specs.Laws.{AnswersKeep, BeginsKeep, BirthsKeep, ClearsKeep, DrawsKeep, EndsKeep, ExchangesKeep, HasPass, InstallsKeep}
 pub use Rattle.fx_counted.specs.Laws.{IsInRange, JoinsKeep, LoadsKeep, LooksKeep, MayChange, ReleasesKeep, RestsKeep, RetiresKeep, SplitsKeep}
@@ -26,7 +26,6 @@ pub use Rattle.fx_counted.specs.Passes.{held_of, holding, logs_of, looks_of, new
 pub use Rattle.fx_counted.specs.Passes.{state_after_all, steps_of, told_of}
 pub use Rattle.fx_counted.specs.Phases.{Phase, closed, emptied, file_in, leaving, owner, placed, retired, seated, spare, unborn}
 pub use Rattle.fx_counted.specs.Searching.{HasAllocated, HasFoundAllFull, IsPlacing, Proceeds, StillPlaces, Tries}
-pub use Rattle.fx_counted.specs.Shells.{AreBack, IsShellOf, file_in_place}
 pub use Rattle.fx_counted.specs.Tables.{IsBetweenCalls, IsPassOf, IsPassOfTable, is_idle, opening_of_table, view_of}
 pub use Rattle.fx_counted.specs.Tells.{Births, DrawTells, Exchanges, GoesOn, Installs, IsInside, LetsGo, Looks, Releases, Removes, Rests, Retires}
 pub use Rattle.fx_counted.specs.Tells.{SaysFull, Stepped, TakesOut, chain_given, changed, holds_now, turned}
@@ -50,9 +49,12 @@ pub use Rattle.fx_plain.specs.declared.event.Action.TheVariants.{Allocate, Clear
 pub use Rattle.fx_plain.specs.declared.event.Event.{Event}
 pub use Rattle.fx_plain.specs.declared.event.File.{File}
 pub use Rattle.fx_table.proofs.Members.{contains_head, contains_map, contains_mapped, contains_none, contains_only, contains_reverse}
-pub use Rattle.fx_table.proofs.Members.{contains_reversed, each_all, stands_at}
+pub use Rattle.fx_table.proofs.Members.{contains_reversed, each_all, read_at, stands_at}
 pub use Rattle.fx_table.proofs.Ones.{bit_else, bit_here, counted_once, once_is, once_more, one_if, one_less_at, one_more_at, times}
 pub use Rattle.fx_table.proofs.SumLemmas.{found_by, found_sum, sum_at, sum_le_at, sum_map, sum_of, sum_set, sum_two, sum_zero, sum_zero_at}
+pub use Rattle.fx_table.proofs.FullSlots.{full_all, full_else, full_few, full_here, full_one}
+pub use Rattle.fx_table.specs.FullSlots.{first_at, full_in, if_full}
+pub use Rattle.fx_table.specs.Shells.{AreBack, AreFirstHomes, file_in_place}
 pub use Rattle.fx_table.specs.Calls.{Adds, Draws, Use, both_uses, no_use, one_look, one_number}
 pub use Rattle.fx_table.specs.Closing.{ClosesTable, times_drawn}
 pub use Rattle.fx_table.specs.Numbers.{numbers_for, numbers_up_to, once}

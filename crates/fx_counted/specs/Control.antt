@@ -1,7 +1,8 @@
 -- The control word: how many slots of the allocation range are full, and how many passes are in a
 -- change.
-use Rattle.std.specs.Prelude.{◌≡◌, ℕ, zero, suc, ◌+◌, ◌/◌, ◌%◌, List, Option, Some, None, sum_by}
+use Rattle.std.specs.Prelude.{◌≡◌, ℕ, ◌+◌, ◌/◌, ◌%◌, List, Option, sum_by}
 use Rattle.fx_plain.specs.declared.event.File.{File}
+use Rattle.fx_table.specs.FullSlots.{full_in}
 use Rattle.fx_words.specs.Words.{one_change, bias}
 use Rattle.fx_counted.specs.declared.view.Change.{Change}
 use Rattle.fx_counted.specs.declared.view.Change.TheVariants.{Outside, More, Less}
@@ -33,16 +34,6 @@ added_of v = added v.change
 -- the full slots that a view's pass has removed
 abbrev pub removed_of : View → ℕ
 removed_of v = removed_by v.change
-
--- 1 for a slot with a file, otherwise 0
-abbrev pub if_full : Option File → ℕ
-if_full None = 0
-if_full (Some f) = 1
-
--- the full slots among the given number of slots from the slot `off` on
-abbrev pub full_in : (at : ℕ → Option File) (off len : ℕ) → ℕ
-full_in at off zero = 0
-full_in at off (suc len) = full_in at off len + if_full (at (off + len))
 
 -- The upper half counts the passes in a change. The lower half minus the bias, with the differences
 -- that these passes have yet to report, is the number of full slots of the range

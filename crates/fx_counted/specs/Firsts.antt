@@ -1,21 +1,11 @@
--- The first words and places of a shared table, from the table of one thread.
-use Rattle.std.specs.Prelude.{◌≡◌, ℕ, ◌+◌, ◌*◌, ◌<◌, ◌≤◌, List, Option, Some, None, length}
-use Rattle.std.specs.Prelude.{slice_index}
-use mathlib.Core.Option.{some}
-use lib.ListN.{get_elem?}
-use Rattle.fx_base.specs.Identity.{Identity}
-use Rattle.fx_plain.specs.State.{State, file_numbered}
-use Rattle.fx_plain.specs.Table.{identity_of}
+-- The first words of a shared table, from the table of one thread.
+use Rattle.std.specs.Prelude.{◌≡◌, ℕ, ◌+◌, ◌*◌, ◌<◌, ◌≤◌, List, Some, length, slice_index}
+use Rattle.fx_plain.specs.State.{State}
 use Rattle.fx_plain.specs.declared.event.File.{File}
+use Rattle.fx_table.specs.FullSlots.{full_in, first_at}
 use Rattle.fx_words.specs.Words.{control_word_of}
-use Rattle.fx_counted.specs.Control.{full_in}
 use Rattle.fx_counted.specs.Layout.{control_place, draw_place, slot_place, node_place, words_for}
-use Rattle.fx_counted.specs.Layout.{homes_for}
 use Rattle.fx_counted.specs.Opens.{word_for, node_for}
-
--- the file at a slot, under the slot's number
-abbrev pub first_at : State → ℕ → Option File
-first_at st slot = file_numbered (st.at slot) slot
 
 -- the first words, if the chains have `numbers` numbers together: those of the slots and of their
 -- numbers, and 0 elsewhere
@@ -31,10 +21,3 @@ pub record AreFirstWords (st : State) (numbers : ℕ) (words : List ℕ) : Type 
   pub nodes : (slot : ℕ) → slot < st.size
       → slice_index words (node_place st.size slot) ≡ node_for (first_at st slot)
   pub fresh : (place : ℕ) → 16 + 8 * st.size ≤ place → slice_index words place ≡ 0
-
--- the first places: those of the slots' numbers have the files
-pub record AreFirstHomes (st : State) (numbers : ℕ) (homes : List (Option Identity)) : Type 0 where
-  pub count : length homes ≡ homes_for st.size numbers
-  pub files : (slot : ℕ) → slot < st.size → get_elem? homes slot ≡ some (identity_of (st.at slot))
-  pub others : (place : ℕ) → st.size ≤ place → place < homes_for st.size numbers
-      → get_elem? homes place ≡ some None

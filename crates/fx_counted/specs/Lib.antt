@@ -15,7 +15,6 @@ pub mod Moves
 pub mod Changing
 pub mod Searching
 pub mod Tables
-pub mod Shells
 pub mod Firsts
 pub mod Lives
 pub mod Settling

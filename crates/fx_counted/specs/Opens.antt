@@ -12,7 +12,7 @@ use Rattle.fx_table.specs.declared.limits.TheConstants.{MAX_CHAINS, MAX_PASSES}
 use Rattle.fx_table.specs.Opening.{range_of}
 use Rattle.fx_words.specs.Words.{born, slot_word_of, control_word_of}
 use Rattle.fx_counted.specs.Agrees.{Agrees}
-use Rattle.fx_counted.specs.Control.{full_in}
+use Rattle.fx_table.specs.FullSlots.{full_in}
 use Rattle.fx_counted.specs.Cuts.{first_view}
 use Rattle.fx_counted.specs.Layout.{control_place, draw_place, slot_place, node_place, words_for}
 use Rattle.fx_counted.specs.Layout.{home_place, homes_for}

@@ -15,7 +15,7 @@ use Rattle.fx_table.specs.Opening.{range_of}
 use Rattle.fx_table.specs.Pass.{next_number}
 use Rattle.fx_words.specs.Words.{takes_in, full_word_of}
 use Rattle.fx_counted.specs.Agrees.{Names}
-use Rattle.fx_counted.specs.Control.{if_full}
+use Rattle.fx_table.specs.FullSlots.{if_full}
 use Rattle.fx_counted.specs.Layout.{slot_of, home_place}
 use Rattle.fx_counted.specs.Passes.{Sat, opening_of, slots_of, IsNumber, state_after_all, pass_of}
 use Rattle.fx_counted.specs.Passes.{steps_of, doing_in}

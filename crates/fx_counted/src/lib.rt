@@ -19,7 +19,6 @@ mod open;
 mod pass;
 mod queries;
 mod round;
-mod shell;
 mod table;
 mod view;
 

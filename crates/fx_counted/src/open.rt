@@ -5,26 +5,24 @@ ghost use Rattle.fx_plain.specs.Contents.{state_of, IsPrepared};
 ghost use Rattle.fx_plain.specs.declared.table.TheConstants.{MOST_SLOTS};
 ghost use Rattle.fx_table.specs.Opening.{IsGivenBack, opening_of_chains, opening_with};
 ghost use Rattle.fx_table.specs.Pass.{IsIdle, new_passes};
+ghost use Rattle.fx_table.specs.Shells.{IsShellOf};
 ghost use Rattle.fx_words.specs.Words.{slot_word_of, born};
-ghost use Rattle.fx_counted.specs.Control.{full_in};
-ghost use Rattle.fx_counted.specs.Firsts.{first_at, AreFirstWords, AreFirstHomes};
+ghost use Rattle.fx_counted.specs.Firsts.{AreFirstWords};
 ghost use Rattle.fx_counted.specs.Cuts.{first_view};
 ghost use Rattle.fx_counted.specs.Layout.{slot_place, words_for, homes_for};
 ghost use Rattle.fx_counted.specs.Lives.{HasAllPasses};
-ghost use Rattle.fx_counted.specs.Shells.{IsShellOf};
 ghost use Rattle.fx_counted.specs.Tables.{view_of, opening_of_table, IsPassOfTable};
 
 use crate::kinds::{Deal, OneHistory};
 use crate::layout::{CONTROL, MOST_NUMBERS, homes_for, slot_place, words_for};
 use crate::moves::BORN;
 use crate::pass::CountedPass;
-use crate::shell::{make_room, put_all};
 use crate::table::CountedTable;
 use crate::view::{Start, View};
 use atomic_table::{Refused, Seat, Table};
 use fx_base::{NoMemory, OpenFile};
 use fx_plain::PlainTable;
-use fx_table::{CHAIN_NUMBERS, MAX_CHAINS, MAX_PASSES};
+use fx_table::{CHAIN_NUMBERS, MAX_CHAINS, MAX_PASSES, full_in_range, move_out, put_all};
 use fx_words::{control_word, slot_word};
 use std::alloc::Global;
 use std::snapshot::Snapshot;
@@ -183,7 +181,8 @@ fn share(
     let Ok(words) = first_words(alloc, &plain, numbers) else {
         return Err((plain, NoMemory));
     };
-    let Ok(homes) = first_homes(alloc, &mut plain, numbers) else {
+    let count = homes_for(plain.size(), numbers);
+    let Ok(homes) = move_out(alloc, &mut plain, count) else {
         return Err((plain, NoMemory));
     };
     match Table::new(alloc, words.as_slice(), homes, key) {
@@ -193,26 +192,6 @@ fn share(
             Err((plain, NoMemory))
         }
     }
-}
-
-// Returns the number of slots of the allocation range that have a file.
-fn full_in_range(plain: &PlainTable, size: u32) -> u32
-    requires { size ≡ (state_of plain.now).size }
-    ensures full { let st = state_of plain.now in
-        result ≡ full_in (first_at st) st.range.0 st.range.1 }
-    ensures few { result ≤ (state_of plain.now).range.1 }
-{
-    let (start, len) = plain.range();
-    if len == size {
-        return plain.full();
-    }
-    let mut full = 0;
-    for slot in start..start + len {
-        if plain.entry_at(slot).is_some() {
-            full += 1;
-        }
-    }
-    full
 }
 
 // Writes the words of a slot with a file, and of its number, which is the slot's.
@@ -235,37 +214,11 @@ fn first_words(alloc: Global, plain: &PlainTable, numbers: u32) -> Result<Vec<u6
 {
     let size = plain.size();
     let mut words = vec![in alloc; 0; words_for(size, numbers)]?;
-    words[CONTROL] = control_word(full_in_range(plain, size));
+    words[CONTROL] = control_word(full_in_range(plain));
     for slot in 0..size {
         if let Some(entry) = plain.entry_at(slot) {
             write_slot(&mut words, slot, entry);
         }
     }
     Ok(words)
-}
-
-// Creates the places of a shared table, and moves the files of this table into them.
-fn first_homes(
-    alloc: Global,
-    plain: &mut PlainTable,
-    numbers: u32,
-) -> Result<Vec<Option<OpenFile>>, NoMemory>
-    requires settled { IsSettled (state_of plain.old) }
-    requires numbers { numbers ≤ MOST_NUMBERS }
-    ensures homes { IfOk result (λ homes. AreFirstHomes (state_of plain.old) numbers homes.items) }
-    ensures shell { OnOk result (IsShellOf (state_of plain.old) (state_of plain.new)) }
-    ensures prepared { OnOk result (IsPrepared plain.new) }
-    ensures err { OnErr result (plain.new ≡ plain.old) }
-{
-    let count = homes_for(plain.size(), numbers);
-    let mut homes = Vec::with_capacity(alloc, count)?;
-    let Ok(()) = make_room(plain) else {
-        homes.destroy_empty();
-        return Err(NoMemory);
-    };
-    plain.take_files(&mut homes);
-    for _ in homes.len()..count {
-        homes.push_reserved(None);
-    }
-    Ok(homes)
 }

@@ -6,7 +6,7 @@ ghost use Rattle.fx_plain.specs.Contents.{state_of, IsPrepared};
 ghost use Rattle.fx_plain.specs.declared.table.TheConstants.{MOST_SLOTS};
 ghost use Rattle.fx_counted.specs.Layout.{words_for, homes_for};
 ghost use Rattle.fx_counted.specs.Passes.{opening_of};
-ghost use Rattle.fx_counted.specs.Shells.{IsShellOf};
+ghost use Rattle.fx_table.specs.Shells.{IsShellOf};
 
 use crate::kinds::OneHistory;
 use crate::view::{Start, View};

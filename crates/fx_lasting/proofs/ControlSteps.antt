@@ -11,7 +11,7 @@ use Rattle.fx_lasting.proofs.Histories.{Grows, grows_none, grows_one, legal_more
 use Rattle.fx_lasting.proofs.Frames.{control_same, sees_same, heats_same, guards_same, covers_same}
 use Rattle.fx_lasting.proofs.Keeping.{Turn, turn_of, After, word_at, slot_word, Made, by_turn, its_log, its_work, in_range, tells, w, end}
 use Rattle.fx_lasting.proofs.Calm.{calm_after, calm_kept}
-use Rattle.fx_lasting.proofs.FullSlots.{full_few, full_all}
+use Rattle.fx_table.proofs.FullSlots.{full_few, full_all}
 use Rattle.fx_lasting.proofs.LettingGo.{sub_wraps}
 
 -- what one of them adds to the gap between two totals

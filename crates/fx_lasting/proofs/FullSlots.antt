@@ -2,47 +2,8 @@
 use Rattle.fx_lasting.proofs.Words.{◌≡◌, ◌≢◌, ℕ, zero, suc, ◌+◌, ◌<◌, ◌≤◌, List, set, sym, refl, ap, ◌∙◌, arith, Option, Some, None, IsSome, Bool, true}
 use Rattle.fx_lasting.proofs.Words.{false, cond, nat_lt, lt-ltb, le-ltb, dec_le, subst, dite, some, ℕ_discrete, get_elem?, changed_at, File, sum_set}
 use Rattle.fx_lasting.proofs.Words.{owing, owing_of, if_full, full_in, ControlCounts, is_in, uncounted, View, changed_here, changed_else}
+use Rattle.fx_lasting.proofs.Words.{full_else, full_here}
 use Rattle.std.specs.Prelude.{is_some, not}
-
-pub full_else : (at : ℕ → Option File) (s : ℕ) (new : Option File) (off len : ℕ) → ((i : ℕ) → i < len → off + i ≢ s)
-    → full_in (changed_at at s new) off len ≡ full_in at off len
-full_else at s new off zero other = refl
-full_else at s new off (suc len) other =
-    let a = full_else at s new off len (λ i l. other i (omega arith)) in
-    let b : if_full (changed_at at s new (off + len)) ≡ if_full (at (off + len)) = ap if_full
-    (changed_else at s new (off + len) (other len (omega arith))) in
-    omega arith
-
-pub full_here : (at : ℕ → Option File) (s : ℕ) (new : Option File) (off len : ℕ) → off ≤ s → s < off + len
-    → full_in (changed_at at s new) off len + if_full (at s) ≡ full_in at off len + if_full new
-full_here at s new off zero a b = absurd (omega arith)
-full_here at s new off (suc len) a b = dite (ℕ_discrete (off + len) s)
-    (λ here. let c = full_else at s new off len (λ i l. λ bad. omega arith) in
-    let d : if_full (changed_at at s new (off + len)) ≡ if_full new = ap if_full
-    (changed_here at s new (off + len) here) in
-    let e : if_full (at (off + len)) ≡ if_full (at s) = ap (λ (i : ℕ). if_full (at i)) here in omega arith)
-    (λ else. let c = full_here at s new off len a (omega arith) in
-    let d : if_full (changed_at at s new (off + len)) ≡ if_full (at (off + len)) = ap if_full
-    (changed_else at s new (off + len) else) in omega arith)
-
-pub full_one : (found : Option File) → if_full found ≤ 1
-full_one None = omega arith
-full_one (Some f) = omega arith
-
-pub full_few : (at : ℕ → Option File) (off len : ℕ) → full_in at off len ≤ len
-full_few at off zero = omega arith
-full_few at off (suc len) = let a = full_few at off len in let b = full_one (at (off + len)) in omega arith
-
-some_full : (found : Option File) → if_full found ≡ 1 → IsSome found
-some_full None e = absurd (omega arith)
-some_full (Some f) e = refl
-
--- a range that has as many full slots as slots has no empty one
-pub full_all : (at : ℕ → Option File) (off len : ℕ) → full_in at off len ≡ len → (slot : ℕ) → off ≤ slot → slot < off + len → IsSome (at slot)
-full_all at off zero e slot low high = absurd (omega arith)
-full_all at off (suc len) e slot low high = let a = full_few at off len in let b = full_one (at (off + len)) in dite (ℕ_discrete slot (off + len))
-    (λ same. subst (λ (i : ℕ). IsSome (at i)) (sym same) (some_full (at (off + len)) (omega arith)))
-    (λ else. full_all at off len (omega arith) slot low (omega arith))
 
 -- what the count of full slots has of a slot with this file
 abbrev pub counted : Bool → Option File → ℕ

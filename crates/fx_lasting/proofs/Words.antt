@@ -7,7 +7,7 @@ pub use Rattle.fx_lasting.specs.Agrees.{HoldAgrees, MayBeUnmarked, GuardAgrees, 
 pub use Rattle.fx_lasting.specs.Agrees.{OwnerAgrees, HoldsAt, WorkAgrees, SearchAgrees, NamesNode, Nodes, Names, IsSeated, SlotAgrees, Home, IsFileOfNode}
 pub use Rattle.fx_lasting.specs.Agrees.{IsVacant}
 pub use Rattle.fx_lasting.specs.AtWork.{IsAtWork, IsReleasing, HasPlace}
-pub use Rattle.fx_lasting.specs.Control.{owing, owing_of, is_in, uncounted, account, if_full, full_in, ControlCounts}
+pub use Rattle.fx_lasting.specs.Control.{owing, owing_of, is_in, uncounted, account, ControlCounts}
 pub use Rattle.fx_lasting.specs.Counts.{tally, owed}
 pub use Rattle.fx_lasting.specs.Ends.{LetsMarkGo, LetsFileGo, Guards, LooksByTake}
 pub use Rattle.fx_lasting.specs.Cuts.{new_logs, first_view, together, spent}
@@ -68,8 +68,10 @@ pub use Rattle.std.proofs.lemmas.List.{length-map, set-get_or}
 pub use Rattle.std.proofs.lemmas.List.FromFn.{length-map-range_with_len}
 pub use Rattle.std.proofs.lemmas.List.Sums.{sum_by-append, sum_by-cons}
 pub use Rattle.std.specs.List.{range_with_len}
-pub use Rattle.fx_lasting.specs.Firsts.{first_at, AreFirstWords, AreFirstHomes}
-pub use Rattle.fx_lasting.specs.Shells.{IsShellOf, AreBack, file_in_place}
+pub use Rattle.fx_lasting.specs.Firsts.{AreFirstWords}
+pub use Rattle.fx_table.proofs.FullSlots.{full_all, full_else, full_few, full_here, full_one}
+pub use Rattle.fx_table.specs.FullSlots.{first_at, full_in, if_full}
+pub use Rattle.fx_table.specs.Shells.{AreFirstHomes}
 pub use Rattle.fx_lasting.specs.Lives.{dealt, logs_in, IsNewPass, HasAllPasses, IsIdleSeatOf, AllAreIdle, Leaves}
 pub use Rattle.fx_plain.specs.Contents.{Contents, IsPrepared}
 pub use Rattle.std.proofs.lemmas.List.{get_or_append_left, get_or_push}

@@ -1,7 +1,8 @@
 -- The control word: how many slots of the allocation range are full.
-use Rattle.std.specs.Prelude.{◌≡◌, ℕ, zero, suc, ◌+◌, nat_lt, if◌then◌else◌, Bool, true, false}
-use Rattle.std.specs.Prelude.{List, Option, Some, None, is_some, not, sum_by}
+use Rattle.std.specs.Prelude.{◌≡◌, ℕ, ◌+◌, nat_lt, if◌then◌else◌, Bool, true, false}
+use Rattle.std.specs.Prelude.{List, Option, is_some, not, sum_by}
 use Rattle.fx_plain.specs.declared.event.File.{File}
+use Rattle.fx_table.specs.FullSlots.{full_in}
 use Rattle.fx_words.specs.Words.{bias}
 use Rattle.fx_lasting.specs.declared.view.Change.{Change}
 use Rattle.fx_lasting.specs.declared.view.Change.TheVariants.{Outside, Inside}
@@ -28,16 +29,6 @@ uncounted _ _ = Outside
 -- the account of a pass that has written the slot's word, in which it found this file
 abbrev pub account : ℕ × ℕ → ℕ → Option File → Change
 account range slot found = uncounted (is_in range slot) (not (is_some found))
-
--- 1 for a slot with a file, and else 0
-abbrev pub if_full : Option File → ℕ
-if_full None = 0
-if_full (Some f) = 1
-
--- the full slots among the `len` slots from `off` on
-abbrev pub full_in : (ℕ → Option File) → ℕ → ℕ → ℕ
-full_in at off zero = 0
-full_in at off (suc len) = full_in at off len + if_full (at (off + len))
 
 -- the word, less the bias, and what passes have still to add are the full slots of the range
 pub record ControlCounts (at : ℕ → Option File) (range : ℕ × ℕ)

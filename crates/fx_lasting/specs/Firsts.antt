@@ -1,19 +1,11 @@
--- The first words and places of a shared table, from the table of one thread.
-use Rattle.std.specs.Prelude.{◌≡◌, ℕ, ◌<◌, ◌≤◌, List, Option, Some, None, length, slice_index}
-use mathlib.Core.Option.{some}
-use lib.ListN.{get_elem?}
-use Rattle.fx_base.specs.Identity.{Identity}
-use Rattle.fx_plain.specs.State.{State, file_numbered}
-use Rattle.fx_plain.specs.Table.{identity_of}
+-- The first words of a shared table, from the table of one thread.
+use Rattle.std.specs.Prelude.{◌≡◌, ℕ, ◌<◌, ◌≤◌, List, Some, length, slice_index}
+use Rattle.fx_plain.specs.State.{State}
 use Rattle.fx_plain.specs.declared.event.File.{File}
+use Rattle.fx_table.specs.FullSlots.{full_in, first_at}
 use Rattle.fx_words.specs.Words.{control_word_of}
-use Rattle.fx_lasting.specs.Control.{full_in}
 use Rattle.fx_lasting.specs.Layout.{control_place, slot_place, hold_place, node_place, words_for}
 use Rattle.fx_lasting.specs.Opens.{word_for, node_for}
-
--- the file at a slot, under the slot's number
-abbrev pub first_at : State → ℕ → Option File
-first_at st slot = file_numbered (st.at slot) slot
 
 -- the first words of a table with these passes and nodes: those of the slots and of their nodes,
 -- and 0 elsewhere
@@ -31,9 +23,3 @@ pub record AreFirstWords (st : State) (passes nodes : ℕ) (words : List ℕ) : 
       → slice_index words (node_place st.size passes node) ≡ 0
   pub holds : (pass : ℕ) → 0 < pass → pass ≤ passes
       → slice_index words (hold_place st.size pass) ≡ 0
-
--- the first places: those of the slots' nodes have the files
-pub record AreFirstHomes (st : State) (nodes : ℕ) (homes : List (Option Identity)) : Type 0 where
-  pub count : length homes ≡ nodes
-  pub files : (slot : ℕ) → slot < st.size → get_elem? homes slot ≡ some (identity_of (st.at slot))
-  pub others : (node : ℕ) → st.size ≤ node → node < nodes → get_elem? homes node ≡ some None

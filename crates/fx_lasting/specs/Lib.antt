@@ -15,7 +15,6 @@ pub mod Choices
 pub mod Opens
 pub mod AtWork
 pub mod Ends
-pub mod Shells
 pub mod Lives
 pub mod Tables
 pub mod Searches

@@ -8,7 +8,7 @@ use Rattle.fx_base.specs.Identity.{Identity}
 use Rattle.fx_plain.specs.declared.event.File.{File}
 use Rattle.fx_plain.specs.declared.table.TheConstants.{MOST_SLOTS}
 use Rattle.fx_words.specs.Words.{slot_word_of, control_word_of}
-use Rattle.fx_lasting.specs.Control.{full_in}
+use Rattle.fx_table.specs.FullSlots.{full_in}
 use Rattle.fx_lasting.specs.Layout.{control_place, slot_place, words_for}
 use Rattle.fx_lasting.specs.Parts.{birth_word}
 use Rattle.fx_lasting.specs.Passes.{Shared, slots_of, range_at_start, nodes_of}

@@ -21,7 +21,6 @@ mod put_any;
 mod queries;
 mod seek;
 mod shared_table;
-mod shell;
 mod table;
 mod tried;
 mod view;

@@ -6,12 +6,10 @@ ghost use Rattle.fx_plain.specs.declared.table.TheConstants.{MOST_SLOTS};
 ghost use Rattle.fx_table.specs.Opening.{IsGivenBack, lasting_opening};
 ghost use Rattle.fx_table.specs.Pass.{IsIdle};
 ghost use Rattle.fx_words.specs.Words.{slot_word_of};
-ghost use Rattle.fx_lasting.specs.Control.{full_in};
-ghost use Rattle.fx_lasting.specs.Firsts.{first_at, AreFirstWords, AreFirstHomes};
+ghost use Rattle.fx_lasting.specs.Firsts.{AreFirstWords};
 ghost use Rattle.fx_lasting.specs.Layout.{slot_place, node_place, block_start};
 ghost use Rattle.fx_lasting.specs.Lives.{HasAllPasses, IsNewPass};
 ghost use Rattle.fx_lasting.specs.Parts.{birth_word};
-ghost use Rattle.fx_lasting.specs.Shells.{IsShellOf};
 ghost use Rattle.fx_lasting.specs.Tables.{view_of, opening_of_table, first_passes, IsPassOfTable};
 ghost use Rattle.fx_lasting.specs.declared.layout.TheConstants.{MOST_NODES, MOST_PASSES, MOST_INSTALLING};
 
@@ -22,12 +20,12 @@ use crate::layout::{
 };
 use crate::parts::BORN;
 use crate::pass::LastingPass;
-use crate::shell::{make_room, put_all};
 use crate::table::LastingTable;
 use crate::view::{Start, View};
 use atomic_table::{Refused, Seat, Table};
 use fx_base::{NoMemory, OpenFile};
 use fx_plain::PlainTable;
+use fx_table::{full_in_range, move_out, put_all};
 use fx_words::{control_word, slot_word};
 use std::alloc::Global;
 use std::snapshot::Snapshot;
@@ -101,7 +99,7 @@ impl LastingTable {
         let Ok(words) = first_words(alloc, &plain, passes, nodes) else {
             return Err((plain, NoMemory));
         };
-        let Ok(homes) = first_homes(alloc, &mut plain, nodes) else {
+        let Ok(homes) = move_out(alloc, &mut plain, nodes as usize) else {
             return Err((plain, NoMemory));
         };
         match Table::new(alloc, words.as_slice(), homes, &key) {
@@ -152,26 +150,6 @@ impl LastingTable {
     }
 }
 
-// Returns the number of slots of the allocation range that have a file.
-fn full_in_range(plain: &PlainTable, size: u32) -> u32
-    requires { size ≡ (state_of plain.now).size }
-    ensures full { let st = state_of plain.now in
-        result ≡ full_in (first_at st) st.range.0 st.range.1 }
-    ensures few { result ≤ (state_of plain.now).range.1 }
-{
-    let (start, len) = plain.range();
-    if len == size {
-        return plain.full();
-    }
-    let mut full = 0;
-    for slot in start..start + len {
-        if plain.entry_at(slot).is_some() {
-            full += 1;
-        }
-    }
-    full
-}
-
 // Writes the words of a slot with a file, and of its node, which has the slot's number.
 fn write_slot(words: &mut Vec<u64>, size: u32, passes: u32, slot: u32, entry: u8)
     requires size { size ≤ MOST_SLOTS }
@@ -199,37 +177,11 @@ fn first_words(
 {
     let size = plain.size();
     let mut words = vec![in alloc; 0; words_for(size, passes, nodes)]?;
-    words[CONTROL] = control_word(full_in_range(plain, size));
+    words[CONTROL] = control_word(full_in_range(plain));
     for slot in 0..size {
         if let Some(entry) = plain.entry_at(slot) {
             write_slot(&mut words, size, passes, slot, entry);
         }
     }
     Ok(words)
-}
-
-// Creates the places of a shared table, and moves the files of this table into them.
-fn first_homes(
-    alloc: Global,
-    plain: &mut PlainTable,
-    nodes: u32,
-) -> Result<Vec<Option<OpenFile>>, NoMemory>
-    requires settled { IsSettled (state_of plain.old) }
-    requires nodes { (state_of plain.old).size ≤ nodes }
-    ensures homes { IfOk result (λ homes. AreFirstHomes (state_of plain.old) nodes homes.items) }
-    ensures shell { OnOk result (IsShellOf (state_of plain.old) (state_of plain.new)) }
-    ensures prepared { OnOk result (IsPrepared plain.new) }
-    ensures err { OnErr result (plain.new ≡ plain.old) }
-{
-    let count = nodes as usize;
-    let mut homes = Vec::with_capacity(alloc, count)?;
-    let Ok(()) = make_room(plain) else {
-        homes.destroy_empty();
-        return Err(NoMemory);
-    };
-    plain.take_files(&mut homes);
-    for _ in homes.len()..count {
-        homes.push_reserved(None);
-    }
-    Ok(homes)
 }

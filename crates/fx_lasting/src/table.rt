@@ -5,7 +5,7 @@ ghost use Rattle.fx_plain.specs.declared.table.TheConstants.{MOST_SLOTS};
 ghost use Rattle.fx_lasting.specs.declared.layout.TheConstants.{MOST_PASSES, MOST_INSTALLING};
 ghost use Rattle.fx_lasting.specs.Layout.{words_for};
 ghost use Rattle.fx_lasting.specs.Passes.{slots_of, range_at_start, nodes_of};
-ghost use Rattle.fx_lasting.specs.Shells.{IsShellOf};
+ghost use Rattle.fx_table.specs.Shells.{IsShellOf};
 
 use crate::kinds::OneHistory;
 use crate::view::{Start, View};

@@ -2,7 +2,7 @@
 use Rattle.fx_table.proofs.Words.{ℕ, ◌<◌, length, get_elem?, some, some-ne-none, some-injective, ◌≡◌, List, [], ◌∷◌, map, reverse, sym, refl, ap, ◌∙◌}
 use Rattle.fx_table.proofs.Words.{suc, zero, arith, ◌⊎◌, inl, inr, ⊎_elim, Contains, All}
 use Rattle.std.specs.Prelude.{slice_index_or}
-use Rattle.std.proofs.lemmas.List.{length-map, get_or-map}
+use Rattle.std.proofs.lemmas.List.{length-map, get_or-map, get_or_default}
 use Rattle.std.proofs.lemmas.List.Elements.{All-contains_itself}
 use Rattle.std.proofs.lemmas.List.Sorted.{Contains-permutation, IsPermutation-reverse, IsPermutation-sym}
 
@@ -25,6 +25,9 @@ module _ {X : Type 0} where
   stands_at [] i v e = absurd (some-ne-none v (sym e))
   stands_at (x ∷ l) zero v e = (omega arith, some-injective x v e)
   stands_at (x ∷ l) (suc i) v e = let r = stands_at l i v e in (omega (arith, r.0), r.1)
+
+  pub read_at : (l : List X) (i : ℕ) {v : X} (d : X) → get_elem? l i ≡ some v → slice_index_or l i d ≡ v
+  read_at l i {v} d e = let at = stands_at l i v e in get_or_default l i d v at.0 ∙ at.1
 
   -- a list of one
   pub contains_only : (x y : X) → Contains (x ∷ []) y → y ≡ x

@@ -8,12 +8,12 @@ use Rattle.fx_table.proofs.Members.{contains_none}
 use Rattle.fx_table.proofs.SumLemmas.{sum_set}
 
 module _ {A : Type 0} where
-  set_else : (l : List A) (i j : ℕ) (a : A) → j ≢ i → get_elem? (set l i a) j ≡ get_elem? l j
+  pub set_else : (l : List A) (i j : ℕ) (a : A) → j ≢ i → get_elem? (set l i a) j ≡ get_elem? l j
   set_else (x ∷ l) zero zero a n = absurd (n refl)
   set_else (x ∷ l) (suc i) (suc j) a n = set_else l i j a (λ e. n (ap suc e))
   set_else _ _ _ a n = refl
 
-  set_here : (l : List A) (i : ℕ) (a b : A) → get_elem? (set l i a) i ≡ some b → a ≡ b
+  pub set_here : (l : List A) (i : ℕ) (a b : A) → get_elem? (set l i a) i ≡ some b → a ≡ b
   set_here [] i a b e = absurd (some-ne-none b (sym e))
   set_here (x ∷ l) zero a b e = some-injective a b e
   set_here (x ∷ l) (suc i) a b e = set_here l i a b e

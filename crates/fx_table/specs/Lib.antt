@@ -8,3 +8,5 @@ pub mod Closing
 pub mod Turns
 pub mod Laws
 pub mod Settling
+pub mod FullSlots
+pub mod Shells

@@ -9,6 +9,7 @@ mod file_table;
 pub mod laws;
 mod limits;
 mod shared_table;
+mod shell;
 mod values;
 
 pub use file_table::FileTable;
@@ -16,4 +17,5 @@ pub use limits::{
     CHAIN_NUMBERS, FIRST_CHAIN_NUMBER, MAX_CHAINS, MAX_PASSES, PASS_LOOKS, numbers_for,
 };
 pub use shared_table::SharedTable;
+pub use shell::{full_in_range, move_out, put_all};
 pub use values::{Doing, Empty, Hold, LookFault, LookUp, Retired, Task};

@@ -1,15 +1,15 @@
 use Rattle.fx_lasting.proofs.Words.{◌≡◌, ◌<◌, ℕ, false, get_or, slots_items, slots_len, IsFull, state_of, IsPrepared, slots_filled}
 use Rattle.std.specs.Mem.Slots.Ownership.{Filled}
-use Rattle.fx_lasting.proofs.HomeComing.{file_at, emptied, IsPartlyBack}
+use Rattle.fx_table.proofs.HomeComing.{AreComing}
+use Rattle.fx_lasting.proofs.HomeComing.{node_at}
 use Rattle.fx_lasting.proofs.table.LastingTable.finish.Given as goal
 
 -- the files of the slots so far are back, and their places are empty
 abbrev pub invariant-loop-slot : goal.invariant-loop-slot
 invariant-loop-slot l = record {
-  part : IsPartlyBack (state_of l.fn.self.shell) (file_at l.size (slots_items l.initial.closed.words) (slots_items l.initial.closed.slots))
-      l.slot l.size (state_of l.shell);
+  coming : AreComing l.size (node_at (slots_items l.initial.closed.words)) (state_of l.fn.self.shell) (slots_items l.initial.closed.slots)
+      l.slot (slots_items l.closed.slots) (state_of l.shell);
   prepared : IsPrepared l.shell;
-  items : slots_items l.closed.slots ≡ emptied l.size (slots_items l.initial.closed.words) l.slot (slots_items l.initial.closed.slots);
   count : slots_len l.closed.slots ≡ slots_len l.initial.closed.slots;
   full : IsFull l.closed.slots;
   words : l.closed.words ≡ l.initial.closed.words;

@@ -1,7 +1,11 @@
-use Rattle.fx_lasting.proofs.Words.{◌≡◌, ◌<◌, ◌+◌, ℕ, length, List, [], ◌∷◌, ◌++◌, refl, sym, ap, ◌∙◌, arith, length-append, Option, None, Closed}
-use Rattle.fx_lasting.proofs.Words.{state_of, file_in_place, get_or_append_left, get_or_push}
-use Rattle.fx_lasting.proofs.HomeComing.{file_put, last_back}
-use Rattle.fx_lasting.proofs.shell.put_all.Goals as goal
+use Rattle.fx_table.proofs.Words.{◌≡◌, ◌<◌, ◌+◌, ℕ, length, List, [], ◌∷◌, ◌++◌, refl, sym, ap, ◌∙◌, arith, None, state_of}
+use Rattle.std.proofs.Common.{length-append}
+use Rattle.std.proofs.lemmas.List.{get_or_append_left, get_or_push}
+use Rattle.std.specs.Prelude.{Option}
+use Rattle.fx_base.specs.declared.open_file.Closed.{Closed}
+use Rattle.fx_table.specs.Shells.{file_in_place}
+use Rattle.fx_table.proofs.Shells.{file_put, last_back}
+use Rattle.fx_table.proofs.shell.put_all.Goals as goal
 
 -- the content of the last place
 module _ (all xs ys : List (Option Closed)) (x : Option Closed) (split : xs ≡ ys ++ x ∷ [])
@@ -19,14 +23,10 @@ module _ (all xs ys : List (Option Closed)) (x : Option Closed) (split : xs ≡ 
 
 pub loop-file-preserved-in-Some-file : goal.loop-file-preserved-in-Some-file
 loop-file-preserved-in-Some-file c =
-    let all = c.args.places.items in
-    let xs = c.loop-file.places.items in
-    let now = c.pop.new.self.items in
-    let split = c.in-Some.ensures.items in
-    let i = c.loop-file.invariant in
+    let all = c.args.homes.items in let xs = c.loop-file.homes.items in let now = c.pop.new.self.items in
+    let split = c.in-Some.ensures.items in let i = c.loop-file.invariant in
     let slot_is : c.len-slot.result ≡ length now = omega (arith, c.len-slot.ensures, c.pop.new.self.ok.0) in
-    let file_is = last_is all xs now c.in-Some.file split i.items ∙ c.in-Some-file.is in
-    record {
+    let file_is = last_is all xs now c.in-Some.file split i.items ∙ c.in-Some-file.is in record {
       part = last_back (state_of c.args.plain.now) (file_in_place all) (rw (file_is, ← slot_is) (file_put i.part.settled c.put_back.ensures.state))
           (rw (one_less all xs now c.in-Some.file split i.items) at i.part);
       prepared = c.put_back.ensures.prepared;

@@ -1,0 +1,58 @@
+-- The number of full slots when a slot changes, and of a table's files.
+use Rattle.fx_table.proofs.Words.{◌≡◌, ◌≢◌, ℕ, zero, suc, ◌+◌, ◌<◌, ◌≤◌, length, sym, ap, arith, subst, dite, ℕ_discrete, changed_at, None, refl, State}
+use Rattle.std.proofs.Common.{length-append}
+use Rattle.std.specs.Prelude.{Option, Some, IsSome}
+use Rattle.fx_plain.proofs.Cells.{changed_here, changed_else}
+use Rattle.fx_plain.specs.State.{file_numbered, files_in_order, identities_of}
+use Rattle.fx_plain.specs.declared.event.File.{File}
+use Rattle.fx_table.specs.FullSlots.{if_full, full_in, first_at}
+
+module _ (at : ℕ → Option File) (s : ℕ) (new : Option File) where
+  pub full_else : (off len : ℕ) → ((i : ℕ) → i < len → off + i ≢ s) → full_in (changed_at at s new) off len ≡ full_in at off len
+  full_else off zero other = refl
+  full_else off (suc len) other =
+      rw (full_else off len (λ i l. other i (omega arith)), changed_else at s new (off + len) (other len (omega arith))) refl
+
+  pub full_here : (off len : ℕ) → off ≤ s → s < off + len
+      → full_in (changed_at at s new) off len + if_full (at s) ≡ full_in at off len + if_full new
+  full_here off zero a b = absurd (omega arith)
+  full_here off (suc len) a b = dite (ℕ_discrete (off + len) s)
+      (λ here. let e : if_full (at (off + len)) ≡ if_full (at s) = ap (λ (i : ℕ). if_full (at i)) here in
+      rw (full_else off len (λ i l. λ bad. omega arith), changed_here at s new (off + len) here) (omega arith))
+      (λ else. let c = full_here off len a (omega arith) in rw (changed_else at s new (off + len) else) (omega arith))
+
+pub full_one : (found : Option File) → if_full found ≤ 1
+full_one None = omega arith
+full_one (Some f) = omega arith
+
+some_full : (found : Option File) → if_full found ≡ 1 → IsSome found
+some_full None e = absurd (omega arith)
+some_full (Some f) e = refl
+
+module _ (at : ℕ → Option File) (off : ℕ) where
+  pub full_few : (len : ℕ) → full_in at off len ≤ len
+  full_few zero = omega arith
+  full_few (suc len) = let a = full_few len in let b = full_one (at (off + len)) in omega arith
+
+  -- a range that has as many full slots as slots has no empty one
+  pub full_all : (len : ℕ) → full_in at off len ≡ len → (slot : ℕ) → off ≤ slot → slot < off + len → IsSome (at slot)
+  full_all zero e slot low high = absurd (omega arith)
+  full_all (suc len) e slot low high = let a = full_few len in let b = full_one (at (off + len)) in dite (ℕ_discrete slot (off + len))
+      (λ same. subst (λ (i : ℕ). IsSome (at i)) (sym same) (some_full (at (off + len)) (omega arith)))
+      (λ else. full_all len (omega arith) slot low (omega arith))
+
+as_many : (found : Option File) (slot : ℕ) → length (identities_of found) ≡ if_full (file_numbered found slot)
+as_many None slot = refl
+as_many (Some f) slot = refl
+
+-- the files of the first slots, and the full ones of these slots
+pub all_counted : (st : State) (n : ℕ) → length (files_in_order st.at n) ≡ full_in (first_at st) 0 n
+all_counted st zero = refl
+all_counted st (suc n) = let here : 0 + n ≡ n = omega arith in
+    omega (
+      arith,
+      length-append (files_in_order st.at n) (identities_of (st.at n)),
+      all_counted st n,
+      as_many (st.at n) n,
+      ap (λ (slot : ℕ). if_full (first_at st slot)) here,
+    )
