@@ -1,7 +1,7 @@
 -- The first words of a shared table, written one slot after the other, and the files of the slots, which move to its
 -- places.
 use Rattle.fx_lasting.proofs.Words.{◌≡◌, ℕ, zero, suc, ◌+◌, ◌<◌, ◌≤◌, List, length, refl, ap, arith, Option, Some, None, slice_index, State}
-use Rattle.fx_lasting.proofs.Words.{File, full_in, if_full, control_place, slot_place, hold_place, node_place, word_for}
+use Rattle.fx_lasting.proofs.Words.{File, full_in, if_full, control_place, list_place, slot_place, hold_place, node_place, word_for}
 use Rattle.fx_lasting.proofs.Words.{node_for, length-append, [], ◌∷◌, ◌++◌, sym, ◌∙◌, dite}
 use Rattle.fx_lasting.proofs.Words.{some, ℕ_discrete, get_elem?, Closed, state_of, IsSettled, nodes_of}
 use Rattle.fx_lasting.proofs.Words.{at_index, dec_le, home_for, OpensWith, Start}
@@ -29,6 +29,7 @@ pub record AreWordsSoFar (st : State) (passes nodes done : ℕ) (words : List �
   pub nodes_so : (slot : ℕ) → slot < done → slice_index words (node_place st.size passes slot) ≡ node_for (first_at st slot)
   pub slots_left : (slot : ℕ) → done ≤ slot → slot < st.size → slice_index words (slot_place slot) ≡ 0
   pub nodes_left : (node : ℕ) → done ≤ node → slice_index words (node_place st.size passes node) ≡ 0
+  pub lists : (pass : ℕ) → pass ≤ 1024 → slice_index words (list_place pass) ≡ 0
   pub holds : (pass : ℕ) → 0 < pass → pass ≤ passes → slice_index words (hold_place st.size pass) ≡ 0
 
 as_many : (found : Option File) (slot : ℕ) → length (identities_of found) ≡ if_full (file_numbered found slot)
@@ -119,6 +120,7 @@ module _ (k : Start) (words : List ℕ) (homes : List (Option Closed)) where
     files = λ slot l. h.files slot l ∙ ap some (home_is (st.at slot) slot);
     free_words = λ n low high. w.free n low;
     free_places = h.others;
+    list_words = w.lists;
     hold_words = w.holds;
   }
 

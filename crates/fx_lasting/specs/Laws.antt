@@ -1,8 +1,7 @@
 -- The kinds of step keep the rule, whatever the table and the other passes are. A law takes the
 -- place of its word as a premise.
-use Rattle.std.specs.Prelude.{◌≡◌, ◌≢◌, ℕ, ◌+◌, ◌-◌, ◌*◌, ◌%◌, ◌^◌, ◌<◌, ◌≤◌, ◌==◌, ◌⊎◌, [], ◌∷◌, Some}
-use Rattle.std.specs.Prelude.{None}
-use Rattle.std.specs.Prelude.{bit_or, true}
+use Rattle.std.specs.Prelude.{◌≡◌, ◌≢◌, ℕ, ◌+◌, ◌-◌, ◌*◌, ◌%◌, ◌^◌, ◌<◌, ◌≤◌, ◌==◌, ◌⊎◌}
+use Rattle.std.specs.Prelude.{bit_or, true, [], ◌∷◌, Some, None}
 use mathlib.Core.Option.{none}
 use prog.Atomic.{either}
 use Rattle.atomic_table.specs.Table.{step, Splits, Joins, Allows}

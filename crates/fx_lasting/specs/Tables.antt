@@ -14,7 +14,7 @@ use Rattle.fx_table.specs.declared.values.Hold.{Hold}
 use Rattle.fx_table.specs.declared.values.Retired.{Retired}
 use Rattle.fx_lasting.specs.AtWork.{IsAtWork}
 use Rattle.fx_lasting.specs.Passes.{first_log, IsInBlock}
-use Rattle.fx_lasting.specs.Tells.{IsListed, new_round}
+use Rattle.fx_lasting.specs.Tells.{IsOnList, new_round}
 use Rattle.fx_lasting.specs.declared.view.Change.TheVariants.{Outside}
 use Rattle.fx_lasting.specs.declared.view.Glance.TheVariants.{None as Nothing}
 use Rattle.fx_lasting.specs.declared.view.Start.{Start}
@@ -100,7 +100,7 @@ pub record IsSeatOf (id : TableId) (k : Start) (p : LastingPass) : Type 0 where
   pub at : IsAtWork k p.number p.seat.me
   pub change : p.seat.me.0.change ≡ Outside
   pub block : IsInBlock k p.number p.next_node
-  pub listed : p.listed ≡ true → IsListed p.seat.me
+  pub listed : p.listed ≡ true → IsOnList p.seat.me
 
 -- a pass of a table with this start
 pub record IsPassOf (id : TableId) (k : Start) (p : LastingPass) : Type 0 where

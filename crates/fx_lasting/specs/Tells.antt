@@ -1,7 +1,7 @@
 -- Each kind of step: its effect on the pass that makes it.
 use Rattle.std.specs.Prelude.{◌≡◌, ◌≢◌, ℕ, ◌+◌, ◌-◌, ◌*◌, ◌/◌, ◌<◌, ◌==◌, nat_lt}
 use Rattle.std.specs.Prelude.{if◌then◌else◌}
-use Rattle.std.specs.Prelude.{List, [], true, ◌≤◌}
+use Rattle.std.specs.Prelude.{◌≤◌, true, List, []}
 use Rattle.std.specs.Prelude.{◌∷◌, ◌++◌, map, Option, Some, None}
 use Rattle.atomic_table.specs.Table.{Step, rest}
 use Rattle.fx_base.specs.Identity.{Identity}
@@ -66,8 +66,8 @@ IsInside k (Retiring f node takes round marks) = node < nodes_of k
 IsInside k (Emptying node) = node < nodes_of k
 
 -- the pass of the seat is listed
-abbrev pub IsListed : Sat → Type 0
-IsListed m = (pass_in m).listed ≡ true
+abbrev pub IsOnList : Sat → Type 0
+IsOnList m = (pass_in m).listed ≡ true
 
 -- One step of a seat with one pass: it saw more of the history and took these actions, and now it
 -- does this work
@@ -80,7 +80,7 @@ pub record Stepped (m : Sat) (actions : List Action) (w : Work) (g : Glance) (c 
   pub own : part_of_pass (pass_in m).number (pass_in m').front
       ≡ map (pass_event (pass_in m)) actions ++ part_of_pass (pass_in m).number (pass_in m).front
   pub steps : (pass_in m').steps ≡ (pass_in m).steps + 1
-  pub listed : IsListed m → IsListed m'
+  pub listed : IsOnList m → IsOnList m'
   pub work : m'.0.work ≡ w
   pub inside : IsInside m.0.start w
   pub glance : m'.0.glance ≡ g
@@ -104,7 +104,7 @@ pub record Glances (st : At) (m : Sat) (found : ℕ) (m' : Sat) : Type 0 where
 -- List: the list has the pass's bit
 pub record Lists (st : At) (m : Sat) (found : ℕ) (m' : Sat) : Type 0 where
   pub goes : Goes m [] m.0.work m.0.glance m'
-  pub listed : IsListed m'
+  pub listed : IsOnList m'
 
 -- Announce: the hold word names the node
 pub record Announces (st : At) (m : Sat) (found : ℕ) (m' : Sat) : Type 0 where
@@ -223,28 +223,37 @@ pub record Skims (st : At) (m : Sat) (found : ℕ) (m' : Sat) : Type 0 where
 
 -- Visit, of a hold word: one that doesn't name the node isn't marked
 pub record Visits (st : At) (m : Sat) (found : ℕ) (m' : Sat) : Type 0 where
-  pub other : (f : File) (node takes : ℕ) (round : Round) (marks : ℕ) → m.0.work ≡ Retiring f node takes round marks
+  pub other : (f : File) (node takes : ℕ) (round : Round) (marks : ℕ)
+      → m.0.work ≡ Retiring f node takes round marks
       → found ≢ announced node
-      → Goes m [] (Retiring f node takes (round_at round (pass_at m.0.start st.word)) marks) m.0.glance m'
-  pub names : (f : File) (node takes : ℕ) (round : Round) (marks : ℕ) → m.0.work ≡ Retiring f node takes round marks
+      → Goes m [] (Retiring f node takes (round_at round (pass_at m.0.start st.word)) marks)
+      m.0.glance m'
+  pub names : (f : File) (node takes : ℕ) (round : Round) (marks : ℕ)
+      → m.0.work ≡ Retiring f node takes round marks
       → found ≡ announced node → Goes m [] (Retiring f node takes round marks) m.0.glance m'
 
 -- Mark: it is counted where it was made
 pub record Marks (st : At) (m : Sat) (found : ℕ) (m' : Sat) : Type 0 where
-  pub made : (f : File) (node takes : ℕ) (round : Round) (marks : ℕ) → m.0.work ≡ Retiring f node takes round marks
+  pub made : (f : File) (node takes : ℕ) (round : Round) (marks : ℕ)
+      → m.0.work ≡ Retiring f node takes round marks
       → found ≡ announced node
-      → Goes m [] (Retiring f node takes (round_at round (pass_at m.0.start st.word)) (marks + 1)) m.0.glance m'
-  pub missed : (f : File) (node takes : ℕ) (round : Round) (marks : ℕ) → m.0.work ≡ Retiring f node takes round marks
+      → Goes m [] (Retiring f node takes (round_at round (pass_at m.0.start st.word)) (marks + 1))
+      m.0.glance m'
+  pub missed : (f : File) (node takes : ℕ) (round : Round) (marks : ℕ)
+      → m.0.work ≡ Retiring f node takes round marks
       → found ≢ announced node
-      → Goes m [] (Retiring f node takes (round_at round (pass_at m.0.start st.word)) marks) m.0.glance m'
+      → Goes m [] (Retiring f node takes (round_at round (pass_at m.0.start st.word)) marks)
+      m.0.glance m'
 
 -- Retire: where the word was 1 more than what was subtracted, nobody has still to let the file go
 pub record Retires (st : At) (m : Sat) (found : ℕ) (m' : Sat) : Type 0 where
-  pub waits : (f : File) (node takes : ℕ) (round : Round) (marks : ℕ) → m.0.work ≡ Retiring f node takes round marks
+  pub waits : (f : File) (node takes : ℕ) (round : Round) (marks : ℕ)
+      → m.0.work ≡ Retiring f node takes round marks
       → found ≢ st.first + 1
       → Goes m [] Idle m.0.glance m'
       × ((state_after_all m.0.start (pass_in m').front).removed f.number ≡ Some f)
-  pub closes : (f : File) (node takes : ℕ) (round : Round) (marks : ℕ) → m.0.work ≡ Retiring f node takes round marks
+  pub closes : (f : File) (node takes : ℕ) (round : Round) (marks : ℕ)
+      → m.0.work ≡ Retiring f node takes round marks
       → found ≡ st.first + 1 → TakesOut m [] f node m'
 
 -- where the visits of a retirement begin: a file of a slot that wasn't hot is held by takes alone

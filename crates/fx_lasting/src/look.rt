@@ -5,7 +5,7 @@ ghost use Rattle.fx_lasting.specs.AtWork.{IsAtWork};
 ghost use Rattle.fx_lasting.specs.Ends.{Guards, LooksByTake};
 ghost use Rattle.fx_lasting.specs.Runs.{Runs};
 ghost use Rattle.fx_lasting.specs.Tables.{IsSeatOfTable, listing_step};
-ghost use Rattle.fx_lasting.specs.Tells.{glance_after, IsListed};
+ghost use Rattle.fx_lasting.specs.Tells.{glance_after, IsOnList};
 ghost use Rattle.fx_lasting.specs.declared.view.Glance.TheVariants.{None as Nothing, Hot, Cold};
 ghost use Rattle.fx_lasting.specs.declared.view.Work.TheVariants.{Idle};
 
@@ -26,7 +26,7 @@ impl LastingTable {
     pub(crate) fn list(&self, pass: &mut LastingPass)
         requires seated { IsSeatOfTable self.now pass.old }
         ensures seated { IsSeatOfTable self.now pass.new }
-        ensures listed { IsListed pass.new.seat.me }
+        ensures listed { IsOnList pass.new.seat.me }
         ensures table { pass.new.seat.table_id ≡ pass.old.seat.table_id }
         ensures number { pass.new.number ≡ pass.old.number }
         ensures runs { Runs pass.old.seat.me [] pass.old.seat.me.0.work pass.old.seat.me.0.glance
@@ -52,7 +52,7 @@ impl LastingTable {
     ) -> Option<u8>
         requires table { seat.old.table_id ≡ self.now.table.shared.table_id }
         requires at { IsAtWork self.now.table.shared.key number seat.old.me }
-        requires listed { IsListed seat.old.me }
+        requires listed { IsOnList seat.old.me }
         requires idle { seat.old.me.0.work ≡ Idle }
         requires saw { seat.old.me.0.glance ≡ Hot slot node }
         requires slot { slot < self.now.size }

@@ -70,12 +70,12 @@ impl LastingTable {
         ensures table { seat.new.table_id ≡ seat.old.table_id }
         ensures places { seat.new.me.1 ≡ seat.old.me.1 }
         ensures few { result ≤ 64 }
-        ensures visited { (m : Sat) (f : File) (takes begin words last marks : ℕ)
+        ensures visited { (found : ℕ) × ((m : Sat) (f : File) (takes begin words last marks : ℕ)
             → first ≡ 64 * words + 1
             → HasVisited self.now.passes number node f takes begin words last first marks m
             seat.old.me
-            → (found : ℕ) × HasVisited self.now.passes number node f takes begin (words + 1) found
-            (first + 64) (marks + result) m seat.new.me }
+            → HasVisited self.now.passes number node f takes begin (words + 1) found (first + 64)
+            (marks + result) m seat.new.me) }
     {
         let mut rest = self.table.shared.load::<Skimming>(seat, list_place(first));
         let mut pass = first;
