@@ -46,7 +46,9 @@ static bool has_full_range(const struct state *s) {
 
 /* Begins a call of the pass, or ends one (`call` 0). What it holds stays. */
 static void begin_call(struct pass *it, int call, enum step step) {
-    struct pass next = {.step = step, .call = call, .slot = it->slot, .node = it->node, .holds = it->holds};
+    struct pass next = {
+        .step = step, .call = call, .slot = it->slot, .node = it->node, .holds = it->holds, .is_listed = it->is_listed
+    };
     if (call == 0) {
         next.slot = next.node = 0;
     }
@@ -88,9 +90,22 @@ static void glance(struct state *s, struct pass *it) {
         begin_call(it, 0, IDLE);
     } else if (s->hot[it->slot]) {
         it->node = s->named[it->slot] - 1;
-        it->step = wrong == announced_after_the_second_look ? CONFIRM : ANNOUNCE;
+        it->step = wrong == announced_after_the_second_look ? CONFIRM
+            : it->is_listed || wrong == listed_after_the_second_look ? ANNOUNCE : LIST;
     } else {
         it->step = TAKE;
+    }
+}
+
+/* Sets the bit of the pass. */
+static void list(struct state *s, struct pass *it, int who) {
+    uint8_t *word = &s->list[who / PER_WORD], bit = 1 << who % PER_WORD;
+    *word = wrong == listed_by_a_store ? bit : *word | bit;
+    it->is_listed = it->lists = 1;
+    if (wrong == listed_after_the_second_look) {
+        hold_until_release(it, GUARDED);
+    } else {
+        it->step = ANNOUNCE;
     }
 }
 
@@ -116,9 +131,13 @@ static void confirm(struct state *s, struct pass *it, int who) {
     hold_file(s, it);
     if (is_announced) {
         want(s->hold[who] == it->node + 1, "a confirmed hold is marked");
-        hold_until_release(it, GUARDED);
+        if (it->is_listed) {
+            hold_until_release(it, GUARDED);
+        } else {
+            it->step = LIST;
+        }
     } else {
-        it->step = ANNOUNCE;
+        it->step = it->is_listed ? ANNOUNCE : LIST;
     }
 }
 
@@ -157,14 +176,35 @@ static void heat(struct state *s, struct pass *it) {
 
 /* A removal, and the retirement of what it removed */
 
-static void visit_from(struct pass *it, int who, int next) {
+/* Goes on with a round: to the next listed pass of the word that was loaded, to the next word, or to its end. */
+static void go_on(struct pass *it, int who) {
     int end = wrong == last_pass_not_visited ? family->passes - 1 : family->passes;
-    it->next = next + (next == who);
-    it->step = VISIT;
-    if (it->next >= end) {
-        it->next = 0;
-        it->step = it->call == RETIREMENT ? RETIRE : SWAP;
+    for (; it->next < end; it->next++) {
+        if (it->next == it->words * PER_WORD) {
+            it->step = SKIM;
+            return;
+        }
+        if (it->next != who && (it->last >> it->next % PER_WORD & 1)) {
+            it->step = VISIT;
+            return;
+        }
     }
+    it->next = it->words = it->last = 0;
+    it->step = it->call == RETIREMENT ? RETIRE : SWAP;
+}
+
+static void skim(struct state *s, struct pass *it, int who) {
+    it->last = s->list[it->words++];
+    if (it->call != RETIREMENT && wrong == skimmed_before_the_swap) {
+        it->step = family->in_range ? LOWER : SWAP;
+    } else {
+        go_on(it, who);
+    }
+}
+
+static void visit_next(struct pass *it, int who) {
+    it->next++;
+    go_on(it, who);
 }
 
 /* A swap, with the count of its slot, is over: its pass retires what it found. */
@@ -174,11 +214,14 @@ static void retire_found(struct pass *it, int who) {
         begin_call(it, 0, IDLE);
         return;
     }
-    begin_call(it, RETIREMENT, VISIT);
+    begin_call(it, RETIREMENT, SKIM);
     it->slot = 0;
     it->takes = found.takes;
     it->marks = found.marks;
-    visit_from(it, who, found.was_hot && wrong != no_visits && wrong != scan_before_the_swap ? 0 : family->passes);
+    it->words = found.words;
+    it->last = found.last;
+    it->next = found.was_hot && wrong != no_visits && wrong != scan_before_the_swap ? 0 : family->passes;
+    go_on(it, who);
 }
 
 static void swap(struct state *s, struct pass *it, int who) {
@@ -218,14 +261,14 @@ static void mark_hold(struct state *s, struct pass *it, int who) {
         s->hold[it->next] = (it->node + 1) | MARK;
     }
     it->marks += marks || wrong == failed_marks_counted;
-    visit_from(it, who, it->next + 1);
+    visit_next(it, who);
 }
 
 static void visit(struct state *s, struct pass *it, int who) {
     if (s->hold[it->next] == it->node + 1) {
         it->step = MARK_HOLD;
     } else {
-        visit_from(it, who, it->next + 1);
+        visit_next(it, who);
     }
 }
 
@@ -336,7 +379,10 @@ static bool begin_nth(struct state *s, struct pass *it, int who, int nth) {
         begin_call(it, REMOVE, family->in_range && wrong != counted_until_it_is_empty ? LOWER : SWAP);
         if (wrong == scan_before_the_swap && s->named[nth] && s->hot[nth]) {
             it->node = s->named[nth] - 1;
-            visit_from(it, who, 0);
+            go_on(it, who);
+        }
+        if (wrong == skimmed_before_the_swap && s->hot[nth]) {
+            it->step = SKIM;
         }
         return true;
     }
@@ -376,6 +422,7 @@ bool take_step(void *state, int who, int nth) {
     it->steps += it->call != PUT_ANY;
     switch ((enum step)it->step) {
     case IDLE: break;
+    case LIST: list(s, it, who); break;
     case ANNOUNCE: announce(s, it, who); break;
     case CONFIRM: confirm(s, it, who); break;
     case WITHDRAW: it->step = empty_hold(s, it, who, withdrawal_by_a_store) ? DROP_OWED : TAKE; break;
@@ -406,6 +453,7 @@ bool take_step(void *state, int who, int nth) {
     case SWAP: swap(s, it, who); break;
     case RAISE: raise_count(s, it, who); break;
     case LOWER_LATE: s->full--; retire_found(it, who); break;
+    case SKIM: skim(s, it, who); break;
     case VISIT: visit(s, it, who); break;
     case MARK_HOLD: mark_hold(s, it, who); break;
     case RETIRE: retire(s, it); break;

@@ -1,7 +1,8 @@
 /* The lasting table's words and passes as lasting_table.c changes them and lasting_rule.c checks them. */
 #include "step_table.h"
 
-enum { MOST_SLOTS = 2, MOST_NODES = 12 };
+/* A word of the list has the bits of PER_WORD passes, and not of 64, so that a round loads two words. */
+enum { MOST_SLOTS = 2, MOST_NODES = 12, PER_WORD = 2, MOST_WORDS = (MOST_PASSES + PER_WORD - 1) / PER_WORD };
 
 /* The words of a node, where 64 is 2^32 + 1, and the mark of a hold word. */
 enum { FREE = 0, CLOSED = 1, LAST = 2, BORN = 64, MARK = 128 };
@@ -15,8 +16,8 @@ enum { LOOK = 1, PUT = 2, REMOVE = 4, PUT_ANY = 8, RELEASE = 16, RETIREMENT = 32
 
 /* The next step of a pass. */
 enum step {
-    IDLE, ANNOUNCE, CONFIRM, WITHDRAW, DROP_OWED, REST_OF_LOOK, TAKE, HEAT, GUARDED, COUNTED, DROP_YIELDED, REST,
-    SEEK, BIRTH, LOWER, SWAP, RAISE, VISIT, MARK_HOLD, RETIRE, PEEK, EXCHANGE, ASK, REST_UNUSED, RAISE_EARLY, LOWER_LATE
+    IDLE, LIST, ANNOUNCE, CONFIRM, WITHDRAW, DROP_OWED, REST_OF_LOOK, TAKE, HEAT, GUARDED, COUNTED, DROP_YIELDED, REST,
+    SEEK, BIRTH, LOWER, SWAP, RAISE, SKIM, VISIT, MARK_HOLD, RETIRE, PEEK, EXCHANGE, ASK, REST_UNUSED, RAISE_EARLY, LOWER_LATE
 };
 
 /* The right table and wrong ones: each is the right one with one change. */
@@ -26,7 +27,7 @@ enum step {
     X(announced_after_the_second_look) X(withdrawal_by_a_store) X(release_by_a_store) X(failed_marks_counted) \
     X(hot_not_asked_at_the_second_look) X(takes_left_out_of_a_retirement) X(last_pass_not_visited) X(no_visits) \
     X(closed_one_too_early) X(closed_one_too_late) X(slot_never_heated) X(counted_before_it_is_full) \
-    X(counted_until_it_is_empty)
+    X(counted_until_it_is_empty) X(listed_after_the_second_look) X(skimmed_before_the_swap) X(listed_by_a_store)
 enum wrong { TABLES(AS_MEMBER) WRONG_TABLES };
 
 struct family {
@@ -41,6 +42,10 @@ struct family {
 
 struct pass {
     uint8_t step, call, slot, node, takes, next, marks;
+    /* The words of the list that a round has loaded, and the last of them. */
+    uint8_t words, last;
+    /* The pass is listed, and was listed in this call. */
+    uint8_t is_listed, lists;
     /* The place of a search in the pass's block, and the nodes that it found taken. */
     uint8_t nth, tried;
     /* The hot bit that a look at an empty slot found. */
@@ -55,6 +60,8 @@ struct state {
     /* Slot words: the node plus 1, or 0. */
     uint8_t named[MOST_SLOTS], takes[MOST_SLOTS], hot[MOST_SLOTS];
     uint8_t hold[MOST_PASSES];
+    /* The bits of the passes that ever announced a node. */
+    uint8_t list[MOST_WORDS];
     uint8_t word[MOST_NODES], place[MOST_NODES], file[MOST_NODES];
     /* The control word: the full slots that are counted, as a signed byte. */
     uint8_t full;

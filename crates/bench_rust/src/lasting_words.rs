@@ -1,5 +1,6 @@
 //! The words of the lasting table, in plain, unproved Rust: the proved table is measured against it. A cold file is looked
-//! up by an addition to its slot's word, a hot one by its node in the pass's own hold word.
+//! up by an addition to its slot's word, a hot one by its node in the pass's own hold word, once the pass is in the list of
+//! passes that ever announced a node.
 use crate::table::{read_entry, File, Shape, Table};
 use std::cell::UnsafeCell;
 use std::hint::black_box;
@@ -24,12 +25,18 @@ const BIAS: u64 = 65_536;
 #[repr(align(64))]
 struct Line(AtomicU64);
 
+/// The list of passes that ever announced a node: a bit for each, 64 in a word.
+#[derive(Default)]
+#[repr(align(64))]
+struct List([AtomicU64; 16]);
+
 fn line(word: u64) -> Line {
     Line(AtomicU64::new(word))
 }
 
 /// The lasting table, unproved.
 pub struct LastingWords {
+    list: List,
     slots: Vec<Line>,
     holds: Vec<Line>,
     nodes: Vec<AtomicU64>,
@@ -43,10 +50,11 @@ pub struct LastingWords {
 // A place is written by the pass that its node is born to, and emptied by the one that brings its word to `CLOSED`.
 unsafe impl Sync for LastingWords {}
 
-/// A pass: its number, and the node of its block at which its next search begins.
+/// A pass: its number, the node of its block at which its next search begins, and whether it is in the list.
 pub struct Pass {
     number: usize,
     next: usize,
+    listed: bool,
 }
 
 /// A file that a pass looked up: by a take of its node, or by its hold word.
@@ -92,12 +100,20 @@ impl LastingWords {
         })
     }
 
-    fn look_up(&self, pass: &Pass, slot: usize) -> Option<Held> {
+    fn list(&self, pass: &mut Pass) {
+        if !pass.listed {
+            self.list.0[pass.number / 64].fetch_or(1 << (pass.number % 64), SeqCst);
+            pass.listed = true;
+        }
+    }
+
+    fn look_up(&self, pass: &mut Pass, slot: usize) -> Option<Held> {
         let word = self.slots[slot].0.load(SeqCst);
         let node = node_in(word)?;
         if word & HOT == 0 {
             return self.take_at(slot);
         }
+        self.list(pass);
         self.holds[pass.number].0.store(node as u64 + 1, SeqCst);
         let again = self.slots[slot].0.load(SeqCst);
         if again >> 40 == word >> 40 && again & HOT != 0 {
@@ -119,22 +135,28 @@ impl LastingWords {
         }
     }
 
-    // Marks the hold words of the other passes that name the node, and returns how many it marked.
-    fn mark_holds(&self, pass: &Pass, node: usize) -> u64 {
+    // Marks the hold word of a pass, if it names the node.
+    fn mark_hold(&self, at: usize, node: usize) -> bool {
         let name = node as u64 + 1;
-        let is_marked = |(at, it): (usize, &Line)| {
-            at != pass.number
-                && it.0.load(SeqCst) == name
-                && it
-                    .0
-                    .compare_exchange(name, name | MARK, SeqCst, SeqCst)
-                    .is_ok()
-        };
-        self.holds
-            .iter()
-            .enumerate()
-            .filter(|it| is_marked(*it))
-            .count() as u64
+        let hold = &self.holds[at].0;
+        hold.load(SeqCst) == name
+            && hold
+                .compare_exchange(name, name | MARK, SeqCst, SeqCst)
+                .is_ok()
+    }
+
+    // Marks the hold words of the other listed passes that name the node, and returns how many it marked.
+    fn mark_holds(&self, pass: &Pass, node: usize) -> u64 {
+        let mut marks = 0;
+        for first in (0..self.holds.len()).step_by(64) {
+            let mut rest = self.list.0[first / 64].load(SeqCst);
+            while rest != 0 {
+                let at = first + rest.trailing_zeros() as usize;
+                marks += u64::from(at != pass.number && self.mark_hold(at, node));
+                rest &= rest - 1;
+            }
+        }
+        marks
     }
 
     fn retire(&self, pass: &Pass, word: u64) {
@@ -214,6 +236,7 @@ impl Table for LastingWords {
         let node = |n| AtomicU64::new(if n < full { BORN } else { FREE });
         let place = |n| UnsafeCell::new((n < full).then_some(File { entry: 0, mark: 0 }));
         LastingWords {
+            list: List::default(),
             slots: (0..slots).map(slot).collect(),
             holds: (0..threads).map(|_| line(0)).collect(),
             nodes: (0..nodes).map(node).collect(),
@@ -228,6 +251,7 @@ impl Table for LastingWords {
         Pass {
             number: thread,
             next: 0,
+            listed: false,
         }
     }
 

@@ -9,10 +9,10 @@ use Rattle.fx_lasting.proofs.Histories.{grows_none, each_changed}
 use Rattle.fx_lasting.proofs.Frames.{busy, does_now}
 use Rattle.fx_lasting.proofs.Keeping.{Turn, turn_of, After, Homes, word_at, slot_word, Made, by_turn, its_log, its_work, in_range, tells, tells_less, w, end}
 use Rattle.fx_lasting.proofs.NodeSteps.{after, node_kept, own_keeps, guards_else}
-use Rattle.fx_lasting.proofs.Places.{node_words, node_here, node_else, node_slot, node_hold, node_control}
+use Rattle.fx_lasting.proofs.Places.{node_words, node_here, node_else, node_slot, node_hold, node_control, node_list}
 use Rattle.fx_lasting.proofs.Calm.{read_before, read_before_kept, Reads}
 use Rattle.fx_lasting.proofs.Choosing.{no_file, no_take, not_busy, holds_none}
-use Rattle.fx_lasting.proofs.Words.{HasNoFile, HoldAgrees, SearchAgrees, GuardAgrees, rested, IsInside, changed_at}
+use Rattle.fx_lasting.proofs.Words.{HasNoFile, HoldAgrees, IsAllowed, GuardAgrees, rested, IsInside, changed_at}
 use Rattle.fx_lasting.proofs.FreeNodes.{some_free}
 use Rattle.fx_lasting.proofs.Unheld.{NodeNow, in_phase}
 use Rattle.std.proofs.Common.{suc-mul}
@@ -67,7 +67,7 @@ module _ (turn : Turn) where
       taken = λ n. sym (no_take searches n);
       owners = inr (not_busy searches);
       held = o.held ∙ no_file searches;
-      search = block;
+      allowed = block;
       its = record {
         hold = holds_none searches o.hold;
         guarded = tt;
@@ -107,7 +107,7 @@ module _ (turn : Turn) where
             ),
           ))
           (λ s. let o = subst (WorkAgrees v.start r.phase id) s.1 (its_work turn) in
-          let b : IsInBlock v.start x.number s.0 = rw s.1 at (its_log turn).search in (
+          let b : IsInBlock v.start x.number s.0 = rw s.1 at (its_log turn).allowed in (
             s.0,
             (
               o.0,
@@ -168,13 +168,14 @@ module _ (turn : Turn) where
               (λ is. sym (ap (λ (i : ℕ). removed_in m (r.phase i)) is ∙ ap (removed_in m) its.1)) (λ _. refl));
           slot_words = same;
           control_word = node_control turn n its.0 birth_word;
+          lists = node_list turn n its.0 birth_word;
           node_words = λ m l other. node_else turn n its.0 birth_word m other;
           home_else = λ m l other. set_else st.homes n m none other;
           owed_else = λ m other. refl;
           taken_else = λ m other. sym (ap (taking m) works);
           free_else = λ m other bad. let a = ap busy works in omega arith;
           may = inr (inl (ap owner its.1));
-          its_block = λ _. rw works at o.search;
+          its_block = λ _. rw works at o.allowed;
           at_slot = λ s f is. cc (sym its.1 ∙ is);
           open_file = λ j u f other there holds is. let bad : None ≡ Some f = sym (ap file_in its.1) ∙ is in cc bad;
           guards = λ p e other range. guards_else turn n its.0 (placed id) r.history words₁ homes₁ r.debt (Placing n) v.glance same p e
@@ -188,7 +189,7 @@ module _ (turn : Turn) where
               };
           known = does_now st.views id v (w turn born_after) (Placing n) here refl;
           held = o.held ∙ ap held_in works;
-          search = rw works at o.search;
+          allowed = rw works at o.allowed;
           its_own = own_keeps turn n its.0 (placed id) r.history words₁ homes₁ r.debt (Placing n) v.glance same refl
               (node_hold turn n its.0 birth_word x.number (in_range turn).1 ∙ h.0, h.1) tt (its.0, changed_here r.phase n (placed id) n refl);
           holds = λ m. let a = ap (λ (d : Work). if_file m (held_in d)) works in omega arith;
@@ -232,7 +233,7 @@ module _ (turn : Turn) where
     words₀ = node_words turn n its_node.0 0
 
     -- what the pass does afterwards: nothing, or it may place this node again
-    module _ (d : Work) (to : HasNoFile d) (search : SearchAgrees v.start x.number d) (again : (m : ℕ) → d ≡ Searching m → m ≡ n) where
+    module _ (d : Work) (to : HasNoFile d) (allowed : IsAllowed v.start x.number x.listed d) (again : (m : ℕ) → d ≡ Searching m → m ≡ n) where
       abbrev rest_after : After turn
       rest_after = after turn n its_node.0 free r.history words₀ homes₀ r.debt d v.glance
 
@@ -255,6 +256,7 @@ module _ (turn : Turn) where
                 (λ is. sym (ap (λ (i : ℕ). removed_in m (r.phase i)) is ∙ q.3 m)) (λ _. refl));
             slot_words = same;
             control_word = node_control turn n q.0 0;
+            lists = node_list turn n q.0 0;
             node_words = λ m l other. node_else turn n q.0 0 m other;
             home_else = λ m l other. set_else st.homes n m (some None) other;
             owed_else = λ m other. refl;
@@ -275,15 +277,15 @@ module _ (turn : Turn) where
                 };
             known = tt;
             held = o.held ∙ (c.0 ∙ sym (no_file to));
-            search = search;
+            allowed = allowed;
             its_own = own_keeps turn n q.0 free r.history words₀ homes₀ r.debt d v.glance same refl
                 (rw (node_hold turn n q.0 0 x.number (in_range turn).1 ∙ c.3, c.4) knows.3) knows.2 knows.0;
             holds = λ m. let a = ap (if_file m) c.0 in let b = ap (if_file m) (no_file to) in omega arith;
           }
 
-    after_rest : HasNoFile (rested v.work) × SearchAgrees v.start x.number (rested v.work) × ((m : ℕ) → rested v.work ≡ Searching m → m ≡ n)
+    after_rest : HasNoFile (rested v.work) × IsAllowed v.start x.number x.listed (rested v.work) × ((m : ℕ) → rested v.work ≡ Searching m → m ≡ n)
     after_rest = ⊎_elim (λ (e : v.work ≡ Emptying n). rw e (inl refl, tt, λ m bad. cc bad))
-        (λ (e : v.work ≡ Placing n). let block = rw e at (its_log turn).search in rw e (inr (n, refl), block, λ m is. let same : n ≡ m = cc is in sym same))
+        (λ (e : v.work ≡ Placing n). let block = rw e at (its_log turn).allowed in rw e (inr (n, refl), block, λ m is. let same : n ≡ m = cc is in sym same))
         works
 
     pub rests : (slots : ℕ) (carried : List (ℕ × Option Closed)) → carried ≡ (n, None) ∷ []

@@ -1,5 +1,5 @@
 -- The places of a call's steps.
-use Rattle.fx_lasting.proofs.Words.{◌≡◌, ◌<◌, ◌≤◌, ℕ, ◌*◌, arith, ⊎_elim, Start, LastingTable, slot_place, hold_place}
+use Rattle.fx_lasting.proofs.Words.{◌≡◌, ◌<◌, ◌≤◌, ℕ, ◌*◌, arith, ⊎_elim, Start, LastingTable, list_place, slot_place, hold_place}
 use Rattle.fx_lasting.proofs.Words.{node_place, word_of, hold_word_of, nodes_of, slots_of, block_for, block_start, HasPlace, IsAtWork, Sat, Emptying, Placing}
 use Rattle.fx_lasting.proofs.Words.{Option, Closed, IsInBlock, mul-le-mul_right}
 use Rattle.fx_lasting.proofs.Births.{block_inside}
@@ -12,6 +12,10 @@ slot_low t {slot} l = omega (arith, l, t.same_size)
 -- the word of a slot is one of the table
 pub slot_inside : (t : LastingTable) {slot i : ℕ} → slot < t.size → i ≡ slot_place slot → i < t.table.shared.table_id.words
 slot_inside t {slot} l is = omega (arith, l, is, t.words)
+
+-- the word of the list that has a pass's bit is one of the table
+pub list_inside : (t : LastingTable) {p i : ℕ} → p ≤ 1024 → i ≡ list_place p → i < t.table.shared.table_id.words
+list_inside t {p} few is = omega (arith, few, is, t.words)
 
 -- the hold word of a pass is one of the table
 pub hold_inside : (t : LastingTable) {p i : ℕ} → p ≤ t.table.shared.key.passes → i ≡ hold_place t.size p → i < t.table.shared.table_id.words

@@ -1,16 +1,18 @@
 -- Steps at which no slot and no node changes: they change the pass alone, and perhaps its hold word or the control word.
 use Rattle.fx_lasting.proofs.Words.{◌≡◌, ◌≢◌, ℕ, ◌+◌, ◌<◌, List, set, length, refl, ap, ◌∙◌, subst, arith, Option, Bool, held_by, File, Event}
-use Rattle.fx_lasting.proofs.Words.{range_at_start, NodeAgrees, SearchAgrees, Agrees, ControlCounts, slots_of, nodes_of, IsHistory, state_after_all}
+use Rattle.fx_lasting.proofs.Words.{range_at_start, NodeAgrees, IsAllowed, Agrees, ControlCounts, slots_of, nodes_of, IsHistory, state_after_all}
 use Rattle.fx_lasting.proofs.Words.{held_in, held_of, taken_of, taking, Work, Glance, Change, ⊎_elim, ◌⊎◌, inr, control_place, word_of, hold_word_of}
 use Rattle.fx_lasting.proofs.Words.{count_in, name_in, HoldAgrees, GuardAgrees, WorkAgrees, sum_set, sum_by, get_elem?, length-set, set-get_or}
-use Rattle.fx_lasting.proofs.Words.{owed, seated, [], IsSeenBy, part_of_pass}
+use Rattle.fx_lasting.proofs.Words.{owed, seated, [], IsSeenBy, part_of_pass, ◌≤◌, inl, true, list_place, IsListedIn}
 use Rattle.fx_lasting.proofs.Histories.{Grows}
 use Rattle.fx_lasting.proofs.Frames.{busy, owner_stays, owner_same, slot_same, node_same, control_same, Leaves, keeps_other, guards_same, covers_same}
 use Rattle.fx_lasting.proofs.Frames.{sees_same, heats_same}
 use Rattle.fx_lasting.proofs.Keeping.{Turn, After, Keeps, word_at, slot_word, step_kept, w, end, its_log, in_range}
-use Rattle.fx_lasting.proofs.Places.{hold_words, hold_here, hold_node, hold_slot, hold_else, hold_control}
+use Rattle.fx_lasting.proofs.Lists.{ListGoesOn}
+use Rattle.fx_lasting.proofs.Places.{hold_words, hold_here, hold_node, hold_slot, hold_else, hold_control, hold_list}
 
-module _ (turn : Turn) (h' front : List Event) (words' : List ℕ) (d : Work) (g : Glance) (c : Change) where
+module _ (turn : Turn) (h' front : List Event) (words' : List ℕ) (d : Work) (g : Glance) (c : Change) (l : Bool)
+    (still : turn.x.listed ≡ true → l ≡ true) where
   open turn use {st, v, r, id, x, here, one}
 
   abbrev pub calm_after : After turn
@@ -26,6 +28,8 @@ module _ (turn : Turn) (h' front : List Event) (words' : List ℕ) (d : Work) (g
     work = d;
     glance = g;
     change = c;
+    listed = l;
+    still_listed = still;
   }
 
   pub record Calm : Type 0 where
@@ -44,7 +48,9 @@ module _ (turn : Turn) (h' front : List Event) (words' : List ℕ) (d : Work) (g
     pub taken : (n : ℕ) → taking n d ≡ taking n v.work
     pub owners : (d ≡ v.work) ⊎ (busy v.work ≡ 0)
     pub held : held_by h' x.number ≡ held_in d
-    pub search : SearchAgrees v.start x.number d
+    pub allowed : IsAllowed v.start x.number l d
+    pub lists : (p : ℕ) → p ≤ 1024 → ListGoesOn x.number p (word_at st.words (list_place p)) (word_at words' (list_place p))
+    pub its_bit : l ≡ true → (x.listed ≡ true) ⊎ IsListedIn (word_at words' (list_place x.number)) x.number
     pub its : Keeps turn calm_after id x.number d g
     pub holds : (n : ℕ) → (state_after_all v.start h').holds n + held_of n v ≡ (state_after_all v.start r.history).holds n + held_of n (w turn calm_after)
 
@@ -68,7 +74,9 @@ module _ (turn : Turn) (h' front : List Event) (words' : List ℕ) (d : Work) (g
         fresh = λ number l. ap (λ (f : ℕ → Bool). f number) s.fresh ∙ r.fresh number l;
         others = λ j u z other there at n range o work. keeps_other turn calm_after leaves j u z other there n range o work;
         held = s.held;
-        search = s.search;
+        allowed = s.allowed;
+        lists = s.lists;
+        its_bit = s.its_bit;
         its = s.its;
         holds = s.holds;
         control = rw s.at s.control;
@@ -96,7 +104,7 @@ module _ (turn : Turn) (new : ℕ) (d : Work) where
   own_words = hold_words turn x.number (in_range turn).0 (in_range turn).1 new
 
   abbrev pub own_after : (h' : List Event) → After turn
-  own_after h' = calm_after turn h' h' own_words d v.glance v.change
+  own_after h' = calm_after turn h' h' own_words d v.glance v.change x.listed (λ l. l)
 
   pub record Own (h' : List Event) : Type 0 where
     pub grows : Grows x.number r.history h'
@@ -107,7 +115,7 @@ module _ (turn : Turn) (new : ℕ) (d : Work) where
     pub taken : (n : ℕ) → taking n d ≡ taking n v.work
     pub owners : busy v.work ≡ 0
     pub held : held_by h' x.number ≡ held_in d
-    pub search : SearchAgrees v.start x.number d
+    pub allowed : IsAllowed v.start x.number x.listed d
     pub hold : HoldAgrees new (r.debt x.number) d
     pub guarded : GuardAgrees (slot_word own_words) r.phase x.number (r.debt x.number) d
     pub work : WorkAgrees v.start r.phase id d
@@ -116,7 +124,7 @@ module _ (turn : Turn) (new : ℕ) (d : Work) where
 
   pub own_kept : {h' : List Event} → Own h' → Agrees v.start (end turn (own_after h'))
   own_kept {h'} s = let low = (in_range turn).0 in let high = (in_range turn).1 in let same = hold_slot turn x.number low high new in
-      let o = its_log turn in calm_kept turn h' h' own_words d v.glance v.change record {
+      let o = its_log turn in calm_kept turn h' h' own_words d v.glance v.change x.listed (λ l. l) record {
         words = length-set st.words (hold_word_of v.start x.number) new;
         grows = s.grows;
         legal = s.legal;
@@ -132,7 +140,9 @@ module _ (turn : Turn) (new : ℕ) (d : Work) where
         taken = s.taken;
         owners = inr s.owners;
         held = s.held;
-        search = s.search;
+        allowed = s.allowed;
+        lists = λ p few. inl (hold_list turn x.number low high new p few);
+        its_bit = λ l. inl l;
         its = record {
           hold = rw (hold_here turn x.number low high new) s.hold;
           guarded = s.guarded;
@@ -148,7 +158,7 @@ module _ (turn : Turn) (d : Work) (g : Glance) where
   open turn use {st, v, r, id, x, here, one}
 
   abbrev pub read_before : (h' front : List Event) → After turn
-  read_before h' front = calm_after turn h' front st.words d g v.change
+  read_before h' front = calm_after turn h' front st.words d g v.change x.listed (λ l. l)
 
   abbrev pub read_after : (h' : List Event) → After turn
   read_after h' = read_before h' h'
@@ -162,7 +172,7 @@ module _ (turn : Turn) (d : Work) (g : Glance) where
     pub taken : (n : ℕ) → taking n d ≡ taking n v.work
     pub owners : (d ≡ v.work) ⊎ (busy v.work ≡ 0)
     pub held : held_by h' x.number ≡ held_in d
-    pub search : SearchAgrees v.start x.number d
+    pub allowed : IsAllowed v.start x.number x.listed d
     pub its : Keeps turn (read_after h') id x.number d g
     pub holds : (n : ℕ) → (state_after_all v.start h').holds n + held_of n v
         ≡ (state_after_all v.start r.history).holds n + held_of n (w turn (read_after h'))
@@ -174,7 +184,7 @@ module _ (turn : Turn) (d : Work) (g : Glance) where
         homes = st.homes;
         views = set st.views id (w turn (read_before h' front));
       }
-  read_before_kept {h'} front i seen own s = rw (set-get_or st.words i 0) (calm_kept turn h' front st.words d g v.change record {
+  read_before_kept {h'} front i seen own s = rw (set-get_or st.words i 0) (calm_kept turn h' front st.words d g v.change x.listed (λ l. l) record {
     words = refl;
     grows = s.grows;
     legal = s.legal;
@@ -190,7 +200,9 @@ module _ (turn : Turn) (d : Work) (g : Glance) where
     taken = s.taken;
     owners = s.owners;
     held = s.held;
-    search = s.search;
+    allowed = s.allowed;
+    lists = λ p few. inl refl;
+    its_bit = λ l. inl l;
     its = let i = s.its in record { hold = i.hold; guarded = i.guarded; sees = i.sees; heats = i.heats; work = i.work };
     holds = s.holds;
   })

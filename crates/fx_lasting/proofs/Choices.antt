@@ -1,8 +1,8 @@
 -- The node that a pass has chosen is free.
 use Rattle.fx_lasting.proofs.Words.{◌≡◌, ◌≢◌, ℕ, ◌+◌, ◌<◌, Option, Some, None, ap, sym, ◌∙◌, subst, arith, File, Agrees, View, Shared, Start, get_elem?, some}
-use Rattle.fx_lasting.proofs.Words.{Names, IsSeated, WorkAgrees, SearchAgrees, free, file_in, removed_in, name_in}
+use Rattle.fx_lasting.proofs.Words.{Names, IsSeated, WorkAgrees, IsAllowed, free, file_in, removed_in, name_in}
 use Rattle.fx_lasting.proofs.Words.{slots_of, nodes_of, node_of_number, state_after_all, Searching, dite, Log, List, [], ◌∷◌, Contains, contains_head, ℕ_discrete}
-use Rattle.fx_lasting.proofs.Words.{refl, Work, once_is, sum_two, sum_of, logs_of, one_if, eqb, bit_here}
+use Rattle.fx_lasting.proofs.Words.{refl, once_is, sum_two, sum_of, logs_of, one_if, eqb, bit_here}
 use Rattle.fx_lasting.specs.Choices.{ChoiceIsFree}
 use Rattle.fx_lasting.specs.Bounds.{slot_word_in}
 use Rattle.fx_lasting.proofs.Frames.{one_block}
@@ -37,13 +37,13 @@ module _ (k : Start) (s : Shared) (r : Agrees k s) (seat node : ℕ) (v : View) 
   not_held {f} at same = no_file f (rw same at at)
 
   -- the pass of a seat that has chosen the node
-  its_pass : (i : ℕ) (u : View) → get_elem? s.views i ≡ some u → u.work ≡ Searching node → (x : Log) × Contains u.logs x × SearchAgrees k x.number (Searching node)
+  its_pass : (i : ℕ) (u : View) → get_elem? s.views i ≡ some u → u.work ≡ Searching node → (x : Log) × Contains u.logs x × IsAllowed k x.number x.listed (Searching node)
   its_pass i u at is = go u.logs refl
     where
-      go : (l : List Log) → u.logs ≡ l → (x : Log) × Contains u.logs x × SearchAgrees k x.number (Searching node)
+      go : (l : List Log) → u.logs ≡ l → (x : Log) × Contains u.logs x × IsAllowed k x.number x.listed (Searching node)
       go [] none = let bad = sym is ∙ ((r.each_view i u at).empty none).0 in absurd (cc bad)
       go (x ∷ l) e = let h = subst (λ (m : List Log). Contains m x) (sym e) (contains_head x l) in
-          (x, h, subst (SearchAgrees k x.number) is ((r.each_view i u at).logs x h).search)
+          (x, h, subst (IsAllowed k x.number x.listed) is ((r.each_view i u at).logs x h).allowed)
 
   alone : (other : ℕ) (u : View) → get_elem? s.views other ≡ some u → u.work ≡ Searching node → other ≡ seat
   alone other u at is = dite (ℕ_discrete other seat) (λ same. same) (λ apart. absurd (

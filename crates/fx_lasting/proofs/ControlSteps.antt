@@ -1,4 +1,5 @@
 -- Steps on the control word keep the rule: lower, raise and ask.
+use Rattle.fx_lasting.proofs.Words.{list_place}
 use Rattle.fx_lasting.proofs.Words.{◌≡◌, ◌≢◌, ℕ, zero, suc, ◌+◌, ◌-◌, ◌%◌, ◌^◌, ◌<◌, ◌≤◌, List, [], ◌∷◌, set, length, sym, refl, ap, ◌∙◌, subst}
 use Rattle.fx_lasting.proofs.Words.{arith, get_or-set_other, get_or-set_same, Option, IsSome, dite, some, none, some-injective, some-ne-none}
 use Rattle.fx_lasting.proofs.Words.{ℕ_discrete, get_elem?, keeps, step, sum_by, sum_by-cons, Closed, File, Full, ◌▷◌, Event, pass_event, sum_set}
@@ -101,13 +102,13 @@ module _ (turn : Turn) where
     read_else place other = get_or-set_other st.words control_place place y 0 other
 
     abbrev turn_after : After turn
-    turn_after = calm_after turn h' h' words' v.work v.glance c
+    turn_after = calm_after turn h' h' words' v.work v.glance c x.listed (λ l. l)
 
     wrote : Quiet h' → ControlCounts at_now range (set st.views id (w turn turn_after)) y → Agrees v.start (end turn turn_after)
     wrote q counts = let o = its_log turn in let same : (s : ℕ) → s < slots_of v.start → slot_word words' s ≡ slot_word st.words s =
         λ s l. read_else (slot_place s) (λ bad. omega arith) in
         let own = guards_same turn turn_after x.number v.work (read_else (hold_word_of v.start x.number) (λ bad. let a = (in_range turn).0 in omega arith)) refl
-        (covers_same turn words' same x.number) o.hold o.guarded in calm_kept turn h' h' words' v.work v.glance c record {
+        (covers_same turn words' same x.number) o.hold o.guarded in calm_kept turn h' h' words' v.work v.glance c x.listed (λ l. l) record {
           words = length-set st.words control_place y;
           grows = q.grows;
           legal = q.legal;
@@ -124,7 +125,9 @@ module _ (turn : Turn) where
           taken = λ n. refl;
           owners = inl refl;
           held = q.held ∙ o.held;
-          search = o.search;
+          allowed = o.allowed;
+          lists = λ p few. inl (read_else (list_place p) (λ bad. omega arith));
+          its_bit = λ l. inl l;
           its = record {
             hold = own.0;
             guarded = own.1;

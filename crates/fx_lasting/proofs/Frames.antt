@@ -179,7 +179,7 @@ module _ (turn : Turn) (a : After turn) where
     work_stays (Counted f m) is at = leaves.open_file j u f m other there (ap held_in is) at
     work_stays (Guarded f m) is at = leaves.open_file j u f m other there (ap held_in is) at
     work_stays (Yielding f m) is at = leaves.open_file j u f m other there (ap held_in is) at
-    work_stays (Searching m) is at = (at.0, leaves.spare m z.number at.1 range.0 (rw is at o.search) n)
+    work_stays (Searching m) is at = (at.0, leaves.spare m z.number at.1 range.0 (rw is at o.allowed) n)
     work_stays (Placing m) is at = (at.0, same_for at.1 refl)
     work_stays (Retiring f m t next marks) is at = (at.0, same_for at.1 refl)
     work_stays (Emptying m) is at = (at.0, same_for at.1 refl)

@@ -4,7 +4,7 @@ use Rattle.fx_lasting.proofs.Words.{keeps, Closed, File, Event, Release, ◌▷�
 use Rattle.fx_lasting.proofs.Words.{hold_word_of, held_in, held_of, if_file, taking, pass_event, Work, Idle, Announced, Guarded, Owing}
 use Rattle.fx_lasting.proofs.Words.{Yielding, Hot, Announces, Withdraws, StepsDown, AnnouncesKeep, WithdrawsKeep, StepsDownKeep, Goes, announced}
 use Rattle.fx_lasting.proofs.Words.{step, inl, ⊎_elim, dite, ℕ_discrete, one_less_at, bit_here, sum_at, IsInside}
-use Rattle.fx_lasting.proofs.Words.{SearchAgrees}
+use Rattle.fx_lasting.proofs.Words.{IsAllowed, true}
 use Rattle.fx_lasting.proofs.Histories.{grows_none, grows_one, legal_more, part_mine, held_mine}
 use Rattle.fx_lasting.proofs.Frames.{busy}
 use Rattle.fx_lasting.proofs.Keeping.{Turn, turn_of, word_at, slot_word, Made, by_turn, its_log, its_work, tells, w}
@@ -19,8 +19,8 @@ module _ (turn : Turn) (carried : List (ℕ × Option Closed)) where
   -- a step that adds nothing to the history
   module _ (new : ℕ) (d : Work) (calm : busy v.work ≡ 0) (untaken : (n : ℕ) → taking n d ≡ taking n v.work) (holds : held_in d ≡ held_in v.work) where
     quiet : HoldAgrees new (r.debt x.number) d → GuardAgrees (slot_word (own_words turn new d)) r.phase x.number (r.debt x.number) d
-        → WorkAgrees v.start r.phase id d → SearchAgrees v.start x.number d → Own turn new d r.history
-    quiet hold guard work search = record {
+        → WorkAgrees v.start r.phase id d → IsAllowed v.start x.number x.listed d → Own turn new d r.history
+    quiet hold guard work allowed = record {
       grows = grows_none x.number r.history;
       legal = r.legal;
       at = refl;
@@ -29,7 +29,7 @@ module _ (turn : Turn) (carried : List (ℕ × Option Closed)) where
       taken = untaken;
       owners = calm;
       held = (its_log turn).held ∙ sym holds;
-      search = search;
+      allowed = allowed;
       hold = hold;
       guarded = guard;
       work = work;
@@ -42,15 +42,15 @@ module _ (turn : Turn) (carried : List (ℕ × Option Closed)) where
       carried = refl;
     }
 
-  announce : (slots s n : ℕ) → v.work ≡ Idle → v.glance ≡ Hot s n → Made turn carried (hold_word_of v.start x.number) (λ _. announced n)
+  announce : (slots s n : ℕ) → x.listed ≡ true → v.work ≡ Idle → v.glance ≡ Hot s n → Made turn carried (hold_word_of v.start x.number) (λ _. announced n)
       (λ _. Announces (step slots (hold_word_of v.start x.number) (announced n) 0 none) (v, carried) (announced n))
-  announce slots s n is saw = let o = rw is at (its_log turn).hold in
+  announce slots s n has is saw = let o = rw is at (its_log turn).hold in
       let inside : n < nodes_of v.start = (rw saw at (its_log turn).sees).1 in
       let calm = ap busy is in let taken = λ (k : ℕ). sym (ap (taking k) is) in let holds = sym (ap held_in is) in (
         w turn (own_after turn (announced n) (Announced n) r.history),
         keeps,
         tt,
-        own_kept turn (announced n) (Announced n) (quiet (announced n) (Announced n) calm taken holds (inl (refl, o.1)) tt inside tt),
+        own_kept turn (announced n) (Announced n) (quiet (announced n) (Announced n) calm taken holds (inl (refl, o.1)) tt inside has),
         record {
           goes = λ i k saw'. let at : n ≡ k = cc (sym saw ∙ saw') in
               let e = goes_quiet (announced n) (Announced n) calm taken holds inside in rw (← at) e;
@@ -106,7 +106,7 @@ module _ (turn : Turn) (carried : List (ℕ × Option Closed)) where
       taken = λ k. sym (ap (taking k) is);
       owners = ap busy is;
       held = held_mine (pass_event x (Release f)) r.history refl;
-      search = tt;
+      allowed = tt;
       hold = (refl, none_owed);
       guarded = tt;
       work = tt;
@@ -148,9 +148,9 @@ module _ (turn : Turn) (carried : List (ℕ × Option Closed)) where
         ))
 
 pub announces_keep : AnnouncesKeep Announces
-announces_keep k slots id i s n m x has is saw place = by_turn slots (λ _. Unit {0}) (λ k. hold_word_of k x.number) (λ _. announced n)
+announces_keep k slots id i s n m x has listed is saw place = by_turn slots (λ _. Unit {0}) (λ k. hold_word_of k x.number) (λ _. announced n)
     (λ i _. Announces (step slots i (announced n) 0 none) m (announced n)) has tt place
-    (λ st r here _ fits. announce (turn_of m x has.1 id st r here) m.1 slots s n is saw)
+    (λ st r here _ fits. announce (turn_of m x has.1 id st r here) m.1 slots s n listed is saw)
 
 pub withdraws_keep : WithdrawsKeep Withdraws
 withdraws_keep k slots id i n m x has is place = by_turn slots (λ _. Unit {0}) (λ k. hold_word_of k x.number) (λ _. 0)

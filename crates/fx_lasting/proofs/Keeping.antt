@@ -3,11 +3,13 @@ use Rattle.fx_lasting.proofs.Words.{Contains, contains_head, contains_only, ◌�
 use Rattle.fx_lasting.proofs.Words.{refl, ap, ◌∙◌, subst, arith, get_or, Option, inr, eq-eqb, eqb, some, get_elem?, Closed, part_of_pass, Event}
 use Rattle.fx_lasting.proofs.Words.{Action, sum_by, sum_set, sum_at, sum_of, sum_two, Bool, true, ⊎_elim, one_if, bit_here, once_is, held_by}
 use Rattle.fx_lasting.proofs.Words.{IsSeenBy, at_set, Allows, stepped, Act, Valid, carried_after, SlotAgrees, NodeAgrees, OwnerAgrees, WorkAgrees}
-use Rattle.fx_lasting.proofs.Words.{LogAgrees, ViewAgrees, lengths, Agrees, ControlCounts, HoldAgrees, GuardAgrees, GlanceAgrees, Heats, SearchAgrees}
+use Rattle.fx_lasting.proofs.Words.{LogAgrees, ViewAgrees, lengths, Agrees, ControlCounts, HoldAgrees, GuardAgrees, GlanceAgrees, Heats, IsAllowed}
 use Rattle.fx_lasting.proofs.Words.{count_in, control_place, slot_place, word_of, hold_word_of, Shared, slots_of, nodes_of, range_at_start, state_after_all}
 use Rattle.fx_lasting.proofs.Words.{IsHistory, held_in, held_of, taken_of, logs_of, owed, Sat, Stepped, IsInside, pass_event, HasPass, Phase}
 use Rattle.fx_lasting.proofs.Words.{free, removed_in, Change, Glance, Log, Start, View, Work, found_sum, found_by, at_index}
+use Rattle.fx_lasting.proofs.Words.{◌⊎◌, list_place, IsListedIn}
 use Rattle.fx_lasting.proofs.Histories.{Grows, legal_before}
+use Rattle.fx_lasting.proofs.Lists.{ListGoesOn, stays_listed, was_listed}
 use mathlib.Core.Option as maybe
 
 abbrev pub Homes : Type 0
@@ -23,9 +25,9 @@ slot_word words s = word_at words (slot_place s)
 abbrev pub now : View → Log → Work → Glance → Change → View
 now v y d g c = record v { logs = y ∷ []; work = d; glance = g; change = c }
 
--- a pass that has seen the history, after one more step
-abbrev pub logged : Log → List Event → Log
-logged x h = record x { front = h; steps = x.steps + 1 }
+-- a pass that has seen the history, and is listed or not, after one more step
+abbrev pub logged : Log → Bool → List Event → Log
+logged x l h = record x { front = h; steps = x.steps + 1; listed = l }
 
 -- a seat with one pass, which makes the next step
 pub record Turn : Type 0 where
@@ -124,10 +126,12 @@ module _ (turn : Turn) where
     pub work : Work
     pub glance : Glance
     pub change : Change
+    pub listed : Bool
+    pub still_listed : x.listed ≡ true → listed ≡ true
 
   module _ (a : After) where
     abbrev pub w : View
-    w = now v (logged x a.front) a.work a.glance a.change
+    w = now v (logged x a.listed a.front) a.work a.glance a.change
 
     abbrev pub views' : List View
     views' = set st.views id w
@@ -165,9 +169,11 @@ module _ (turn : Turn) where
           → LogAgrees v.start r.history st.words r.phase r.debt r.over u.work u.glance z → WorkAgrees v.start r.phase j u.work
           → Keeps j z.number u.work u.glance
       pub held : held_by a.h x.number ≡ held_in a.work
-      pub search : SearchAgrees v.start x.number a.work
+      pub allowed : IsAllowed v.start x.number a.listed a.work
       pub its : Keeps id x.number a.work a.glance
       pub holds : (n : ℕ) → (state_after_all v.start a.h).holds n + held_of n v ≡ (state_after_all v.start r.history).holds n + held_of n w
+      pub lists : (p : ℕ) → p ≤ 1024 → ListGoesOn x.number p (word_at st.words (list_place p)) (word_at a.words (list_place p))
+      pub its_bit : a.listed ≡ true → (x.listed ≡ true) ⊎ IsListedIn (word_at a.words (list_place x.number)) x.number
       pub control : ControlCounts (state_after_all v.start a.h).at (range_at_start v.start) views' (word_at a.words control_place)
 
     module _ (s : Step) where
@@ -175,11 +181,13 @@ module _ (turn : Turn) where
           → LogAgrees v.start a.h a.words a.phase a.debt a.over u.work u.glance z
       other_log j u z other there at = let o = (r.each_view j u there).logs z at in let n = not_there r here one other there z at in
           let k = s.others j u z other there at n (its_range r j there at) o (r.each_view j u there).work in
+          let few : z.number ≤ 1024 = omega (arith, (its_range r j there at).1, r.shape.passes) in
           record {
             seen = s.grows.seen z.front o.seen;
             own = s.grows.parts z.number (λ same. n (sym same)) ∙ o.own;
             held = s.grows.helds z.number (λ same. n (sym same)) ∙ o.held;
-            search = o.search;
+            allowed = o.allowed;
+            list = λ l. stays_listed x.number z.number (s.lists z.number few) (o.list l);
             hold = k.hold;
             guarded = k.guarded;
             sees = k.sees;
@@ -196,12 +204,13 @@ module _ (turn : Turn) where
               (s.others j u z other there at (not_there r here one other there z at) (its_range r j there at)
               ((r.each_view j u there).logs z at) (r.each_view j u there).work).work
 
-      its_own : LogAgrees v.start a.h a.words a.phase a.debt a.over a.work a.glance (logged x a.front)
-      its_own = record {
+      its_own : LogAgrees v.start a.h a.words a.phase a.debt a.over a.work a.glance (logged x a.listed a.front)
+      its_own = let few : x.number ≤ 1024 = omega (arith, in_range.1, r.shape.passes) in record {
         seen = s.seen;
         own = s.own;
         held = s.held;
-        search = s.search;
+        allowed = s.allowed;
+        list = λ l. ⊎_elim (λ was. stays_listed x.number x.number (s.lists x.number few) (its_log.list was)) (λ set. set) (s.its_bit l);
         hold = s.its.hold;
         guarded = s.its.guarded;
         sees = s.its.sees;
@@ -228,7 +237,7 @@ module _ (turn : Turn) where
         each_view = λ j u e. ⊎_elim (λ (t : (j ≡ id) × (w ≡ u)).
             subst (λ (z : ℕ × View). ViewAgrees v.start a.h a.words a.phase a.debt a.over z.0 z.1) (λ i. (sym t.0 i, t.1 i)) record {
               logs = λ z h. subst (LogAgrees v.start a.h a.words a.phase a.debt a.over a.work a.glance)
-                  (sym (contains_only (logged x a.front) z h)) its_own;
+                  (sym (contains_only (logged x a.listed a.front) z h)) its_own;
               work = s.its.work;
               empty = λ none. absurd (omega (arith, ap (length {A = Log}) none));
               start = inr refl;
@@ -245,6 +254,8 @@ module _ (turn : Turn) where
             let its_one : x.number ≡ p → logs_of p v ≡ 1 =
             λ same. of_one (λ z. one_if (eqb z.number p)) one ∙ rw (eq-eqb x.number p same) refl in
             s.grows.parts p (λ same. let a = its_one same in omega arith) ∙ r.authors p none;
+        listed = λ p low high is. ⊎_elim (λ before. r.listed p low high before) (λ same. let z = in_range.1 in omega (arith, same, z))
+            (was_listed x.number p in_range.0 low (s.lists p high) is);
         control = s.control;
       }
 
@@ -253,12 +264,13 @@ module _ (turn : Turn) where
       → IsHistory v.start a.front → part_of_pass x.number a.front ≡ map (pass_event x) actions ++ part_of_pass x.number r.history
       → IsInside v.start a.work → Stepped (v, carried) actions a.work a.glance a.change (w a, homes)
   tells a carried homes actions grows legal own inside = let o = its_log in rw one record {
-    one = (logged x a.front, refl);
+    one = (logged x a.listed a.front, refl);
     number = refl;
     seen = grows.seen x.front o.seen;
     legal = legal;
     own = own ∙ ap (λ (l : List Event). map (pass_event x) actions ++ l) o.own;
     steps = refl;
+    listed = a.still_listed;
     work = refl;
     inside = inside;
     glance = refl;
@@ -270,12 +282,13 @@ module _ (turn : Turn) where
   pub tells_less : (a : After) (carried homes : List (ℕ × Option Closed)) → a.front ≡ x.front → IsInside v.start a.work
       → Stepped (v, carried) [] a.work a.glance a.change (w a, homes)
   tells_less a carried homes same inside = let o = its_log in rw one record {
-    one = (logged x a.front, refl);
+    one = (logged x a.listed a.front, refl);
     number = refl;
     seen = ([], same);
     legal = rw same (legal_before v.start x.front o.seen.0 (subst (IsHistory v.start) o.seen.1 r.legal));
     own = ap (part_of_pass x.number) same;
     steps = refl;
+    listed = a.still_listed;
     work = refl;
     inside = inside;
     glance = refl;

@@ -10,7 +10,7 @@ use Rattle.fx_lasting.proofs.Frames.{busy, does_now}
 use Rattle.fx_lasting.proofs.Keeping.{Turn, After, Homes, word_at, slot_word, in_range, tells, w, end}
 use Rattle.fx_lasting.proofs.NodeSteps.{own_keeps, guards_else}
 use Rattle.fx_lasting.proofs.NodeSteps.{after, node_kept}
-use Rattle.fx_lasting.proofs.Places.{node_words, node_here, node_else, node_slot, node_hold, node_control}
+use Rattle.fx_lasting.proofs.Places.{node_words, node_here, node_else, node_slot, node_hold, node_control, node_list}
 use Rattle.fx_lasting.proofs.Unheld.{held_alone, held_not, on_node}
 
 pub taking_few : (n : ℕ) (d : Work) → taking n d ≤ 1
@@ -93,6 +93,7 @@ module _ {turn : Turn} {n : ℕ} {f : File} {h₁ : List Event} {debt' : ℕ →
           (λ k z. removed_in m z ≡ removed_in m (r.phase k)) r.phase (λ is. removes m ∙ ap (λ (k : ℕ). removed_in m (r.phase k)) (sym is)) (λ _. refl)));
       slot_words = same_slots;
       control_word = node_control turn n g.its.0 less;
+      lists = node_list turn n g.its.0 less;
       node_words = λ m l other. node_else turn n g.its.0 less m other;
       home_else = λ m l other. refl;
       owed_else = g.owed_else;
@@ -107,7 +108,7 @@ module _ {turn : Turn} {n : ℕ} {f : File} {h₁ : List Event} {debt' : ℕ →
       node = rw (node_here turn n g.its.0 less) node;
       known = known;
       held = g.held;
-      search = tt;
+      allowed = tt;
       its_own = own_keeps turn n g.its.0 ph h₁ words₁ st.homes debt' Idle v.glance same_slots refl (no_hold, g.no_debt) tt tt;
       holds = λ m. let a = g.holds m in omega arith;
     }
@@ -172,6 +173,7 @@ module _ {turn : Turn} {n : ℕ} {f : File} {h₁ : List Event} {debt' : ℕ →
       removed = removed₂;
       slot_words = same_slots;
       control_word = node_control turn n g.its.0 less;
+      lists = node_list turn n g.its.0 less;
       node_words = λ m l other. node_else turn n g.its.0 less m other;
       home_else = λ m l other. set_else st.homes n m none other;
       owed_else = g.owed_else;
@@ -194,7 +196,7 @@ module _ {turn : Turn} {n : ℕ} {f : File} {h₁ : List Event} {debt' : ℕ →
       };
       known = does_now st.views id v (w turn out_after) (Emptying n) here refl;
       held = held_mine (pass_event x (Close f)) h₁ refl ∙ g.held;
-      search = tt;
+      allowed = tt;
       its_own = own_keeps turn n g.its.0 (emptied id) h₂ words₁ homes₂ debt' (Emptying n) v.glance same_slots refl (no_hold, g.no_debt) tt
           (g.its.0, changed_here r.phase n (emptied id) n refl);
       holds = λ m. let a = g.holds m in omega arith;

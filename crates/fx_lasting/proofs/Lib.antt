@@ -1,6 +1,7 @@
 pub mod Words
 pub mod Counts
 pub mod Histories
+pub mod Lists
 pub mod Keeping
 pub mod Frames
 pub mod Choosing
@@ -13,6 +14,7 @@ pub mod LetGoLaws
 pub mod Calm
 pub mod HoldWords
 pub mod Births
+pub mod Listing
 pub mod Looking
 pub mod SlotSteps
 pub mod FullSlots
@@ -34,6 +36,8 @@ pub mod Trying
 pub mod Taking
 pub mod Retiring
 pub mod Visiting
+pub mod Skimming
+pub mod Rounds
 pub mod WordBounds
 pub mod Holds
 pub mod Choices

@@ -80,7 +80,7 @@ module _ (turn : Turn) (s : ℕ) (inside : s < slots_of turn.v.start) where
       taken = λ n. ⊎_elim (λ e. sym (ap (taking n) e)) (λ z. ap (taking n) z.1 ∙ sym (no_take z.0 n)) works;
       owners = ⊎_elim (λ e. inl (sym e)) (λ z. inr (not_busy z.0)) works;
       held = o.held ∙ same_held;
-      search = ⊎_elim (λ (e : v.work ≡ d). rw e at o.search) (λ z. rw z.1 tt) works;
+      allowed = ⊎_elim (λ (e : v.work ≡ d). rw e at o.allowed) (λ z. rw z.1 tt) works;
       its = record {
         hold = ⊎_elim (λ (e : v.work ≡ d). rw e at o.hold) (λ z. rw z.1 (holds_none z.0 o.hold)) works;
         guarded = ⊎_elim (λ (e : v.work ≡ d). rw e at o.guarded) (λ z. rw z.1 tt) works;
@@ -114,7 +114,7 @@ module _ (turn : Turn) (s : ℕ) (inside : s < slots_of turn.v.start) where
     taken = λ n. sym (no_take works n);
     owners = inr (not_busy works);
     held = held_mine (pass_event x (Look s None)) r.history refl;
-    search = tt;
+    allowed = tt;
     its = record {
       hold = holds_none works o.hold;
       guarded = tt;
@@ -181,6 +181,9 @@ module _ (turn : Turn) (s : ℕ) (inside : s < slots_of turn.v.start) where
       unmarked : NamesNode (word_at st.words (hold_word_of v.start x.number)) (r.debt x.number) n
       unmarked = rw works at (its_log turn).hold
 
+      its_allowed : x.listed ≡ true
+      its_allowed = rw works at (its_log turn).allowed
+
       found_file : Reads turn (Guarded f n) Nothing h₁
       found_file = let guarded : GuardAgrees (slot_word st.words) r.phase x.number (r.debt x.number) (Guarded f n) = λ _. rw at hot in record {
         grows = grows_one x.number r.history _ refl;
@@ -191,7 +194,7 @@ module _ (turn : Turn) (s : ℕ) (inside : s < slots_of turn.v.start) where
         taken = λ k. sym (ap (taking k) works);
         owners = inr (ap busy works);
         held = held_mine (pass_event x (Look s (Some f))) r.history refl;
-        search = tt;
+        allowed = its_allowed;
         its = record { hold = unmarked; guarded = guarded; sees = tt; heats = heats_all calm_hot Nothing; work = (l, ap file_in at) };
         holds = λ m. let a = one_more_at (state_after_all v.start r.history).holds f.number m in
             let b = ap (λ (e : Work). if_file m (held_in e)) works in omega arith;

@@ -1,9 +1,10 @@
 -- A step on one node, at which no slot changes: on its word and place, or on the hold word of a pass that names it.
 use Rattle.fx_lasting.proofs.Words.{◌≡◌, ◌≢◌, ℕ, ◌+◌, ◌<◌, ◌≤◌, List, [], set, length, sym, refl, ap, ◌∙◌, subst, arith, Option, Some, Bool, some}
-use Rattle.fx_lasting.proofs.Words.{get_elem?, held_by, changed_at, File, Event, range_at_start, NodeAgrees, OwnerAgrees, WorkAgrees, SearchAgrees, Agrees}
+use Rattle.fx_lasting.proofs.Words.{get_elem?, held_by, changed_at, File, Event, range_at_start, NodeAgrees, OwnerAgrees, WorkAgrees, IsAllowed, Agrees}
 use Rattle.fx_lasting.proofs.Words.{full_in, slots_of, nodes_of, IsHistory, state_after_all, held_in, held_of, taken_of, taking, owed, Phase, free}
 use Rattle.fx_lasting.proofs.Words.{seated, owner, file_in, removed_in, View, Work, ⊎_elim, ◌⊎◌, inr, control_place, word_of, hold_word_of, count_in}
 use Rattle.fx_lasting.proofs.Words.{name_in, IsInBlock, sum_by, sum_set, HoldAgrees, GuardAgrees, MayBeUnmarked, Glance}
+use Rattle.fx_lasting.proofs.Words.{inl, list_place}
 use Rattle.fx_lasting.proofs.Histories.{Grows, each_changed}
 use Rattle.fx_lasting.proofs.Frames.{busy, owner_stays, slot_same, node_same, control_same, Leaves, keeps_other, one_block}
 use Rattle.fx_lasting.proofs.Frames.{sees_same, heats_same, covers_same, guards_same}
@@ -26,6 +27,8 @@ module _ (turn : Turn) (q : ℕ) (its : q < nodes_of turn.v.start) (ph : Phase) 
     work = d;
     glance = g;
     change = v.change;
+    listed = x.listed;
+    still_listed = λ l. l;
   }
 
   abbrev before : ℕ → Option File
@@ -43,6 +46,7 @@ module _ (turn : Turn) (q : ℕ) (its : q < nodes_of turn.v.start) (ph : Phase) 
     pub removed : (number : ℕ) → (state_after_all v.start h').removed number ≡ removed_in number (changed_at r.phase q ph (r.node_of number))
     pub slot_words : (s : ℕ) → s < slots_of v.start → slot_word words' s ≡ slot_word st.words s
     pub control_word : word_at words' control_place ≡ word_at st.words control_place
+    pub lists : (p : ℕ) → p ≤ 1024 → word_at words' (list_place p) ≡ word_at st.words (list_place p)
     -- other nodes
     pub node_words : (n : ℕ) → n < nodes_of v.start → n ≢ q → word_at words' (word_of v.start n) ≡ word_at st.words (word_of v.start n)
     pub home_else : (n : ℕ) → n < nodes_of v.start → n ≢ q → get_elem? homes' n ≡ get_elem? st.homes n
@@ -64,7 +68,7 @@ module _ (turn : Turn) (q : ℕ) (its : q < nodes_of turn.v.start) (ph : Phase) 
     pub known : OwnerAgrees (set st.views id (w turn after)) q ph
     -- the pass
     pub held : held_by h' x.number ≡ held_in d
-    pub search : SearchAgrees v.start x.number d
+    pub allowed : IsAllowed v.start x.number x.listed d
     pub its_own : Keeps turn after id x.number d g
     pub holds : (n : ℕ) → (state_after_all v.start h').holds n + held_of n v ≡ (state_after_all v.start r.history).holds n + held_of n (w turn after)
 
@@ -142,7 +146,9 @@ module _ (turn : Turn) (q : ℕ) (its : q < nodes_of turn.v.start) (ph : Phase) 
       fresh = λ number l. ap (λ (f : ℕ → Bool). f number) s.fresh ∙ r.fresh number l;
       others = λ j u z other there at n range o work. keeps_other turn after leaves j u z other there n range o work;
       held = s.held;
-      search = s.search;
+      allowed = s.allowed;
+      lists = λ p few. inl (s.lists p few);
+      its_bit = λ l. inl l;
       its = s.its_own;
       holds = s.holds;
       control = control_same st.views id v (w turn after) here (ap (λ (f : ℕ → Option File). full_in f (range_at_start v.start).0 (range_at_start v.start).1) s.at)

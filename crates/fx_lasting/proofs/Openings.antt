@@ -6,7 +6,8 @@ use Rattle.fx_lasting.proofs.Words.{LogAgrees, ViewAgrees, Agrees, new_logs, wor
 use Rattle.fx_lasting.proofs.Words.{state_after_all, new_log, Phase, free, seated, Log, Start, View, Idle, Nothing, length-map, at_map, first_view}
 use Rattle.fx_lasting.proofs.Words.{contains_map, once_is, counted_once, range_with_len, one_if, removed_in, length-map-range_with_len, owed, ne_eqb}
 use Rattle.fx_lasting.proofs.Words.{false, Contains, eqb, sum_of, word_for, node_for, home_for, OpensWith, first_file, bit_here}
-use Rattle.fx_lasting.proofs.Words.{node_of_number}
+use Rattle.fx_lasting.proofs.Words.{node_of_number, bit_of, IsListedIn}
+use Rattle.std.proofs.lemmas.Nat.Bits.{bit_at-zero}
 use Rattle.std.proofs.Common.{not}
 use Rattle.std.proofs.Math.Nat.{mod-eq_of_lt}
 use Rattle.atomic_table.specs.Table.{opening}
@@ -115,7 +116,8 @@ module _ (k : Start) (words : List ℕ) (homes : List (Option Closed)) (o : Open
     seen = ([], refl);
     own = refl;
     held = refl;
-    search = tt;
+    allowed = tt;
+    list = λ is. absurd (cc is);
     hold = (o.hold_words p low high, refl);
     guarded = tt;
     sees = tt;
@@ -163,5 +165,6 @@ module _ (k : Start) (words : List ℕ) (homes : List (Option Closed)) (o : Open
     passes = λ p. let a = counted_once (λ (y : Log). y.number) new_log (λ n. refl) p k.passes in omega arith;
     whole = let a = length-map-range_with_len new_log 1 k.passes in omega arith;
     authors = λ p none. refl;
+    listed = λ p low high is. let z = subst (λ (i : ℕ). IsListedIn i p) (o.list_words p high) is in let a = bit_at-zero (bit_of p) in absurd (omega (arith, z, a));
     control = let a = o.control in let b = full_few (first_file k) (range_at_start k).0 (range_at_start k).1 in record { counts = omega arith };
   }

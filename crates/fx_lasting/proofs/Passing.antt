@@ -8,7 +8,7 @@ use Rattle.std.specs.Prelude.{option_map, Result, Ok, Err, ok_or, is_err, is_som
 use Rattle.std.proofs.lemmas.Bool.{not-false, not-true}
 use Rattle.fx_table.specs.Calls.{Use, no_use, one_number, one_look, Adds, IsNewFile, Placed, Cleared, Taken, ReleasesFile, LookedAfter, LookedUp}
 use Rattle.fx_table.proofs.Calls.{adds_then, adds_nothing}
-use Rattle.fx_lasting.proofs.Words.{LooksByTake, LetsMarkGo, Announced, first_visit, hot_in, cond, inl, inr}
+use Rattle.fx_lasting.proofs.Words.{new_round, LooksByTake, LetsMarkGo, Announced, first_visit, hot_in, cond, inl, inr}
 use Rattle.fx_table.specs.Opening.{Opening}
 use Rattle.fx_table.specs.declared.limits.TheConstants.{PASS_LOOKS}
 use Rattle.fx_table.specs.Pass.{PassView, IsIdle, IsFileRemoval}
@@ -44,17 +44,19 @@ module _ {id : TableId} {k : Start} {p : LastingPass} (seated : IsSeatOf id k p)
 
   -- a pass whose seat has made some steps, and whose fields fit its work
   pub still_seat : (q : LastingPass) {xs : List Action} {w : Work} {g : Glance} {n : ℕ} → Runs p.seat.me xs w g Outside n q.seat.me
-      → q.number ≡ p.number → q.seat.table_id ≡ p.seat.table_id → q.seat.me.1 ≡ [] → IsInBlock k q.number q.next_node → IsSeatOf id k q
+      → (q.number ≡ p.number) × (q.listed ≡ p.listed) → q.seat.table_id ≡ p.seat.table_id → q.seat.me.1 ≡ [] → IsInBlock k q.number q.next_node
+      → IsSeatOf id k q
   still_seat q r same table places block = record {
     table = table ∙ seated.table;
     places = places;
-    at = subst (λ (n : ℕ). IsAtWork k n q.seat.me) (sym same) (still_at_work seated.at r);
+    at = subst (λ (n : ℕ). IsAtWork k n q.seat.me) (sym same.0) (still_at_work seated.at r);
     change = r.change;
     block = block;
+    listed = λ l. r.listed (seated.listed (sym same.1 ∙ l));
   }
 
   pub still_pass : (q : LastingPass) {xs : List Action} {w : Work} {n : ℕ} → Runs p.seat.me xs w Nothing Outside n q.seat.me
-      → q.number ≡ p.number → q.seat.table_id ≡ p.seat.table_id → q.seat.me.1 ≡ [] → IsInBlock k q.number q.next_node
+      → (q.number ≡ p.number) × (q.listed ≡ p.listed) → q.seat.table_id ≡ p.seat.table_id → q.seat.me.1 ≡ [] → IsInBlock k q.number q.next_node
       → IsBetweenCalls k.passes q.idle q.guarded q.next_visit q.next_node w → IsPassOf id k q
   still_pass q r same table places block knows = record {
     seated = still_seat q r same table places block;
@@ -62,6 +64,12 @@ module _ {id : TableId} {k : Start} {p : LastingPass} (seated : IsSeatOf id k p)
     knows = subst (IsBetweenCalls k.passes q.idle q.guarded q.next_visit q.next_node) (sym r.work) knows;
     front = (adds_so r no_use).front;
   }
+
+-- a pass that was listed has added nothing
+pub adds_listed : {id : TableId} {k : Start} {p : LastingPass} (seated : IsSeatOf id k p) {m' : Sat} {g : Glance} {c : Change} {n : ℕ}
+    → p.seat.me.0.work ≡ Idle → Runs p.seat.me [] p.seat.me.0.work g c n m' → Adds (opening_of k) (view_of p) [] DoesNothing no_use (pass_of m'.0)
+adds_listed {k = k} {p = p} seated {m'} is r = subst (λ (d : Doing). Adds (opening_of k) (view_of p) [] d no_use (pass_of m'.0)) (ap doing_in is)
+    (adds_so seated r no_use)
 
 -- a pass that has no file does nothing for its caller
 pub does_nothing : {w : Work} → HasNoFile w → DoesNothing ≡ doing_in w
@@ -90,7 +98,7 @@ at_rest {p = p} fits {m'} {xs} {w} {n} r =
 
 -- a pass that has a file to retire, and has visited nobody yet
 abbrev pub IsToRetire : ℕ → ℕ → File → Retired → Work → Type 0
-IsToRetire passes visit f retired w = (w ≡ Retiring f retired.node retired.takes visit 0) × (retired.takes < 2 ^ 31)
+IsToRetire passes visit f retired w = (w ≡ Retiring f retired.node retired.takes (new_round visit) 0) × (retired.takes < 2 ^ 31)
     × ((visit ≡ 1) ⊎ (visit ≡ passes + 1))
 
 -- The work of a pass between two calls, by its activity
@@ -145,9 +153,9 @@ module _ (passes visit next : ℕ) (idle guarded : Bool) where
   work_retiring f retired (Counted g n) knows is = absurd (cc is)
   work_retiring f retired (Guarded g n) knows is = absurd (cc is)
   work_retiring f retired (Retiring g n t nx m) knows is = let same : g ≡ f = cc is in let value : retired_at g n t ≡ retired = cc is in (
-    λ i. Retiring (same i) (ap (λ (r : Retired). r.node) value i) (ap (λ (r : Retired). r.takes) value i) (sym knows.1 i) (knows.2 i),
+    λ i. Retiring (same i) (ap (λ (r : Retired). r.node) value i) (ap (λ (r : Retired). r.takes) value i) (knows.1 i) (knows.2 i),
     subst (λ (z : ℕ). z < 2 ^ 31) (ap (λ (r : Retired). r.takes) value) knows.3,
-    subst (λ (z : ℕ). (z ≡ 1) ⊎ (z ≡ passes + 1)) (sym knows.1) knows.4,
+    knows.4,
   )
   work_retiring f retired _ knows is = absurd knows
 
@@ -314,10 +322,10 @@ pub knows_removed : (k : Start) (found : ℕ) (file : Option File) (removed : Op
 knows_removed k found None removed idle guarded visit next is says first = not-false idle (sym says ∙ ap is_some is)
 knows_removed k found (Some f) removed idle guarded visit next is says first = (
   not-true idle (sym says ∙ ap is_some is),
-  first,
+  ap new_round (sym first),
   refl,
   omega arith,
-  visits_first (hot_in found == 1),
+  subst (λ (z : ℕ). (z ≡ 1) ⊎ (z ≡ k.passes + 1)) (sym first) (visits_first (hot_in found == 1)),
 )
   where
     visits_first : (b : Bool) → (cond b 1 (k.passes + 1) ≡ 1) ⊎ (cond b 1 (k.passes + 1) ≡ k.passes + 1)

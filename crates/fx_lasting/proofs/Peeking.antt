@@ -18,7 +18,7 @@ module _ (turn : Turn) where
     taken = λ n. refl;
     owners = inl refl;
     held = o.held;
-    search = o.search;
+    allowed = o.allowed;
     its = record { hold = o.hold; guarded = o.guarded; sees = o.sees; heats = o.heats; work = its_work turn };
     holds = λ n. omega arith;
   }

@@ -1,5 +1,5 @@
 -- Places are inside, and apart; and what a write to one of them leaves as it was.
-use Rattle.fx_lasting.proofs.Words.{◌≡◌, ◌≢◌, ℕ, ◌<◌, ◌≤◌, List, set, arith, get_or-set_other, get_or-set_same, control_place, slot_place, word_of}
+use Rattle.fx_lasting.proofs.Words.{◌≡◌, ◌≢◌, ℕ, ◌<◌, ◌≤◌, List, set, arith, get_or-set_other, get_or-set_same, control_place, list_place, slot_place, word_of}
 use Rattle.fx_lasting.proofs.Words.{hold_word_of, slots_of, nodes_of, slot_of, pass_at, Start}
 use Rattle.fx_lasting.specs.Layout.{PlacesAreInside, PlacesAreApart}
 use Rattle.fx_lasting.proofs.Keeping.{Turn, word_at, slot_word}
@@ -7,6 +7,7 @@ use Rattle.fx_lasting.proofs.Keeping.{Turn, word_at, slot_word}
 pub places_inside : (size passes nodes : ℕ) → PlacesAreInside size passes nodes
 places_inside size passes nodes = record {
   control = omega arith;
+  list = λ pass few. omega arith;
   slot = λ slot l. omega arith;
   hold = λ pass l. omega arith;
   node = λ node l. omega arith;
@@ -17,9 +18,14 @@ places_apart size passes = record {
   slots = λ slot other same. omega arith;
   holds = λ pass other same. omega arith;
   nodes = λ node other same. omega arith;
+  bits = λ pass other low more word bit. omega arith;
+  list_and_control = λ pass same. omega arith;
   slot_and_control = λ slot same. omega arith;
   hold_and_control = λ pass low same. omega arith;
   node_and_control = λ node same. omega arith;
+  slot_and_list = λ slot pass few same. omega arith;
+  hold_and_list = λ pass other low few same. omega arith;
+  node_and_list = λ node pass few same. omega arith;
   hold_and_slot = λ pass slot low l same. omega arith;
   node_and_slot = λ node slot l same. omega arith;
   node_and_hold = λ node pass l same. omega arith;
@@ -53,6 +59,9 @@ module _ (turn : Turn) (q : ℕ) (its : q < nodes_of turn.v.start) (new : ℕ) w
   pub node_hold : (p : ℕ) → p ≤ v.start.passes → word_at node_words (hold_word_of v.start p) ≡ word_at st.words (hold_word_of v.start p)
   node_hold p l = node_apart (λ same. omega arith)
 
+  pub node_list : (p : ℕ) → p ≤ 1024 → word_at node_words (list_place p) ≡ word_at st.words (list_place p)
+  node_list p few = node_apart (λ same. omega arith)
+
   pub node_control : word_at node_words control_place ≡ word_at st.words control_place
   node_control = node_apart (λ same. omega arith)
 
@@ -77,6 +86,9 @@ module _ (turn : Turn) (p : ℕ) (low : 0 < p) (high : p ≤ turn.v.start.passes
 
   pub hold_else : (q : ℕ) → q ≢ p → word_at hold_words (hold_word_of v.start q) ≡ word_at st.words (hold_word_of v.start q)
   hold_else q other = hold_apart (λ same. other (omega arith))
+
+  pub hold_list : (p : ℕ) → p ≤ 1024 → word_at hold_words (list_place p) ≡ word_at st.words (list_place p)
+  hold_list p few = hold_apart (λ same. omega arith)
 
   pub hold_control : word_at hold_words control_place ≡ word_at st.words control_place
   hold_control = hold_apart (λ same. omega arith)
@@ -103,5 +115,33 @@ module _ (turn : Turn) (s : ℕ) (inside : s < slots_of turn.v.start) (new : ℕ
   pub slot_hold : (p : ℕ) → 0 < p → word_at slot_words (hold_word_of v.start p) ≡ word_at st.words (hold_word_of v.start p)
   slot_hold p low = slot_apart (λ same. omega arith)
 
+  pub slot_list : (p : ℕ) → p ≤ 1024 → word_at slot_words (list_place p) ≡ word_at st.words (list_place p)
+  slot_list p few = slot_apart (λ same. omega arith)
+
   pub slot_control : word_at slot_words control_place ≡ word_at st.words control_place
   slot_control = slot_apart (λ same. omega arith)
+
+-- the word of the list that has the pass's bit is written
+module _ (turn : Turn) (p : ℕ) (few : p ≤ 1024) (new : ℕ) where
+  open turn use {st, v, r}
+
+  abbrev pub list_words : List ℕ
+  list_words = set st.words (list_place p) new
+
+  pub list_here : word_at list_words (list_place p) ≡ new
+  list_here = get_or-set_same st.words (list_place p) new 0 (let a = r.shape.words in omega arith)
+
+  pub list_apart : {place : ℕ} → place ≢ list_place p → word_at list_words place ≡ word_at st.words place
+  list_apart {place} other = get_or-set_other st.words (list_place p) place new 0 other
+
+  pub list_node : (n : ℕ) → word_at list_words (word_of v.start n) ≡ word_at st.words (word_of v.start n)
+  list_node n = list_apart (λ same. omega arith)
+
+  pub list_hold : (q : ℕ) → 0 < q → word_at list_words (hold_word_of v.start q) ≡ word_at st.words (hold_word_of v.start q)
+  list_hold q low = list_apart (λ same. omega arith)
+
+  pub list_slot : (s : ℕ) → s < slots_of v.start → slot_word list_words s ≡ slot_word st.words s
+  list_slot s l = list_apart (λ same. omega arith)
+
+  pub list_control : word_at list_words control_place ≡ word_at st.words control_place
+  list_control = list_apart (λ same. omega arith)

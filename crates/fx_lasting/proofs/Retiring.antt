@@ -1,4 +1,5 @@
 -- A retirement keeps the rule, when all hold words were visited.
+use Rattle.fx_lasting.proofs.Words.{Round, IsPassed, ⊎_elim, ◌≢◌}
 use Rattle.fx_lasting.proofs.Words.{◌≡◌, ℕ, ◌+◌, ◌-◌, ◌%◌, ◌^◌, ◌<◌, ◌≤◌, List, [], sym, refl, ap, ◌∙◌, subst, arith, Option, Some, none, keeps}
 use Rattle.fx_lasting.proofs.Words.{takes, Closed, File, WorkAgrees, MayBeUnmarked, state_after_all, nodes_of, word_of, held_in, if_file, taken_of}
 use Rattle.fx_lasting.proofs.Words.{taking, owed, leaving, retired, owner, file_in, removed_in, Work, Retiring, Retires, RetiresKeep}
@@ -9,8 +10,8 @@ use Rattle.fx_lasting.proofs.Keeping.{Turn, turn_of, word_at, slot_word, Made, b
 use Rattle.fx_lasting.proofs.LettingGo.{IsLetGo, open_after, stays_open, goes_open, out_after, IsGone, comes_out, takes_out, sub_wraps, taken_now}
 use Rattle.fx_lasting.proofs.Unheld.{NodeNow, in_phase, on_node}
 
-module _ (turn : Turn) (f : File) (n t nx m : ℕ) (works : turn.v.work ≡ Retiring f n t nx m)
-    (done : (p : ℕ) → nx ≤ p → p ≤ turn.v.start.passes → p ≡ turn.x.number) where
+module _ (turn : Turn) (f : File) (n t : ℕ) (nx : Round) (m : ℕ) (works : turn.v.work ≡ Retiring f n t nx m)
+    (done : (p : ℕ) → nx.next ≤ p → p ≤ turn.v.start.passes → IsPassed turn.x.number nx p) where
   open turn use {st, v, r, id, x, here, one}
 
   its : (n < nodes_of v.start) × (r.phase n ≡ leaving id t nx m f)
@@ -50,12 +51,16 @@ module _ (turn : Turn) (f : File) (n t nx m : ℕ) (works : turn.v.work ≡ Reti
   abbrev total : ℕ
   total = sum_by (taken_of n) st.views
 
-  retiring_same : {g : File} {i a b c : ℕ} → v.work ≡ Retiring g i a b c → (f ≡ g) × (n ≡ i)
+  retiring_same : {g : File} {i a : ℕ} {b : Round} {c : ℕ} → v.work ≡ Retiring g i a b c → (f ≡ g) × (n ≡ i)
   retiring_same its = (cc (sym works ∙ its), cc (sym works ∙ its))
 
   still_removed : (state_after_all v.start r.history).removed f.number ≡ Some f
   still_removed = r.removed f.number ∙ (ap (λ (k : ℕ). removed_in f.number (r.phase k)) (on_node turn its.0 (ap file_in its.1))
       ∙ (ap (removed_in f.number) its.1 ∙ rw (eq-eqb f.number f.number refl) refl))
+
+  -- nobody has still to be visited
+  nobody : (q : ℕ) → q ≢ x.number → (0 < q) × (q ≤ v.start.passes) → MayBeUnmarked (slot_word st.words) q (r.phase n) → ⊥
+  nobody q other range may = let z = subst (MayBeUnmarked (slot_word st.words) q) its.1 may in ⊎_elim other z.1 (done q z.0 range.1)
 
   pub retires_either : (slots : ℕ) (carried : List (ℕ × Option Closed)) → found < 18446744073709551616
       → Made turn carried (word_of v.start n) (λ word. (word + (2 ^ 64 - amount)) % 2 ^ 64)
@@ -69,7 +74,7 @@ module _ (turn : Turn) (f : File) (n t nx m : ℕ) (works : turn.v.work ≡ Reti
         gone = λ k. ap (removed_in k) its.1;
         not_seated = λ s h bad. cc (sym its.1 ∙ bad);
         may = inr (ap owner its.1);
-        marked = λ q other range may. let low = subst (MayBeUnmarked (slot_word st.words) q) its.1 may in other (done q low range.1);
+        marked = nobody;
         home = node.file.at_home;
         left = omega arith;
         none_taken = omega arith;
@@ -90,7 +95,7 @@ module _ (turn : Turn) (f : File) (n t nx m : ℕ) (works : turn.v.work ≡ Reti
         tt,
         stays_open lets carried less (retired f) refl (λ k. sym (ap (removed_in k) its.1)) (inr (inr (ap owner its.1)))
             (λ s h bad. cc (sym its.1 ∙ bad))
-            (λ q other range may. let low = subst (MayBeUnmarked (slot_word st.words) q) its.1 may in absurd (other (done q low range.1)))
+            (λ q other range may. absurd (nobody q other range may))
             record { file = node.file; counts = omega arith; somebody = omega arith } tt,
         record {
           waits = λ g i a b c its' _. let same = retiring_same its' in
@@ -100,8 +105,8 @@ module _ (turn : Turn) (f : File) (n t nx m : ℕ) (works : turn.v.work ≡ Reti
       ))
 
 pub retires_keep : RetiresKeep Retires
-retires_keep k slots id i n t nx m amount f s x has works done place by = rw by
-    (by_turn slots (λ (k : _). (p : ℕ) → nx ≤ p → p ≤ k.passes → p ≡ x.number) (λ k. word_of k n)
+retires_keep k slots id i n t m amount nx f s x has works done place by = rw by
+    (by_turn slots (λ (k : _). (p : ℕ) → nx.next ≤ p → p ≤ k.passes → IsPassed x.number nx p) (λ k. word_of k n)
     (λ word. (word + (2 ^ 64 - retirement_amount t m)) % 2 ^ 64)
     (λ i. Retires (step slots i (retirement_amount t m) 0 none) s) has done place
     (λ st r here done fits. retires_either (turn_of s x has.1 id st r here) f n t nx m works done slots s.1 fits))

@@ -26,6 +26,7 @@ runs_then {m} {m'} {m''} {xs} {ys} {w' = w'} {n = n} {n' = n'} a b = record {
       ∙ (sym (append_assoc (map (pass_event (pass_in m)) ys) (map (pass_event (pass_in m)) xs) (part_of_pass (pass_in m).number (pass_in m).front))
       ∙ ap (λ (l : List Event). l ++ part_of_pass (pass_in m).number (pass_in m).front) (sym (map-append (pass_event (pass_in m)) ys xs))))));
   steps = let p = a.steps in let q = b.steps in omega arith;
+  listed = λ l. b.listed (a.listed l);
   work = b.work;
   inside = subst (λ (k : Start). IsInside k w') a.start b.inside;
   glance = b.glance;
@@ -59,6 +60,7 @@ module _ {k : Start} {p : ℕ} {m : Sat} (at : IsAtWork k p m) where
     legal = subst (λ (z : Start × Log). IsHistory z.0 z.1.front) (λ i. (sym at.pass.0 i, sym (ap first_log at.pass.1) i)) at.legal;
     own = refl;
     steps = omega arith;
+    listed = λ l. l;
     work = refl;
     inside = subst (λ (z : Start). IsInside z m.0.work) (sym at.pass.0) at.inside;
     glance = refl;

@@ -64,6 +64,7 @@ module _ (k : Start) (s : Shared) (r : Agrees k s) (views : List View) (a : AreR
     passes = λ p. by_log (λ y. one_if (eqb y.number p)) ∙ r.passes p;
     whole = a.by_logs (length {A = Log}) refl (λ xs ys. length-append xs ys) ∙ r.whole;
     authors = r.authors;
+    listed = r.listed;
     control = let u = r.control.counts in let b = by_change owing refl in record { counts = omega arith };
   }
 
@@ -85,7 +86,8 @@ module _ (k : Start) (s : Shared) (r : Agrees k s) (id : ℕ) (v : View) (here :
     seen = o.seen;
     own = o.own;
     held = o.held ∙ no_file free_of;
-    search = tt;
+    allowed = tt;
+    list = o.list;
     hold = holds_none free_of o.hold;
     guarded = tt;
     sees = o.sees;
@@ -122,6 +124,7 @@ module _ (k : Start) (s : Shared) (r : Agrees k s) (id : ℕ) (v : View) (here :
     passes = λ p. let t = sum_set (logs_of p) s.views id v forgot here in let h = r.passes p in omega arith;
     whole = let t = sum_set lengths s.views id v forgot here in let h = r.whole in omega arith;
     authors = r.authors;
+    listed = r.listed;
     control = control_same s.views id v forgot here refl refl refl r.control;
   }
 

@@ -1,6 +1,7 @@
 -- A step on the word of a slot, whose file stays there.
+use Rattle.fx_lasting.proofs.Words.{inl}
 use Rattle.fx_lasting.proofs.Words.{◌≡◌, ◌≢◌, ℕ, ◌+◌, ◌<◌, ◌≤◌, List, [], set, sym, refl, ap, ◌∙◌, subst, arith, Option, Some, None, Bool, held_by, File}
-use Rattle.fx_lasting.proofs.Words.{Event, NodeAgrees, SearchAgrees, SlotAgrees, Names, Agrees, slots_of, nodes_of, IsHistory, state_after_all}
+use Rattle.fx_lasting.proofs.Words.{Event, NodeAgrees, IsAllowed, SlotAgrees, Names, Agrees, slots_of, nodes_of, IsHistory, state_after_all}
 use Rattle.fx_lasting.proofs.Words.{held_in, held_of, taken_of, taking, Phase, free, placed, seated, leaving, retired, emptied, Work, Glance, ⊎_elim}
 use Rattle.fx_lasting.proofs.Words.{◌⊎◌, inr, dite, ℕ_discrete, slot_place, word_of, count_in, name_in, entry_in, IsHot, cold_takes, tally, birth_word}
 use Rattle.fx_lasting.proofs.Words.{owed, sum_set, sum_by, get_elem?, length-set, MayBeUnmarked, dec_le, suc}
@@ -8,7 +9,7 @@ use Rattle.fx_lasting.proofs.Counts.{tally_same}
 use Rattle.fx_lasting.proofs.Histories.{Grows}
 use Rattle.fx_lasting.proofs.Frames.{busy, owner_stays, owner_same, slot_same, node_same, control_same, Leaves, keeps_other, guards_same}
 use Rattle.fx_lasting.proofs.Keeping.{Turn, After, Keeps, word_at, slot_word, step_kept, w, end}
-use Rattle.fx_lasting.proofs.Places.{slot_words, slot_here, slot_node, slot_else, slot_hold, slot_control}
+use Rattle.fx_lasting.proofs.Places.{slot_words, slot_here, slot_node, slot_else, slot_hold, slot_control, slot_list}
 
 module _ (turn : Turn) (s : ℕ) (inside : s < slots_of turn.v.start) (new : ℕ) (h' : List Event) (d : Work) (g : Glance) (over' : ℕ → ℕ → Bool) where
   open turn use {st, v, r, id, x, here, one}
@@ -29,6 +30,8 @@ module _ (turn : Turn) (s : ℕ) (inside : s < slots_of turn.v.start) (new : ℕ
     work = d;
     glance = g;
     change = v.change;
+    listed = x.listed;
+    still_listed = λ l. l;
   }
 
   abbrev old : ℕ
@@ -54,7 +57,7 @@ module _ (turn : Turn) (s : ℕ) (inside : s < slots_of turn.v.start) (new : ℕ
     -- the pass
     pub owners : (d ≡ v.work) ⊎ (busy v.work ≡ 0)
     pub held : held_by h' x.number ≡ held_in d
-    pub search : SearchAgrees v.start x.number d
+    pub allowed : IsAllowed v.start x.number x.listed d
     pub its : Keeps turn slot_after id x.number d g
     pub holds : (n : ℕ) → (state_after_all v.start h').holds n + held_of n v ≡ (state_after_all v.start r.history).holds n + held_of n (w turn slot_after)
 
@@ -162,7 +165,9 @@ module _ (turn : Turn) (s : ℕ) (inside : s < slots_of turn.v.start) (new : ℕ
       fresh = λ number l. ap (λ (f : ℕ → Bool). f number) p.fresh ∙ r.fresh number l;
       others = λ j u z other there at n range o work. keeps_other turn slot_after leaves j u z other there n range o work;
       held = p.held;
-      search = p.search;
+      allowed = p.allowed;
+      lists = λ i few. inl (slot_list turn s inside new i few);
+      its_bit = λ l. inl l;
       its = p.its;
       holds = p.holds;
       control = rw p.at (control_same st.views id v (w turn slot_after) here refl (slot_control turn s inside new) refl r.control);

@@ -1,7 +1,7 @@
 -- The first words of a shared table, written one slot after the other, and the files of the slots, which move to its
 -- places.
 use Rattle.fx_lasting.proofs.Words.{◌≡◌, ℕ, zero, suc, ◌+◌, ◌<◌, ◌≤◌, List, length, refl, ap, arith, Option, Some, None, slice_index, State}
-use Rattle.fx_lasting.proofs.Words.{File, full_in, if_full, control_place, slot_place, hold_place, node_place, word_for}
+use Rattle.fx_lasting.proofs.Words.{File, full_in, if_full, control_place, list_place, slot_place, hold_place, node_place, word_for}
 use Rattle.fx_lasting.proofs.Words.{node_for, length-append, [], ◌∷◌, ◌++◌, sym, ◌∙◌, dite}
 use Rattle.fx_lasting.proofs.Words.{some, ℕ_discrete, get_elem?, Closed, state_of, IsSettled, nodes_of}
 use Rattle.fx_lasting.proofs.Words.{at_index, dec_le, home_for, OpensWith, Start}
@@ -23,6 +23,7 @@ pub record AreWordsSoFar (st : State) (passes nodes done : ℕ) (words : List �
   pub nodes_so : (slot : ℕ) → slot < done → slice_index words (node_place st.size passes slot) ≡ node_for (first_at st slot)
   pub slots_left : (slot : ℕ) → done ≤ slot → slot < st.size → slice_index words (slot_place slot) ≡ 0
   pub nodes_left : (node : ℕ) → done ≤ node → slice_index words (node_place st.size passes node) ≡ 0
+  pub lists : (pass : ℕ) → pass ≤ 1024 → slice_index words (list_place pass) ≡ 0
   pub holds : (pass : ℕ) → 0 < pass → pass ≤ passes → slice_index words (hold_place st.size pass) ≡ 0
 
 -- A table with the words and places of a table of one thread keeps the rule.
@@ -52,5 +53,6 @@ module _ (k : Start) (words : List ℕ) (homes : List (Option Closed)) where
     files = λ slot l. in_place homes slot (omega (arith, l, h.count)) (h.files slot ∙ home_is (st.at slot) slot);
     free_words = λ n low high. w.free n low;
     free_places = λ n low high. in_place homes n (omega (arith, high, h.count)) (h.files n ∙ ap identity_of (none_outside k.plain.value low));
+    list_words = w.lists;
     hold_words = w.holds;
   }

@@ -1,8 +1,9 @@
 -- A swap of a slot's word: a file leaves the slot, if there was one, and the slot gets another or none.
+use Rattle.fx_lasting.proofs.Words.{IsToVisit, new_round, inl}
 use Rattle.fx_lasting.proofs.Words.{◌≡◌, ◌≢◌, ℕ, suc, ◌-◌, ◌^◌, ◌<◌, ◌≤◌, List, [], set, length, sym, refl, ap, ◌∙◌, subst, arith, Option, Some, None}
 use Rattle.fx_lasting.proofs.Words.{get_elem?, Bool, true, false, inl, inr, ⊎_elim, ◌⊎◌, dite, ℕ_discrete, dec_le, eq-eqb, ne_eqb, File, Event}
 use Rattle.fx_lasting.proofs.Words.{State, held_by, with_removed, changed_at, changed_here, changed_else, Agrees, NodeAgrees, OwnerAgrees, WorkAgrees}
-use Rattle.fx_lasting.proofs.Words.{SlotAgrees, Names, IsSeated, HoldAgrees, GuardAgrees, MayBeUnmarked, SearchAgrees, ControlCounts, Nodes}
+use Rattle.fx_lasting.proofs.Words.{SlotAgrees, Names, IsSeated, HoldAgrees, GuardAgrees, MayBeUnmarked, IsAllowed, ControlCounts, Nodes}
 use Rattle.fx_lasting.proofs.Words.{IsHistory, state_after_all, slots_of, nodes_of, range_at_start, slot_place, word_of, hold_word_of, control_place, count_in}
 use Rattle.fx_lasting.proofs.Words.{name_in, hot_in, IsHot, owed, taken_of, taking, held_in, if_file, sum_by, sum_set, Phase, free, placed, seated}
 use Rattle.fx_lasting.proofs.Words.{leaving, retired, emptied, owner, file_in, removed_in, first_visit, retiring_work, Found, Work, Change, Idle, Retiring}
@@ -11,7 +12,7 @@ use Rattle.fx_lasting.proofs.Counts.{tally_same}
 use Rattle.fx_lasting.proofs.Histories.{Grows, each_changed}
 use Rattle.fx_lasting.proofs.Frames.{does_now, slot_same, file_same, Leaves, keeps_other, guards_same, SlotGoesOn, sees_on, heats_on}
 use Rattle.fx_lasting.proofs.Keeping.{Turn, After, Homes, word_at, slot_word, step_kept, w, end, its_log, in_range}
-use Rattle.fx_lasting.proofs.Places.{slot_words, slot_here, slot_node, slot_else, slot_hold, slot_control}
+use Rattle.fx_lasting.proofs.Places.{slot_words, slot_here, slot_node, slot_else, slot_hold, slot_control, slot_list}
 use Rattle.fx_lasting.proofs.Unheld.{in_phase}
 
 -- the node isn't that of the file
@@ -60,13 +61,13 @@ module _ (turn : Turn) (s : ℕ) (inside : s < slots_of turn.v.start) where
     abbrev pub d : Work
     d = retiring_work v.start found old
 
-    d_is : (f : File) → old ≡ Some f → d ≡ Retiring f (r.node_of f.number) (count_in found) (first_visit v.start.passes found) 0
+    d_is : (f : File) → old ≡ Some f → d ≡ Retiring f (r.node_of f.number) (count_in found) (new_round (first_visit v.start.passes found)) 0
     d_is f is = let e = old_named is in ap (retiring_work v.start found) is
-        ∙ ap (λ (n : ℕ). Retiring f n (count_in found) (first_visit v.start.passes found) 0) e
+        ∙ ap (λ (n : ℕ). Retiring f n (count_in found) (new_round (first_visit v.start.passes found)) 0) e
 
     -- what a pass does that has a file to retire, or none
     by_retiring : (P : Work → Type 0) → P Idle
-        → ((f : File) → old ≡ Some f → P (Retiring f (r.node_of f.number) (count_in found) (first_visit v.start.passes found) 0)) → P d
+        → ((f : File) → old ≡ Some f → P (Retiring f (r.node_of f.number) (count_in found) (new_round (first_visit v.start.passes found)) 0)) → P d
     by_retiring P idle retires = go old refl
       where
         go : (o : Option File) → old ≡ o → P d
@@ -75,7 +76,7 @@ module _ (turn : Turn) (s : ℕ) (inside : s < slots_of turn.v.start) where
 
     -- the old file's node, after the swap
     abbrev gone_as : File → Phase
-    gone_as f = leaving id (count_in found) (first_visit v.start.passes found) 0 f
+    gone_as f = leaving id (count_in found) (new_round (first_visit v.start.passes found)) 0 f
 
     module _ (h' : List Event) (new_word : ℕ) (new : Option File) (homes' : Homes) (phase₁ : ℕ → Phase) (next' : ℕ) (c : Change) where
       abbrev over' : ℕ → ℕ → Bool
@@ -102,6 +103,8 @@ module _ (turn : Turn) (s : ℕ) (inside : s < slots_of turn.v.start) where
         work = d;
         glance = v.glance;
         change = c;
+        listed = x.listed;
+        still_listed = λ l. l;
       }
 
       abbrev after : State
@@ -182,8 +185,8 @@ module _ (turn : Turn) (s : ℕ) (inside : s < slots_of turn.v.start) where
                 (λ c. rw (ne_eqb (hot_in found) 1 c) (omega arith))
 
         -- who guards the old file is still to be visited
-        guard_old : {f : File} (q : ℕ) → 0 < q → q ≤ v.start.passes → old ≡ Some f → IsHot found → first_visit v.start.passes found ≤ q
-        guard_old q low high is hot = rw (eq-eqb (hot_in found) 1 hot) (omega arith)
+        guard_old : {f : File} (q : ℕ) → 0 < q → q ≤ v.start.passes → old ≡ Some f → IsHot found → IsToVisit (new_round (first_visit v.start.passes found)) q
+        guard_old q low high is hot = (rw (eq-eqb (hot_in found) 1 hot) (omega arith), λ idle. let a = idle.0 in omega arith)
 
         covers : (q : ℕ) → (0 < q) × (q ≤ v.start.passes) → (n : ℕ) → MayBeUnmarked (slot_word st.words) q (r.phase n)
             → MayBeUnmarked (slot_word (slot_words turn s inside new_word)) q (phase' n)
@@ -278,14 +281,16 @@ module _ (turn : Turn) (s : ℕ) (inside : s < slots_of turn.v.start) where
               (λ f is same. rw (same, out_here is) (old_node is)) (λ apart. rw (else_phase apart) (p.nodes n l apart)));
           owners = λ n l. by_old r.node_of old {n = n} (OwnerAgrees (set st.views id (w turn swap_after)) n (phase' n))
               (λ f is same. rw (same, out_here is) (does_now st.views id v (w turn swap_after)
-              (Retiring f (r.node_of f.number) (count_in found) (first_visit v.start.passes found) 0) here (d_is f is)))
+              (Retiring f (r.node_of f.number) (count_in found) (new_round (first_visit v.start.passes found)) 0) here (d_is f is)))
               (λ apart. rw (else_phase apart) (p.owners n l apart));
           removed = removed_now;
           unborn = λ n l. same_phase (r.unborn n l) (not_old (r.unborn n l) (λ f bad. cc bad)) (λ bad. cc bad);
           fresh = λ number l. ap (λ (z : State). z.fresh number) p.leads ∙ p.fresh_on number l;
           others = λ j u z other there at n range o work. keeps_other turn swap_after leaves j u z other there n range o work;
           held = p.held ∙ (o.held ∙ (hands.0 ∙ by_retiring (λ q. None ≡ held_in q) refl (λ f is. refl)));
-          search = by_retiring (SearchAgrees v.start x.number) tt (λ f is. tt);
+          allowed = by_retiring (IsAllowed v.start x.number x.listed) tt (λ f is. tt);
+          lists = λ i few. inl (slot_list turn s inside new_word i few);
+          its_bit = λ l. inl l;
           its = record {
             hold = rw (slot_hold turn s inside new_word x.number (in_range turn).0)
                 (by_retiring (HoldAgrees (word_at st.words (hold_word_of v.start x.number)) (r.debt x.number)) (hands.2, hands.3) (λ f is. (hands.2, hands.3)));

@@ -140,7 +140,7 @@ module _ (turn : Turn) (s : ℕ) (inside : s < slots_of turn.v.start) where
         taken = λ n l else. sym (ap (taking n) works);
         owners = inl (sym works);
         held = held_mine (pass_event x (Look s None)) r.history refl;
-        search = tt;
+        allowed = tt;
         its = record {
           hold = rw (slot_hold turn s inside new x.number (in_range turn).0) h;
           guarded = tt;
@@ -182,7 +182,7 @@ module _ (turn : Turn) (s : ℕ) (inside : s < slots_of turn.v.start) where
           taken = λ m l' else. bit_else m n (λ same. else f (ap r.phase (sym same) ∙ at)) ∙ sym (ap (taking m) works);
           owners = inr (ap busy works);
           held = held_mine (pass_event x (Look s (Some f))) r.history refl;
-          search = tt;
+          allowed = tt;
           its = record {
             hold = rw (slot_hold turn s inside new x.number (in_range turn).0) h;
             guarded = tt;
@@ -265,7 +265,7 @@ module _ (turn : Turn) (s : ℕ) (inside : s < slots_of turn.v.start) where
           taken = λ n l else. refl;
           owners = inl refl;
           held = o.held;
-          search = o.search;
+          allowed = o.allowed;
           its = record {
             hold = own.0;
             guarded = own.1;

@@ -31,7 +31,7 @@ module _ (k : Start) (s : Shared) (r : Agrees k s) where
     takes = few_takes;
     room = omega (arith, few_cold k.passes, r.shape.passes);
     named = λ slot node inside is. let a = r.each_slot slot inside in of_slot slot node inside _ a.names a.seat is;
-    leaving = λ seat node takes next marks v f there is.
+    leaving = λ seat node takes marks round v f there is.
         let work = subst (WorkAgrees k r.phase seat) is (r.each_view seat v there).work in
         let o = subst (Node node) work.1 (r.each_node node work.0) in
         let a = o.counts in let b = o.few_takes in let c = o.few_marks in let d = o.few_visits in omega arith;

@@ -4,7 +4,7 @@ pub use Rattle.atomic_table.specs.Seated.{TableId}
 pub use Rattle.atomic_table.specs.Table.{Act, keeps, Valid, stepped, carried_after, step, gives, rest, takes, Allows}
 pub use Rattle.fx_base.specs.declared.open_file.Closed.{Closed}
 pub use Rattle.fx_lasting.specs.Agrees.{HoldAgrees, MayBeUnmarked, GuardAgrees, GlanceAgrees, Heats, LogAgrees, ViewAgrees, Agrees, NodeAgrees, Does}
-pub use Rattle.fx_lasting.specs.Agrees.{OwnerAgrees, HoldsAt, WorkAgrees, SearchAgrees, NamesNode, Nodes, Names, IsSeated, SlotAgrees, Home, IsFileOfNode}
+pub use Rattle.fx_lasting.specs.Agrees.{OwnerAgrees, HoldsAt, WorkAgrees, IsAllowed, IsIdleIn, IsToVisit, NamesNode, Nodes, Names, IsSeated, SlotAgrees, Home, IsFileOfNode}
 pub use Rattle.fx_lasting.specs.Agrees.{IsVacant}
 pub use Rattle.fx_lasting.specs.AtWork.{IsAtWork, IsReleasing, HasPlace}
 pub use Rattle.fx_lasting.specs.Control.{owing, owing_of, is_in, uncounted, account, ControlCounts}
@@ -15,21 +15,22 @@ pub use Rattle.fx_lasting.specs.Laws.{HasToLetGo, IsOffCount}
 pub use Rattle.fx_lasting.specs.Laws.{ClearsKeep, TakesOutKeep, ExchangesKeep, HasPass, GlancesKeep, AnnouncesKeep, ConfirmsKeep, WithdrawsKeep}
 pub use Rattle.fx_lasting.specs.Laws.{TakesOnceKeep, HeatsKeep, SplitsKeep, JoinsKeep, LowersKeep, RaisesKeep, AsksKeep, PeeksKeep}
 pub use Rattle.fx_lasting.specs.Laws.{InstallsKeep, StepsDownKeep, LettingGoKeeps, SeeksKeep, BirthsKeep, RestsKeep, VisitsKeep, MarksKeep}
-pub use Rattle.fx_lasting.specs.Laws.{RetiresKeep, IsInRange}
-pub use Rattle.fx_lasting.specs.Layout.{control_place, slot_place, hold_place, node_place, block_for, block_start}
+pub use Rattle.fx_lasting.specs.Laws.{RetiresKeep, IsInRange, ListsKeep, SkimsKeep, IsPassed}
+pub use Rattle.fx_lasting.specs.Layout.{control_place, list_place, slot_place, hold_place, node_place, block_for, block_start}
 pub use Rattle.fx_lasting.specs.Opens.{word_for, node_for, home_for, first_file, OpensWith}
-pub use Rattle.fx_lasting.specs.Parts.{hot_bit, count_in, hot_in, IsHot, cold_takes, birth_word, closed_word, retirement_amount, announced, mark}
+pub use Rattle.fx_lasting.specs.Parts.{hot_bit, count_in, hot_in, IsHot, cold_takes, birth_word, closed_word, retirement_amount, announced, mark, bit_of}
+pub use Rattle.fx_lasting.specs.Parts.{IsListedIn}
 pub use Rattle.fx_lasting.specs.Passes.{node_of_number, HasNoFile}
 pub use Rattle.fx_lasting.specs.Passes.{Shared, Sat, state_at_start, slots_of, range_at_start, nodes_of, IsInBlock, word_of, hold_word_of, logs_of, lengths}
 pub use Rattle.fx_lasting.specs.Passes.{state_after_all, IsHistory, new_log, first_log, held_in, if_file, held_of, taking, taken_of}
 pub use Rattle.fx_lasting.specs.Phases.{Phase, owner, file_in, file_if_numbered, removed_in, free, placed, seated, leaving, retired, emptied}
 pub use Rattle.fx_lasting.specs.Runs.{Runs}
 pub use Rattle.fx_lasting.specs.Tables.{hold_at, retired_at, doing_in, numbers_of_pass, pass_of, opening_of, view_of, steps_taken, IsBetweenCalls, IsSeatOf, IsPassOf}
-pub use Rattle.fx_lasting.specs.Tables.{opening_of_table, IsPassOfTable}
+pub use Rattle.fx_lasting.specs.Tables.{opening_of_table, IsPassOfTable, IsSeatOfTable, listing_step}
 pub use Rattle.fx_lasting.specs.declared.pass.LastingPass.{LastingPass}
 pub use Rattle.fx_lasting.specs.declared.table.LastingTable.{LastingTable}
-pub use Rattle.fx_lasting.specs.Tells.{LetsGo, At, rested}
-pub use Rattle.fx_lasting.specs.Visits.{Visited, HasVisited, HasMarked}
+pub use Rattle.fx_lasting.specs.Tells.{LetsGo, At, rested, Lists, Skims, IsOnList, round_at, round_from, new_round}
+pub use Rattle.fx_lasting.specs.Visits.{Visited, HasVisited, HasMarked, round_to}
 pub use Rattle.fx_lasting.specs.Searches.{next_of}
 pub use Rattle.fx_lasting.specs.Tells.{Announces, Shows, Confirms, Withdraws, glance_after, Takes, HeatTells, StepsDown, TakesOut, slot_of, pass_at}
 pub use Rattle.fx_lasting.specs.Tells.{pass_event, pass_in, IsInside, Stepped, Goes, Glances, Exchanges, LettingGo, Seeks, Births, Rests, Visits, Marks}
@@ -39,6 +40,7 @@ pub use Rattle.fx_lasting.specs.declared.view.Change.TheVariants.{Outside, Insid
 pub use Rattle.fx_lasting.specs.declared.view.Glance.{Glance}
 pub use Rattle.fx_lasting.specs.declared.view.Glance.TheVariants.{None as Nothing, Hot, Cold, Heating}
 pub use Rattle.fx_lasting.specs.declared.view.Log.{Log}
+pub use Rattle.fx_lasting.specs.declared.view.Round.{Round}
 pub use Rattle.fx_lasting.specs.declared.view.Start.{Start}
 pub use Rattle.fx_lasting.specs.declared.view.View.{View}
 pub use Rattle.fx_lasting.specs.declared.view.Work.{Work}
@@ -67,6 +69,7 @@ pub use Rattle.std.proofs.Math.Nat.{mul-le-mul_right}
 pub use Rattle.std.proofs.lemmas.List.{length-map, set-get_or}
 pub use Rattle.std.proofs.lemmas.List.FromFn.{length-map-range_with_len}
 pub use Rattle.std.proofs.lemmas.List.Sums.{sum_by-append, sum_by-cons}
+pub use Rattle.std.specs.Int.{bit_at}
 pub use Rattle.std.specs.List.{range_with_len}
 pub use Rattle.fx_lasting.specs.Firsts.{AreFirstWords}
 pub use Rattle.fx_table.proofs.FullSlots.{full_all, full_else, full_few, full_here, full_one}

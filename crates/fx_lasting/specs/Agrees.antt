@@ -1,7 +1,9 @@
 -- The rule of a lasting table: words, places and views agree with the state that one legal history
 -- leads to.
-use Rattle.std.specs.Prelude.{◌≡◌, ℕ, ◌+◌, ◌^◌, ◌<◌, ◌≤◌, ◌⊎◌, Bool, true, false, List, [], length}
+use Rattle.std.specs.Prelude.{◌≡◌, ℕ, ◌+◌, ◌-◌, ◌/◌, ◌^◌, ◌<◌, ◌≤◌, ◌⊎◌, Bool, true, false, List}
+use Rattle.std.specs.Prelude.{[], length}
 use Rattle.std.specs.Prelude.{Option, Some, None, Contains, sum_by, slice_index}
+use Rattle.std.specs.Int.{bit_at}
 use mathlib.Core.Option.{some, none}
 use mathlib.Core.Option as maybe
 use lib.ListN.{get_elem?}
@@ -14,9 +16,9 @@ use Rattle.fx_table.specs.Numbers.{once}
 use Rattle.fx_words.specs.Words.{name_in, entry_in}
 use Rattle.fx_lasting.specs.Control.{ControlCounts}
 use Rattle.fx_lasting.specs.Counts.{tally, owed}
-use Rattle.fx_lasting.specs.Layout.{control_place, slot_place, words_for}
+use Rattle.fx_lasting.specs.Layout.{control_place, list_place, slot_place, words_for}
 use Rattle.fx_lasting.specs.Parts.{IsHot, count_in, cold_takes, birth_word, closed_word}
-use Rattle.fx_lasting.specs.Parts.{announced, mark}
+use Rattle.fx_lasting.specs.Parts.{announced, mark, bit_of, IsListedIn}
 use Rattle.fx_lasting.specs.Passes.{Shared, slots_of, range_at_start, nodes_of, IsInBlock}
 use Rattle.fx_lasting.specs.Passes.{word_of}
 use Rattle.fx_lasting.specs.Passes.{hold_word_of, state_after_all, IsHistory, held_in, held_of}
@@ -28,6 +30,7 @@ use Rattle.fx_lasting.specs.declared.view.Change.TheVariants.{Outside}
 use Rattle.fx_lasting.specs.declared.view.Glance.{Glance}
 use Rattle.fx_lasting.specs.declared.view.Glance.TheVariants.{None as Nothing, Hot, Cold, Heating}
 use Rattle.fx_lasting.specs.declared.view.Log.{Log}
+use Rattle.fx_lasting.specs.declared.view.Round.{Round}
 use Rattle.fx_lasting.specs.declared.view.Start.{Start}
 use Rattle.fx_lasting.specs.declared.view.View.{View}
 use Rattle.fx_lasting.specs.declared.view.Work.{Work}
@@ -90,12 +93,12 @@ module _ (at : ℕ → Option File) (size : ℕ) (takes_at : ℕ → ℕ) (node_
     pub there : at slot ≡ Some f
 
   -- its file was removed: the takes that were found, and the marks that were made
-  pub record IsLeaving (takes next marks : ℕ) (f : File) : Type 0 where
+  pub record IsLeaving (takes : ℕ) (round : Round) (marks : ℕ) (f : File) : Type 0 where
     pub file : IsFileOfNode node_of next_number node home f
     pub counts : word + takes + marks ≡ birth_word + taken + owing
     pub few_takes : takes < 2 ^ 31
-    pub few_marks : marks < next
-    pub few_visits : next ≤ 2 ^ 16
+    pub few_marks : marks < round.next
+    pub few_visits : round.next ≤ 2 ^ 16
 
   -- its file was retired: the word counts who has still to let it go
   pub record IsRetired (f : File) : Type 0 where
@@ -108,7 +111,7 @@ module _ (at : ℕ → Option File) (size : ℕ) (takes_at : ℕ → ℕ) (node_
   NodeAgrees free = IsVacant 0 (some (some None))
   NodeAgrees (placed seat) = IsVacant birth_word (some none)
   NodeAgrees (seated slot f) = IsAtSlot slot f
-  NodeAgrees (leaving seat takes next marks f) = IsLeaving takes next marks f
+  NodeAgrees (leaving seat takes round marks f) = IsLeaving takes round marks f
   NodeAgrees (retired f) = IsRetired f
   NodeAgrees (emptied seat) = IsVacant closed_word (some none)
 
@@ -119,8 +122,8 @@ Does views seat work = (v : View) × (get_elem? views seat ≡ some v) × (v.wor
 -- a node that a pass works with alone is known to the pass
 abbrev pub OwnerAgrees : List View → ℕ → Phase → Type 0
 OwnerAgrees views node (placed seat) = Does views seat (Placing node)
-OwnerAgrees views node (leaving seat takes next marks f) =
-    Does views seat (Retiring f node takes next marks)
+OwnerAgrees views node (leaving seat takes round marks f) =
+    Does views seat (Retiring f node takes round marks)
 OwnerAgrees views node (emptied seat) = Does views seat (Emptying node)
 OwnerAgrees views node _ = Unit {0}
 
@@ -142,15 +145,18 @@ WorkAgrees k phase seat (Owing node) = node < nodes_of k
 WorkAgrees k phase seat (Yielding f node) = HoldsAt k phase f node
 WorkAgrees k phase seat (Searching node) = IsIn k phase node free
 WorkAgrees k phase seat (Placing node) = IsIn k phase node (placed seat)
-WorkAgrees k phase seat (Retiring f node takes next marks) =
-    IsIn k phase node (leaving seat takes next marks f)
+WorkAgrees k phase seat (Retiring f node takes round marks) =
+    IsIn k phase node (leaving seat takes round marks f)
 WorkAgrees k phase seat (Emptying node) = IsIn k phase node (emptied seat)
 
--- a pass looks for a free node in its own block, and installs its files there
-abbrev pub SearchAgrees : Start → ℕ → Work → Type 0
-SearchAgrees k pass (Searching node) = IsInBlock k pass node
-SearchAgrees k pass (Placing node) = IsInBlock k pass node
-SearchAgrees k pass _ = Unit {0}
+-- a pass looks for a free node in its own block, and installs its files there; and it announces a
+-- node, or holds a file by its hold word, only if it is listed
+abbrev pub IsAllowed : Start → ℕ → Bool → Work → Type 0
+IsAllowed k pass listed (Searching node) = IsInBlock k pass node
+IsAllowed k pass listed (Placing node) = IsInBlock k pass node
+IsAllowed k pass listed (Announced node) = listed ≡ true
+IsAllowed k pass listed (Guarded f node) = listed ≡ true
+IsAllowed k pass listed _ = Unit {0}
 
 -- a hold word names the node, and nothing is owed; or it is marked, and so much is owed
 abbrev pub NamesNode : ℕ → ℕ → ℕ → Type 0
@@ -165,10 +171,19 @@ HoldAgrees word debt (Owing node) = (word ≡ 0) × (debt ≡ node + 1)
 HoldAgrees word debt (Yielding f node) = (word ≡ 0) × (debt ≡ node + 1)
 HoldAgrees word debt _ = (word ≡ 0) × (debt ≡ 0)
 
+-- the pass is one of the last word of the list that the round has loaded, without its bit: since
+-- then it has held no file of the removed file's node by its hold word
+abbrev pub IsIdleIn : Round → ℕ → Type 0
+IsIdleIn round pass = ((pass - 1) / 64 + 1 ≡ round.words) × (bit_at round.last (bit_of pass) ≡ 0)
+
+-- the round has still to visit the pass
+abbrev pub IsToVisit : Round → ℕ → Type 0
+IsToVisit round pass = (round.next ≤ pass) × (IsIdleIn round pass → ⊥)
+
 -- a file may be held by a hold word that isn't marked at a hot slot, or until the pass is visited
 abbrev pub MayBeUnmarked : (ℕ → ℕ) → ℕ → Phase → Type 0
 MayBeUnmarked slot_word pass (seated slot f) = IsHot (slot_word slot)
-MayBeUnmarked slot_word pass (leaving seat takes next marks f) = next ≤ pass
+MayBeUnmarked slot_word pass (leaving seat takes round marks f) = IsToVisit round pass
 MayBeUnmarked slot_word pass _ = ⊥
 
 abbrev pub GuardAgrees : (ℕ → ℕ) → (ℕ → Phase) → ℕ → ℕ → Work → Type 0
@@ -196,7 +211,9 @@ pub record LogAgrees (k : Start) (h : List Event) (words : List ℕ) (phase : �
   pub seen : IsSeenBy x.front h
   pub own : part_of_pass x.number h ≡ part_of_pass x.number x.front
   pub held : held_by h x.number ≡ held_in work
-  pub search : SearchAgrees k x.number work
+  pub allowed : IsAllowed k x.number x.listed work
+  -- the list has its bit, if it is listed
+  pub list : x.listed ≡ true → IsListedIn (slice_index words (list_place x.number)) x.number
   pub hold : HoldAgrees (slice_index words (hold_word_of k x.number)) (debt x.number) work
   pub guarded : GuardAgrees (λ s. slice_index words (slot_place s)) phase x.number
       (debt x.number) work
@@ -258,5 +275,8 @@ pub record Agrees (k : Start) (s : Shared) : Type 0 where
   pub passes : (p : ℕ) → sum_by (logs_of p) s.views ≡ once k.passes p
   pub whole : sum_by lengths s.views ≡ k.passes
   pub authors : (p : ℕ) → once k.passes p ≡ 0 → part_of_pass p history ≡ []
+  -- the list has bits of the table's passes alone
+  pub listed : (p : ℕ) → 0 < p → p ≤ 1024 → IsListedIn (slice_index s.words (list_place p)) p
+      → p ≤ k.passes
   pub control : ControlCounts (state_after_all k history).at (range_at_start k) s.views
       (slice_index s.words control_place)

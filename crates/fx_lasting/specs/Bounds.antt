@@ -8,6 +8,7 @@ use Rattle.fx_lasting.specs.Agrees.{Agrees}
 use Rattle.fx_lasting.specs.Layout.{control_place, slot_place}
 use Rattle.fx_lasting.specs.Parts.{count_in, cold_takes}
 use Rattle.fx_lasting.specs.Passes.{Shared, slots_of, word_of}
+use Rattle.fx_lasting.specs.declared.view.Round.{Round}
 use Rattle.fx_lasting.specs.declared.view.Start.{Start}
 use Rattle.fx_lasting.specs.declared.view.View.{View}
 use Rattle.fx_lasting.specs.declared.view.Work.TheVariants.{Retiring}
@@ -34,8 +35,8 @@ pub record AreBounded (k : Start) (s : Shared) : Type 0 where
   pub named : (slot node : ℕ) → slot < slots_of k → name_in (slot_word_in s slot) ≡ node + 1
       → 2 < node_word_in k s node
   -- nor after its file's removal, until the file is retired
-  pub leaving : (seat node takes next marks : ℕ) (v : View) (f : File)
-      → get_elem? s.views seat ≡ some v → v.work ≡ Retiring f node takes next marks
+  pub leaving : (seat node takes marks : ℕ) (round : Round) (v : View) (f : File)
+      → get_elem? s.views seat ≡ some v → v.work ≡ Retiring f node takes round marks
       → 2 < node_word_in k s node
   -- of at most 256 full slots, the word counts at most one too few for each pass
   pub least : 64512 ≤ control_word_in s

@@ -4,7 +4,8 @@ use Rattle.fx_plain.specs.State.{State}
 use Rattle.fx_plain.specs.declared.event.File.{File}
 use Rattle.fx_table.specs.FullSlots.{full_in, first_at}
 use Rattle.fx_words.specs.Words.{control_word_of}
-use Rattle.fx_lasting.specs.Layout.{control_place, slot_place, hold_place, node_place, words_for}
+use Rattle.fx_lasting.specs.Layout.{control_place, list_place, slot_place, hold_place, node_place}
+use Rattle.fx_lasting.specs.Layout.{words_for}
 use Rattle.fx_lasting.specs.Opens.{word_for, node_for}
 
 -- the first words of a table with these passes and nodes: those of the slots and of their nodes,
@@ -21,5 +22,6 @@ pub record AreFirstWords (st : State) (passes nodes : ℕ) (words : List ℕ) : 
       → slice_index words (node_place st.size passes slot) ≡ node_for (first_at st slot)
   pub free : (node : ℕ) → st.size ≤ node
       → slice_index words (node_place st.size passes node) ≡ 0
+  pub lists : (pass : ℕ) → pass ≤ 1024 → slice_index words (list_place pass) ≡ 0
   pub holds : (pass : ℕ) → 0 < pass → pass ≤ passes
       → slice_index words (hold_place st.size pass) ≡ 0

@@ -1,18 +1,17 @@
 -- The kinds of step keep the rule, whatever the table and the other passes are. A law takes the
 -- place of its word as a premise.
-use Rattle.std.specs.Prelude.{◌≡◌, ◌≢◌, ℕ, ◌+◌, ◌-◌, ◌%◌, ◌^◌, ◌<◌, ◌≤◌, ◌==◌, ◌⊎◌, [], ◌∷◌, Some}
-use Rattle.std.specs.Prelude.{None}
-use Rattle.std.specs.Prelude.{bit_or, true}
+use Rattle.std.specs.Prelude.{◌≡◌, ◌≢◌, ℕ, ◌+◌, ◌-◌, ◌*◌, ◌%◌, ◌^◌, ◌<◌, ◌≤◌, ◌==◌, ◌⊎◌}
+use Rattle.std.specs.Prelude.{bit_or, true, [], ◌∷◌, Some, None}
 use mathlib.Core.Option.{none}
 use prog.Atomic.{either}
 use Rattle.atomic_table.specs.Table.{step, Splits, Joins, Allows}
 use Rattle.fx_base.specs.Identity.{Identity}
 use Rattle.fx_plain.specs.declared.event.File.{File}
 use Rattle.fx_words.specs.Words.{name_in, slot_word_of}
-use Rattle.fx_lasting.specs.Agrees.{Agrees}
+use Rattle.fx_lasting.specs.Agrees.{Agrees, IsIdleIn}
 use Rattle.fx_lasting.specs.Control.{is_in, uncounted}
-use Rattle.fx_lasting.specs.Layout.{control_place, slot_place}
-use Rattle.fx_lasting.specs.Parts.{hot_bit, birth_word, announced, mark, retirement_amount}
+use Rattle.fx_lasting.specs.Layout.{control_place, list_place, slot_place}
+use Rattle.fx_lasting.specs.Parts.{hot_bit, birth_word, announced, mark, retirement_amount, bit_of}
 use Rattle.fx_lasting.specs.Passes.{Sat, HasNoFile, slots_of, range_at_start, word_of}
 use Rattle.fx_lasting.specs.Passes.{hold_word_of, IsInBlock}
 use Rattle.fx_lasting.specs.Tells.{At}
@@ -20,6 +19,7 @@ use Rattle.fx_lasting.specs.declared.view.Change.{Change}
 use Rattle.fx_lasting.specs.declared.view.Change.TheVariants.{Outside, Inside}
 use Rattle.fx_lasting.specs.declared.view.Glance.TheVariants.{None as Nothing, Hot, Cold, Heating}
 use Rattle.fx_lasting.specs.declared.view.Log.{Log}
+use Rattle.fx_lasting.specs.declared.view.Round.{Round}
 use Rattle.fx_lasting.specs.declared.view.Start.{Start}
 use Rattle.fx_lasting.specs.declared.view.View.{View}
 use Rattle.fx_lasting.specs.declared.view.Work.{Work}
@@ -51,12 +51,19 @@ GlancesKeep tells = (k : Start) (slots id i slot : ℕ) (m : Sat) (x : Log) → 
     → DoesNothing m → slot < slots_of k → i ≡ slot_place slot
     → Allows (Agrees k) slots id m i (λ word. word) (tells (step slots i 0 0 none) m)
 
--- a pass that saw a hot slot stores its node's name in its hold word
+-- a listed pass that saw a hot slot stores its node's name in its hold word
 abbrev pub AnnouncesKeep : Kind → Type 0
 AnnouncesKeep tells = (k : Start) (slots id i slot node : ℕ) (m : Sat) (x : Log) → HasPass k m x
-    → m.0.work ≡ Idle → m.0.glance ≡ Hot slot node → i ≡ hold_word_of k x.number
+    → x.listed ≡ true → m.0.work ≡ Idle → m.0.glance ≡ Hot slot node → i ≡ hold_word_of k x.number
     → Allows (Agrees k) slots id m i (λ _. announced node)
     (λ _. tells (step slots i (announced node) 0 none) m (announced node))
+
+-- a pass sets its bit in the list
+abbrev pub ListsKeep : Kind → Type 0
+ListsKeep tells = (k : Start) (slots id i : ℕ) (m : Sat) (x : Log) → HasPass k m x
+    → i ≡ list_place x.number
+    → Allows (Agrees k) slots id m i (λ word. bit_or word (2 ^ bit_of x.number))
+    (tells (step slots i (2 ^ bit_of x.number) 0 none) m)
 
 -- it loads the slot's word again
 abbrev pub ConfirmsKeep : Kind → Type 0
@@ -115,29 +122,42 @@ RestsKeep tells = (k : Start) (slots id i n : ℕ) (m : Sat) (x : Log) → HasPa
     → (m.0.work ≡ Emptying n) ⊎ (m.0.work ≡ Placing n) → m.1 ≡ (n, None) ∷ [] → i ≡ word_of k n
     → Allows (Agrees k) slots id m i (λ _. 0) (λ _. tells (step slots i 0 0 none) m 0)
 
--- a pass that removed a hot file loads the hold word of the next pass but itself
+-- the pass is the one that retires a file, or one that the round needn't visit
+abbrev pub IsPassed : ℕ → Round → ℕ → Type 0
+IsPassed number round pass = (pass ≡ number) ⊎ IsIdleIn round pass
+
+-- a pass that removed a hot file loads a word of the list, after it has visited the passes of the
+-- words before it
+abbrev pub SkimsKeep : Kind → Type 0
+SkimsKeep tells = (k : Start) (slots id i node takes marks index : ℕ) (round : Round) (f : File)
+    (m : Sat) (x : Log) → HasPass k m x → m.0.work ≡ Retiring f node takes round marks
+    → index < 16 → round.next ≤ 64 * index + 1
+    → ((p : ℕ) → round.next ≤ p → p ≤ 64 * index → IsPassed x.number round p) → i ≡ 8 + index
+    → Allows (Agrees k) slots id m i (λ word. word) (tells (step slots i 0 0 none) m)
+
+-- a pass that removed a hot file loads the hold word of the next pass that it has to visit
 abbrev pub VisitsKeep : Kind → Type 0
-VisitsKeep tells = (k : Start) (slots id i node takes next marks pass : ℕ) (f : File) (m : Sat)
-    (x : Log) → HasPass k m x → m.0.work ≡ Retiring f node takes next marks
-    → next ≤ pass → pass ≤ k.passes → pass ≢ x.number
-    → ((p : ℕ) → next ≤ p → p < pass → p ≡ x.number) → i ≡ hold_word_of k pass
+VisitsKeep tells = (k : Start) (slots id i node takes marks pass : ℕ) (round : Round) (f : File)
+    (m : Sat) (x : Log) → HasPass k m x → m.0.work ≡ Retiring f node takes round marks
+    → round.next ≤ pass → pass ≤ k.passes → pass ≢ x.number
+    → ((p : ℕ) → round.next ≤ p → p < pass → IsPassed x.number round p) → i ≡ hold_word_of k pass
     → Allows (Agrees k) slots id m i (λ word. word) (tells (step slots i 0 0 none) m)
 
 -- it marks the hold word of that pass, if it names the node still
 abbrev pub MarksKeep : Kind → Type 0
-MarksKeep tells = (k : Start) (slots id i node takes next marks pass : ℕ) (f : File) (m : Sat)
-    (x : Log) → HasPass k m x → m.0.work ≡ Retiring f node takes next marks
-    → next ≤ pass → pass ≤ k.passes → pass ≢ x.number
-    → ((p : ℕ) → next ≤ p → p < pass → p ≡ x.number) → i ≡ hold_word_of k pass
+MarksKeep tells = (k : Start) (slots id i node takes marks pass : ℕ) (round : Round) (f : File)
+    (m : Sat) (x : Log) → HasPass k m x → m.0.work ≡ Retiring f node takes round marks
+    → round.next ≤ pass → pass ≤ k.passes → pass ≢ x.number
+    → ((p : ℕ) → round.next ≤ p → p < pass → IsPassed x.number round p) → i ≡ hold_word_of k pass
     → Allows (Agrees k) slots id m i
     (λ word. either (word == announced node) (announced node + mark) word)
     (tells (step slots i (announced node) (announced node + mark) none) m)
 
--- it subtracts 2^32 less the takes and the marks, when it has visited all passes but itself
+-- it subtracts 2^32 less the takes and the marks, when it has visited all passes that it has to
 abbrev pub RetiresKeep : Kind → Type 0
-RetiresKeep tells = (k : Start) (slots id i node takes next marks amount : ℕ) (f : File) (m : Sat)
-    (x : Log) → HasPass k m x → m.0.work ≡ Retiring f node takes next marks
-    → ((p : ℕ) → next ≤ p → p ≤ k.passes → p ≡ x.number) → i ≡ word_of k node
+RetiresKeep tells = (k : Start) (slots id i node takes marks amount : ℕ) (round : Round) (f : File)
+    (m : Sat) (x : Log) → HasPass k m x → m.0.work ≡ Retiring f node takes round marks
+    → ((p : ℕ) → round.next ≤ p → p ≤ k.passes → IsPassed x.number round p) → i ≡ word_of k node
     → amount ≡ retirement_amount takes marks
     → Allows (Agrees k) slots id m i (λ word. (word + (2 ^ 64 - amount)) % 2 ^ 64)
     (tells (step slots i amount 0 none) m)

@@ -1,5 +1,5 @@
 -- Passes as they are handed out and gathered.
-use Rattle.std.specs.Prelude.{◌≡◌, ℕ, ◌+◌, ◌-◌, true, List, [], flat_map, Option}
+use Rattle.std.specs.Prelude.{◌≡◌, ℕ, ◌+◌, ◌-◌, true, false, List, [], flat_map, Option}
 use Rattle.atomic_table.specs.declared.shared.Seat.{Seat}
 use mathlib.Core.Option.{some}
 use lib.ListN.{get_elem?}
@@ -33,6 +33,7 @@ pub record IsNewPass (seat : Seat (Option Identity) View) (number node : ℕ)
   pub its_number : p.number ≡ number
   pub its_node : p.next_node ≡ node
   pub flag : p.idle ≡ true
+  pub unlisted : p.listed ≡ false
 
 -- the seat of a table that was just opened
 pub record HasAllPasses (t : LastingTable) (seat : Seat (Option Identity) View) : Type 0 where

@@ -9,7 +9,7 @@ use Rattle.fx_plain.specs.declared.event.File.{File}
 use Rattle.fx_plain.specs.declared.table.TheConstants.{MOST_SLOTS}
 use Rattle.fx_words.specs.Words.{slot_word_of, control_word_of}
 use Rattle.fx_table.specs.FullSlots.{full_in}
-use Rattle.fx_lasting.specs.Layout.{control_place, slot_place, words_for}
+use Rattle.fx_lasting.specs.Layout.{control_place, list_place, slot_place, words_for}
 use Rattle.fx_lasting.specs.Parts.{birth_word}
 use Rattle.fx_lasting.specs.Passes.{Shared, slots_of, range_at_start, nodes_of}
 use Rattle.fx_lasting.specs.Passes.{word_of, hold_word_of}
@@ -56,6 +56,7 @@ pub record OpensWith (k : Start) (words : List ℕ) (homes : List (Option Identi
       → get_elem? homes slot ≡ some (home_for (first_file k slot))
   pub free_words : (n : ℕ) → slots_of k ≤ n → n < nodes_of k → slice_index words (word_of k n) ≡ 0
   pub free_places : (n : ℕ) → slots_of k ≤ n → n < nodes_of k → get_elem? homes n ≡ some None
+  pub list_words : (p : ℕ) → p ≤ 1024 → slice_index words (list_place p) ≡ 0
   pub hold_words : (p : ℕ) → 0 < p → p ≤ k.passes → slice_index words (hold_word_of k p) ≡ 0
 
 -- a table that begins so keeps the rule, with one seat that has all passes

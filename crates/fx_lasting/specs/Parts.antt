@@ -1,5 +1,6 @@
 -- The parts of words, as numbers.
 use Rattle.std.specs.Prelude.{◌≡◌, ℕ, ◌+◌, ◌-◌, ◌/◌, ◌%◌, ◌^◌, ◌==◌, if◌then◌else◌}
+use Rattle.std.specs.Int.{bit_at}
 
 -- the name, the entry and the node of a slot's word are those of `fx_words`. Bit 31 says whether
 -- the slot is hot, and the lower ones count its takes
@@ -19,6 +20,14 @@ IsHot word = hot_in word ≡ 1
 -- the takes from which on a slot becomes hot: a pass that is alone disturbs nobody
 abbrev pub cold_takes : ℕ → ℕ
 cold_takes passes = if passes == 1 then 2 ^ 30 else 16
+
+-- the place of a pass's bit in its word of the list
+abbrev pub bit_of : ℕ → ℕ
+bit_of pass = (pass - 1) % 64
+
+-- the word of the list has the pass's bit
+abbrev pub IsListedIn : ℕ → ℕ → Type 0
+IsListedIn word pass = bit_at word (bit_of pass) ≡ 1
 
 -- the word of a node: 0 while it is free; from its birth on this, less what was dropped; 1 and the
 -- holds that are left, when its file was retired; 1 when its file is closed

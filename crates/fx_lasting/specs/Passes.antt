@@ -2,7 +2,7 @@
 use Rattle.std.specs.Prelude.{◌≡◌, ℕ, ◌+◌, ◌%◌, ◌<◌, ◌≤◌, ◌⊎◌, ◌==◌, not, nat_lt, List}
 use Rattle.std.specs.Prelude.{[], ◌∷◌, map, Option}
 use Rattle.std.specs.Prelude.{Some, None}
-use Rattle.std.specs.Prelude.{length, count_by, if◌then◌else◌}
+use Rattle.std.specs.Prelude.{length, count_by, if◌then◌else◌, false}
 use Rattle.atomic_table.specs.Table.{State as TableState, Me}
 use Rattle.fx_base.specs.Identity.{Identity}
 use Rattle.fx_plain.specs.Contents.{state_of}
@@ -68,7 +68,7 @@ IsHistory k h = IsLegal (state_at_start k) h (state_after_all k h)
 
 -- a pass that has seen and done nothing
 abbrev pub new_log : ℕ → Log
-new_log p = record { number = p; front = []; steps = 0 }
+new_log p = record { number = p; front = []; steps = 0; listed = false }
 
 -- the one pass of a seat
 abbrev pub first_log : List Log → Log

@@ -1,6 +1,7 @@
 -- Where each node is in its life.
 use Rattle.std.specs.Prelude.{ℕ, ◌+◌, ◌==◌, if◌then◌else◌, Option, Some, None}
 use Rattle.fx_plain.specs.declared.event.File.{File}
+use Rattle.fx_lasting.specs.declared.view.Round.{Round}
 
 -- where a node is
 pub data Phase : Type 0 where
@@ -10,9 +11,9 @@ pub data Phase : Type 0 where
   placed : ℕ → Phase
   -- its file is at the slot
   seated : ℕ → File → Phase
-  -- its file was removed by the pass at the seat, which found `takes` takes, has visited the
-  -- hold words before `next`, and made `marks` marks
-  leaving : (seat takes next marks : ℕ) → File → Phase
+  -- its file was removed by the pass at the seat, which found `takes` takes, has come so far on its
+  -- round through the other passes, and made `marks` marks
+  leaving : (seat takes : ℕ) → Round → (marks : ℕ) → File → Phase
   -- its file was removed and retired, and somebody has still to let it go
   retired : File → Phase
   -- its file is closed, and the pass at the seat is about to take it out
@@ -21,14 +22,14 @@ pub data Phase : Type 0 where
 -- the seat that alone may go on with it, plus 1, or 0
 abbrev pub owner : Phase → ℕ
 owner (placed seat) = seat + 1
-owner (leaving seat takes next marks f) = seat + 1
+owner (leaving seat takes round marks f) = seat + 1
 owner (emptied seat) = seat + 1
 owner _ = 0
 
 -- its file, while it is open
 abbrev pub file_in : Phase → Option File
 file_in (seated slot f) = Some f
-file_in (leaving seat takes next marks f) = Some f
+file_in (leaving seat takes round marks f) = Some f
 file_in (retired f) = Some f
 file_in _ = None
 
@@ -38,6 +39,6 @@ file_if_numbered number f = if f.number == number then Some f else None
 
 -- its file, if it was removed and has the number
 abbrev pub removed_in : ℕ → Phase → Option File
-removed_in number (leaving seat takes next marks f) = file_if_numbered number f
+removed_in number (leaving seat takes round marks f) = file_if_numbered number f
 removed_in number (retired f) = file_if_numbered number f
 removed_in number _ = None

@@ -14,6 +14,7 @@ use Rattle.fx_table.specs.declared.values.Hold.{Hold}
 use Rattle.fx_table.specs.declared.values.Retired.{Retired}
 use Rattle.fx_lasting.specs.AtWork.{IsAtWork}
 use Rattle.fx_lasting.specs.Passes.{first_log, IsInBlock}
+use Rattle.fx_lasting.specs.Tells.{IsOnList, new_round}
 use Rattle.fx_lasting.specs.declared.view.Change.TheVariants.{Outside}
 use Rattle.fx_lasting.specs.declared.view.Glance.TheVariants.{None as Nothing}
 use Rattle.fx_lasting.specs.declared.view.Start.{Start}
@@ -35,7 +36,7 @@ retired_at f node takes = record { node = node; entry = f.identity.entry; takes 
 abbrev pub doing_in : Work → Doing
 doing_in (Counted f node) = Holding f (hold_at f node)
 doing_in (Guarded f node) = Holding f (hold_at f node)
-doing_in (Retiring f node takes next marks) = Retires f (retired_at f node takes)
+doing_in (Retiring f node takes round marks) = Retires f (retired_at f node takes)
 doing_in _ = DoesNothing
 
 -- the files that a pass can install, if those from 1 to `installing` install: none, or always as
@@ -75,6 +76,10 @@ view_of p = pass_of p.seat.me.0
 abbrev pub steps_taken : LastingPass → ℕ
 steps_taken p = (first_log p.seat.me.0.logs).steps
 
+-- 1 for a pass that isn't listed yet, and else 0
+abbrev pub listing_step : LastingPass → ℕ
+listing_step p = if p.listed then 0 else 1
+
 -- between two calls a pass is idle, has chosen the node of its next file, holds a file by a take or
 -- by its hold word, or has one to retire and has visited no hold word yet; its fields say which
 abbrev pub IsBetweenCalls : ℕ → Bool → Bool → ℕ → ℕ → Work → Type 0
@@ -82,9 +87,9 @@ IsBetweenCalls passes idle guarded visit next Idle = idle ≡ true
 IsBetweenCalls passes idle guarded visit next (Searching node) = (idle ≡ true) × (next ≡ node)
 IsBetweenCalls passes idle guarded visit next (Counted f node) = (idle ≡ false) × (guarded ≡ false)
 IsBetweenCalls passes idle guarded visit next (Guarded f node) = (idle ≡ false) × (guarded ≡ true)
-IsBetweenCalls passes idle guarded visit next (Retiring f node takes first marks) =
-    (idle ≡ false) × (visit ≡ first) × (marks ≡ 0) × (takes < 2 ^ 31)
-    × ((first ≡ 1) ⊎ (first ≡ passes + 1))
+IsBetweenCalls passes idle guarded visit next (Retiring f node takes round marks) =
+    (idle ≡ false) × (round ≡ new_round visit) × (marks ≡ 0) × (takes < 2 ^ 31)
+    × ((visit ≡ 1) ⊎ (visit ≡ passes + 1))
 IsBetweenCalls passes idle guarded visit next _ = ⊥
 
 -- a seat of the table, with one pass that has no place, and on whose account the control word
@@ -95,6 +100,7 @@ pub record IsSeatOf (id : TableId) (k : Start) (p : LastingPass) : Type 0 where
   pub at : IsAtWork k p.number p.seat.me
   pub change : p.seat.me.0.change ≡ Outside
   pub block : IsInBlock k p.number p.next_node
+  pub listed : p.listed ≡ true → IsOnList p.seat.me
 
 -- a pass of a table with this start
 pub record IsPassOf (id : TableId) (k : Start) (p : LastingPass) : Type 0 where

@@ -1,7 +1,7 @@
 -- Each kind of step: its effect on the pass that makes it.
 use Rattle.std.specs.Prelude.{◌≡◌, ◌≢◌, ℕ, ◌+◌, ◌-◌, ◌*◌, ◌/◌, ◌<◌, ◌==◌, nat_lt}
 use Rattle.std.specs.Prelude.{if◌then◌else◌}
-use Rattle.std.specs.Prelude.{List, []}
+use Rattle.std.specs.Prelude.{◌≤◌, true, List, []}
 use Rattle.std.specs.Prelude.{◌∷◌, ◌++◌, map, Option, Some, None}
 use Rattle.atomic_table.specs.Table.{Step, rest}
 use Rattle.fx_base.specs.Identity.{Identity}
@@ -13,7 +13,8 @@ use Rattle.fx_plain.specs.declared.event.Action.{Action}
 use Rattle.fx_plain.specs.declared.event.Action.TheVariants.{Look, Release, Put, Allocate, Full}
 use Rattle.fx_plain.specs.declared.event.Action.TheVariants.{Close}
 use Rattle.fx_words.specs.Words.{name_in, entry_in, bias}
-use Rattle.fx_lasting.specs.Parts.{hot_in, IsHot, count_in, cold_takes, announced}
+use Rattle.fx_lasting.specs.Layout.{list_place}
+use Rattle.fx_lasting.specs.Parts.{hot_in, IsHot, count_in, cold_takes, announced, IsListedIn}
 use Rattle.fx_lasting.specs.Control.{account}
 use Rattle.fx_lasting.specs.Passes.{Sat, slots_of, nodes_of, range_at_start, IsInBlock, word_of}
 use Rattle.fx_lasting.specs.Passes.{IsHistory, node_of_number}
@@ -23,6 +24,7 @@ use Rattle.fx_lasting.specs.declared.view.Change.TheVariants.{Inside}
 use Rattle.fx_lasting.specs.declared.view.Glance.{Glance}
 use Rattle.fx_lasting.specs.declared.view.Glance.TheVariants.{None as Nothing, Hot, Cold, Heating}
 use Rattle.fx_lasting.specs.declared.view.Log.{Log}
+use Rattle.fx_lasting.specs.declared.view.Round.{Round}
 use Rattle.fx_lasting.specs.declared.view.Start.{Start}
 use Rattle.fx_lasting.specs.declared.view.Work.{Work}
 use Rattle.fx_lasting.specs.declared.view.Work.TheVariants.{Idle, Announced, Counted, Guarded}
@@ -36,11 +38,11 @@ At = Step (Option Identity)
 
 -- the slot whose word is there
 abbrev pub slot_of : ℕ → ℕ
-slot_of place = (place - 8) / 8
+slot_of place = (place - 24) / 8
 
 -- the pass whose hold word is there
 abbrev pub pass_at : Start → ℕ → ℕ
-pass_at k place = (place - 8 * slots_of k) / 8
+pass_at k place = (place - (16 + 8 * slots_of k)) / 8
 
 -- an action of a pass: a lasting table knows no chains
 abbrev pub pass_event : Log → Action → Event
@@ -60,8 +62,12 @@ IsInside k (Owing node) = node < nodes_of k
 IsInside k (Yielding f node) = node < nodes_of k
 IsInside k (Searching node) = node < nodes_of k
 IsInside k (Placing node) = node < nodes_of k
-IsInside k (Retiring f node takes next marks) = node < nodes_of k
+IsInside k (Retiring f node takes round marks) = node < nodes_of k
 IsInside k (Emptying node) = node < nodes_of k
+
+-- the pass of the seat is listed
+abbrev pub IsOnList : Sat → Type 0
+IsOnList m = (pass_in m).listed ≡ true
 
 -- One step of a seat with one pass: it saw more of the history and took these actions, and now it
 -- does this work
@@ -74,6 +80,7 @@ pub record Stepped (m : Sat) (actions : List Action) (w : Work) (g : Glance) (c 
   pub own : part_of_pass (pass_in m).number (pass_in m').front
       ≡ map (pass_event (pass_in m)) actions ++ part_of_pass (pass_in m).number (pass_in m).front
   pub steps : (pass_in m').steps ≡ (pass_in m).steps + 1
+  pub listed : IsOnList m → IsOnList m'
   pub work : m'.0.work ≡ w
   pub inside : IsInside m.0.start w
   pub glance : m'.0.glance ≡ g
@@ -93,6 +100,11 @@ pub record Glances (st : At) (m : Sat) (found : ℕ) (m' : Sat) : Type 0 where
       → Goes m [] Idle (Cold (slot_of st.word)) m'
   pub hot : (node : ℕ) → name_in found ≡ node + 1 → IsHot found
       → Goes m [] Idle (Hot (slot_of st.word) node) m' × (node < nodes_of m.0.start)
+
+-- List: the list has the pass's bit
+pub record Lists (st : At) (m : Sat) (found : ℕ) (m' : Sat) : Type 0 where
+  pub goes : Goes m [] m.0.work m.0.glance m'
+  pub listed : IsOnList m'
 
 -- Announce: the hold word names the node
 pub record Announces (st : At) (m : Sat) (found : ℕ) (m' : Sat) : Type 0 where
@@ -193,41 +205,70 @@ pub record Rests (st : At) (m : Sat) (found : ℕ) (m' : Sat) : Type 0 where
   pub stepped : Stepped m [] (rested m.0.work) m.0.glance m.0.change m'
   pub carried : m'.1 ≡ rest m.1
 
+-- how far a round is that visits this pass, or loads this word of the list
+abbrev pub round_at : Round → ℕ → Round
+round_at round pass = record round { next = pass + 1 }
+
+abbrev pub round_from : ℕ → ℕ → Round
+round_from place found = record { next = 64 * (place - 8) + 1; words = place - 7; last = found }
+
+-- Skim, of a word of the list: of its passes, those without their bits need no visit
+pub record Skims (st : At) (m : Sat) (found : ℕ) (m' : Sat) : Type 0 where
+  pub goes : (f : File) (node takes : ℕ) (round : Round) (marks : ℕ)
+      → m.0.work ≡ Retiring f node takes round marks
+      → Goes m [] (Retiring f node takes (round_from st.word found) marks) m.0.glance m'
+  -- the others are passes of the table
+  pub inside : (p : ℕ) → 0 < p → p ≤ 1024 → list_place p ≡ st.word → IsListedIn found p
+      → p ≤ m.0.start.passes
+
 -- Visit, of a hold word: one that doesn't name the node isn't marked
 pub record Visits (st : At) (m : Sat) (found : ℕ) (m' : Sat) : Type 0 where
-  pub other : (f : File) (node takes next marks : ℕ) → m.0.work ≡ Retiring f node takes next marks
+  pub other : (f : File) (node takes : ℕ) (round : Round) (marks : ℕ)
+      → m.0.work ≡ Retiring f node takes round marks
       → found ≢ announced node
-      → Goes m [] (Retiring f node takes (pass_at m.0.start st.word + 1) marks) m.0.glance m'
-  pub names : (f : File) (node takes next marks : ℕ) → m.0.work ≡ Retiring f node takes next marks
-      → found ≡ announced node → Goes m [] (Retiring f node takes next marks) m.0.glance m'
+      → Goes m [] (Retiring f node takes (round_at round (pass_at m.0.start st.word)) marks)
+      m.0.glance m'
+  pub names : (f : File) (node takes : ℕ) (round : Round) (marks : ℕ)
+      → m.0.work ≡ Retiring f node takes round marks
+      → found ≡ announced node → Goes m [] (Retiring f node takes round marks) m.0.glance m'
 
 -- Mark: it is counted where it was made
 pub record Marks (st : At) (m : Sat) (found : ℕ) (m' : Sat) : Type 0 where
-  pub made : (f : File) (node takes next marks : ℕ) → m.0.work ≡ Retiring f node takes next marks
+  pub made : (f : File) (node takes : ℕ) (round : Round) (marks : ℕ)
+      → m.0.work ≡ Retiring f node takes round marks
       → found ≡ announced node
-      → Goes m [] (Retiring f node takes (pass_at m.0.start st.word + 1) (marks + 1)) m.0.glance m'
-  pub missed : (f : File) (node takes next marks : ℕ) → m.0.work ≡ Retiring f node takes next marks
+      → Goes m [] (Retiring f node takes (round_at round (pass_at m.0.start st.word)) (marks + 1))
+      m.0.glance m'
+  pub missed : (f : File) (node takes : ℕ) (round : Round) (marks : ℕ)
+      → m.0.work ≡ Retiring f node takes round marks
       → found ≢ announced node
-      → Goes m [] (Retiring f node takes (pass_at m.0.start st.word + 1) marks) m.0.glance m'
+      → Goes m [] (Retiring f node takes (round_at round (pass_at m.0.start st.word)) marks)
+      m.0.glance m'
 
 -- Retire: where the word was 1 more than what was subtracted, nobody has still to let the file go
 pub record Retires (st : At) (m : Sat) (found : ℕ) (m' : Sat) : Type 0 where
-  pub waits : (f : File) (node takes next marks : ℕ) → m.0.work ≡ Retiring f node takes next marks
+  pub waits : (f : File) (node takes : ℕ) (round : Round) (marks : ℕ)
+      → m.0.work ≡ Retiring f node takes round marks
       → found ≢ st.first + 1
       → Goes m [] Idle m.0.glance m'
       × ((state_after_all m.0.start (pass_in m').front).removed f.number ≡ Some f)
-  pub closes : (f : File) (node takes next marks : ℕ) → m.0.work ≡ Retiring f node takes next marks
+  pub closes : (f : File) (node takes : ℕ) (round : Round) (marks : ℕ)
+      → m.0.work ≡ Retiring f node takes round marks
       → found ≡ st.first + 1 → TakesOut m [] f node m'
 
 -- where the visits of a retirement begin: a file of a slot that wasn't hot is held by takes alone
 abbrev pub first_visit : ℕ → ℕ → ℕ
 first_visit passes found = if hot_in found == 1 then 1 else passes + 1
 
+-- a round that begins with this pass, and has loaded no word of the list
+abbrev pub new_round : ℕ → Round
+new_round first = record { next = first; words = 0; last = 0 }
+
 -- what a pass does that removed this file, or found none
 abbrev pub retiring_work : Start → ℕ → Option File → Work
 retiring_work k found None = Idle
 retiring_work k found (Some f) =
-    Retiring f (name_in found - 1) (count_in found) (first_visit k.passes found) 0
+    Retiring f (name_in found - 1) (count_in found) (new_round (first_visit k.passes found)) 0
 
 -- what a swap found
 abbrev pub Found : ℕ → Option File → Type 0

@@ -1,31 +1,40 @@
--- The visits of a retirement to the hold words of the other passes.
-use Rattle.std.specs.Prelude.{◌≡◌, ℕ, ◌+◌, ◌-◌, ◌*◌, ◌<◌, ◌≤◌, Bool, [], if◌then◌else◌}
+-- The round of a retirement through the hold words of the other passes.
+use Rattle.std.specs.Prelude.{◌≡◌, ℕ, ◌+◌, ◌-◌, ◌*◌, ◌/◌, ◌<◌, ◌≤◌, Bool, [], if◌then◌else◌}
 use Rattle.fx_plain.specs.declared.event.File.{File}
 use Rattle.fx_lasting.specs.Ends.{Does}
+use Rattle.fx_lasting.specs.Laws.{IsPassed}
 use Rattle.fx_lasting.specs.Passes.{Sat}
+use Rattle.fx_lasting.specs.Tells.{round_at}
+use Rattle.fx_lasting.specs.declared.view.Round.{Round}
 use Rattle.fx_lasting.specs.declared.view.Work.TheVariants.{Retiring}
 
+-- a round that has visited the passes before `next`, and loaded these words of the list
+abbrev pub round_to : ℕ → ℕ → ℕ → Round
+round_to next words last = record { next = next; words = words; last = last }
+
 -- The pass retires the file of the node, which had these takes. From `first` on it has visited each
--- pass before `pass` but itself, and made this many marks
-pub record HasVisited (number node : ℕ) (f : File) (takes first pass marks : ℕ)
+-- pass before `pass` that it has to, and made this many marks
+pub record HasVisited (passes number node : ℕ) (f : File) (takes first words last pass marks : ℕ)
     (m m' : Sat) : Type 0 where
   pub next : ℕ
   pub near : next ≤ pass
-  pub skipped : (p : ℕ) → next ≤ p → p < pass → p ≡ number
-  -- in at most two steps for each
+  pub inside : next ≤ passes + 1
+  pub passed : (p : ℕ) → next ≤ p → p < pass → IsPassed number (round_to next words last) p
+  -- in at most two steps for each, and one for each word of the list
   pub most : ℕ
-  pub few : most + 2 * first ≤ 2 * pass
-  pub fewer : first ≤ number → number < pass → most + 2 * first + 2 ≤ 2 * pass
-  pub does : Does m [] (Retiring f node takes next marks) most m'
+  pub few : most + 2 * first ≤ 2 * next + words
+  pub fewer : first ≤ number → number < next → most + 2 * first + 2 ≤ 2 * next + words
+  pub does : Does m [] (Retiring f node takes (round_to next words last) marks) most m'
 
 -- a visit to the pass: it was marked, or it doesn't announce the node
 abbrev pub Visited : ℕ → ℕ → Sat → Bool → Sat → Type 0
-Visited node pass m is_marked m' = (f : File) (takes next marks : ℕ)
-    → m.0.work ≡ Retiring f node takes next marks
-    → Does m [] (Retiring f node takes (pass + 1) (marks + (if is_marked then 1 else 0))) 2 m'
+Visited node pass m is_marked m' = (f : File) (takes : ℕ) (round : Round) (marks : ℕ)
+    → m.0.work ≡ Retiring f node takes round marks
+    → Does m [] (Retiring f node takes (round_at round pass) (marks + (if is_marked then 1 else 0)))
+    2 m'
 
--- all passes but this one were visited, with this many marks
+-- all passes that it has to visit were visited, with this many marks
 abbrev pub HasMarked : ℕ → ℕ → File → ℕ → ℕ → Sat → ℕ → Sat → Type 0
-HasMarked passes number f node takes m marks m' = (next : ℕ)
-    × ((p : ℕ) → next ≤ p → p ≤ passes → p ≡ number)
-    × Does m [] (Retiring f node takes next marks) (2 * (passes - 1)) m'
+HasMarked passes number f node takes m marks m' = (round : Round)
+    × ((p : ℕ) → round.next ≤ p → p ≤ passes → IsPassed number round p)
+    × Does m [] (Retiring f node takes round marks) (2 * (passes - 1) + (passes + 63) / 64) m'

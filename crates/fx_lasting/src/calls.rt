@@ -1,7 +1,7 @@
 //! The calls of a pass that never wait, allocate or retry: each makes at most as many atomic steps as its clause says.
 //! They are inlined into their caller, except for a withdrawal, for the visits of a retirement and for taking a file out.
 //! These hints change no proof.
-ghost use Rattle.std.specs.Prelude.{◌≡◌, ◌≢◌, ◌+◌, ◌*◌, ◌-◌, ◌<◌, ◌≤◌, Option, option_map, Err};
+ghost use Rattle.std.specs.Prelude.{◌≡◌, ◌≢◌, ◌+◌, ◌*◌, ◌-◌, ◌/◌, ◌<◌, ◌≤◌, Option, option_map, Err};
 ghost use Rattle.fx_plain.specs.declared.event.File.{File};
 ghost use Rattle.fx_table.specs.Calls.{Looked, LookedUp, Released, Placed, Cleared, Taken, HasRetired};
 ghost use Rattle.fx_table.specs.Opening.{size_of};
@@ -11,7 +11,7 @@ ghost use Rattle.fx_words.specs.Words.{name_in};
 ghost use Rattle.fx_lasting.specs.Choices.{UsesChoice};
 ghost use Rattle.fx_lasting.specs.Layout.{block_for};
 ghost use Rattle.fx_lasting.specs.Parts.{count_in};
-ghost use Rattle.fx_lasting.specs.Tables.{view_of, steps_taken, retired_at, opening_of_table, IsPassOfTable, IsSeatOfTable};
+ghost use Rattle.fx_lasting.specs.Tables.{view_of, steps_taken, listing_step, retired_at, opening_of_table, IsPassOfTable, IsSeatOfTable};
 ghost use Rattle.fx_lasting.specs.Tells.{Found, first_visit};
 ghost use Rattle.fx_lasting.specs.declared.view.Glance.TheVariants.{Hot, Cold};
 ghost use Rattle.fx_lasting.specs.declared.view.Work.TheVariants.{Idle};
@@ -26,8 +26,8 @@ use fx_table::{Empty, Hold, LookFault, LookUp, Retired};
 use fx_words::{entry_of, node_of, slot_word};
 
 impl LastingTable {
-    /// Looks up a slot below `size`, for an idle pass (`is_idle`), in at most eight atomic steps. The file there has one
-    /// more hold until the pass releases it (io_uring_enter(2), "IOSQE_FIXED_FILE"). The file that the look-up first saw
+    /// Looks up a slot below `size`, for an idle pass (`is_idle`), in at most eight atomic steps, and once in the pass's life in
+    /// nine. The file there has one more hold until the pass releases it (io_uring_enter(2), "IOSQE_FIXED_FILE"). The file that the look-up first saw
     /// may be removed before it is held. The look-up then looks again, and returns the removed file as `freed`, to be
     /// closed, if it was its last user.
     ///
@@ -42,7 +42,7 @@ impl LastingTable {
         ensures looked { LookedUp (opening_of_table self.now) (view_of pass.old) slot result.found
             result.freed (view_of pass.new) }
         ensures never_spent { result.found ≢ Err Spent }
-        ensures steps { steps_taken pass.new ≤ steps_taken pass.old + 8 }
+        ensures steps { steps_taken pass.new ≤ steps_taken pass.old + (8 + listing_step pass.old) }
     {
         let shared = &self.table.shared;
         let word = shared.load::<Glancing>(&mut pass.seat, slot_place(slot));
@@ -59,7 +59,7 @@ impl LastingTable {
         LookUp { found, freed: None }
     }
 
-    // Looks up a slot that named the node and was hot, in at most seven steps.
+    // Looks up a slot that named the node and was hot, in at most seven steps, and one more that lists the pass.
     #[inline(always)]
     fn look_hot(&self, pass: &mut LastingPass, slot: u32, node: u32) -> LookUp
         requires seated { IsSeatOfTable self.now pass.old }
@@ -70,8 +70,9 @@ impl LastingTable {
         ensures looked { LookedUp (opening_of_table self.now) (view_of pass.old) slot result.found
             result.freed (view_of pass.new) }
         ensures never_spent { result.found ≢ Err Spent }
-        ensures steps { steps_taken pass.new ≤ steps_taken pass.old + 7 }
+        ensures steps { steps_taken pass.new ≤ steps_taken pass.old + (7 + listing_step pass.old) }
     {
+        self.list(pass);
         match self.guard(&mut pass.seat, pass.number, slot, node) {
             Some(entry) => {
                 pass.idle = false;
@@ -209,7 +210,7 @@ impl LastingTable {
     }
 
     /// Retires the file that the pass removed, by the `Retired` that it got, in at most twice as many atomic steps as the
-    /// table has passes. Returns the file, to be closed, if nobody uses it now. Otherwise its last release returns it, or
+    /// table has passes, and one for each 64 passes. Returns the file, to be closed, if nobody uses it now. Otherwise its last release returns it, or
     /// a look-up that first saw it and came too late (`LookUp::freed`). Afterwards the pass is idle.
     #[inline(always)]
     pub fn retire(&self, pass: &mut LastingPass, retired: Retired) -> Option<OpenFile>
@@ -218,7 +219,8 @@ impl LastingTable {
         ensures fits { IsPassOfTable self.now pass.new }
         ensures retired { HasRetired (opening_of_table self.now) (view_of pass.old) retired result
             (view_of pass.new) }
-        ensures steps { steps_taken pass.new ≤ steps_taken pass.old + 2 * self.now.passes }
+        ensures steps { let passes = self.now.passes in
+            steps_taken pass.new ≤ steps_taken pass.old + (2 * passes + (passes + 63) / 64) }
     {
         let Retired {
             node,
@@ -237,7 +239,7 @@ impl LastingTable {
         Some(self.take_out(&mut pass.seat, node))
     }
 
-    // Returns the first hold word that the retirement of a removed file visits, from the word that named the file: a file
+    // Returns the first pass that the retirement of a removed file may visit, from the word that named the file: a file
     // of a slot that wasn't hot is held by takes alone.
     fn first_visit(&self, word: u64) -> u32
         ensures { result ≡ first_visit self.now.passes word }

@@ -46,7 +46,16 @@ impl Play<Option<OpenFile>, View> for Glancing {
     ghost then = { Glances };
 }
 
-/// Announce: the hold word of a pass names the node of a hot slot.
+/// List: the list of passes that ever announced a node has the pass's bit.
+pub struct Listing;
+
+impl Play<Option<OpenFile>, View> for Listing {
+    ghost use Rattle.fx_lasting.specs.Tells.{Lists};
+
+    ghost then = { Lists };
+}
+
+/// Announce: the hold word of a listed pass names the node of a hot slot.
 pub struct Announcing;
 
 impl Play<Option<OpenFile>, View> for Announcing {
@@ -134,6 +143,15 @@ impl Play<Option<OpenFile>, View> for Resting {
     ghost use Rattle.fx_lasting.specs.Tells.{Rests};
 
     ghost then = { Rests };
+}
+
+/// Skim: a pass that removed a hot file reads which of 64 passes are listed, and so may announce its node.
+pub struct Skimming;
+
+impl Play<Option<OpenFile>, View> for Skimming {
+    ghost use Rattle.fx_lasting.specs.Tells.{Skims};
+
+    ghost then = { Skims };
 }
 
 /// Visit: a pass that removed a hot file reads whether another pass announces its node.

@@ -7,12 +7,12 @@ ghost use Rattle.fx_lasting.specs.Holds.{NodesAreOfOneFile};
 ghost use Rattle.fx_lasting.specs.Layout.{PlacesAreInside, PlacesAreApart};
 ghost use Rattle.fx_lasting.specs.Opens.{OpeningKeeps};
 ghost use Rattle.fx_lasting.specs.declared.layout.TheConstants.{MOST_PASSES, MOST_INSTALLING};
-ghost use Rattle.fx_lasting.specs.Laws.{GlancesKeep, AnnouncesKeep, ConfirmsKeep, WithdrawsKeep, TakesOnceKeep, HeatsKeep, StepsDownKeep, LettingGoKeeps, SeeksKeep, BirthsKeep, RestsKeep, VisitsKeep, MarksKeep, RetiresKeep, LowersKeep, RaisesKeep, AsksKeep, PeeksKeep, SplitsKeep, JoinsKeep, ClearsKeep, TakesOutKeep, InstallsKeep, ExchangesKeep};
+ghost use Rattle.fx_lasting.specs.Laws.{GlancesKeep, ListsKeep, AnnouncesKeep, ConfirmsKeep, WithdrawsKeep, TakesOnceKeep, HeatsKeep, StepsDownKeep, LettingGoKeeps, SeeksKeep, BirthsKeep, RestsKeep, SkimsKeep, VisitsKeep, MarksKeep, RetiresKeep, LowersKeep, RaisesKeep, AsksKeep, PeeksKeep, SplitsKeep, JoinsKeep, ClearsKeep, TakesOutKeep, InstallsKeep, ExchangesKeep};
 
 use crate::kinds::{
     Announcing, Asking, Birth, Clearing, Confirming, Deal, Exchanging, Gather, Glancing, HeatingUp,
-    Installing, Letting, Lowering, Marking, OneHistory, Peeking, Raising, Resting, Retire, Seeking,
-    SteppingDown, Taking, TakingOut, Visiting, Withdrawing,
+    Installing, Letting, Listing, Lowering, Marking, OneHistory, Peeking, Raising, Resting, Retire,
+    Seeking, Skimming, SteppingDown, Taking, TakingOut, Visiting, Withdrawing,
 };
 use crate::view::{Start, View};
 use atomic_table::{Join, Play, Split, TableRule};
@@ -34,7 +34,12 @@ pub fn glance_keeps_rule()
     ensures { GlancesKeep ⟦<Glancing as Play<Option<OpenFile>, View>>⟧.then }
 {}
 
-/// A pass that stores the name of a hot slot's node in its hold word keeps the rule.
+/// A pass that sets its bit in the list keeps the rule, and is listed.
+pub fn list_keeps_rule()
+    ensures { ListsKeep ⟦<Listing as Play<Option<OpenFile>, View>>⟧.then }
+{}
+
+/// A listed pass that stores the name of a hot slot's node in its hold word keeps the rule.
 pub fn announce_keeps_rule()
     ensures { AnnouncesKeep ⟦<Announcing as Play<Option<OpenFile>, View>>⟧.then }
 {}
@@ -84,6 +89,12 @@ pub fn birth_keeps_rule()
 /// A pass that stores 0 in the word of a node whose file is closed, or which it placed in vain, keeps the rule.
 pub fn rest_keeps_rule()
     ensures { RestsKeep ⟦<Resting as Play<Option<OpenFile>, View>>⟧.then }
+{}
+
+/// A pass that removed a hot file and loads a word of the list keeps the rule. It need not visit the passes of the word that have no
+/// bit there.
+pub fn skim_keeps_rule()
+    ensures { SkimsKeep ⟦<Skimming as Play<Option<OpenFile>, View>>⟧.then }
 {}
 
 /// A pass that removed a hot file and loads the hold word of another pass keeps the rule.

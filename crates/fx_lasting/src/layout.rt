@@ -1,8 +1,9 @@
 //! The places of a table's words. The control word, each slot's word and each pass's hold word have a cache line of their
-//! own; the nodes' words follow them, side by side (this project's own).
+//! own, and so has the list of passes that ever announced a node, a bit for each. The nodes' words follow them, side by side
+//! (this project's own).
 ghost use Rattle.std.specs.Prelude.{◌≡◌, ◌<◌, ◌≤◌};
 ghost use Rattle.fx_plain.specs.declared.table.TheConstants.{MOST_SLOTS};
-ghost use Rattle.fx_lasting.specs.Layout.{control_place, slot_place, hold_place, node_place, words_for, block_for, block_start, nodes_for};
+ghost use Rattle.fx_lasting.specs.Layout.{control_place, list_place, slot_place, hold_place, node_place, words_for, block_for, block_start, nodes_for};
 
 /// The greatest number of passes of a table.
 pub const MOST_PASSES: u32 = 1024;
@@ -16,12 +17,20 @@ pub(crate) const MOST_NODES: u32 = 164_096;
 // The place of the control word.
 pub(crate) const CONTROL: usize = 0;
 
+// Returns the place of the word of the list that has the bit of a pass.
+pub(crate) fn list_place(pass: u32) -> usize
+    requires { (1 ≤ pass) × (pass ≤ MOST_PASSES) }
+    ensures { result ≡ list_place pass }
+{
+    8 + (pass - 1) as usize / 64
+}
+
 // Returns the place of a slot's word.
 pub(crate) fn slot_place(slot: u32) -> usize
     requires { slot < MOST_SLOTS }
     ensures { result ≡ slot_place slot }
 {
-    8 + 8 * slot as usize
+    24 + 8 * slot as usize
 }
 
 // Returns the place of a pass's hold word.
@@ -30,7 +39,7 @@ pub(crate) fn hold_place(size: u32, pass: u32) -> usize
     requires pass { pass ≤ MOST_PASSES }
     ensures { result ≡ hold_place size pass }
 {
-    (8 * size + 8 * pass) as usize
+    (16 + 8 * size + 8 * pass) as usize
 }
 
 // Returns the place of a node's word.
@@ -40,7 +49,7 @@ pub(crate) fn node_place(size: u32, passes: u32, node: u32) -> usize
     requires node { node < MOST_NODES }
     ensures { result ≡ node_place size passes node }
 {
-    (8 + 8 * size + 8 * passes + node) as usize
+    (24 + 8 * size + 8 * passes + node) as usize
 }
 
 // Returns the number of words of a table with `nodes` nodes.
@@ -50,7 +59,7 @@ pub(crate) fn words_for(size: u32, passes: u32, nodes: u32) -> usize
     requires nodes { nodes ≤ MOST_NODES }
     ensures { result ≡ words_for size passes nodes }
 {
-    (8 + 8 * size + 8 * passes + nodes) as usize
+    (24 + 8 * size + 8 * passes + nodes) as usize
 }
 
 // Returns the number of nodes in a pass's block.

@@ -1,7 +1,7 @@
 //! The parts of words that `fx_words` doesn't have: a slot's heat and takes, and what a retirement subtracts.
 ghost use Rattle.std.specs.Prelude.{◌≡◌, ◌+◌, ◌≤◌, ◌^◌, ◌↔◌, IsTrue};
 ghost use Rattle.fx_words.specs.Words.{name_in, bias};
-ghost use Rattle.fx_lasting.specs.Parts.{hot_bit, count_in, hot_in, IsHot, announced, mark, retirement_amount, birth_word, cold_takes};
+ghost use Rattle.fx_lasting.specs.Parts.{hot_bit, count_in, hot_in, IsHot, bit_of, announced, mark, retirement_amount, birth_word, cold_takes};
 
 // The bit of a slot's word that says that its file is looked up by hold words.
 pub(crate) const HOT: u64 = 1 << 31;
@@ -35,6 +35,14 @@ pub(crate) fn is_hot_at(word: u64, node: u32) -> bool
     ensures { IsTrue result ↔ ((name_in word ≡ node + 1) × IsHot word) }
 {
     word / (1 << 40) == u64::from(node) + 1 && is_hot(word)
+}
+
+// Returns the bit of a pass in its word of the list.
+pub(crate) fn list_bit(pass: u32) -> u64
+    requires { 1 ≤ pass }
+    ensures { result ≡ 2 ^ bit_of pass }
+{
+    1 << ((pass - 1) % 64)
 }
 
 // Returns the hold word of a pass that announces the node.

@@ -15,11 +15,13 @@ pub struct LastingPass {
     pub(crate) number: u32,
     // The node of its block where its next search begins.
     pub(crate) next_node: u32,
-    // The first hold word that its next retirement visits, if it has a file to retire.
+    // The first pass that its next retirement may visit, if it has a file to retire.
     pub(crate) next_visit: u32,
     pub(crate) idle: bool,
     // The flag that it holds its file by its hold word, if it holds one.
     pub(crate) guarded: bool,
+    // The flag that the list has its bit.
+    pub(crate) listed: bool,
     pub(crate) spacing: Spacing,
 }
 
@@ -45,6 +47,7 @@ impl LastingPass {
             next_visit: 0,
             idle: true,
             guarded: false,
+            listed: false,
             spacing: Spacing { unused: [0; 14] },
         }
     }
@@ -60,6 +63,7 @@ impl LastingPass {
             next_visit: _,
             idle: _,
             guarded: _,
+            listed: _,
             spacing: _,
         } = self;
         seat

@@ -22,6 +22,18 @@ pub struct Log {
     pub front: LinkedList<Event>,
     /// The number of atomic steps that the pass has made.
     pub steps: u64,
+    /// The list of passes has the pass's bit.
+    pub listed: bool,
+}
+
+/// The progress of a retirement's round through the other passes, as contracts see it. No value of it is made.
+pub struct Round {
+    /// It has visited the passes before this one that it has to visit.
+    pub next: u32,
+    /// The number of words of the list that it has loaded.
+    pub words: u32,
+    /// The last of them. It need not visit a pass without its bit there.
+    pub last: u64,
 }
 
 /// The work of a seat's pass between two steps, as contracts see it. A node is named by its number. No value of it is
@@ -43,9 +55,9 @@ pub enum Work {
     Searching(u32),
     /// It has the place of the node, whose file it is about to install.
     Placing(u32),
-    /// It removed the file of the node with this many takes. It has visited the hold words before `next`, and made this
-    /// many marks.
-    Retiring(File, u32, u32, u32, u32),
+    /// It removed the file of the node with this many takes, has come so far on its round through the other passes, and
+    /// made this many marks.
+    Retiring(File, u32, u32, Round, u32),
     /// It has the place of the node, whose file is closed.
     Emptying(u32),
 }

@@ -1,4 +1,4 @@
-use Rattle.fx_lasting.proofs.Words.{rules, ◌≡◌, ◌+◌, ◌∙◌, name_in, IsHot}
+use Rattle.fx_lasting.proofs.Words.{rules, ◌≡◌, ◌+◌, ◌∙◌, name_in, IsHot, sym, ap, List, Log, first_log, true}
 use Rattle.fx_lasting.proofs.Calling.{hold_inside, hold_word, slot_inside}
 use Rattle.fx_lasting.proofs.HoldWords.{announces_keep}
 use Rattle.fx_lasting.proofs.Looking.{confirms_keep}
@@ -8,10 +8,11 @@ use Rattle.fx_lasting.proofs.table.LastingTable.guard.Goals as goal
 pub store-requires : goal.store-requires
 store-requires c =
     let t = c.args.self.now in
-    let at = c.requires.at in (
+    let at = c.requires.at in
+    let its_listed : at.log.listed ≡ true = sym (ap (λ (l : List Log). (first_log l).listed) at.pass.1) ∙ c.requires.listed in (
       c.requires.table,
       hold_inside t at.high c.hold_place-hold.ensures,
-      rw c.announced.ensures (announces_keep _ _ _ _ c.args.slot c.args.node c.args.seat.now.me _ at.pass c.requires.idle c.requires.saw
+      rw c.announced.ensures (announces_keep _ _ _ _ c.args.slot c.args.node c.args.seat.now.me _ at.pass its_listed c.requires.idle c.requires.saw
           (hold_word t at.its_number c.hold_place-hold.ensures)),
     )
 

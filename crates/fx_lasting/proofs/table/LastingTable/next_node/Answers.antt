@@ -21,7 +21,7 @@ returns-then-pass c =
     let run = at_rest fits sought.found in
     let few : c.args.pass.now.number ≤ t.installing = omega (arith, may_install s c.requires.numbers, t.key.1) in
     record {
-      fits = still_pass s _ run refl sought.table (sought.places ∙ s.places) sought.block (c.if-pass.true, refl);
+      fits = still_pass s _ run (refl, refl) sought.table (sought.places ∙ s.places) sought.block (c.if-pass.true, refl);
       same = same_view c.args.pass.now sought.found sought.front (does_nothing (its_no_file fits c.if-pass.true));
       chosen = λ _. run.work;
       steps = let most = run.steps in omega arith;

@@ -94,7 +94,7 @@ returns c =
     let adds = subst (λ (z : ℕ). Adds (opening_of k) v ([] ▷ Put z (numbered stepped.0 file) replaced) (doing_in (retiring_work k found replaced)) one_number
     w) here (adds_so s run one_number) in
     record {
-      fits = still_pass s _ run refl (c.raise.ensures.table ∙ (c.swap-found.ensures.0 ∙ (born.table ∙ c.seek-node.ensures.table)))
+      fits = still_pass s _ run (refl, refl) (c.raise.ensures.table ∙ (c.swap-found.ensures.0 ∙ (born.table ∙ c.seek-node.ensures.table)))
           (c.raise.ensures.places ∙ (went.carried ∙ ap rest born.place)) c.seek-node.ensures.block
           (knows_removed k found replaced c.removed_in-replaced.result _ _ _ _ is c.is_none-pass.ensures
           (c.first_visit-pass.ensures ∙ first_by c.args.self.now found));

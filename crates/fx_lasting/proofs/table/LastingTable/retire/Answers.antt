@@ -1,3 +1,5 @@
+use Rattle.fx_lasting.proofs.Words.{Round, new_round, IsPassed, ◌/◌}
+use Rattle.fx_lasting.proofs.Rounds.{passed_by}
 use Rattle.fx_lasting.proofs.Words.{◌≡◌, ◌≢◌, ℕ, ◌+◌, ◌-◌, ◌*◌, ◌≤◌, refl, ◌∙◌, subst, arith, sym, inl, inr, ⊎_elim, [], Some, File, Start}
 use Rattle.fx_lasting.proofs.Words.{IsAtWork, Runs, Retiring, Sat, state_after_all, pass_in, TakesOut, HasPlace, At, Retires}
 use Rattle.fx_table.specs.Calls.{no_use}
@@ -28,17 +30,17 @@ module _ (c : After-mark_all-marks) where
   abbrev k : Start
   k = c.args.self.now.table.shared.key
 
-  works : c.args.pass.now.seat.me.0.work ≡ Retiring file c.args.retired.node c.args.retired.takes c.args.pass.now.next_visit 0
+  works : c.args.pass.now.seat.me.0.work ≡ Retiring file c.args.retired.node c.args.retired.takes (new_round c.args.pass.now.next_visit) 0
   works = (its_retiring c.requires.fits c.requires.removed.1).0
 
-  abbrev next : ℕ
-  next = (c.mark_all-marks.ensures.marked file c.args.retired.takes works).0
+  abbrev round : Round
+  round = (c.mark_all-marks.ensures.marked file c.args.retired.takes works).0
 
-  all : (p : ℕ) → next ≤ p → p ≤ c.args.self.now.passes → p ≡ c.args.pass.now.number
+  all : (p : ℕ) → round.next ≤ p → p ≤ c.args.self.now.passes → IsPassed c.args.pass.now.number round p
   all = (c.mark_all-marks.ensures.marked file c.args.retired.takes works).1
 
-  visited : Runs c.args.pass.now.seat.me [] (Retiring file c.args.retired.node c.args.retired.takes next c.mark_all-marks.result)
-      c.args.pass.now.seat.me.0.glance c.args.pass.now.seat.me.0.change (2 * (c.args.self.now.passes - 1)) c.mark_all-marks.new.seat.me
+  visited : Runs c.args.pass.now.seat.me [] (Retiring file c.args.retired.node c.args.retired.takes round c.mark_all-marks.result)
+      c.args.pass.now.seat.me.0.glance c.args.pass.now.seat.me.0.change (2 * (c.args.self.now.passes - 1) + (c.args.self.now.passes + 63) / 64) c.mark_all-marks.new.seat.me
   visited = (c.mark_all-marks.ensures.marked file c.args.retired.takes works).2
 
   at : IsAtWork k c.args.pass.now.number c.mark_all-marks.new.seat.me
@@ -51,8 +53,8 @@ fetch_sub-found-requires c =
     let r = c.requires.removed in (
       c.mark_all-marks.ensures.table ∙ c.requires.fits.seated.table,
       node_inside t (its_inside (at a) (visited a).work) c.node_place-place.ensures,
-      retires_keep _ _ _ _ c.args.retired.node c.args.retired.takes (next a) c.mark_all-marks.result _ (file a) c.mark_all-marks.new.seat.me _
-          (at a).pass (visited a).work (λ p low high. all a p low (omega (arith, high, t.key.0)) ∙ sym (at a).its_number)
+      retires_keep _ _ _ _ c.args.retired.node c.args.retired.takes c.mark_all-marks.result _ (round a) (file a) c.mark_all-marks.new.seat.me _
+          (at a).pass (visited a).work (λ p low high. passed_by (round a) (sym (at a).its_number) (all a p low (omega (arith, high, t.key.0))))
           (node_word t c.args.retired.node c.node_place-place.ensures) c.retire_amount-amount.ensures,
     )
 
@@ -63,12 +65,12 @@ returns-then-found-amount c =
     let fits = c.requires.fits in
     let s = fits.seated in
     let more : c.fetch_sub-found.result ≢ c.retire_amount-amount.result + 1 = c.if-found-amount.true in
-    let went = c.fetch_sub-found.ensures.2.waits (file a) c.args.retired.node c.args.retired.takes (next a) c.mark_all-marks.result (visited a).work more in
+    let went = c.fetch_sub-found.ensures.2.waits (file a) c.args.retired.node c.args.retired.takes (round a) c.mark_all-marks.result (visited a).work more in
     let run = at_rest fits (does_then (visited a) (runs_goes went.0)) in
     let removed = subst (λ (z : Start). (state_after_all z (pass_in c.fetch_sub-found.new.seat.me).front).removed (file a).number ≡ Some (file a))
     (at a).pass.0 went.1 in
     record {
-      fits = still_pass s _ run refl (c.fetch_sub-found.ensures.0 ∙ c.mark_all-marks.ensures.table)
+      fits = still_pass s _ run (refl, refl) (c.fetch_sub-found.ensures.0 ∙ c.mark_all-marks.ensures.table)
           (went.0.carried ∙ (c.mark_all-marks.ensures.places ∙ s.places)) s.block refl;
       retired = (file a, c.requires.removed.1, (removed, adds_so s run no_use));
       steps = let few = run.steps in omega (arith, few, t.bounds.0);
@@ -77,7 +79,7 @@ returns-then-found-amount c =
 -- nobody has to let the file go any more
 out : (a : After-mark_all-marks) {st : At} {m' : Sat} {found : ℕ} → Retires st a.mark_all-marks.new.seat.me found m' → found ≡ st.first + 1
     → TakesOut a.mark_all-marks.new.seat.me [] (file a) a.args.retired.node m'
-out a did is = did.closes (file a) a.args.retired.node a.args.retired.takes (next a) a.mark_all-marks.result (visited a).work is
+out a did is = did.closes (file a) a.args.retired.node a.args.retired.takes (round a) a.mark_all-marks.result (visited a).work is
 
 place : (a : After-mark_all-marks) {m' : Sat} → TakesOut a.mark_all-marks.new.seat.me [] (file a) a.args.retired.node m'
     → HasPlace a.args.retired.node (Some (file a).identity) m'
@@ -105,7 +107,7 @@ returns c =
     let went = out a c.fetch_sub-found.ensures.2 is in
     let run = at_rest fits (does_then (visited a) (out_and_home went c.take_out.ensures.rests)) in
     record {
-      fits = still_pass s _ run refl (c.take_out.ensures.table ∙ (c.fetch_sub-found.ensures.0 ∙ c.mark_all-marks.ensures.table)) c.take_out.ensures.empty
+      fits = still_pass s _ run (refl, refl) (c.take_out.ensures.table ∙ (c.fetch_sub-found.ensures.0 ∙ c.mark_all-marks.ensures.table)) c.take_out.ensures.empty
           s.block refl;
       retired = (file a, c.requires.removed.1, (c.take_out.ensures.file (file a).identity (place a went), adds_so s run no_use));
       steps = let few = run.steps in omega (arith, few, t.bounds.0);

@@ -53,7 +53,7 @@ returns c =
     let here : slot_of c.slot_place.result ≡ c.args.slot = ap slot_of c.slot_place.ensures ∙ slot_back c.args.slot in
     let adds = subst (λ (z : ℕ). Adds (opening_of k) v ([] ▷ Take z file) (doing_in (retiring_work k found file)) no_use w) here (adds_so s run no_use) in
     record {
-      fits = still_pass s _ run refl (c.raise.ensures.table ∙ (c.swap-found.ensures.0 ∙ began.table))
+      fits = still_pass s _ run (refl, refl) (c.raise.ensures.table ∙ (c.swap-found.ensures.0 ∙ began.table))
           (c.raise.ensures.places ∙ (went.carried ∙ (began.places ∙ s.places))) s.block
           (knows_removed k found file removed _ _ _ _ is c.is_none-pass.ensures (c.first_visit-pass.ensures ∙ first_by c.args.self.now found));
       taken = taken_so k v c.args.slot found w file removed is _ _ c.ok_or.ensures.value adds;

@@ -20,7 +20,7 @@ returns-then-says_full c =
     let goes = c.load-word.ensures.2.full (c.says_full.ensures.0 c.if-says_full.true ∙ full_of t s.at.pass.0) in
     let run = at_rest fits (runs_goes goes) in
     record {
-      fits = still_pass s _ run refl c.load-word.ensures.0 (goes.carried ∙ s.places) s.block fits.knows;
+      fits = still_pass s _ run (refl, refl) c.load-word.ensures.0 (goes.carried ∙ s.places) s.block fits.knows;
       tried = (
         refl,
         subst (λ (d : Doing). Adds (opening_of t.table.shared.key) (view_of c.args.pass.now) ([] ▷ Full) d no_use
@@ -91,7 +91,7 @@ returns-in-Some c =
     let run = at_rest fits (does_then before found.2) in
     let adds = adds_so s run one_number in
     record {
-      fits = still_pass s _ run refl (c.scan.ensures.table ∙ (c.put_in.ensures.table ∙ (c.seek-node.ensures.table ∙ c.load-word.ensures.0))) found.3
+      fits = still_pass s _ run (refl, refl) (c.scan.ensures.table ∙ (c.put_in.ensures.table ∙ (c.seek-node.ensures.table ∙ c.load-word.ensures.0))) found.3
           c.seek-node.ensures.block (its_flag fits c.requires.idle);
       tried = (
         omega (arith, c.in-Some.ensures.slot, t.same_size),
@@ -131,7 +131,7 @@ returns-in-None c =
     let place : HasPlace c.seek-node.result (Some c.args.file) c.scan.new.seat.me =
     record { work = inr still.0.work; place = still.1 ∙ c.put_in.ensures.place } in
     record {
-      fits = still_pass s _ run refl
+      fits = still_pass s _ run (refl, refl)
           (c.take_out.ensures.table ∙ (c.scan.ensures.table ∙ (c.put_in.ensures.table ∙ (c.seek-node.ensures.table ∙ c.load-word.ensures.0))))
           c.take_out.ensures.empty c.seek-node.ensures.block (its_flag fits c.requires.idle, refl);
       tried = (c.take_out.ensures.file c.args.file place, adds_so s run no_use);

@@ -1,0 +1,99 @@
+-- A step that sets a pass's bit in the list keeps the rule.
+use Rattle.fx_lasting.proofs.Words.{ℕ, ◌≤◌, ◌^◌, List, Option, Closed, refl, inl, inr, arith, none, keeps, Idle, Announced, Counted, Guarded, Owing, Yielding, Searching, Placing, Retiring, Emptying, true, bit_or, bit_of, list_place}
+use Rattle.fx_lasting.proofs.Words.{step, length-set, dite, ℕ_discrete, Work, IsAllowed, Lists, ListsKeep, [], Bool, Start}
+use Rattle.fx_lasting.proofs.Histories.{grows_none}
+use Rattle.fx_lasting.proofs.Frames.{guards_same, covers_same, sees_same, heats_same, control_same}
+use Rattle.fx_lasting.proofs.Keeping.{Turn, turn_of, After, word_at, Made, by_turn, its_log, its_work, in_range, tells, w, end}
+use Rattle.fx_lasting.proofs.Calm.{calm_after, calm_kept}
+use Rattle.fx_lasting.proofs.Lists.{ListGoesOn, now_listed}
+use Rattle.fx_lasting.proofs.ControlSteps.{its_inside}
+use Rattle.fx_lasting.proofs.Places.{list_words, list_here, list_apart, list_node, list_hold, list_slot, list_control}
+use Rattle.fx_lasting.specs.Agrees.{Agrees}
+
+-- a pass that is listed may do what it did
+allowed_more : (k : Start) (p : ℕ) (l : Bool) (d : Work) → IsAllowed k p l d → IsAllowed k p true d
+allowed_more k p l (Searching n) ok = ok
+allowed_more k p l (Placing n) ok = ok
+allowed_more k p l (Announced n) ok = refl
+allowed_more k p l (Guarded f n) ok = refl
+allowed_more k p l Idle ok = tt
+allowed_more k p l (Counted f n) ok = tt
+allowed_more k p l (Owing n) ok = tt
+allowed_more k p l (Yielding f n) ok = tt
+allowed_more k p l (Retiring f n t nx m) ok = tt
+allowed_more k p l (Emptying n) ok = tt
+
+module _ (turn : Turn) where
+  open turn use {st, v, r, id, x, here, one}
+
+  few : x.number ≤ 1024
+  few = omega (arith, (in_range turn).1, r.shape.passes)
+
+  abbrev new : ℕ
+  new = bit_or (word_at st.words (list_place x.number)) (2 ^ bit_of x.number)
+
+  abbrev words' : List ℕ
+  words' = list_words turn x.number few new
+
+  abbrev listed_after : After turn
+  listed_after = calm_after turn r.history r.history words' v.work v.glance v.change true (λ l. refl)
+
+  -- each word of the list
+  goes_on : (p : ℕ) → ListGoesOn x.number p (word_at st.words (list_place p)) (word_at words' (list_place p))
+  goes_on p = dite (ℕ_discrete (list_place p) (list_place x.number))
+      (λ same. inr (same, rw same (list_here turn x.number few new)))
+      (λ other. inl (list_apart turn x.number few new other))
+
+  kept : Agrees v.start (end turn listed_after)
+  kept = let o = its_log turn in let same = list_slot turn x.number few new in
+      let own = guards_same turn listed_after x.number v.work (list_hold turn x.number few new x.number (in_range turn).0) refl
+      (covers_same turn words' same x.number) o.hold o.guarded in
+      calm_kept turn r.history r.history words' v.work v.glance v.change true (λ l. refl) record {
+        words = length-set st.words (list_place x.number) new;
+        grows = grows_none x.number r.history;
+        legal = r.legal;
+        seen = ([], refl);
+        own = refl;
+        at = refl;
+        fresh = refl;
+        removed = refl;
+        slot_words = same;
+        node_words = list_node turn x.number few new;
+        hold_words = λ p other low. list_hold turn x.number few new p low;
+        control = control_same st.views id v (w turn listed_after) here refl (list_control turn x.number few new) refl r.control;
+        taken = λ n. refl;
+        owners = inl refl;
+        held = o.held;
+        allowed = allowed_more v.start x.number x.listed v.work o.allowed;
+        lists = λ p few. goes_on p;
+        its_bit = λ l. inr (rw (list_here turn x.number few new) (now_listed x.number (word_at st.words (list_place x.number))));
+        its = record {
+          hold = own.0;
+          guarded = own.1;
+          sees = sees_same v.start (λ s. r.over s x.number) same v.glance o.sees;
+          heats = heats_same v.start (λ s. r.over s x.number) same v.glance o.heats;
+          work = its_work turn;
+        };
+        holds = λ n. refl;
+      }
+
+  lists : (slots : ℕ) (carried : List (ℕ × Option Closed)) → Made turn carried (list_place x.number) (λ word. bit_or word (2 ^ bit_of x.number))
+      (Lists (step slots (list_place x.number) (2 ^ bit_of x.number) 0 none) (v, carried))
+  lists slots carried = (
+    w turn listed_after,
+    keeps,
+    tt,
+    kept,
+    record {
+      goes = record {
+        stepped = tells turn listed_after carried carried [] (grows_none x.number r.history) r.legal refl (its_inside turn);
+        carried = refl;
+      };
+      listed = refl;
+    },
+  )
+
+pub lists_keep : ListsKeep Lists
+lists_keep k slots id i m x has place = by_turn slots (λ _. Unit {0}) (λ _. list_place x.number) (λ word. bit_or word (2 ^ bit_of x.number))
+    (λ i. Lists (step slots i (2 ^ bit_of x.number) 0 none) m) has tt place
+    (λ st r here _ fits. lists (turn_of m x has.1 id st r here) slots m.1)
