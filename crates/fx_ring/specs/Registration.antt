@@ -6,6 +6,7 @@ use Rattle.std.specs.Prelude.{List, [], ◌∷◌, ◌++◌, length, slice_get, 
 use Rattle.std.specs.Prelude.{if◌then◌else◌}
 use Rattle.std.specs.List.{list_any}
 use Rattle.std.specs.Option.{option_to_list}
+use Rattle.fx_base.specs.Catalogue.{FileEntry}
 use Rattle.fx_base.specs.declared.errno.Errno.{Errno}
 use Rattle.fx_base.specs.declared.errno.Errno.TheVariants.{ENXIO, EBADF, EAGAIN, EBUSY, EINVAL}
 use Rattle.fx_base.specs.declared.errno.Errno.TheVariants.{EMFILE}
@@ -15,7 +16,7 @@ use Rattle.fx_base.specs.Identity.{Identity}
 use Rattle.fx_base.specs.declared.open_file.Closed.{Closed}
 use Rattle.fx_chain.specs.Answers.{is_bad_entry}
 use Rattle.fx_plain.specs.declared.table.TheConstants.{MOST_SLOTS}
-use Rattle.fx_ring.specs.Ring.{RingState}
+use Rattle.fx_ring.specs.Ring.{RingState, new_ring}
 use Rattle.fx_ring.specs.Tags.{are_bad_tags, tag_at}
 use Rattle.fx_ring.specs.declared.ring.TheConstants.{MOST_REGISTRATIONS}
 
@@ -23,6 +24,12 @@ use Rattle.fx_ring.specs.declared.ring.TheConstants.{MOST_REGISTRATIONS}
 abbrev pub is_bad_file : ℕ → ℤ → Bool
 is_bad_file entries (pos entry) = nat_le entries entry
 is_bad_file entries (negsuc n) = nat_lt 0 n
+
+-- a ring with this catalogue, this many slots and this many registrations: on nothing else does it
+-- depend why a call is refused
+abbrev pub counted_ring : List FileEntry → ℕ → ℕ → RingState
+counted_ring catalogue size registrations =
+    record (new_ring catalogue) { size = size; registrations = registrations }
 
 -- why a registration is refused, except when out of memory
 abbrev pub register_refusal : RingState → List ℤ → List ℕ → Option Errno

@@ -10,6 +10,7 @@
 //! `submission.rt` (`submit`) and `laws.rt` (what the history of a submission says about files).
 #![tactic(auto)]
 
+mod call_refusal;
 mod crew;
 pub mod laws;
 mod list;
@@ -24,6 +25,7 @@ mod slots;
 mod submission;
 mod worker;
 
+pub use call_refusal::{register_refusal, sparse_refusal, update_refusal};
 pub use list::{are_bad_tags, has_bad_file, tag_at};
 pub use open_ring::OpenRing;
 pub use report::{Report, SubmitFault};

@@ -7,10 +7,10 @@ ghost use Rattle.fx_ring.specs.Ring.{AreEntries, HasClosed, files_of_ring, ring_
 ghost use Rattle.fx_ring.specs.Registration.{is_bad_file, range_refusal, register_refusal, registered, registered_sparse, removed_from, sparse_refusal, unregister_refusal, update_refusal, updated};
 ghost use Rattle.fx_ring.specs.Tags.{no_tags, tags_for};
 
-use crate::list::{NumberList, apply_list, are_bad_tags, has_bad_file};
+use crate::call_refusal::{register_refusal, sparse_refusal, update_refusal};
+use crate::list::{NumberList, apply_list};
 use crate::ring::{MOST_REGISTRATIONS, Ring};
 use fx_base::{CloseList, Errno, MOST_ENTRIES, NoMemory};
-use fx_chain::has_bad_entry;
 use fx_plain::{MOST_SLOTS, PlainTable};
 use std::alloc::Global;
 use std::mem;
@@ -20,16 +20,7 @@ impl Ring {
     fn sparse_refusal(&self, n: usize) -> Option<Errno>
         ensures { result ≡ sparse_refusal (ring_of self.now) n }
     {
-        if self.table.size() > 0 {
-            return Some(Errno::EBUSY);
-        }
-        if n == 0 {
-            return Some(Errno::EINVAL);
-        }
-        if n > MOST_SLOTS as usize {
-            return Some(Errno::EMFILE);
-        }
-        None
+        sparse_refusal(self.table.size() as usize, n)
     }
 
     // Why a list can't be registered with its tags, if any are given.
@@ -41,22 +32,8 @@ impl Ring {
             (list_any (is_bad_file (length self.now.catalogue)) list.now ≡ false) }
         ensures few { IfNone result (self.now.registrations < MOST_REGISTRATIONS) }
     {
-        if self.table.size() > 0 {
-            return Some(Errno::EBUSY);
-        }
-        if list.is_empty() || are_bad_tags(list, tags) {
-            return Some(Errno::EINVAL);
-        }
-        if list.len() > MOST_SLOTS as usize {
-            return Some(Errno::EMFILE);
-        }
-        if has_bad_file(self.catalogue.len(), list) {
-            return Some(Errno::EBADF);
-        }
-        if self.registrations >= MOST_REGISTRATIONS {
-            return Some(Errno::EAGAIN);
-        }
-        None
+        let size = self.table.size() as usize;
+        register_refusal(&self.catalogue, size, self.registrations, list, tags)
     }
 
     // Why the slots from `off` on can't be updated by a list with its tags, if any are given.
@@ -69,23 +46,8 @@ impl Ring {
         ensures few { IfNone result (self.now.registrations < MOST_REGISTRATIONS) }
         ensures short { IfNone result (length list.now ≤ MOST_SLOTS) }
     {
-        let size = self.table.size();
-        if size == 0 {
-            return Some(Errno::ENXIO);
-        }
-        if list.is_empty() || off as u64 + list.len() as u64 > size as u64 {
-            return Some(Errno::EINVAL);
-        }
-        if are_bad_tags(list, tags) {
-            return Some(Errno::EINVAL);
-        }
-        if has_bad_entry(self.catalogue.len(), list) {
-            return Some(Errno::EBADF);
-        }
-        if self.registrations >= MOST_REGISTRATIONS {
-            return Some(Errno::EAGAIN);
-        }
-        None
+        let size = self.table.size() as usize;
+        update_refusal(&self.catalogue, size, self.registrations, off, list, tags)
     }
 
     // Registers a list with its tags, if any are given.
