@@ -1,6 +1,6 @@
 -- A worker goes on by one chain that its pass drew.
 use Rattle.fx_ring.proofs.Words.{◌≡◌, ◌≢◌, ℕ, ◌+◌, ◌-◌, ◌<◌, ◌≤◌, List, [], ◌∷◌, ◌++◌, map, length, refl, sym, ap, subst, ◌∙◌, All, Contains, Some}
-use Rattle.fx_ring.proofs.Words.{None, ⊎_elim, length-append, arith, map-append, All-append, FileEntry, CloseListView, Closed, Event, Action}
+use Rattle.fx_ring.proofs.Words.{None, ⊎_elim, length-append, arith, map-append, map-id, map-map, All-append, FileEntry, CloseListView, Closed, Event, Action}
 use Rattle.fx_ring.proofs.Words.{action_of, closes_in, part_of_chain, ◌▷◌, Opening, size_of, PassView, event_of, Completed, Explains, first_member}
 use Rattle.fx_ring.proofs.Words.{Asked, all_weights, IsEnoughFor, WorkerState, worker_state, run_of_chain, completions_of_chain, HasWorked, HasRoom, drop, slice_index_or}
 use Rattle.fx_ring.proofs.Words.{sum_by, sum_by-drop_more, drop-drop, Contains-append_cases, sum_by-take-drop, closes_in-then, Draws, Use}
@@ -28,8 +28,7 @@ abbrev chain_of_completed : Completed → ℕ
 chain_of_completed c = c.place.chain
 
 actions_again : (v : PassView) (actions : List Action) → map action_of (map (event_of v) actions) ≡ actions
-actions_again v [] = refl
-actions_again v (action ∷ actions) = ap (λ (l : List Action). action ∷ l) (actions_again v actions)
+actions_again v actions = map-map action_of (event_of v) actions ∙ map-id actions
 
 -- the pass with the chain that it drew
 abbrev pub drawing : Opening → PassView → ℕ → PassView

@@ -6,7 +6,7 @@ use Rattle.fx_ring.proofs.Words.{part_of_chain, File, Event, Action, Opening, si
 use Rattle.fx_ring.proofs.Words.{first_member, Asked, runs_of, IsShortRun, HasClosed, ring_of, ring_with, with_table, installed_by, sum_by}
 use Rattle.fx_ring.proofs.Words.{sum_by-cons, IsOneHistory, HasWorked, worker_state, completions_of_chain, run_of_chain, MOST_SLOTS, same_size}
 use Rattle.fx_ring.proofs.Words.{start_of, IsSettledSoFar, contains_map, contains_mapped, each_all, table_with_files, chain_less, begun_behind}
-use Rattle.fx_ring.proofs.Words.{sum_by-le}
+use Rattle.fx_ring.proofs.Words.{sum_by-le, map-map}
 use Rattle.fx_plain.specs.History.{held_by, ◌▷▷◌}
 use Rattle.fx_plain.specs.Reopening.{Renaming, renamed, renamed_event, numbers_given, with_number_of, IsTableAtRest, HasOtherNumbers}
 use Rattle.fx_plain.proofs.AtRest.{stays_at_rest}
@@ -75,10 +75,6 @@ module _ (r : Renaming) (base : ℕ) where
   closes_same [] = refl
   closes_same (e ∷ since) = ap (λ (x : List Closed × List Closed). x.0 ++ x.1) (λ i. (closes_same since i, closed_same e.action i))
 
-actions_less : (base : ℕ) (since : List Event) → map action_of (map (chain_less base) since) ≡ map action_of since
-actions_less base [] = refl
-actions_less base (e ∷ since) = ap (λ (l : List Action). e.action ∷ l) (actions_less base since)
-
 module _ {catalogue : List FileEntry} {o : Opening} {before after : PassView} {drawn : List ℕ} (since : List Event) (submissions : ℕ)
     (requests : List Asked) {completions : List Completed} {closes : CloseListView} (few_slots : size_of o ≤ MOST_SLOTS)
     (short : All IsShortRun (runs_of requests)) (first : IsSettledSoFar o before) (last : IsSettledSoFar o after)
@@ -115,7 +111,7 @@ module _ {catalogue : List FileEntry} {o : Opening} {before after : PassView} {d
       (completions_of_chain c completions) (worked.explained c (all_drawn c (omega arith) (omega (arith, lt)))) in
       omega (arith, told, (short (c - 1) [] (omega (arith, lt))).installs, given_sum (part_of_chain c less))) in
       let most = sum_by-le (λ (_ : List Asked). 64) 64 runs (λ k d lt. omega arith) in
-      subst (λ (l : List Action). length (numbers_given l) ≤ 64 * length runs) (actions_less base since)
+      subst (λ (l : List Action). length (numbers_given l) ≤ 64 * length runs) (map-map action_of (chain_less base) since)
       (omega (arith, few, most, given_sum less))
 
   opened : (r : Renaming) × (left : State) × (r.chain ≡ (λ c. c - base))

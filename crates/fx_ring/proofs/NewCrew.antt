@@ -5,7 +5,7 @@ use Rattle.fx_ring.proofs.Words.{sum_by-append, FileEntry, CloseListView, PassVi
 use Rattle.fx_ring.proofs.Words.{runs_of, all_weights, weight_of, Completion, HasRoomFor, HasWorked, HasRoom, worker_state, Outcome, Worker, Contains}
 use Rattle.fx_ring.proofs.Words.{contains_none, contains_map, contains_mapped, contains_reverse, each_all, PASS_LOOKS, range_with_len, map-id}
 use Rattle.fx_ring.proofs.Words.{length-map-range_with_len, ◌*◌, sum_by-le, All-weaker, IsShortRun, IsChain, members_of, all_asked, asked_of, Chain}
-use Rattle.fx_ring.proofs.Words.{Request, MOST_MEMBERS}
+use Rattle.fx_ring.proofs.Words.{AreCutInto, MOST_MEMBERS}
 use Rattle.fx_ring.proofs.Runs.{as_many, runs_within}
 use Rattle.fx_chain.proofs.Runs.{are_runs}
 
@@ -62,14 +62,11 @@ pub runs_have_all : (requests : List Asked) → sum_by (λ run. length run) (run
 runs_have_all requests = sym (length-flat_map (λ run. run) (runs_of requests)) ∙ ap length (are_runs requests).whole
 
 -- a run has at most as many requests as a chain may have members
-few_requests : (requests : List Asked) → All IsShortRun (runs_of requests) → length requests ≤ length (runs_of requests) * MOST_MEMBERS
-few_requests requests short = rw (runs_have_all requests) at (sum_by-le (λ (run : List Asked). length run) MOST_MEMBERS (runs_of requests)
-    (All-weaker IsShortRun (λ run. length run ≤ MOST_MEMBERS) (λ run is. is.members) (runs_of requests) short))
-
-pub few_of_chains : (requests : List Request) (chains : List Chain) → map (members_of (all_asked requests)) chains ≡ runs_of (all_asked requests)
-    → All (IsChain (all_asked requests)) chains → length requests ≤ length chains * MOST_MEMBERS
-few_of_chains requests chains members within =
-    omega (arith, few_requests (all_asked requests) (runs_within _ chains members within), as_many _ chains members, length-map requests asked_of)
+pub few_of_chains : {requests : List Asked} {chains : List Chain} → AreCutInto requests chains → length requests ≤ length chains * MOST_MEMBERS
+few_of_chains {requests} cut =
+    let few = sum_by-le (λ (run : List Asked). length run) MOST_MEMBERS (runs_of requests)
+    (All-weaker IsShortRun (λ run. length run ≤ MOST_MEMBERS) (λ run is. is.members) (runs_of requests) (runs_within cut)) in
+    omega (arith, rw (runs_have_all requests) at few, as_many cut)
 
 pub runs_weigh_all : (requests : List Asked) → sum_by all_weights (runs_of requests) ≡ all_weights requests
 runs_weigh_all requests = sym (weights_joined (runs_of requests)) ∙ ap all_weights (are_runs requests).whole

@@ -2,7 +2,7 @@
 use Rattle.fx_ring.proofs.Words.{◌≡◌, ℕ, Bool, zero, suc, ◌<◌, List, [], ◌++◌, length, refl, sym, ap, subst, ◌∙◌, Option, Some, None, All, arith, ◌+◌}
 use Rattle.fx_ring.proofs.Words.{◌≢◌, option_to_list, IsPermutation, All-append, All-cons, All-nil, All-permutation, CloseListView, IsInOrderOfMark}
 use Rattle.fx_ring.proofs.Words.{Closed, State, IsSettled, opening, vacant, state_of, identity_of, File, Contents, IsGivenBack, RingContents}
-use Rattle.fx_ring.proofs.Words.{RingState, IsAtRest, IsRing, HasCounted, Mark, Registered, Submitted, ◌≤◌, HasClosed, AreEntries, ring_of, ring_with}
+use Rattle.fx_ring.proofs.Words.{RingState, IsAtRest, IsRing, HasCounted, Mark, Registered, Submitted, ◌≤◌, HasClosed, ListsFiles, AreEntries, ring_of, ring_with}
 use Rattle.fx_ring.proofs.Words.{with_table, files_at, same_identity, HasSameFiles, ring_files_in_order, files_of_ring}
 use Rattle.fx_plain.proofs.Emptying.{listed}
 use Rattle.fx_plain.specs.State.{files_in_order as files_in_order_of_state, files_of as files_of_state}
@@ -59,27 +59,26 @@ entries_in_order {entries} at (suc n) has = All-append (IsEntry entries) (ring_f
 pub entries_of : (ring : RingState) → IsRing ring → AreEntries ring (files_of_ring ring)
 entries_of ring is = entries_in_order ring.at ring.size is.entries
 
--- a list of these files, once it is in order
-pub list_closed : {files given : List Closed} {closes : CloseListView}
-    → given ≡ files → IsPermutation given closes.files → IsInOrderOfMark closes.files → HasClosed files closes
-list_closed {closes} is same order = record {
-  same_files = subst (λ (l : List Closed). IsPermutation l closes.files) is same;
-  in_order = order;
-}
-
 -- what was closed is of the catalogue, where all of it was
 pub entries_closed : (ring : RingState) {files : List Closed} {closes : CloseListView}
     → AreEntries ring files → HasClosed files closes → AreEntries ring closes.files
 entries_closed ring {files} {closes} all closed = All-permutation (IsEntry (length ring.catalogue)) files closes.files closed.same_files all
 
+-- a list of these files, once it is in order
+pub lists_files : (ring : RingState) {files given : List Closed} {closes : CloseListView} → AreEntries ring files
+    → given ≡ files → IsPermutation given closes.files → IsInOrderOfMark closes.files → ListsFiles ring files closes
+lists_files ring {files} {closes} all is same order =
+    let closed : HasClosed files closes = record { same_files = subst (λ (l : List Closed). IsPermutation l closes.files) is same; in_order = order } in
+    record { closed = closed; entries = entries_closed ring all closed }
+
 -- a list of all files of a ring, once it is in order
 pub all_closed : {ring seen : RingContents} {given : List Closed} (closes : CloseListView) → ring ≡ seen → IsRing (ring_of ring)
     → given ≡ files_of_state (state_of ring.table) → IsPermutation given closes.files → IsInOrderOfMark closes.files
-    → HasClosed (files_of_ring (ring_of seen)) closes × AreEntries (ring_of seen) closes.files
-all_closed {ring} {given} closes same is all permutation order =
-    let closed = list_closed (all ∙ sym (files_of-state (state_of ring.table).at (state_of ring.table).size)) permutation order in
-    subst (λ (c : RingContents). HasClosed (files_of_ring (ring_of c)) closes × AreEntries (ring_of c) closes.files) same
-    (closed, entries_closed (ring_of ring) (entries_of (ring_of ring) is) closed)
+    → ListsFiles (ring_of seen) (files_of_ring (ring_of seen)) closes
+all_closed {ring} closes same is all permutation order =
+    subst (λ (c : RingContents). ListsFiles (ring_of c) (files_of_ring (ring_of c)) closes) same
+    (lists_files (ring_of ring) (entries_of (ring_of ring) is)
+    (all ∙ sym (files_of-state (state_of ring.table).at (state_of ring.table).size)) permutation order)
 
 -- a table that was emptied is settled
 pub emptied_settled : {st : State} {n : ℕ} {fresh : ℕ → Bool} → st ≡ record (vacant n) { fresh = fresh } → IsSettled st

@@ -1,9 +1,9 @@
 -- A ring whose table has had a list applied.
 use Rattle.fx_ring.proofs.Words.{◌≡◌, ℕ, ◌+◌, ℤ, List, [], ◌++◌, length, false, sym, ap, subst, ◌∙◌, IsPermutation, list_any, CloseListView, Closed}
-use Rattle.fx_ring.proofs.Words.{IsInOrderOfMark, State, state_of, is_bad_entry, RingContents, IsRing, HasClosed, AreEntries, ring_of, with_table}
+use Rattle.fx_ring.proofs.Words.{IsInOrderOfMark, State, state_of, is_bad_entry, RingContents, IsRing, ListsFiles, ring_of, with_table}
 use Rattle.fx_ring.proofs.Words.{removed_from, updated, files_at, SetsList}
 use Rattle.fx_ring.proofs.Origins.{updated_rings, removed_entries}
-use Rattle.fx_ring.proofs.Rings.{list_closed, entries_closed}
+use Rattle.fx_ring.proofs.Rings.{lists_files}
 
 module _ (c : RingContents) (off : ℕ) (list : List ℤ) (tags : List ℕ) {new : State} {given closes : CloseListView}
     (sets : SetsList (c.registrations + 1) off list tags (state_of c.table) new given closes) where
@@ -18,7 +18,6 @@ module _ (c : RingContents) (off : ℕ) (list : List ℤ) (tags : List ℕ) {new
 
     -- and the list has those that were there
     pub list_updated : {sorted : CloseListView} → given.files ≡ [] → IsPermutation closes.files sorted.files → IsInOrderOfMark sorted.files
-        → HasClosed (removed_from (ring_of c).at off list) sorted × AreEntries (ring_of c) sorted.files
-    list_updated none same order =
-        let closed = list_closed (sets.closed ∙ ap (λ (l : List Closed). l ++ removed_from (files_at (state_of c.table)) off list) none) same order in
-        (closed, entries_closed (ring_of c) (removed_entries (length c.catalogue) (ring_of c).at off list ring.entries) closed)
+        → ListsFiles (ring_of c) (removed_from (ring_of c).at off list) sorted
+    list_updated none = lists_files (ring_of c) (removed_entries (length c.catalogue) (ring_of c).at off list ring.entries)
+        (sets.closed ∙ ap (λ (l : List Closed). l ++ removed_from (files_at (state_of c.table)) off list) none)

@@ -44,12 +44,12 @@ pub use Rattle.fx_ring.specs.OpenRings.{number_if, ring_led_by, table_with_files
 pub use Rattle.fx_ring.specs.Outcomes.{HasRoomFor}
 pub use Rattle.fx_ring.specs.Playing.{number_of_worker, state_of_worker}
 pub use Rattle.fx_ring.specs.Registration.{file_after, file_listed, files_after, is_bad_file, registered, removed_by_number, removed_from, updated}
-pub use Rattle.fx_ring.specs.Ring.{AreEntries, HasClosed, HasCounted, IsAtRest, IsRing, RingContents, RingState, ring_files_in_order, files_of_ring, ring_of}
+pub use Rattle.fx_ring.specs.Ring.{AreEntries, HasClosed, HasCounted, IsAtRest, IsRing, ListsFiles, RingContents, RingState, ring_files_in_order, files_of_ring, ring_of}
 pub use Rattle.fx_ring.specs.Ring.{ring_with, with_table}
 pub use Rattle.fx_ring.specs.Slots.{AreFresh, CanRetire, SetsList, SetsNumber, SetsSlot, closes_of_removed, file_removed, files_at}
 pub use Rattle.fx_ring.specs.Submission.{ExplainsParts, IsOneHistory, Reported}
 pub use Rattle.fx_ring.specs.Tags.{are_bad_tags, is_bad_tag, no_tags, tag_at, tags_for}
-pub use Rattle.fx_ring.specs.Work.{HasRoom, HasWorked, InstallAtMost, IsEnoughFor, WorkerState, completions_of_chain, run_of_chain, worker_state}
+pub use Rattle.fx_ring.specs.Work.{AreCutInto, HasRoom, HasWorked, InstallAtMost, IsEnoughFor, WorkerState, completions_of_chain, run_of_chain, worker_state}
 pub use Rattle.fx_ring.specs.declared.outcome.Outcome.{Outcome}
 pub use Rattle.fx_ring.specs.declared.ring.TheConstants.{MOST_SUBMISSIONS}
 pub use Rattle.fx_ring.specs.declared.worker.Worker.{Worker}

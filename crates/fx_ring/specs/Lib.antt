@@ -1,5 +1,6 @@
 pub mod Ring
 pub mod Tags
+pub mod Failing
 pub mod Registration
 pub mod Slots
 pub mod Submission

@@ -3,20 +3,22 @@
 use Rattle.std.specs.Prelude.{ℕ, zero, suc, ◌+◌, ◌-◌, ◌==◌, ◌||◌, nat_le, nat_lt, Bool, ℤ, pos}
 use Rattle.std.specs.Prelude.{negsuc}
 use Rattle.std.specs.Prelude.{List, [], ◌∷◌, ◌++◌, length, slice_get, Option, Some, None}
-use Rattle.std.specs.Prelude.{if◌then◌else◌}
+use Rattle.std.specs.Prelude.{if◌then◌else◌, ◌≡◌, Result, IfOk, OnOk, OnErr}
 use Rattle.std.specs.List.{list_any}
 use Rattle.std.specs.Option.{option_to_list}
 use Rattle.fx_base.specs.Catalogue.{FileEntry}
 use Rattle.fx_base.specs.declared.errno.Errno.{Errno}
 use Rattle.fx_base.specs.declared.errno.Errno.TheVariants.{ENXIO, EBADF, EAGAIN, EBUSY, EINVAL}
-use Rattle.fx_base.specs.declared.errno.Errno.TheVariants.{EMFILE}
+use Rattle.fx_base.specs.declared.errno.Errno.TheVariants.{EMFILE, ENOMEM}
 use Rattle.fx_base.specs.declared.mark.Mark.{Mark}
 use Rattle.fx_base.specs.declared.mark.Mark.TheVariants.{Registered}
+use Rattle.fx_base.specs.CloseListView.{CloseListView}
 use Rattle.fx_base.specs.Identity.{Identity}
 use Rattle.fx_base.specs.declared.open_file.Closed.{Closed}
 use Rattle.fx_chain.specs.Answers.{is_bad_entry}
 use Rattle.fx_plain.specs.declared.table.TheConstants.{MOST_SLOTS}
-use Rattle.fx_ring.specs.Ring.{RingState, new_ring}
+use Rattle.fx_ring.specs.Failing.{FailsOnlyAs}
+use Rattle.fx_ring.specs.Ring.{ListsFiles, RingContents, RingState, new_ring, ring_of}
 use Rattle.fx_ring.specs.Tags.{are_bad_tags, tag_at}
 use Rattle.fx_ring.specs.declared.ring.TheConstants.{MOST_REGISTRATIONS}
 
@@ -118,3 +120,21 @@ updated ring off list tags = record ring {
   at = files_after (ring.registrations + 1) ring.at off list tags;
   registrations = ring.registrations + 1;
 }
+
+-- a call registers the list with its tags, or fails and leaves the ring as it was
+pub record Registers (old : RingContents) (list : List ℤ) (tags : List ℕ)
+    (result : Result (Unit {0}) Errno) (new : RingContents) : Type 0 where
+  pub failure : FailsOnlyAs (register_refusal (ring_of old) list tags) ENOMEM result
+  pub ok : OnOk result (ring_of new ≡ registered (ring_of old) list tags)
+  pub err : OnErr result (new ≡ old)
+
+-- a call updates the slots from `off` on by the list with its tags, and returns the list's length
+-- and the files that it closed; or it fails and leaves the ring as it was
+pub record Updates (old : RingContents) (off : ℕ) (list : List ℤ) (tags : List ℕ)
+    (result : Result (ℕ × CloseListView) Errno) (new : RingContents) : Type 0 where
+  pub failure : FailsOnlyAs (update_refusal (ring_of old) off list tags) ENOMEM result
+  pub ok : OnOk result (ring_of new ≡ updated (ring_of old) off list tags)
+  pub count : IfOk result (λ answer. answer.0 ≡ length list)
+  pub closes : IfOk result (λ answer.
+      ListsFiles (ring_of old) (removed_from (ring_of old).at off list) answer.1)
+  pub err : OnErr result (new ≡ old)

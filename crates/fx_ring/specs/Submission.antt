@@ -26,12 +26,16 @@ abbrev pub or_later_fault : Option CutFault → Option SubmitFault → Option Su
 or_later_fault None later = later
 or_later_fault (Some fault) later = Some (Cut fault)
 
--- why a submission is refused, except when out of memory
-abbrev pub submit_refusal : RingState → List Asked → ℕ → Option SubmitFault
-submit_refusal ring requests workers =
+-- why a submission is refused after so many accepted ones, except when out of memory
+abbrev pub refusal_after : ℕ → List Asked → ℕ → Option SubmitFault
+refusal_after submissions requests workers =
     if workers == 0 || nat_lt MAX_PASSES workers then Some Workers
     else or_later_fault (fault_of requests)
-    (if nat_le MOST_SUBMISSIONS ring.submissions then Some TooMany else None)
+    (if nat_le MOST_SUBMISSIONS submissions then Some TooMany else None)
+
+-- why a ring refuses a submission, except when out of memory
+abbrev pub submit_refusal : RingState → List Asked → ℕ → Option SubmitFault
+submit_refusal ring requests workers = refusal_after ring.submissions requests workers
 
 -- the completions are those of the chains from this one on, in order of place; each chain's are
 -- explained by the part of the history that is the chain's

@@ -5,11 +5,14 @@ use Rattle.fx_base.specs.Catalogue.{FileEntry}
 use Rattle.fx_base.specs.CloseListView.{CloseListView}
 use Rattle.fx_plain.specs.History.{action_of, closes_in, part_of_chain}
 use Rattle.fx_table.specs.Pass.{PassView, IsOfDrawnChains}
+use Rattle.fx_table.specs.declared.limits.TheConstants.{MAX_CHAINS}
+use Rattle.fx_chain.specs.Accepted.{IsAccepted, IsChain, members_of}
 use Rattle.fx_chain.specs.Completed.{Completed}
 use Rattle.fx_chain.specs.Explains.{Explains, first_member}
 use Rattle.fx_chain.specs.Operation.{Asked}
 use Rattle.fx_chain.specs.Runs.{runs_of}
 use Rattle.fx_chain.specs.Weights.{all_installs, all_weights}
+use Rattle.fx_chain.specs.declared.chain.Chain.{Chain}
 
 -- what a worker has at a moment
 pub record WorkerState : Type 0 where
@@ -24,6 +27,13 @@ worker_state pass completions closes =
 -- the requests of a chain, the first of which is 1
 abbrev pub run_of_chain : List (List Asked) → ℕ → List Asked
 run_of_chain runs chain = slice_index_or runs (chain - 1) []
+
+-- the requests, accepted, are cut into these chains, one for each of their runs
+pub record AreCutInto (requests : List Asked) (chains : List Chain) : Type 0 where
+  pub accepted : IsAccepted requests
+  pub members : map (members_of requests) chains ≡ runs_of requests
+  pub within : All (IsChain requests) chains
+  pub few : length chains ≤ MAX_CHAINS
 
 -- no run of the requests installs more files
 abbrev pub InstallAtMost : List Asked → ℕ → Type 0

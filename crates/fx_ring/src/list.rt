@@ -14,7 +14,7 @@ use crate::slots::{clear_slot, fill_slot};
 use fx_base::{Catalogue, CloseList, MOST_ENTRIES, Mark, NoMemory};
 use fx_plain::{MOST_SLOTS, PlainTable};
 
-// Whether a number is neither an empty slot nor an entry of the catalogue.
+// Checks whether a number is neither an empty slot nor an entry of the catalogue.
 fn is_bad_file(entries: u32, number: i32) -> bool
     ensures { result ≡ is_bad_file entries number }
 {
@@ -32,14 +32,14 @@ pub fn has_bad_file(entries: u32, list: &[i32]) -> bool
     list.iter().any(|number| is_bad_file(entries, *number))
 }
 
-// Whether a number below 0, which opens no file, has a tag.
+// Checks whether a number below 0, which opens no file, has a tag.
 fn is_bad_tag(number: i32, tag: u64) -> bool
     ensures { result ≡ is_bad_tag number tag }
 {
     number < 0 && tag != 0
 }
 
-// Whether a number below 0 has the tag of its place, as far as both lists go.
+// Checks whether a number below 0 has the tag of its place, as far as both lists go.
 fn has_bad_tag(list: &[i32], tags: &[u64]) -> bool
     ensures { result ≡ list_any (λ pair. is_bad_tag pair.0 pair.1) (zip list.now tags.now) }
 {

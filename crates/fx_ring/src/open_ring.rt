@@ -1,8 +1,9 @@
 //! Rings whose table stays open from one submission to the next, for one worker.
-ghost use Rattle.std.specs.Prelude.{IfOk, IfErr, IfSome, IfNone, OnErr, Err, IsOkUnless, MatchOption, ◌≡◌, ◌+◌, ◌*◌, ◌≤◌, ℕ, length};
+ghost use Rattle.std.specs.Prelude.{IfOk, IfErr, IfSome, IfNone, OnErr, MatchOption, ◌≡◌, ◌+◌, ◌*◌, ◌≤◌, ℕ, length};
 ghost use Rattle.fx_table.specs.declared.limits.TheConstants.{CHAIN_NUMBERS, MAX_CHAINS};
 ghost use Rattle.fx_chain.specs.Operation.{all_asked};
 ghost use Rattle.fx_chain.specs.declared.fault.TheConstants.{MOST_MEMBERS};
+ghost use Rattle.fx_ring.specs.Failing.{FailsOnlyAs};
 ghost use Rattle.fx_ring.specs.Outcomes.{HasRoomFor};
 ghost use Rattle.fx_ring.specs.OpenRings.{HasUsed, IsAloneAt, IsRoomFor, ring_led_by};
 ghost use Rattle.fx_ring.specs.Submission.{IsOneHistory, reported, submit_refusal};
@@ -14,9 +15,9 @@ use crate::outcome::Outcome;
 use crate::play::Submission;
 use crate::report::{Report, SubmitFault};
 use crate::ring::Ring;
-use crate::submission::refusal_after;
+use crate::submission::accept;
 use fx_base::{Catalogue, NoMemory};
-use fx_chain::{Gate, Request, cut};
+use fx_chain::{Gate, Request};
 use fx_table::FileTable;
 use std::alloc::Global;
 use std::marker::Model;
@@ -146,12 +147,8 @@ impl<T: FileTable> OpenRing<T> {
         requests: &[Request],
         gate: &G,
     ) -> Result<Option<Report>, SubmitFault>
-        ensures refused { IfSome
-            (submit_refusal (ring_of self.old.ring) (all_asked requests.now) 1)
-            (λ fault. result ≡ Err fault) }
-        ensures only_refusal { IfNone
-            (submit_refusal (ring_of self.old.ring) (all_asked requests.now) 1)
-            (IsOkUnless result Refused) }
+        ensures failure { FailsOnlyAs
+            (submit_refusal (ring_of self.old.ring) (all_asked requests.now) 1) Refused result }
         ensures one_history { IfOk result (λ played. MatchOption played (self.new ≡ self.old)
             (λ report. IsOneHistory self.old.ring (all_asked requests.now) (reported report)
             self.new.ring)) }
@@ -165,12 +162,7 @@ impl<T: FileTable> OpenRing<T> {
             (λ _. HasUsed self.old (all_asked requests.now) self.new)) }
         ensures err { OnErr result (self.new ≡ self.old) }
     {
-        if let Some(fault) = refusal_after(self.submissions, requests, 1) {
-            return Err(fault);
-        }
-        let Ok(chains) = cut(alloc, requests) else {
-            return Err(SubmitFault::NoMemory);
-        };
+        let chains = accept(alloc, self.submissions, requests, 1)?;
         let submission = Submission {
             rt,
             alloc,

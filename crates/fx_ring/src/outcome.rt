@@ -21,14 +21,14 @@ pub(crate) struct Outcome {
     pub(crate) closes: CloseList,
 }
 
-// The number of a place among those of a submission. A chain has at most 16 members.
+// Returns the number of a place among those of a submission. A chain has at most 16 members.
 fn rank(place: Place) -> u64
     ensures { result ≡ place.chain * 32 + place.member }
 {
     u64::from(place.chain) * 32 + u64::from(place.member)
 }
 
-// How many files the requests may close together.
+// Returns the number of files that the requests may close together.
 fn weight_of_all(requests: &[Request]) -> u32
     requires { IsAccepted (all_asked requests.now) }
     ensures { result ≡ all_weights (all_asked requests.now) }

@@ -1,13 +1,12 @@
 //! The values that stay the same while a submission is played, and the play of one chain.
-ghost use Rattle.std.specs.Prelude.{◌≡◌, ◌+◌, ◌<◌, ◌≤◌, length, map, vec_capacity, All};
+ghost use Rattle.std.specs.Prelude.{◌≡◌, ◌+◌, ◌<◌, ◌≤◌, length, vec_capacity};
 ghost use Rattle.fx_table.specs.Pass.{IsIdle};
-ghost use Rattle.fx_table.specs.declared.limits.TheConstants.{MAX_CHAINS};
-ghost use Rattle.fx_chain.specs.Accepted.{IsAccepted, IsChain, members_of};
+ghost use Rattle.fx_chain.specs.Accepted.{IsChain, members_of};
 ghost use Rattle.fx_chain.specs.Completed.{all_completed};
 ghost use Rattle.fx_chain.specs.Operation.{all_asked};
 ghost use Rattle.fx_chain.specs.Performs.{PlaysChainExactly, player};
 ghost use Rattle.fx_chain.specs.Runs.{runs_of};
-ghost use Rattle.fx_ring.specs.Work.{InstallAtMost, IsEnoughFor, run_of_chain, worker_state};
+ghost use Rattle.fx_ring.specs.Work.{AreCutInto, InstallAtMost, IsEnoughFor, run_of_chain, worker_state};
 ghost use Rattle.fx_ring.specs.declared.ring.TheConstants.{MOST_SUBMISSIONS};
 
 use crate::outcome::Outcome;
@@ -30,11 +29,7 @@ pub(crate) struct Submission<'a, R, G> {
     pub(crate) chains: &'a [Chain],
     pub(crate) gate: &'a G,
     pub ghost few: { earlier < MOST_SUBMISSIONS },
-    pub ghost accepted: { IsAccepted (all_asked requests.now) },
-    pub ghost members: { map (members_of (all_asked requests.now)) chains.now
-        ≡ runs_of (all_asked requests.now) },
-    pub ghost within: { All (IsChain (all_asked requests.now)) chains.now },
-    pub ghost few_chains: { length chains.now ≤ MAX_CHAINS },
+    pub ghost cut: { AreCutInto (all_asked requests.now) chains.now },
 }
 
 /// A submission and a table that was opened for its chains, with a number for each file that a

@@ -1,29 +1,30 @@
 //! The calls between submissions: registrations, updates, the allocation range.
-ghost use Rattle.std.specs.Prelude.{◌≡◌, ◌<◌, ◌≤◌, false, length, Ok, Err, IfSome, IfNone, IfOk, OnOk, OnErr, IsOkUnless};
+ghost use Rattle.std.specs.Prelude.{◌≡◌, ◌<◌, ◌≤◌, false, length, Ok, Err, IfSome, IfNone, IfOk, OnOk, OnErr};
 ghost use Rattle.fx_base.specs.declared.errno.Errno.TheVariants.{ENOMEM};
 ghost use Rattle.std.specs.List.{list_any};
 ghost use Rattle.fx_chain.specs.Answers.{is_bad_entry};
-ghost use Rattle.fx_ring.specs.Ring.{AreEntries, HasClosed, files_of_ring, ring_of, without_table};
-ghost use Rattle.fx_ring.specs.Registration.{is_bad_file, range_refusal, register_refusal, registered, registered_sparse, removed_from, sparse_refusal, unregister_refusal, update_refusal, updated};
+ghost use Rattle.fx_ring.specs.Ring.{ListsFiles, files_of_ring, ring_of, without_table};
+ghost use Rattle.fx_ring.specs.Failing.{FailsOnlyAs};
+ghost use Rattle.fx_ring.specs.Registration.{Registers, Updates, is_bad_file, range_refusal, register_refusal, registered_sparse, sparse_refusal, unregister_refusal, update_refusal};
 ghost use Rattle.fx_ring.specs.Tags.{no_tags, tags_for};
 
 use crate::call_refusal::{register_refusal, sparse_refusal, update_refusal};
 use crate::list::{NumberList, apply_list};
 use crate::ring::{MOST_REGISTRATIONS, Ring};
-use fx_base::{CloseList, Errno, MOST_ENTRIES, NoMemory};
+use fx_base::{CloseList, Errno, MOST_ENTRIES};
 use fx_plain::{MOST_SLOTS, PlainTable};
 use std::alloc::Global;
 use std::mem;
 
 impl Ring {
-    // Why a table of so many slots can't be registered.
+    // Returns the reason to refuse a table of `n` slots.
     fn sparse_refusal(&self, n: usize) -> Option<Errno>
         ensures { result ≡ sparse_refusal (ring_of self.now) n }
     {
         sparse_refusal(self.table.size() as usize, n)
     }
 
-    // Why a list can't be registered with its tags, if any are given.
+    // Returns the reason to refuse a registration of the list with its tags, if any are given.
     fn register_refusal(&self, list: &[i32], tags: Option<&[u64]>) -> Option<Errno>
         ensures value { result ≡ register_refusal (ring_of self.now) list.now
             (tags_for list.now tags.entry) }
@@ -36,7 +37,8 @@ impl Ring {
         register_refusal(&self.catalogue, size, self.registrations, list, tags)
     }
 
-    // Why the slots from `off` on can't be updated by a list with its tags, if any are given.
+    // Returns the reason to refuse an update of the slots from `off` on by the list with its tags, if
+    // any are given.
     fn update_refusal(&self, off: u32, list: &[i32], tags: Option<&[u64]>) -> Option<Errno>
         ensures value { result ≡ update_refusal (ring_of self.now) off list.now
             (tags_for list.now tags.entry) }
@@ -57,16 +59,7 @@ impl Ring {
         list: &[i32],
         tags: Option<&[u64]>,
     ) -> Result<(), Errno>
-        ensures refused { IfSome
-            (register_refusal (ring_of self.old) list.now (tags_for list.now tags.entry))
-            (λ errno. result ≡ Err errno) }
-        ensures only_refusal { IfNone
-            (register_refusal (ring_of self.old) list.now (tags_for list.now tags.entry))
-            (IsOkUnless result ENOMEM) }
-        ensures ok { OnOk result
-            (ring_of self.new
-            ≡ registered (ring_of self.old) list.now (tags_for list.now tags.entry)) }
-        ensures err { OnErr result (self.new ≡ self.old) }
+        ensures { Registers self.old list.now (tags_for list.now tags.entry) result self.new }
     {
         if let Some(errno) = self.register_refusal(list, tags) {
             return Err(errno);
@@ -108,14 +101,7 @@ impl Ring {
     /// 256 numbers, EBADF for a number below -1 or outside the catalogue, EAGAIN after 65,535
     /// accepted calls of these four, and ENOMEM if memory is refused. The ring is then as before.
     pub fn register(&mut self, alloc: Global, list: &[i32]) -> Result<(), Errno>
-        ensures refused { IfSome (register_refusal (ring_of self.old) list.now (no_tags list.now))
-            (λ errno. result ≡ Err errno) }
-        ensures only_refusal { IfNone
-            (register_refusal (ring_of self.old) list.now (no_tags list.now))
-            (IsOkUnless result ENOMEM) }
-        ensures ok { OnOk result
-            (ring_of self.new ≡ registered (ring_of self.old) list.now (no_tags list.now)) }
-        ensures err { OnErr result (self.new ≡ self.old) }
+        ensures { Registers self.old list.now (no_tags list.now) result self.new }
     {
         self.register_list(alloc, list, None)
     }
@@ -134,13 +120,7 @@ impl Ring {
         list: &[i32],
         tags: &[u64],
     ) -> Result<(), Errno>
-        ensures refused { IfSome (register_refusal (ring_of self.old) list.now tags.now)
-            (λ errno. result ≡ Err errno) }
-        ensures only_refusal { IfNone (register_refusal (ring_of self.old) list.now tags.now)
-            (IsOkUnless result ENOMEM) }
-        ensures ok { OnOk result
-            (ring_of self.new ≡ registered (ring_of self.old) list.now tags.now) }
-        ensures err { OnErr result (self.new ≡ self.old) }
+        ensures { Registers self.old list.now tags.now result self.new }
     {
         self.register_list(alloc, list, Some(tags))
     }
@@ -153,23 +133,18 @@ impl Ring {
     /// In this order: EBUSY if the ring has a table, EINVAL for no slots, EMFILE for more than 256,
     /// and ENOMEM if memory is refused. The ring is then as before.
     pub fn register_sparse(&mut self, alloc: Global, n: u32) -> Result<(), Errno>
-        ensures refused { IfSome (sparse_refusal (ring_of self.old) n)
-            (λ errno. result ≡ Err errno) }
-        ensures only_refusal { IfNone (sparse_refusal (ring_of self.old) n)
-            (IsOkUnless result ENOMEM) }
+        ensures failure { FailsOnlyAs (sparse_refusal (ring_of self.old) n) ENOMEM result }
         ensures ok { OnOk result (ring_of self.new ≡ registered_sparse (ring_of self.old) n) }
         ensures err { OnErr result (self.new ≡ self.old) }
     {
         if let Some(errno) = self.sparse_refusal(n as usize) {
             return Err(errno);
         }
-        match PlainTable::sparse(alloc, n) {
-            Ok(table) => {
-                mem::replace(&mut self.table, table).dismiss();
-                Ok(())
-            }
-            Err(NoMemory) => Err(Errno::ENOMEM),
-        }
+        let Ok(table) = PlainTable::sparse(alloc, n) else {
+            return Err(Errno::ENOMEM);
+        };
+        mem::replace(&mut self.table, table).dismiss();
+        Ok(())
     }
 
     /// Unregisters the table and closes its files. The list has all of them, in order of mark
@@ -179,13 +154,10 @@ impl Ring {
     /// ENXIO if the ring has no table, and else ENOMEM if the memory of the list is refused. The
     /// ring is then as before.
     pub fn unregister(&mut self, alloc: Global) -> Result<CloseList, Errno>
-        ensures refused { IfSome (unregister_refusal (ring_of self.old))
-            (λ errno. result ≡ Err errno) }
-        ensures only_refusal { IfNone (unregister_refusal (ring_of self.old))
-            (IsOkUnless result ENOMEM) }
+        ensures failure { FailsOnlyAs (unregister_refusal (ring_of self.old)) ENOMEM result }
         ensures ok { OnOk result (ring_of self.new ≡ without_table (ring_of self.old)) }
-        ensures closes { IfOk result (λ closes. HasClosed (files_of_ring (ring_of self.old)) closes) }
-        ensures entries { IfOk result (λ closes. AreEntries (ring_of self.old) closes.files) }
+        ensures closes { IfOk result (λ closes.
+            ListsFiles (ring_of self.old) (files_of_ring (ring_of self.old)) closes) }
         ensures err { OnErr result (self.new ≡ self.old) }
     {
         if self.table.size() == 0 {
@@ -226,20 +198,7 @@ impl Ring {
         list: &[i32],
         tags: Option<&[u64]>,
     ) -> Result<(u32, CloseList), Errno>
-        ensures refused { IfSome
-            (update_refusal (ring_of self.old) off list.now (tags_for list.now tags.entry))
-            (λ errno. result ≡ Err errno) }
-        ensures only_refusal { IfNone
-            (update_refusal (ring_of self.old) off list.now (tags_for list.now tags.entry))
-            (IsOkUnless result ENOMEM) }
-        ensures ok { OnOk result
-            (ring_of self.new
-            ≡ updated (ring_of self.old) off list.now (tags_for list.now tags.entry)) }
-        ensures count { IfOk result (λ answer. answer.0 ≡ length list.now) }
-        ensures closes { IfOk result
-            (λ answer. HasClosed (removed_from (ring_of self.old).at off list.now) answer.1) }
-        ensures entries { IfOk result (λ answer. AreEntries (ring_of self.old) answer.1.files) }
-        ensures err { OnErr result (self.new ≡ self.old) }
+        ensures { Updates self.old off list.now (tags_for list.now tags.entry) result self.new }
     {
         if let Some(errno) = self.update_refusal(off, list, tags) {
             return Err(errno);
@@ -280,18 +239,7 @@ impl Ring {
         off: u32,
         list: &[i32],
     ) -> Result<(u32, CloseList), Errno>
-        ensures refused { IfSome (update_refusal (ring_of self.old) off list.now (no_tags list.now))
-            (λ errno. result ≡ Err errno) }
-        ensures only_refusal { IfNone
-            (update_refusal (ring_of self.old) off list.now (no_tags list.now))
-            (IsOkUnless result ENOMEM) }
-        ensures ok { OnOk result
-            (ring_of self.new ≡ updated (ring_of self.old) off list.now (no_tags list.now)) }
-        ensures count { IfOk result (λ answer. answer.0 ≡ length list.now) }
-        ensures closes { IfOk result
-            (λ answer. HasClosed (removed_from (ring_of self.old).at off list.now) answer.1) }
-        ensures entries { IfOk result (λ answer. AreEntries (ring_of self.old) answer.1.files) }
-        ensures err { OnErr result (self.new ≡ self.old) }
+        ensures { Updates self.old off list.now (no_tags list.now) result self.new }
     {
         self.update_list(alloc, off, list, None)
     }
@@ -311,17 +259,7 @@ impl Ring {
         list: &[i32],
         tags: &[u64],
     ) -> Result<(u32, CloseList), Errno>
-        ensures refused { IfSome (update_refusal (ring_of self.old) off list.now tags.now)
-            (λ errno. result ≡ Err errno) }
-        ensures only_refusal { IfNone (update_refusal (ring_of self.old) off list.now tags.now)
-            (IsOkUnless result ENOMEM) }
-        ensures ok { OnOk result
-            (ring_of self.new ≡ updated (ring_of self.old) off list.now tags.now) }
-        ensures count { IfOk result (λ answer. answer.0 ≡ length list.now) }
-        ensures closes { IfOk result
-            (λ answer. HasClosed (removed_from (ring_of self.old).at off list.now) answer.1) }
-        ensures entries { IfOk result (λ answer. AreEntries (ring_of self.old) answer.1.files) }
-        ensures err { OnErr result (self.new ≡ self.old) }
+        ensures { Updates self.old off list.now tags.now result self.new }
     {
         self.update_list(alloc, off, list, Some(tags))
     }

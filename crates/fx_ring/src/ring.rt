@@ -1,6 +1,6 @@
 //! The type of a ring: how one is made, read and ended.
 ghost use Rattle.std.specs.Prelude.{◌≡◌, IfOk, IfErr};
-ghost use Rattle.fx_ring.specs.Ring.{AreEntries, HasClosed, IsRing, files_of_ring, new_ring, ring_of};
+ghost use Rattle.fx_ring.specs.Ring.{IsRing, ListsFiles, files_of_ring, new_ring, ring_of};
 
 use fx_base::{Catalogue, CloseList, NoMemory};
 use fx_plain::PlainTable;
@@ -104,8 +104,8 @@ impl Ring {
     /// # Errors
     /// `NoMemory` if the memory of the list is refused. The ring is returned as it was.
     pub fn tear_down(self, alloc: Global) -> Result<CloseList, (Ring, NoMemory)>
-        ensures closes { IfOk result (λ closes. HasClosed (files_of_ring (ring_of self)) closes) }
-        ensures entries { IfOk result (λ closes. AreEntries (ring_of self) closes.files) }
+        ensures closes { IfOk result (λ closes.
+            ListsFiles (ring_of self) (files_of_ring (ring_of self)) closes) }
         ensures refused { IfErr result (λ back. back.0 ≡ self) }
     {
         let Ok(mut closes) = CloseList::with_room(alloc, self.table.full()) else {

@@ -1,17 +1,17 @@
 //! Submissions, played by several workers on a table that is opened for each of them.
-ghost use Rattle.std.specs.Prelude.{◌≡◌, ◌<◌, ◌≤◌, ◌+◌, ℕ, length, All, map, IfSome, IfNone, IfOk, IfErr, OnErr, Err, IsOkUnless};
+ghost use Rattle.std.specs.Prelude.{◌≡◌, ◌<◌, ◌≤◌, ◌+◌, length, All, map, IfOk, IfErr, OnErr};
 ghost use Rattle.fx_plain.specs.State.{IsSettled};
 ghost use Rattle.fx_plain.specs.Contents.{state_of};
 ghost use Rattle.fx_table.specs.Opening.{IsGivenBack};
 ghost use Rattle.fx_table.specs.Pass.{IsIdle, new_passes};
 ghost use Rattle.fx_table.specs.declared.limits.TheConstants.{MAX_PASSES};
-ghost use Rattle.fx_chain.specs.Accepted.{IsAccepted};
 ghost use Rattle.fx_chain.specs.Operation.{all_asked};
+ghost use Rattle.fx_ring.specs.Failing.{FailsOnlyAs};
 ghost use Rattle.fx_ring.specs.Outcomes.{HasRoomForCrew};
-ghost use Rattle.fx_ring.specs.Ring.{AreEntries, RingState, ring_of, ring_with};
+ghost use Rattle.fx_ring.specs.Ring.{AreEntries, ring_of};
 ghost use Rattle.fx_ring.specs.Playing.{IsPlayOf};
-ghost use Rattle.fx_ring.specs.Work.{InstallAtMost};
-ghost use Rattle.fx_ring.specs.Submission.{IsOneHistory, reported, submit_refusal};
+ghost use Rattle.fx_ring.specs.Work.{AreCutInto, InstallAtMost};
+ghost use Rattle.fx_ring.specs.Submission.{IsOneHistory, refusal_after, reported, submit_refusal};
 ghost use Rattle.fx_ring.specs.declared.report.SubmitFault.TheVariants.{NoMemory as Refused};
 
 use crate::crew::{Room, gather, scatter};
@@ -19,8 +19,8 @@ use crate::play::{Play, Submission};
 use crate::report::{Report, SubmitFault};
 use crate::ring::{MOST_SUBMISSIONS, Ring};
 use crate::worker::work_crew;
-use fx_base::{Catalogue, NoMemory};
-use fx_chain::{Gate, Request, check, cut};
+use fx_base::NoMemory;
+use fx_chain::{Chain, Gate, Request, check, cut};
 use fx_plain::PlainTable;
 use fx_table::{FileTable, MAX_PASSES};
 use std::alloc::Global;
@@ -94,28 +94,29 @@ fn play<T: FileTable, R: Threads + Wait + Sync, G: Gate>(
     }
 }
 
-// Returns the reason to refuse a submission after `submissions` accepted ones, memory aside.
-pub(crate) fn refusal_after(
-    submissions: u32,
+/// Checks and cuts the requests of a submission after `earlier` accepted ones.
+pub(crate) fn accept(
+    alloc: Global,
+    earlier: u32,
     requests: &[Request],
     workers: u32,
-) -> Option<SubmitFault>
-    ensures value { (ring : RingState) → ring.submissions ≡ submissions
-        → result ≡ submit_refusal ring (all_asked requests.now) workers }
-    ensures accepted { IfNone result (IsAccepted (all_asked requests.now)) }
-    ensures workers { IfNone result ((1 ≤ workers) × (workers ≤ MAX_PASSES)) }
-    ensures few { IfNone result (submissions < MOST_SUBMISSIONS) }
+) -> Result<Vec<Chain>, SubmitFault>
+    ensures failure { FailsOnlyAs (refusal_after earlier (all_asked requests.now) workers) Refused
+        result }
+    ensures few { IfOk result (λ _. earlier < MOST_SUBMISSIONS) }
+    ensures workers { IfOk result (λ _. (1 ≤ workers) × (workers ≤ MAX_PASSES)) }
+    ensures cut { IfOk result (λ chains. AreCutInto (all_asked requests.now) chains.items) }
 {
     if workers == 0 || workers > MAX_PASSES {
-        return Some(SubmitFault::Workers);
+        return Err(SubmitFault::Workers);
     }
     if let Err(fault) = check(requests) {
-        return Some(SubmitFault::Cut(fault));
+        return Err(SubmitFault::Cut(fault));
     }
-    if submissions >= MOST_SUBMISSIONS {
-        return Some(SubmitFault::TooMany);
+    if earlier >= MOST_SUBMISSIONS {
+        return Err(SubmitFault::TooMany);
     }
-    None
+    cut(alloc, requests).map_err(|_| SubmitFault::NoMemory)
 }
 
 impl Ring {
@@ -152,24 +153,15 @@ impl Ring {
         workers: u32,
         gate: &G,
     ) -> Result<Report, SubmitFault>
-        ensures refused { IfSome
-            (submit_refusal (ring_of self.old) (all_asked requests.now) workers)
-            (λ fault. result ≡ Err fault) }
-        ensures only_refusal { IfNone
-            (submit_refusal (ring_of self.old) (all_asked requests.now) workers)
-            (IsOkUnless result Refused) }
+        ensures failure { FailsOnlyAs
+            (submit_refusal (ring_of self.old) (all_asked requests.now) workers) Refused result }
         ensures one_history { IfOk result (λ report.
             IsOneHistory self.old (all_asked requests.now) (reported report) self.new) }
         ensures entries { IfOk result (λ report.
             AreEntries (ring_of self.new) report.closes.files) }
         ensures err { OnErr result (ring_of self.new ≡ ring_of self.old) }
     {
-        if let Some(fault) = refusal_after(self.submissions, requests, workers) {
-            return Err(fault);
-        }
-        let Ok(chains) = cut(alloc, requests) else {
-            return Err(SubmitFault::NoMemory);
-        };
+        let chains = accept(alloc, self.submissions, requests, workers)?;
         let plain = mem::replace(&mut self.table, PlainTable::none(alloc));
         let submission = Submission {
             rt,

@@ -1,7 +1,6 @@
 //! The workers of a submission, each with a pass of the shared table.
 ghost use Rattle.std.specs.Prelude.{◌≡◌, ◌<◌, length, map, All};
-ghost use Rattle.fx_ring.specs.Playing.{number_of_worker};
-ghost use Rattle.fx_ring.specs.Playing.{IsReadyFor, IsDoneFor};
+ghost use Rattle.fx_ring.specs.Playing.{IsDoneFor, IsReadyFor, number_of_worker};
 
 use crate::outcome::Outcome;
 use crate::play::Play;

@@ -12,25 +12,25 @@ loop-i-init g c =
     let alone = c.requires.alone in
     let s = c.args.submission.now in
     begins alone.fits alone.idle alone.more c.requires.room
-    (omega (arith, length-map s.requests.now asked_of, c.requires.looks, few_of_chains s.requests.now s.chains.now s.members s.within))
+    (omega (arith, c.requires.looks, few_of_chains s.cut))
 
 pub play_chain-requires-clause-enough : goal.play_chain-requires-clause-enough
 play_chain-requires-clause-enough g c κs within =
     let s = c.args.submission.now in
     let is = c.loop-i.invariant in
     let left = ap (λ (v : PassView). v.looks_left) c.in-Some.ensures.drawn.3 in
-    let its = enough {chain = c.loop-i.i + 1} is.room (omega (arith, is.chain)) (omega (arith, as_many _ s.chains.now s.members, c.loop-i-test.true)) in
+    let its = enough {chain = c.loop-i.i + 1} is.room (omega (arith, is.chain)) (omega (arith, as_many s.cut, c.loop-i-test.true)) in
     (omega (arith, its.0, left), its.1, its.2)
 
 pub loop-i-preserved : goal.loop-i-preserved
 loop-i-preserved g c =
     let s = c.args.submission.now in
     let is = c.loop-i.invariant in
-    let count = as_many _ s.chains.now s.members in
+    let count = as_many s.cut in
     let inside : c.loop-i.i + 1 ≤ length (runs_of (all_asked s.requests.now)) = omega (arith, count, c.loop-i-test.true) in
     let next : Some c.in-Some._drawn ≡ Some ((g.T.SharedTable.view c.loop-i.pass).chain + 1) =
     c.in-Some.ensures.next c.requires.alone.alone is.more (omega (arith, is.chain, c.requires.chains, inside, count)) in
-    let short = runs_within _ s.chains.now s.members s.within (c.loop-i.i + 1 - 1) [] (omega (arith, inside)) in
+    let short = runs_within s.cut (c.loop-i.i + 1 - 1) [] (omega (arith, inside)) in
     goes_on is inside (cc next) c.in-Some.ensures.drawn c.play_chain.ensures.played short.members c.play_chain.ensures.fits c.play_chain.ensures.capacity
 
 pub returns-clause-played : goal.returns-clause-played
@@ -42,11 +42,11 @@ returns-clause-played g c registrations =
     let before = V c.args.pass.now in
     let p = c.loop-i.invariant in
     let alone = c.requires.alone in
-    let one = part_is_one_history p.since s.earlier asked alone.few_slots (runs_within _ s.chains.now s.members s.within) alone.settled
+    let one = part_is_one_history p.since s.earlier asked alone.few_slots (runs_within s.cut) alone.settled
     (subst (λ (v : PassView). IsSettledSoFar o v) c.settle.ensures.same c.settle.ensures.settled)
     (authors_of alone.settled ((g.met.T.SharedTable g.world.𝓛 g.world.𝓜 g.world.𝓡 ((λ s x. x), (λ x. x), (λ x. x), λ x. x)).fronts _ _ alone.fits))
     p.own p.worked
-    (λ chain low high. all_drawn c.loop-i.i chain low (omega (arith, high, as_many _ s.chains.now s.members, c.loop-i-test.false))) registrations
+    (λ chain low high. all_drawn c.loop-i.i chain low (omega (arith, high, as_many s.cut, c.loop-i-test.false))) registrations
     c.sort.ensures.completions c.sort.ensures.in_order
     (record { same_files = c.sort.ensures.closes; in_order = c.sort.ensures.in_order_of_mark }) in
     subst (λ (z : Reported × PassView). IsOneHistory (ring_led_by s.catalogue.now o before s.earlier registrations) asked z.0

@@ -25,7 +25,7 @@ pub work_crew-requires-clause-ready : goal.work_crew-requires-clause-ready
 work_crew-requires-clause-ready g c κs within =
     let V : g.row.T-Pass.Denot → PassView = λ p. g.T.SharedTable.view p in
     let ready = all_gathered (λ p. g.T.SharedTable.fits c.args.table p × IsIdle (V p)) _ _ _ c.gather.ensures.passes c.requires.ready in
-    let few = accepted-length (all_asked c.args.submission.now.requests.now) c.args.submission.now.accepted in
+    let few = accepted-length (all_asked c.args.submission.now.requests.now) c.args.submission.now.cut.accepted in
     let new = all_gathered (λ p. IsNew PASS_LOOKS (V p)) _ _ _ c.gather.ensures.passes (all_new V c.args.passes.items _ c.requires.new) in
     let room = all_gathered (HasRoomFor (all_asked c.args.submission.now.requests.now)) _ _ _ c.gather.ensures.outcomes c.requires.room.outcomes in
     λ k d l. record {
@@ -60,9 +60,9 @@ module _ (g : Over) (c : After-close-left g) where
         worked = All-map (HasWorked s.catalogue.now (size_of o) (s.earlier + 1) runs) (state_of_worker V) ws
             (λ k d l. (c.work_crew.ensures.done k d l).between.worked);
         told = All-map (λ w. w.pass.no_chains_left ≡ true) (state_of_worker V) ws (λ k d l. (c.work_crew.ensures.done k d l).all_drawn);
-        chains = c.requires.chains ∙ sym (as_many _ s.chains.now s.members);
+        chains = c.requires.chains ∙ sym (as_many s.cut);
         ends = (g.met.T.FileTable g.world.𝓛 g.world.𝓜 g.world.𝓡 ((λ s x. x), (λ x. x), (λ x. x), λ x. x)).ends c.args.table;
-        short = All-weaker IsShortRun IsShort (λ run is. is.members) runs (runs_within _ s.chains.now s.members s.within);
+        short = All-weaker IsShortRun IsShort (λ run is. is.members) runs (runs_within s.cut);
         are = scattered_views V ws c.scatter.ensures.passes;
         numbers = map-map number_of (state_of_worker V) ws ∙ (c.work_crew.ensures.numbers
             ∙ numbers_are V c.args.passes.items o.passes c.requires.new c.gather.new.crew.items c.gather.ensures.passes);

@@ -6,7 +6,7 @@ use Rattle.fx_ring.proofs.worker.work.Goals as goal
 
 count : {T R G P : Type 0} {t : _} (play : Play T R G P t)
     → (t.opening play.table.now).chains ≡ length (runs_of (all_asked play.submission.now.requests.now))
-count play = play.count ∙ sym (as_many _ play.submission.now.chains.now play.submission.now.members)
+count play = play.count ∙ sym (as_many play.submission.now.cut)
 
 pub play_chain-requires-clause-enough : goal.play_chain-requires-clause-enough
 play_chain-requires-clause-enough g c κs within =

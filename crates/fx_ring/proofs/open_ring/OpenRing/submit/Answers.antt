@@ -1,38 +1,21 @@
-use Rattle.fx_ring.proofs.Words.{◌∙◌, ap, refl, sym, arith, rules, ring_of, OpenRingContents, ◌≤◌, length, All-weaker, all_installs, runs_of, all_asked}
+use Rattle.fx_ring.proofs.Words.{◌∙◌, ap, arith, rules, OpenRingContents, ◌≤◌, All-weaker, all_installs, runs_of, all_asked}
 use Rattle.fx_ring.proofs.Runs.{as_many}
 use Rattle.fx_ring.proofs.RingsOpened.{kept_after, entries_after}
 use Rattle.fx_ring.proofs.open_ring.OpenRing.submit.Goals as goal
 
-pub returns-in-Some-clause-refused : goal.returns-in-Some-clause-refused
-returns-in-Some-clause-refused g c =
-    let same = sym (ap (λ (opened : OpenRingContents). opened.ring.submissions) c.self.view_is) in
-    rw (sym (c.refusal_after.ensures.value (ring_of c.args.self.now.ring) same) ∙ c.in-Some.is) refl
-
-pub returns-in-Some-clause-only_refusal : goal.returns-in-Some-clause-only_refusal
-returns-in-Some-clause-only_refusal g c =
-    let same = sym (ap (λ (opened : OpenRingContents). opened.ring.submissions) c.self.view_is) in
-    rw (sym (c.refusal_after.ensures.value (ring_of c.args.self.now.ring) same) ∙ c.in-Some.is) tt
-
 pub invariant_of-self : goal.invariant_of-self
-invariant_of-self g c = kept_after c.self.invariant _ c.play_alone-report.ensures.alone (search rules) c.in_default.ensures.few
+invariant_of-self g c = kept_after c.self.invariant _ c.play_alone-report.ensures.alone (search rules) c.in_ok-chains.ensures.few
     c.play_alone-report.ensures.chain c.play_alone-report.ensures.looks (c.play_alone-report.ensures.played c.self.inside.registrations)
 
 pub returns-clause-entries : goal.returns-clause-entries
-returns-clause-entries g c = entries_after c.self.invariant _ c.play_alone-report.ensures.alone (search rules) c.in_default.ensures.few
+returns-clause-entries g c = entries_after c.self.invariant _ c.play_alone-report.ensures.alone (search rules) c.in_ok-chains.ensures.few
     c.play_alone-report.ensures.chain c.play_alone-report.ensures.looks (c.play_alone-report.ensures.played c.self.inside.registrations)
 
 pub returns-clause-room : goal.returns-clause-room
 returns-clause-room g c =
-    let few : length c.in-Ok.chains.items ≤ c.self.inside.left = search rules in
     let most : c.most_installs.result ≤ c.self.inside.most = search rules in
     record {
-      chains = omega (
-        arith,
-        ap (λ (opened : OpenRingContents). opened.chains_left) c.self.view_is,
-        as_many _ c.in-Ok.chains.items
-            c.in-Ok.ensures.members,
-        few,
-      );
+      chains = omega (arith, ap (λ (opened : OpenRingContents). opened.chains_left) c.self.view_is, as_many c.in_ok-chains.ensures.cut);
       installs = All-weaker (λ run. all_installs run ≤ c.most_installs.result) (λ run. all_installs run ≤ c.args.self.now.most)
           (λ run le. omega (arith, le, most, ap (λ (opened : OpenRingContents). opened.most) c.self.view_is))
           (runs_of (all_asked c.args.requests.now)) c.most_installs.ensures.each;

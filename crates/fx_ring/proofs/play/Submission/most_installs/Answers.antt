@@ -10,7 +10,7 @@ none = record { first = 0; len = 0 }
 pub installs_of_chain-requires : goal.installs_of_chain-requires
 installs_of_chain-requires g c =
     let same = ap all_installs c.members.ensures in
-    omega (arith, same, (c.args.self.now.within c.loop-chain.chain-index none c.loop-chain-test.true).run.installs)
+    omega (arith, same, (c.args.self.now.cut.within c.loop-chain.chain-index none c.loop-chain-test.true).run.installs)
 
 pub loop-chain-preserved : goal.loop-chain-preserved
 loop-chain-preserved g c =
@@ -20,7 +20,7 @@ loop-chain-preserved g c =
     let inside = c.loop-chain-test.true in
     let chain : Chain = slice_index_or chains i none in
     let its = c.installs_of_chain.ensures ∙ ap all_installs c.members.ensures in
-    let few = (c.args.self.now.within i none inside).run.installs in
+    let few = (c.args.self.now.cut.within i none inside).run.installs in
     let so_far = c.loop-chain.invariant in
     let before = so_far.few in
     let low : c.loop-chain.most ≤ c.max-most.result = grind (arith, common_steps) in
@@ -34,8 +34,8 @@ loop-chain-preserved g c =
           let here : all_installs (members_of asked chain) ≤ most =
           omega (
             arith,
-            ap all_installs (run_at _ chains c.args.self.now.members i none inside),
-            all i [] (omega (arith, inside, as_many _ chains c.args.self.now.members)),
+            ap all_installs (run_at c.args.self.now.cut i none inside),
+            all i [] (omega (arith, inside, as_many c.args.self.now.cut)),
           ) in
           let earlier = so_far.least most all in
           let new : c.installs_of_chain.result ≤ most = omega (arith, its, here) in grind (arith, common_steps);
@@ -44,6 +44,6 @@ loop-chain-preserved g c =
 pub returns-clause-each : goal.returns-clause-each
 returns-clause-each g c =
     let chains = c.args.self.now.chains.now in
-    runs_install _ chains c.args.self.now.members
+    runs_install c.args.self.now.cut
     (subst (All (λ chain. all_installs (members_of (all_asked c.args.self.now.requests.now) chain) ≤ c.loop-chain.most))
     (take_all c.loop-chain.chain-index chains c.loop-chain-test.false) c.loop-chain.invariant.each)

@@ -1,4 +1,4 @@
-use Rattle.fx_ring.proofs.Words.{◌≡◌, ◌+◌, ap, sym, subst, ◌∙◌, false, length, arith, list_any, IsSettled, Contents, State, state_of, Closed, Option}
+use Rattle.fx_ring.proofs.Words.{◌≡◌, ◌+◌, ap, sym, subst, ◌∙◌, false, length, arith, rules, list_any, IsSettled, Contents, State, state_of, Closed, Option}
 use Rattle.fx_ring.proofs.Words.{ℕ, RingContents, IsRing, ring_of, ring_with, registered, updated, is_bad_entry, removed_from, tags_for, with_table}
 use Rattle.fx_ring.proofs.Numbers.{good_files}
 use Rattle.fx_ring.proofs.Origins.{none_removed}
@@ -51,7 +51,10 @@ invariant_of-self c = record {
   few_registrations = omega (arith, c.in_default.ensures.few, ap (λ (r : RingContents). r.registrations) c.self.view_is);
 }
 
-pub returns-clause-ok : goal.returns-clause-ok
-returns-clause-ok c =
-    is_registered (goal.at.returns-clause-ok c).After-replace
-    ∙ ap (λ (v : RingContents). registered (ring_of v) c.args.list.now (tags_for c.args.list.now c.args.tags)) c.self.view_is
+pub returns : goal.returns
+returns c = record {
+  failure = search rules;
+  ok = is_registered (goal.at.returns c).After-replace
+      ∙ ap (λ (v : RingContents). registered (ring_of v) c.args.list.now (tags_for c.args.list.now c.args.tags)) c.self.view_is;
+  err = tt;
+}

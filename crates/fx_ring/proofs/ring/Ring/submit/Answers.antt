@@ -1,4 +1,4 @@
-use Rattle.fx_ring.proofs.Words.{◌<◌, ap, refl, sym, ◌∙◌, rules, state_of, RingContents, ring_of, MOST_SUBMISSIONS}
+use Rattle.fx_ring.proofs.Words.{◌<◌, ap, sym, ◌∙◌, rules, state_of, RingContents, ring_of, MOST_SUBMISSIONS}
 use Rattle.fx_ring.proofs.Rings.{emptied_settled, given_back_rings, given_back_at_rest}
 use Rattle.fx_ring.proofs.SubmittedRing.{submitted_at_rest, submitted_entries}
 use Rattle.fx_ring.proofs.ring.Ring.submit.Goals as goal
@@ -15,27 +15,17 @@ pub invariant_of-self : goal.invariant_of-self
 invariant_of-self g c =
     let few : c.self.inside.submissions < MOST_SUBMISSIONS = search rules in
     let left = sym c.replace.ensures.after in
-    submitted_at_rest c.self.invariant (rw (c.replace-plain.ensures.value, left) at (c.in-Ok-play.ensures.played c.self.inside.registrations))
-    (rw left at c.in-Ok-play.ensures.settled) few
+    submitted_at_rest c.self.invariant (rw (c.replace-plain.ensures.value, left) at (c.in-Ok.ensures.played c.self.inside.registrations))
+    (rw left at c.in-Ok.ensures.settled) few
 
 pub invariant_of-self-in-Err : goal.invariant_of-self-in-Err
 invariant_of-self-in-Err g c = given_back_at_rest c.self.invariant
     (rw (c.replace-plain.ensures.value, sym c.replace-in-Err.ensures.after) at c.in-Err.ensures.refused)
 
-pub returns-in-Ok-play-clause-entries : goal.returns-in-Ok-play-clause-entries
-returns-in-Ok-play-clause-entries g c =
-    submitted_entries c.self.invariant.ring (rw c.replace-plain.ensures.value at (c.in-Ok-play.ensures.played c.self.inside.registrations))
+pub returns-in-Ok-clause-entries : goal.returns-in-Ok-clause-entries
+returns-in-Ok-clause-entries g c =
+    submitted_entries c.self.invariant.ring (rw c.replace-plain.ensures.value at (c.in-Ok.ensures.played c.self.inside.registrations))
 
 pub returns-clause-err : goal.returns-clause-err
 returns-clause-err g c =
     given_back_rings (rw (c.replace-plain.ensures.value, sym c.replace-in-Err.ensures.after) at c.in-Err.ensures.refused) ∙ ap ring_of c.self.view_is
-
-pub returns-in-Some-clause-refused : goal.returns-in-Some-clause-refused
-returns-in-Some-clause-refused g c =
-    rw (sym (c.refusal_after.ensures.value (ring_of c.args.self.now) (sym (ap (λ (ring : RingContents). ring.submissions) c.self.view_is)))
-    ∙ c.in-Some.is) refl
-
-pub returns-in-Some-clause-only_refusal : goal.returns-in-Some-clause-only_refusal
-returns-in-Some-clause-only_refusal g c =
-    rw (sym (c.refusal_after.ensures.value (ring_of c.args.self.now) (sym (ap (λ (ring : RingContents). ring.submissions) c.self.view_is)))
-    ∙ c.in-Some.is) tt

@@ -4,11 +4,7 @@ use Rattle.fx_ring.proofs.ring.Ring.unregister.Goals as goal
 
 pub returns-clause-closes : goal.returns-clause-closes
 returns-clause-closes c =
-    (all_closed c.sort.new.self c.self.view_is c.self.invariant.ring (search rules) c.sort.ensures.same_files c.sort.ensures.in_order).0
-
-pub returns-clause-entries : goal.returns-clause-entries
-returns-clause-entries c =
-    (all_closed c.sort.new.self c.self.view_is c.self.invariant.ring (search rules) c.sort.ensures.same_files c.sort.ensures.in_order).1
+    all_closed c.sort.new.self c.self.view_is c.self.invariant.ring (search rules) c.sort.ensures.same_files c.sort.ensures.in_order
 
 pub invariant_of-self : goal.invariant_of-self
 invariant_of-self c = record {

@@ -1,9 +1,8 @@
-use Rattle.fx_ring.proofs.Words.{◌≡◌, [], ap, sym, subst, ◌∙◌, length, rules, arith, state_of, RingContents, AreEntries, HasClosed, ring_of, updated}
+use Rattle.fx_ring.proofs.Words.{◌≡◌, [], ap, sym, subst, ◌∙◌, length, rules, arith, state_of, RingContents, ListsFiles, ring_of, updated}
 use Rattle.fx_ring.proofs.Words.{removed_from, tags_for, files_at}
 use Rattle.fx_ring.proofs.Origins.{few_removed}
 use Rattle.fx_ring.proofs.Rings.{contents_of}
 use Rattle.fx_ring.proofs.Updates.{is_updated, ring_updated, list_updated}
-use Rattle.fx_ring.proofs.ring.Ring.update_list.Goals.{After-sort}
 use Rattle.fx_ring.proofs.ring.Ring.update_list.Goals as goal
 
 pub apply_list-requires-clause-room : goal.apply_list-requires-clause-room
@@ -23,22 +22,17 @@ invariant_of-self-2 c =
       few_registrations = omega (arith, c.in_default.ensures.few, ap (λ (r : RingContents). r.registrations) c.self.view_is);
     }
 
-pub returns-clause-ok : goal.returns-clause-ok
-returns-clause-ok c =
-    is_updated (contents_of c.self.inside) c.args.off c.args.list.now (tags_for c.args.list.now c.args.tags) c.in-Ok-apply_list.ensures.ok
-    ∙ ap (λ (v : RingContents). updated (ring_of v) c.args.off c.args.list.now (tags_for c.args.list.now c.args.tags)) c.self.view_is
-
-closes : (c : After-sort) → HasClosed (removed_from (ring_of c.args.self.now).at c.args.off c.args.list.now) c.sort.new.self
-    × AreEntries (ring_of c.args.self.now) c.sort.new.self.files
-closes c =
+pub returns : goal.returns
+returns c =
     let none : c.in-Ok.closes.files ≡ [] = search rules in
-    subst (λ (v : RingContents). HasClosed (removed_from (ring_of v).at c.args.off c.args.list.now) c.sort.new.self
-    × AreEntries (ring_of v) c.sort.new.self.files) c.self.view_is
-    (list_updated (contents_of c.self.inside) c.args.off c.args.list.now (tags_for c.args.list.now c.args.tags) c.in-Ok-apply_list.ensures.ok
-    c.self.invariant.ring none c.sort.ensures.same_files c.sort.ensures.in_order)
-
-pub returns-clause-closes : goal.returns-clause-closes
-returns-clause-closes c = (closes (goal.at.returns-clause-closes c).After-sort).0
-
-pub returns-clause-entries : goal.returns-clause-entries
-returns-clause-entries c = (closes (goal.at.returns-clause-entries c).After-sort).1
+    record {
+      failure = search rules;
+      ok = is_updated (contents_of c.self.inside) c.args.off c.args.list.now (tags_for c.args.list.now c.args.tags)
+          c.in-Ok-apply_list.ensures.ok
+          ∙ ap (λ (v : RingContents). updated (ring_of v) c.args.off c.args.list.now (tags_for c.args.list.now c.args.tags)) c.self.view_is;
+      count = search rules;
+      closes = subst (λ (v : RingContents). ListsFiles (ring_of v) (removed_from (ring_of v).at c.args.off c.args.list.now) c.sort.new.self)
+          c.self.view_is (list_updated (contents_of c.self.inside) c.args.off c.args.list.now (tags_for c.args.list.now c.args.tags)
+          c.in-Ok-apply_list.ensures.ok c.self.invariant.ring none c.sort.ensures.same_files c.sort.ensures.in_order);
+      err = tt;
+    }
