@@ -115,12 +115,7 @@ int open_files(const struct script *script)
 size_t add_installation(struct mark mark, int entry, unsigned long long tag)
 {
 	char file[NAME_BYTES], link[NAME_BYTES];
-	if (count == room) {
-		room = room ? 2 * room : 256;
-		installations = realloc(installations, room * sizeof *installations);
-		if (!installations)
-			die_of("out of memory");
-	}
+	installations = with_room(installations, count, &room, sizeof *installations);
 	installations[count] = (struct installation){ .mark = mark, .entry = entry, .tag = tag, .descriptor = -1,
 						      .is_installed = 1 };
 	if (entry >= 0) {

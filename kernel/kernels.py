@@ -8,7 +8,7 @@ import os
 import re
 from typing import NamedTuple
 
-from model import REGISTRATIONS, SUBMISSIONS, Script, play
+from model import CHAINS, REGISTRATIONS, SUBMISSIONS, Script, play
 from orders import TooManyOrders, ending_of
 from programs import LEGAL, NOT_LEGAL, UNDECIDED, run, verdict
 from repository import BUILD, ROOT, read, write
@@ -32,7 +32,8 @@ def listed():
 
 
 def large_differences():
-    """Yields the scripts of two differences that are too large to be kept as files."""
+    """Yields the scripts of three differences that are too large to be kept as files."""
+    yield "too_many_chains", b"close 0\n" * (CHAINS + 1) + b"submit\n"
     yield "too_many_submissions", b"submit\n" * (SUBMISSIONS + 1)
     yield "too_many_registrations", b"register -1\nunregister\n" * (REGISTRATIONS + 1)
 

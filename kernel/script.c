@@ -30,6 +30,17 @@ void *memory_of(size_t size)
 	return memory;
 }
 
+void *with_room(void *items, size_t count, size_t *room, size_t size_of_one)
+{
+	if (count < *room)
+		return items;
+	*room = *room ? 2 * *room : 256;
+	items = realloc(items, *room * size_of_one);
+	if (!items)
+		die_of("out of memory");
+	return items;
+}
+
 int entry_of(const struct script *script, const char *name)
 {
 	for (unsigned at = 0; at < script->file_count; at++)
@@ -171,20 +182,10 @@ static int take_form(struct command *command, const struct form *form, char **wo
 	return 1;
 }
 
-static struct command *next_command(struct script *script)
-{
-	if (script->command_count == script->room) {
-		script->room = script->room ? 2 * script->room : 64;
-		script->commands = realloc(script->commands, script->room * sizeof(struct command));
-		if (!script->commands)
-			die_of("out of memory");
-	}
-	return &script->commands[script->command_count];
-}
-
 static int take_command(struct script *script, char **words, int count, long line)
 {
-	struct command *command = next_command(script);
+	script->commands = with_room(script->commands, script->command_count, &script->room, sizeof(struct command));
+	struct command *command = &script->commands[script->command_count];
 	for (size_t at = 0; at < sizeof forms / sizeof forms[0]; at++) {
 		if (!take_form(command, &forms[at], words, count))
 			continue;

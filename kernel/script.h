@@ -49,6 +49,9 @@ int entry_of(const struct script *script, const char *name);
 /* Returns memory of zeros, or ends the program if there is none. */
 void *memory_of(size_t size);
 
+/* Returns the items with room for one more than `count`: themselves, or moved. Ends the program if there is no memory. */
+void *with_room(void *items, size_t count, size_t *room, size_t size_of_one);
+
 /* Print what happened and end the program with status 4. `die` adds the reason from errno. */
 void die(const char *what) __attribute__((noreturn));
 void die_of(const char *what) __attribute__((noreturn));

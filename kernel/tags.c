@@ -1,7 +1,6 @@
 #include "tags.h"
 
 #include <stdio.h>
-#include <stdlib.h>
 
 #include "script.h"
 
@@ -18,12 +17,7 @@ void keep_tag(const struct io_uring_cqe *cqe)
 {
 	if (cqe->res || cqe->flags)
 		die_of("the completion of a tag has a result or flags");
-	if (count == room) {
-		room = room ? 2 * room : 256;
-		told = realloc(told, room * sizeof *told);
-		if (!told)
-			die_of("out of memory");
-	}
+	told = with_room(told, count, &room, sizeof *told);
 	told[count++] = cqe->user_data + mistakes_next;
 	mistakes_next = 0;
 }

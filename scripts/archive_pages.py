@@ -4,7 +4,7 @@ import os
 import re
 import sys
 
-from pages import anchor_of
+from pages import anchors
 from repository import ROOT, read, write
 
 PAGES = {"docs/ARCHIVE.md": "README.md"} | {
@@ -66,10 +66,6 @@ def is_kept(path, anchor):
 def archive_scripts():
     """Returns the paths of the scripts that the archive has."""
     return set(read("scripts/archived.txt").split())
-
-
-def anchors(text):
-    return {anchor_of(re.sub(r"[`*]", "", it).strip()) for it in re.findall(r"^#+ (.*)$", text, re.MULTILINE)}
 
 
 def with_links(text, source, page):

@@ -2,18 +2,19 @@
 import functools
 import re
 
-from repository import read
-
 
 def anchor_of(heading):
     """What a `#` leads to a heading by."""
     return re.sub(r"[^\w -]", "", heading.lower()).replace(" ", "-")
 
 
+def headings(text):
+    return [re.sub(r"[`*]", "", it).strip() for it in re.findall(r"^#+ (.*)$", text, re.MULTILINE)]
+
+
 @functools.cache
-def headings(path):
-    found = re.findall(r"^#+ (.*)$", read(path), re.MULTILINE)
-    return [re.sub(r"[`*]", "", it).strip() for it in found]
+def anchors(text):
+    return {anchor_of(it) for it in headings(text)}
 
 
 def section(text, heading):

@@ -1,6 +1,0 @@
-use Rattle.std.proofs.Common.{◌≤◌, vec_capacity}
-use Rattle.bench_tables.specs.declared.subject.TheConstants.{READ_LEN}
-use Rattle.bench_tables.proofs.work.chain.Given as goal
-
-abbrev pub invariant-loop-i : goal.invariant-loop-i
-invariant-loop-i g l = record { ready : g.S.Subject.ready l.subject l.pass; room : READ_LEN ≤ vec_capacity l.into }

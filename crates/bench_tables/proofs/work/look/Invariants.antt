@@ -1,4 +1,0 @@
-use Rattle.bench_tables.proofs.work.look.Given as goal
-
-abbrev pub invariant-loop : goal.invariant-loop
-invariant-loop g l = g.S.Subject.ready l.subject l.pass
