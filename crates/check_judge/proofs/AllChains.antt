@@ -7,7 +7,7 @@ use Rattle.fx_order.proofs.ChainsFront.{parts_of, too_few}
 use Rattle.check_judge.proofs.OfChain.{possible_of_chain}
 use Rattle.check_judge.proofs.StrandSteps.{get_push}
 
--- the claims of the first chains, and what was told of the others
+-- the claims of the first chains, and the completions of the others
 pub record Sofar (catalogue : List FileEntry) (size : ℕ) (range : ℕ × ℕ) (closes : List Closed) (submission : ℕ) (runs : List (List Asked))
     (completions : List Completed) (i : ℕ) (rest : List Completed) (claims : List (Vec Claim)) : Type 0 where
   pub long : length claims ≡ i
@@ -19,7 +19,7 @@ pub none_told : (catalogue : List FileEntry) (size : ℕ) (range : ℕ × ℕ) (
 none_told catalogue size range closes submission runs completions =
     record { long = refl; each = λ order done. (done.done, λ k claims is. absurd (cc)) }
 
--- one more chain, whose completions stand in front of those that are left
+-- one more chain, whose completions are the first of those that are left
 module _ {catalogue : List FileEntry} {size : ℕ} {range : ℕ × ℕ} {closes : List Closed} {submission : ℕ} {runs : List (List Asked)}
     {completions : List Completed} {i : ℕ} {rest : List Completed} {claims : List (Vec Claim)}
     (so : Sofar catalogue size range closes submission runs completions i rest claims) {run : List Asked}
@@ -32,7 +32,7 @@ module _ {catalogue : List FileEntry} {size : ℕ} {range : ℕ × ℕ} {closes 
   few_completions few order done = too_few catalogue size submission (i + 1) run (drop (i + 1) runs) order rest few (from_here done)
 
   module _ {own others : List Completed} (front : own ≡ take (length run) rest) (back : others ≡ drop (length run) rest) where
-    -- what the chain did
+    -- the accesses of the chain
     abbrev OfChain : List Access → Type 0
     OfChain = Possibly size range (λ a. IsChainDone catalogue size (first_member submission (i + 1)) run a own)
 

@@ -21,7 +21,7 @@ module _ (catalogue : List FileEntry) (old : RingSlots) (command : Instruction) 
       (answers ring next command printed (subst (λ (r : RingState). IsCall r.submissions command) (sym same) counts))
 
   module _ (line : List ℕ) (told : IsLineOf before command line) where
-    -- the text goes on with what the call prints that finds memory
+    -- the text continues with the call's text if no allocation fails
     pub found : (new : RingSlots) {count : ℕ} → ring_with_slots catalogue new ≡ after_call before command → BeginsWith text count line
         → IsStep catalogue old command text (Here count) new
     found new {count} left begins = goes catalogue old new command text line (record {
@@ -52,7 +52,7 @@ module _ (catalogue : List FileEntry) (old : RingSlots) (command : Instruction) 
       never none next others g =
           ⊎_elim (not_found g) (λ f. never_fails before command none f.0 f.1.0) ((answers_at g.ring next g.line g.same).0 g.prints)
 
--- what is kept of a ring is kept behind a call
+-- the properties of a ring that are kept hold after a call
 pub call_keeps : (catalogue : List FileEntry) (old new : RingSlots) (command : Instruction) → IsRingKept catalogue old
     → ring_with_slots catalogue new ≡ after_call (ring_with_slots catalogue old) command → length new.slots.at.items ≤ MOST_SLOTS
     → (AreInRange (table_of_slots old.slots).at → AreInRange (table_of_slots new.slots).at) → IsRingKept catalogue new

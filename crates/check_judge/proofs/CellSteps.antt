@@ -11,7 +11,7 @@ use Rattle.check_judge.proofs.ClaimWords.{cells_after, cell_with, suits, may_lea
 use Rattle.check_judge.proofs.ClaimWords.{Full}
 use Rattle.check_judge.proofs.ClaimWords.{Wants, Leaves, Same, Empty, File, Resident, arith}
 
--- what a permitted access found is at its slot
+-- the file that a permitted access found is at its slot
 pub found_at : (table : Table) (a : Access) {slot : ℕ} → touched a ≡ Some slot → Permits table a → found_by a ≡ table.at slot
 found_at table (Allocates s file) {slot} is may = may.0.1 ∙ ap table.at (same_Some s slot is)
 found_at table FindsFull is may = absurd (cc)
@@ -21,7 +21,7 @@ pub some_or_none : {X : Type 0} (x : Option X) → ((y : X) × (x ≡ Some y)) �
 some_or_none None = inr refl
 some_or_none (Some y) = inl (y, refl)
 
--- the files behind an access
+-- the files after an access
 pub at_after : (table : Table) (a : Access) {slot : ℕ} → touched a ≡ Some slot → Permits table a
     → (table_with table a).at ≡ changed_at table.at slot (left_by a)
 at_after table (Looks s found) {slot} is may = sym (unchanged table.at slot found (found_at table (Looks s found) is may))
@@ -38,7 +38,7 @@ pub same_range : (table : Table) (a : Access) → (table_with table a).range ≡
 same_range table (Looks s found) = refl
 same_range table a = refl
 
--- a cell behind an access, with what is at its slot then
+-- a cell after an access, with the file at its slot then
 pub moved : (table : Table) (closes : List Closed) (a : Access) (cell : Cell) (file : Option Resident) → IsCell table closes cell
     → ShowsFile closes ((table_with table a).at cell.slot) file → IsCell (table_with table a) closes (record cell { file = file })
 moved table closes a cell file now shows = record {

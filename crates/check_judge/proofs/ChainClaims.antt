@@ -14,18 +14,18 @@ abbrev pub member_at : Place → ℕ → Place
 member_at place i = record place { member = place.member + i }
 
 module _ (catalogue : List FileEntry) (size : ℕ) (range : ℕ × ℕ) where
-  -- what is left of a chain: all that are left were canceled, or they are done
+  -- the rest of a chain: its members were canceled, or they are done
   abbrev pub AreLeft : Bool → Place → List Asked → List Completed → List Access → Type 0
   AreLeft cut place requests cs = Possibly size range (λ own.
       MatchBool cut ((own ≡ []) × (cs ≡ canceled place requests)) (IsChainDone catalogue size place requests own cs))
 
-  -- the accesses of the chain are those that these claims tell of, and those of the members that are left
+  -- the accesses of the chain are those of these claims, and those of the members that are left
   abbrev pub ChainTold : List Closed → Place → List Asked → List Completed → ℕ → Bool → List Claim → Type 0
   ChainTold closes place requests cs i cut claims =
       Front closes (AreLeft false place requests cs) claims (AreLeft cut (member_at place i) (drop i requests) (drop i cs))
 
   module _ (closes : List Closed) (place : Place) (request : Asked) (requests : List Asked) (c : Completed) (cs : List Completed) where
-    -- the claims of a member, whether or not the chain was severed in front of it
+    -- the claims of a member, if the chain was severed before it and if it wasn't
     first_told : (cut : Bool) (told : MemberClaims) → TellsMember catalogue size range closes place request c cut (Ok told)
         → Front closes (AreLeft cut place (request ∷ requests) (c ∷ cs)) told.claims.items (AreLeft told.cut (next_member place) requests cs)
     first_told true told tells = record {

@@ -3,7 +3,7 @@ use Rattle.check_judge.proofs.ClaimWords.{ℕ, ◌+◌, ◌<◌, ℤ, List, ◌�
 use Rattle.check_judge.proofs.ClaimWords.{AreEntriesDone, Access, Fits, Claim}
 use Rattle.check_judge.proofs.Telling.{Front}
 
--- the accesses of the list are those that these claims tell of, and those of the entries that are left
+-- the accesses of the list are those of these claims, and those of the entries that are left
 abbrev pub EntriesTold : List Closed → Place → ℕ → List ℤ → ℕ → List Claim → Type 0
 EntriesTold closes place off list i claims =
     Front closes (AreEntriesDone place 0 off list) claims (AreEntriesDone place i (off + i) (drop i list))

@@ -55,12 +55,12 @@ module _ (catalogue : List FileEntry) (size submission : ℕ) (order : List Chai
     members = all_listed 1 runs lists cs places x (λ k list got. rw (add_comm 1 k) (has k list got));
   }
 
-  -- what is put behind other lists, for chains that were done
+  -- the lists that are appended, for chains that were done
   abbrev pub ArePut : ℕ → List (List Asked) → List Completed → List (Vec AccessPlace) → List (Vec AccessPlace) → Type 0
   ArePut chain runs cs old new =
       (own : List (Vec AccessPlace)) × (new ≡ old ++ own) × AreListsOf catalogue size submission chain runs order own cs
 
-  -- the list of the first chain, whose completions stand in front, and then those of the others
+  -- the list of the first chain, whose completions come first, and then the lists of the others
   pub lists_put : (chain : ℕ) {run : List Asked} {runs all : List (List Asked)} (cs : List Completed) {own others : List Completed}
       (old : List (Vec AccessPlace)) {mid new : List (Vec AccessPlace)} {blank : List AccessPlace} (places : Vec AccessPlace) → all ≡ run ∷ runs
       → own ≡ take (length run) cs → others ≡ drop (length run) cs → blank ≡ [] → mid ≡ old ++ places ∷ []

@@ -6,14 +6,14 @@ use Rattle.check_judge.proofs.Words.{AccessPlace, eq-eqb, ne_eqb, get_or_read_un
 use Rattle.check_judge.proofs.Words.{slice_get_read}
 use Rattle.fx_order.proofs.Accesses.{accesses_of_chain-append}
 
--- how many accesses a chain has in an order
+-- the number of accesses that a chain has in an order
 abbrev pub count_of : ℕ → List ChainAccess → ℕ
 count_of chain order = length (accesses_of_chain chain order)
 
 count-append : (chain : ℕ) (xs ys : List ChainAccess) → count_of chain (xs ++ ys) ≡ count_of chain xs + count_of chain ys
 count-append chain xs ys = ap length (accesses_of_chain-append chain xs ys) ∙ length-append (accesses_of_chain chain xs) (accesses_of_chain chain ys)
 
--- what a list has of a chain, with one more element behind it
+-- the elements of a list that are of a chain, with one more element after them
 module _ {X : Type 0} (chain_of : X → ℕ) (chain : ℕ) (xs : List X) (x : X) where
   abbrev kept : List X → List X
   kept l = filter (λ (y : X). chain_of y == chain) l
@@ -24,7 +24,7 @@ module _ {X : Type 0} (chain_of : X → ℕ) (chain : ℕ) (xs : List X) (x : X)
   none_more : chain_of x ≢ chain → kept (xs ++ x ∷ []) ≡ kept xs
   none_more other = rw (filter-append (λ (y : X). chain_of y == chain) xs (x ∷ []), ne_eqb (chain_of x) chain other, append-nil)
 
--- the next access of an order; how many accesses of its chain were read, and its chain's list of places
+-- the next access of an order, the number of accesses of its chain that were read, and its chain's list of places
 pub record IsNext (lists : List (Vec AccessPlace)) (order : List ChainAccess) (i : ℕ) (x : ChainAccess) (next : List ℕ) (n : ℕ)
     (list : Vec AccessPlace) : Type 0 where
   pub taken : take (i + 1) order ≡ take i order ++ x ∷ []

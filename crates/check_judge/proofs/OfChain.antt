@@ -1,9 +1,9 @@
--- What stands in an order, and what of it is a chain's.
+-- The elements of an order, and those of one chain.
 use Rattle.check_judge.proofs.ClaimWords.{inl, inr, ℕ, List, [], ◌∷◌, sym, subst, AllByRecursion, Contains, accesses_of, accesses_of_chain}
 use Rattle.check_judge.proofs.ClaimWords.{contains_head}
 use Rattle.check_judge.proofs.ClaimWords.{contains_tail, Access, ChainAccess, IsAllocationInRange, of_chain, own_first, contains_cases, contains_none}
 
--- what is possible of an order is possible of its chains
+-- a property of an order's accesses holds of its chains' accesses
 pub possible_of_chain : (size : ℕ) (range : ℕ × ℕ) (chain : ℕ) (order : List ChainAccess) → AllByRecursion (IsAllocationInRange size range) (accesses_of order)
     → AllByRecursion (IsAllocationInRange size range) (accesses_of_chain chain order)
 possible_of_chain size range chain [] all = tt

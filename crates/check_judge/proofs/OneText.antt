@@ -11,7 +11,7 @@ rest_behind {text} {line} {others} {count} found split =
 pub whole : (text line : List ℕ) (count : ℕ) → BeginsWith text count line → line ++ drop count text ≡ text
 whole text line count found = ap (λ (l : List ℕ). l ++ drop count text) (sym found.is_line) ∙ take-append-drop count text
 
--- where this is what is left behind the line
+-- this text is left after the line
 pub begins_with : {text line : List ℕ} (rest : List ℕ) → text ≡ line ++ rest → BeginsWith text (length text - length rest) line
 begins_with {text} {line} rest split =
     let sizes = length-append line rest in
@@ -20,7 +20,7 @@ begins_with {text} {line} rest split =
     record { inside = omega arith; is_line = ap (λ (n : ℕ). take n text) size ∙ ap (take (length line)) split ∙ take-append_seam line rest }
 
 module _ (before : RingState) (command : Instruction) (text : List ℕ) where
-  -- rings of this state may print the line, which leads there, and no other line that the text goes on with
+  -- rings of this state may print the line, which leads to that ring, and no other line with which the text continues
   pub record PrintsOne (left : RingState) (line : List ℕ) : Type 0 where
     pub may : (ring next : RingContents) (printed : List ℕ) → ring_of ring ≡ before → ring_of next ≡ left → printed ≡ line
         → Prints ring command next printed

@@ -16,7 +16,7 @@ module _ {catalogue : List FileEntry} {old : RingSlots} {asked : List Asked} (s 
   abbrev before : RingState
   before = ring_with_slots catalogue old
 
-  -- what the text goes on with is a report of one order, whose lines are read in one way
+  -- the text continues with a report of one order, whose lines are read in one way
   record Played (next : RingContents) (others : List ℕ) : Type 0 where
     report : Reported
     order : IsOneOrder before asked report (ring_of next)
@@ -52,7 +52,7 @@ module _ {catalogue : List FileEntry} {old : RingSlots} {asked : List Asked} (s 
     told_files next others p told tells = tells (record { names = s.kept.files.catalogue; marks = one_at before s.kept.is_ring }) p.report
         (may_close_all s p.order) (are_from s p.order) (ap (λ (front : Lines × List ℕ). front.0) (same_front next others p))
 
-    -- lines that tell nothing
+    -- lines of no report
     pub none_told : (fault : Fault) → (AreApart catalogue old.slots → TellsKnown catalogue old.slots asked lines (Err fault))
         → LeadsNowhere before (SubmitsAll asked) text
     none_told fault tells next others g =
@@ -60,7 +60,7 @@ module _ {catalogue : List FileEntry} {old : RingSlots} {asked : List Asked} (s 
 
     module _ (told : Told) (has : HasLines catalogue lines told)
         (tells : AreApart catalogue old.slots → TellsKnown catalogue old.slots asked lines (Ok told)) where
-      -- the report is what was told
+      -- the report is the one that was read
       same_report : (next : RingContents) (others : List ℕ) (p : Played next others) → p.report ≡ told_report before told p.report.closes.room
       same_report next others p =
           let files : told.closes.items ≡ p.report.closes.files = told_files next others p (Ok told) tells in

@@ -65,7 +65,7 @@ module _ {catalogue : List FileEntry} {old : RingSlots} {asked : List Asked} (s 
     distinct = known.distinct;
   }
 
-  -- what the order places, a request installed
+  -- each file that the order places was installed by a request
   placed_installed : (slot : ℕ) (f : Closed) → Has (placed (accesses_of one.order)) slot f → OneInstalled asked report.completions f.mark
   placed_installed slot f has =
       let at = has_in_chain (length catalogue) AnyPlace report.submission (length (runs_of asked)) one.order one.is.chains slot f has in

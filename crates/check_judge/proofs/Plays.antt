@@ -44,7 +44,7 @@ pub record GoesWith (start : RingState) (all : List Instruction) (text : List �
   pub back : (aim : Aim) (commands : List Instruction) (others : List ℕ) (later : List Order) → MayPrintTo aim now commands others later
       → MayPrintTo aim start (take done all ++ commands) (take at text ++ others) (orders ++ later)
 
--- the first command, and those behind it
+-- the first command, and those after it
 
 parts : (aim : Aim) (ring : RingContents) (command : Instruction) (commands : List Instruction) {text : List ℕ}
     → PrintsTo aim ring (command ∷ commands) text → (next : RingContents) × (line : List ℕ) × (others : List ℕ)
@@ -80,7 +80,7 @@ there_is catalogue ring =
     let state = ring_with_slots catalogue ring in
     (ring_with_files state, shows_ring state (λ slot past. get_or_past ring.slots.at.items slot None past))
 
--- what is judged from a ring without a table is judged of the script
+-- a judgement from a ring without a table is one on the script
 pub judged_script : (script : Meaning) (text : List ℕ) (judgement : Judgement) → IsJudgedFrom (new_ring script.catalogue) script.commands text judgement
     → IsJudged script text judgement
 judged_script script text (Legal orders) may =

@@ -1,4 +1,4 @@
--- An order whose accesses the claims tell of is, at some slots alone, an order of the claims of these slots.
+-- An order whose accesses fit the claims is, at some slots alone, an order of the claims of these slots.
 use Rattle.check_judge.proofs.ClaimWords.{◌≡◌, ◌⊎◌, inl, inr, ℕ, zero, suc, ◌+◌, ◌<◌, ◌≤◌, true, false, List, [], ◌∷◌, length, map, drop, refl, sym}
 use Rattle.check_judge.proofs.ClaimWords.{◌∙◌}
 use Rattle.check_judge.proofs.ClaimWords.{arith, All, Contains, slice_get, slice_index, slice_index_or, slice_set, Option, Some, AllZip}
@@ -28,13 +28,13 @@ first_left claims n rest all = elim (slice_get_cases claims n).1 [
   | inr past ↦ absurd (rw (drop_all n claims past.0) at all)
 ]
 
--- the strand of a chain, and where it stands
+-- the strand of a chain, and its position
 abbrev IsAmong : List Strand → ℕ → Type 0
 IsAmong strands chain = (i : ℕ) × (strand : Strand) × (slice_get strands i ≡ Some strand) × (strand.chain ≡ chain)
 
 module _ (closes : List Closed) (strands : List Strand) (first : List Cell)
     (once : (i j : ℕ) (one other : Strand) → slice_get strands i ≡ Some one → slice_get strands j ≡ Some other → one.chain ≡ other.chain → i ≡ j) where
-  -- the claims that are left tell of the accesses that are left, at these slots
+  -- the claims that are left are those of the accesses that are left, at these slots
   record Left (table : Table) (at : Standing) (order : List ChainAccess) : Type 0 where
     fits : (i : ℕ) (strand : Strand) → slice_get strands i ≡ Some strand
         → AllZip (Fits closes) (drop (slice_index at.places i) strand.claims.items) (seen first (accesses_of_chain strand.chain order))
@@ -159,7 +159,7 @@ unseen cells (b ∷ accesses) {a} has none = elim (cases_Bool (has_slot cells (t
   ]
 ]
 
--- where no order of some slots' claims leads to an end, the claims of the chains, of which these strands are, tell of no order
+-- if no order of some slots' claims leads to an end, no order fits the claims of the chains that have these strands
 pub no_order : (slots : Slots) (closes : List Closed) (chains : List (Vec Claim)) (cells : List Cell) (strands same : List Strand)
     → All (IsCell (table_of_slots slots) closes) cells
     → ((closes : List Closed) (order : List ChainAccess) → AreClaims closes chains order → AreStrands closes cells (length chains) order strands)

@@ -1,4 +1,4 @@
--- Where there is no order of a table's accesses, what was told comes of none.
+-- If there is no order of a table's accesses, no order leads to the report.
 use Rattle.check_judge.proofs.ClaimWords.{◌≡◌, ℕ, ◌+◌, List, [], ◌∷◌, length, refl, ap, ◌∙◌, Vec, AllByRecursion, all_completed, Asked, RingState}
 use Rattle.check_judge.proofs.ClaimWords.{IsRing}
 use Rattle.check_judge.proofs.ClaimWords.{Table, Permits, PermitsAll, table_with, files_removed_in, accesses_of, Access, Allocates, ChainAccess, IsOneOrder}
@@ -17,7 +17,7 @@ possible_one : (table : Table) {size : ℕ} {range : ℕ × ℕ} (a : Access) �
 possible_one table (Allocates s file) is are may = (rw is at may.0.0, rw are at may.1.0, rw are at may.1.1)
 possible_one table a is are may = tt
 
--- what a table permits is possible there
+-- an access that a table permits is possible there
 pub possible_all : (table : Table) (size : ℕ) (range : ℕ × ℕ) (accesses : List Access) → table.size ≡ size → table.range ≡ range → PermitsAll table accesses
     → AllByRecursion (IsAllocationInRange size range) accesses
 possible_all table size range [] is are may = tt

@@ -15,7 +15,7 @@ use Rattle.check_judge.proofs.Telling.{IsOne}
 same_res : {place other : Place} {x y : ℤ} {got found : List ℕ} {c : Completed} → c ≡ completed place x got → c ≡ completed other y found → x ≡ y
 same_res is too = ap (λ (d : Completed). d.res) (sym is ∙ too)
 
--- a success is no failure
+-- a success isn't a failure
 never_both : {place : Place} {n m : ℕ} {got : List ℕ} {c : Completed} → c ≡ completed place (pos n) got → c ≡ completed place (negsuc m) [] → ⊥
 never_both is too = let e = same_res is too in absurd (cc)
 
@@ -64,7 +64,7 @@ module _ (place : Place) (closes : List Closed) (c : Completed) (own : List Acce
     read_found fits memory there told (inr (inr found)) =
         (Looks slot (Some found.0), found.1.0, (refl, (found.0, refl, told found.0 found.1.1), refl))
 
--- a name stands at one entry
+-- a name is that of one entry
 pub named_entry : (catalogue : List FileEntry) (place : Place) {name : List ℕ} (target : Target) (c : Completed) (own : List Access) {entry : ℕ}
     → ((other : ℕ) → name_at catalogue other ≡ Some name → other ≡ entry)
     → IsDoneAtTable catalogue place (Opens name target) own c → IsOpenDone place entry target own c

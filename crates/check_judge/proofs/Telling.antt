@@ -1,4 +1,4 @@
--- What claims tell of accesses, from what they tell of others.
+-- Claims of accesses, by the claims of fewer accesses.
 use Rattle.check_judge.proofs.ClaimWords.{◌≡◌, List, [], ◌∷◌, ◌++◌, Result, Ok, Err, Vec, AllZip, Closed, Access, Fits, Tells, Claim, Stop, Refuted}
 use Rattle.check_judge.proofs.ClaimWords.{refl}
 use Rattle.check_judge.proofs.ClaimWords.{sym, ap, subst, ◌∙◌, append_assoc, append-nil}
@@ -19,7 +19,7 @@ all_zip_append R [] ys [] vs first second = second
 all_zip_append R (x ∷ xs) ys (u ∷ us) vs first second = (first.0, all_zip_append R xs ys us vs first.1 second)
 all_zip_append R xs ys us vs first second = absurd first
 
--- accesses that these claims tell of, and others, of which this holds
+-- accesses that fit these claims, and others with this property
 pub record Parted (closes : List Closed) (claims : List Claim) (Holds : List Access → Type 0) (accesses : List Access) : Type 0 where
   pub own : List Access
   pub others : List Access
@@ -27,7 +27,7 @@ pub record Parted (closes : List Closed) (claims : List Claim) (Holds : List Acc
   pub told : AllZip (Fits closes) claims own
   pub left : Holds others
 
--- accesses of which the one holds are such, and of their others holds what is left
+-- accesses with the one property are such, and their others have the property that is left
 pub record Front (closes : List Closed) (Whole : List Access → Type 0) (claims : List Claim) (Left : List Access → Type 0) : Type 0 where
   pub each : (accesses : List Access) → Whole accesses → Parted closes claims Left accesses
 
@@ -35,7 +35,7 @@ module _ {closes : List Closed} {Whole Left : List Access → Type 0} where
   pub none_told : ((accesses : List Access) → Whole accesses → Left accesses) → Front closes Whole [] Left
   none_told so = record { each = λ accesses done. record { own = []; others = accesses; whole = refl; told = tt; left = so accesses done } }
 
-  -- more claims, of accesses behind those
+  -- more claims, of later accesses
   pub more_told : {claims more : List Claim} {Next : List Access → Type 0} → Front closes Whole claims Left → Front closes Left more Next
       → Front closes Whole (claims ++ more) Next
   more_told {claims} {more} first second = record {

@@ -1,4 +1,4 @@
--- What lines tell is one list of files, or none.
+-- Lines describe one list of files, or none.
 use Rattle.check_judge.proofs.Words.{◌≡◌, false, ⊎_elim, ℕ, zero, suc, ◌+◌, ◌<◌, ◌≤◌, List, [], ◌∷◌, length, map, drop, refl, sym, ap, ◌∙◌, arith}
 use Rattle.check_judge.proofs.Words.{Some}
 use Rattle.check_judge.proofs.Words.{slice_index_or, length-map, slice_get-get_or, is_lt, FileEntry, name_at, Mark, Closed, all_completed}
@@ -43,7 +43,7 @@ close_at catalogue files lines {i} {line} d same inside is =
           ∙ rw (same, get_or-map named_close_of lines i line (named_close_of line) inside, sym is),
     )
 
--- a file in order of mark isn't at or before the one in front of it
+-- a file in order of mark isn't at or before the file before it
 pub not_in_turn : (files : List Closed) {i : ℕ} (j : ℕ) (d e : Closed) → j + 1 ≡ i → i < length files
     → is_lt (ghosts.cmp (slice_index_or files j d).mark (slice_index_or files i e).mark) ≡ false → IsInOrderOfMark files → HasDistinctMarks files → ⊥
 not_in_turn files {i} j d e next inside is up distinct =

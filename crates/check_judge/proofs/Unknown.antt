@@ -69,7 +69,7 @@ module _ (closes : List Closed) (file : Closed) where
       ])
       (removes_contained (accesses_of order) file (played.all file has))
 
--- what is read at a slot is one of the list
+-- an element that is read at a slot is one of the list
 at_slot : (slots : List (Option Closed)) {file : Closed} (k : ℕ) → slice_index_or slots k None ≡ Some file → Contains slots (Some file)
 at_slot [] k is = absurd (cc)
 at_slot (x ∷ slots) zero is = rw (sym is) (contains_head x slots)

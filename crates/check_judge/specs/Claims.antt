@@ -1,4 +1,4 @@
--- What completions tell of the accesses that were made: claims, one for each access.
+-- Claims: what completions imply for the accesses that were made, one claim for each access.
 use Rattle.std.specs.Prelude.{◌≡◌, ℕ, ◌+◌, ◌<◌, ◌≤◌, true, List, slice_get, slice_index_or, Option}
 use Rattle.std.specs.Prelude.{Some, None, Result, Ok, Err}
 use Rattle.std.specs.Global.{Vec}
@@ -61,7 +61,7 @@ Wanted (Bytes fits) found =
 abbrev pub RemovesFound : Access → Type 0
 RemovesFound access = file_removed_by access ≡ found_by access
 
--- what the claim says of the slot then
+-- the claim describes the slot after the access
 abbrev pub LeavesSo : List Closed → Leaves → Access → Type 0
 LeavesSo closes Same access = left_by access ≡ found_by access
 LeavesSo closes Empty access = RemovesFound access × (left_by access ≡ None)

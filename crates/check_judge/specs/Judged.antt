@@ -1,4 +1,4 @@
--- What a judgement says of a script and a text.
+-- Judgements on a script and a text.
 use Rattle.std.specs.Prelude.{◌≡◌, ◌≤◌, ◌<◌, ◌+◌, ℕ, List, [], ◌∷◌, ◌++◌, length, take, drop}
 use Rattle.fx_ring.specs.Ring.{RingContents, RingState, new_ring, ring_of}
 use Rattle.fx_language.specs.Instruction.{Instruction}
@@ -23,8 +23,8 @@ abbrev pub MayPrintFront : RingState → List Instruction → List ℕ → Type 
 MayPrintFront state commands text =
     (ring : RingContents) → ring_of ring ≡ state → PrintsFront ring commands text
 
--- the commands print a beginning of this text, and this is left behind it: no further line of a
--- closed file or a tag stands there, which would be one of theirs
+-- the commands print a beginning of this text, and this is left after it: it doesn't begin with a
+-- line of a closed file or a tag, which would be a line of the commands
 abbrev pub PrintsBeginning : RingContents → List Instruction → List ℕ → List ℕ → Type 0
 PrintsBeginning ring [] text left = HasNoCloses text × (left ≡ text)
 PrintsBeginning ring (command ∷ commands) text left =
@@ -66,8 +66,8 @@ pub record IsBroken (script : Meaning) (text : List ℕ) (broken : Break) : Type
   pub none : ¬ (IsText script text)
   pub breaks : IsBrokenFrom (new_ring script.catalogue) script.commands text broken
 
--- a text that is legal is one that the script may print, by a play whose submissions come of these
--- orders, and one that isn't legal is none
+-- the script may print a legal text, by a play whose submissions come of these orders, and doesn't
+-- print a text that isn't legal
 abbrev pub IsJudged : Meaning → List ℕ → Judgement → Type 0
 IsJudged script text (Legal orders) = IsText script text × IsTextBy script text orders.items
 IsJudged script text (NotLegal broken) = IsBroken script text broken

@@ -1,4 +1,4 @@
--- What is kept of a ring while a text is judged.
+-- The properties of a ring that are kept while a text is judged.
 use Rattle.std.specs.Prelude.{◌<◌, ◌≤◌, List, length}
 use Rattle.fx_base.specs.Catalogue.{FileEntry}
 use Rattle.fx_base.specs.Identity.{Identity}

@@ -37,7 +37,7 @@ HasOrder old command new text None = new.submissions ≡ old.submissions
 HasOrder old command new text (Some order) =
     (asked : List Asked) × (command ≡ SubmitsAll asked) × IsReportedBy old asked new text order
 
--- the commands may print this, one after another, and the end of the script behind them; these are
+-- the commands may print this, one after another, and the end of the script after them; these are
 -- the orders of the accepted submissions among them, the first one's first
 abbrev pub PrintsAllBy : RingContents → List Instruction → List ℕ → List Order → Type 0
 PrintsAllBy ring [] text orders = PrintsEnd (ring_of ring) text × (orders ≡ [])

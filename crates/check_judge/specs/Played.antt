@@ -1,4 +1,4 @@
--- What an order does to a table, as the claims of chains and the closes tell it.
+-- Orders of a table's accesses that fit the claims of chains and the closes.
 use Rattle.std.specs.Prelude.{◌≡◌, ℕ, ◌<◌, ◌≤◌, List, length, Option, Some, None, Contains, All}
 use Rattle.std.specs.Prelude.{IsTrue}
 use Rattle.std.specs.Global.{Vec}
@@ -15,7 +15,7 @@ use Rattle.check_judge.specs.declared.part.PartVerdict.{PartVerdict}
 use Rattle.check_judge.specs.declared.part.PartVerdict.TheVariants.{Order, Refuted, Unsettled}
 use Rattle.check_search.specs.Residents.{IsResident}
 
--- the file that is there, with whether the closes have it
+-- the file at a slot, and a test of whether the closes have it
 abbrev pub ShowsFile : List Closed → Option Identity → Option Resident → Type 0
 ShowsFile closes None None = Unit {0}
 ShowsFile closes None (Some resident) = ⊥
@@ -28,8 +28,8 @@ pub record IsCell (table : Table) (closes : List Closed) (cell : Cell) : Type 0 
   pub range : IsTrue cell.in_range → IsInRange table cell.slot
   pub shows : ShowsFile closes (table.at cell.slot) cell.file
 
--- so many chains make these accesses; the closes have what they take from slots, and no more, and
--- not what they leave there
+-- `chains` chains make these accesses; the closes have exactly the files that they take from slots,
+-- and none that they leave there
 pub record IsPlayed (table : Table) (closes : List Closed) (chains : ℕ) (order : List ChainAccess)
     : Type 0 where
   pub permitted : PermitsAll table (accesses_of order)
@@ -41,7 +41,7 @@ pub record IsPlayed (table : Table) (closes : List Closed) (chains : ℕ) (order
   pub stay : (slot : ℕ) (file : Identity)
       → (table_after table (accesses_of order)).at slot ≡ Some file → Contains closes file → ⊥
 
--- the claims tell of no such order
+-- no such order fits the claims
 abbrev pub HasNoOrder : Table → List Closed → List (Vec Claim) → Type 0
 HasNoOrder table closes chains = (order : List ChainAccess)
     → IsPlayed table closes (length chains) order → AreClaims closes chains order → ⊥

@@ -1,4 +1,4 @@
--- With what a text goes on that the next command prints, and where that leads.
+-- Steps of a play: a text that continues with a text of the next command, and the ring after it.
 use Rattle.std.specs.Prelude.{◌≡◌, ℕ, ◌≤◌, List, ◌++◌, length, take, drop}
 use Rattle.fx_base.specs.Catalogue.{FileEntry}
 use Rattle.fx_ring.specs.Ring.{RingContents, RingState, ring_of}
@@ -28,18 +28,18 @@ pub record ContinuesText (old : RingState) (command : Instruction) (text : List 
   pub split : text ≡ line ++ others
   pub behind : HasNoCloses others
 
--- however the text goes on with what the command prints, it is so many bytes, and leads there
+-- each text of the command with which the text continues has `count` bytes, and leads to that ring
 abbrev pub LeadsTo : RingState → Instruction → List ℕ → ℕ → RingState → Type 0
 LeadsTo old command text count new =
     (next : RingContents) (others : List ℕ) → ContinuesText old command text next others
     → (ring_of next ≡ new) × (others ≡ drop count text)
 
--- the text goes on with nothing that the command prints
+-- the text continues with no text of the command
 abbrev pub LeadsNowhere : RingState → Instruction → List ℕ → Type 0
 LeadsNowhere old command text =
     (next : RingContents) (others : List ℕ) → ContinuesText old command text next others → ⊥
 
--- the text goes on with what the command may print in one way alone, which leads there, or in none
+-- the text continues with a text of the command in one way alone, which leads to that ring, or in none
 abbrev pub IsStep : List FileEntry → RingSlots → Instruction → List ℕ → Met → RingSlots → Type 0
 IsStep catalogue old command text (Here count) new =
     (count ≤ length text)

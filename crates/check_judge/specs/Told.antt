@@ -1,4 +1,4 @@
--- What lines tell of a submission.
+-- Reports that lines describe.
 use Rattle.std.specs.Prelude.{◌≡◌, ◌⊎◌, ◌<◌, ℕ, pos, List, ◌∷◌, length, All, Result, Ok, Err}
 use Rattle.std.specs.Prelude.{slice_get, Some}
 use Rattle.std.specs.Global.{Vec}
@@ -19,7 +19,7 @@ use Rattle.check_lines.specs.declared.report_lines.ReportLines.{ReportLines}
 use Rattle.fx_ring.specs.Submission.{Reported}
 use Rattle.check_judge.specs.declared.judgement.Fault.{Fault}
 
--- a report of what is told has these lines, whichever submission it is of
+-- a report of these completions and closes has these lines, in every submission
 abbrev pub HasLines : List FileEntry → ReportLines → Told → Type 0
 HasLines catalogue lines told = (number room : ℕ) → lines_of catalogue (record {
   submission = number;
@@ -41,7 +41,7 @@ pub record MayBeClosed (catalogue : List FileEntry) (slots : Slots) (file : Clos
   pub inside : file.entry < length catalogue
   pub from : IsFileAtSlot slots file ⊎ ((file.tag ≡ 0) × HasNone slots file.mark)
 
--- the files at slots are told apart by their marks, and the catalogue's by their names
+-- no two files at slots have one mark, and no two of the catalogue one name
 pub record AreApart (catalogue : List FileEntry) (slots : Slots) : Type 0 where
   pub names : IsCatalogue catalogue
   pub marks : (file other : Closed) → IsFileAtSlot slots file → IsFileAtSlot slots other
@@ -59,12 +59,12 @@ pub record MayCloseAll (catalogue : List FileEntry) (slots : Slots) (files : Lis
   pub in_order : IsInOrderOfMark files
   pub distinct : HasDistinctMarks files
 
--- these files are told, and each line tells one
+-- these files are read, one from each line
 abbrev pub TellsFiles : Result (Vec Closed) ℕ → List Closed → Type 0
 TellsFiles (Ok told) files = told.items ≡ files
 TellsFiles (Err line) files = ⊥
 
--- these files are told, and no fault
+-- these files are read, and no fault
 abbrev pub TellsCloses : Result Told Fault → List Closed → Type 0
 TellsCloses (Ok told) files = told.closes.items ≡ files
 TellsCloses (Err fault) files = ⊥
@@ -88,7 +88,7 @@ abbrev pub AreFrom : Slots → List Asked → List Completed → List Closed →
 AreFrom slots requests completions files =
     All (λ file. IsFileAtSlot slots file ⊎ OneInstalled requests completions file.mark) files
 
--- whatever report has these lines, of files that a submission may close, they tell its files
+-- each report with these lines, of files that a submission may close, has the files that are read
 abbrev pub TellsAll : List FileEntry → Slots → ReportLines → Result Told Fault → Type 0
 TellsAll catalogue slots lines told =
     (report : Reported) → MayCloseAll catalogue slots report.closes.files

@@ -1,4 +1,4 @@
--- What a verdict on a submission says.
+-- Verdicts on the report of a submission.
 use Rattle.std.specs.Prelude.{◌≡◌, ℕ, ◌+◌, List}
 use Rattle.fx_chain.specs.Completed.{all_completed}
 use Rattle.fx_chain.specs.Operation.{Asked}
@@ -12,7 +12,7 @@ use Rattle.check_judge.specs.declared.told.Told.{Told}
 use Rattle.check_judge.specs.declared.verdict.Verdict.{Verdict}
 use Rattle.check_judge.specs.declared.verdict.Verdict.TheVariants.{Legal, NotLegal, Undecided}
 
--- what was told of a submission, as a report; the room of its list of closes may be any
+-- completions and closes as a report; the room of its list of closes may be any
 abbrev pub told_report : RingState → Told → ℕ → Reported
 told_report old told room = record {
   submission = old.submissions + 1;
@@ -20,24 +20,24 @@ told_report old told room = record {
   closes = record { files = told.closes.items; room = room };
 }
 
--- what was told comes of this order of the requests
+-- this order of the requests leads to the report
 abbrev pub CameBy : RingState → List Asked → Told → List ChainAccess → RingState → Type 0
 CameBy old requests told order new = (room : ℕ) →
     (one : IsOneOrder old requests (told_report old told room) new) × (one.order ≡ order)
 
--- what was told comes of no order of the requests
+-- no order of the requests leads to the report
 abbrev pub IsRefuted : RingState → List Asked → Told → Type 0
 IsRefuted old requests told =
     (room : ℕ) (left : RingState) → IsOneOrder old requests (told_report old told room) left → ⊥
 
--- what came of a search is right where it says that there is no order
+-- the result of a search is right if it says that there is no order
 abbrev pub IsToldOutcome : RingState → List Asked → Told → PartVerdict → Type 0
 IsToldOutcome old requests told (Order order) = Unit {0}
 IsToldOutcome old requests told (Refuted reason) = IsRefuted old requests told
 IsToldOutcome old requests told (Unsettled doubt) = Unit {0}
 
--- what was told comes of an order of the requests, or of none, or nothing is said; only the first
--- leads to another ring
+-- an order of the requests leads to the report, or none does, or nothing is said; only the first
+-- verdict leads to another ring
 abbrev pub IsVerdict : RingState → List Asked → Told → Verdict → RingState → Type 0
 IsVerdict old requests told (Legal order) new = CameBy old requests told order.items new
 IsVerdict old requests told (NotLegal reason) new = (new ≡ old) × IsRefuted old requests told

@@ -9,7 +9,7 @@ use fx_base::NoMemory;
 use fx_chain::{Place, Request, cut};
 use std::alloc::Global;
 
-// How many bytes the first line of a text has, its end included.
+// Returns the number of bytes of the first line of a text, with its end.
 fn line_length(text: &[u8]) -> usize
     ensures { result ≤ length text.now }
 {
@@ -21,7 +21,7 @@ fn line_length(text: &[u8]) -> usize
     text.len()
 }
 
-// Whether a line is that of a completion at a place.
+// Checks whether a line is that of a completion at a place.
 fn is_completion(alloc: Global, line: &[u8], place: Place) -> Result<bool, NoMemory> {
     match read_report(alloc, line, 1)? {
         Some((lines, _)) => Ok(lines.completions.iter().all(|c| c.place == place)),
@@ -29,7 +29,7 @@ fn is_completion(alloc: Global, line: &[u8], place: Place) -> Result<bool, NoMem
     }
 }
 
-// Whether a line is that of a closed file or of a tag.
+// Checks whether a line is that of a closed file or of a tag.
 fn is_close(line: &[u8]) -> bool {
     line.starts_with(b"closed ") || line.starts_with(b"tag ")
 }
@@ -78,7 +78,7 @@ pub(crate) fn wrong_line(
     wrong_close(alloc, count, rest)
 }
 
-// The first line of a closed file or of a tag that isn't one; so many lines stand in front of them.
+// Returns the first invalid line of the lines of closed files and tags, which follow `before` lines.
 fn wrong_close(alloc: Global, before: usize, text: &[u8]) -> Result<Fault, NoMemory> {
     let mut rest = text;
     let mut count = before;

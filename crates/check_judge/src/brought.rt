@@ -1,4 +1,4 @@
-//! Whether a file that is told closed was ever in the table: at a slot before, or left there by an access of a chain.
+//! Checks whether each closed file was ever in the table: at a slot before, or left there by an access of a chain.
 ghost use Rattle.std.specs.Prelude.{◌≡◌, ◌↔◌, Any, Contains, IsTrue, Some};
 ghost use Rattle.fx_order.specs.Slots.{table_of_slots};
 ghost use Rattle.check_judge.specs.Known.{Brings, IsBrought, IsKnown};
@@ -8,7 +8,7 @@ use crate::part::TableTold;
 use check_search::{Claim, Leaves};
 use fx_base::{Closed, Mark};
 
-// Whether a claim leaves this file at its slot.
+// Checks whether a claim leaves this file at its slot.
 fn is_bringing(claim: &Claim, file: Closed) -> bool
     ensures { IsTrue result ↔ Brings claim.now file }
 {
@@ -22,7 +22,7 @@ fn is_bringing(claim: &Claim, file: Closed) -> bool
     }
 }
 
-// Whether one of these claims leaves this file at its slot.
+// Checks whether one of these claims leaves this file at its slot.
 fn has_bringing(claims: &[Claim], file: Closed) -> bool
     ensures { IsTrue result ↔ Any (λ claim. Brings claim file) claims.now }
 {
@@ -34,7 +34,7 @@ fn has_bringing(claims: &[Claim], file: Closed) -> bool
     false
 }
 
-// Whether a claim of one of the chains leaves this file at its slot.
+// Checks whether a claim of one of the chains leaves this file at its slot.
 fn is_brought(chains: &[Vec<Claim>], file: Closed) -> bool
     ensures { IsTrue result ↔ IsBrought chains.now file }
 {
@@ -46,7 +46,7 @@ fn is_brought(chains: &[Vec<Claim>], file: Closed) -> bool
     false
 }
 
-// Whether this file is at one of the slots.
+// Checks whether this file is at one of the slots.
 fn is_at_slot(slots: &[Option<Closed>], file: Closed) -> bool
     ensures { IsTrue result ↔ Contains slots.now (Some file) }
 {
@@ -60,7 +60,7 @@ fn is_at_slot(slots: &[Option<Closed>], file: Closed) -> bool
     false
 }
 
-// Whether this file was at a slot, or a claim of one of the chains leaves it there.
+// Checks whether this file was at a slot, or a claim of one of the chains leaves it there.
 fn is_known(table: &TableTold<'_>, file: Closed) -> bool
     ensures { IsTrue result
         ↔ IsKnown table.now.slots.now.at.items table.now.chains.now file }
@@ -68,8 +68,8 @@ fn is_known(table: &TableTold<'_>, file: Closed) -> bool
     is_at_slot(&table.slots.at, file) || is_brought(table.chains, file)
 }
 
-// Whether the chain that the file's mark tells of leaves it at a slot. A file of this submission comes from there alone, so it
-// is looked for there first.
+// Checks whether the chain that the file's mark names leaves it at a slot. Only that chain installs a file of this
+// submission, so it is searched first.
 fn is_own(table: &TableTold<'_>, file: Closed) -> bool {
     match file.mark {
         Mark::Submitted { chain, .. } => match table
@@ -83,7 +83,7 @@ fn is_own(table: &TableTold<'_>, file: Closed) -> bool {
     }
 }
 
-// Whether this file was never in the table: then no order closes it.
+// Checks whether this file was never in the table. If so, no order closes it.
 fn is_unknown(table: &TableTold<'_>, file: Closed) -> bool
     ensures { IsTrue result → Contains table.now.closes.now file
         → HasNoOrder (table_of_slots table.now.slots.now) table.now.closes.now table.now.chains.now }
@@ -94,7 +94,7 @@ fn is_unknown(table: &TableTold<'_>, file: Closed) -> bool
     !is_known(table, file)
 }
 
-/// Whether a file that is told closed was never in the table.
+/// Checks whether a closed file was never in the table.
 pub(crate) fn has_unknown(table: &TableTold<'_>) -> bool
     ensures { IsTrue result → HasNoOrder (table_of_slots table.now.slots.now) table.now.closes.now
         table.now.chains.now }

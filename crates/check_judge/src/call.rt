@@ -17,7 +17,7 @@ use fx_order::RingSlots;
 use fx_script::result_line;
 use std::alloc::Global;
 
-// Looks for the line of a call that found no memory. Where it isn't there, another line was likelier.
+// Looks for the line of a call whose allocation failed. If it is missing, `likelier` is the likeliest line.
 fn or_no_memory(alloc: Global, text: &[u8], word: &str, likelier: String) -> Result<Met, NoMemory>
     ensures { IfOk result (IsMet text.now (result_line word.now (negated ENOMEM))) }
 {
@@ -28,8 +28,8 @@ fn or_no_memory(alloc: Global, text: &[u8], word: &str, likelier: String) -> Res
     }
 }
 
-/// Plays a call between submissions, or a submission that is refused. If the text doesn't begin with what a call prints that finds
-/// memory, it may begin with the line of one that finds none.
+/// Plays a call between submissions, or a submission that is refused. The text begins with the line of the call if no
+/// allocation fails, or with its ENOMEM line.
 ///
 /// # Errors
 /// `NoMemory` if an allocation fails.

@@ -16,14 +16,14 @@ use fx_chain::{Chain, Completion, Place, Request};
 use fx_order::members;
 use std::alloc::Global;
 
-/// The claims of a member, and whether the chain is severed behind it.
+/// The claims of a member, and the state of its chain after it: severed or not.
 #[derive(Debug, Drop)]
 pub struct MemberClaims {
     pub claims: Vec<Claim>,
     pub cut: bool,
 }
 
-// The claims of a member of a chain that may be severed in front of it.
+// Returns the claims of a member of a chain, which may be severed before it.
 fn claims_of_member(
     alloc: Global,
     setting: &ClaimSetting<'_>,
@@ -57,7 +57,7 @@ fn claims_of_member(
     })
 }
 
-// The claims of the members of a chain, of which the first one is at this place.
+// Returns the claims of the members of a chain. The first member has this place.
 fn claims_of_chain(
     alloc: Global,
     setting: &ClaimSetting<'_>,
@@ -90,7 +90,7 @@ fn claims_of_chain(
     Ok(claims)
 }
 
-/// What was told of a submission, cut into chains.
+/// The chains and the completions of a submission.
 #[derive(Clone, Copy)]
 pub(crate) struct ToldChains<'a> {
     pub submission: u32,
@@ -99,7 +99,7 @@ pub(crate) struct ToldChains<'a> {
     pub completions: &'a [Completion],
 }
 
-/// The claims of each chain, the first one's first.
+/// Returns the claims of each chain, in order.
 pub(crate) fn claims_of_chains(
     alloc: Global,
     setting: &ClaimSetting<'_>,

@@ -28,7 +28,7 @@ pub(crate) fn file_marked(slots: &Slots, mark: Mark) -> Option<Closed>
     None
 }
 
-// The catalogue entry with this name.
+// Returns the catalogue entry with this name.
 fn entry_named(catalogue: &Catalogue, name: &[u8]) -> Option<u8>
     ensures named { IfSome result (λ entry. name_at catalogue.now entry ≡ Some name.now) }
     ensures none { IfNone result ((entry : ℕ) → name_at catalogue.now entry ≡ Some name.now → ⊥) }
@@ -41,7 +41,7 @@ fn entry_named(catalogue: &Catalogue, name: &[u8]) -> Option<u8>
     None
 }
 
-// The file that a line of a closed file tells: one at a slot, or else one that the submission installs, which has no tag.
+// Returns the file that a line of a closed file names: one at a slot, or one that the submission installs, without a tag.
 fn file_told(catalogue: &Catalogue, slots: &Slots, line: &ClosedLine) -> Option<Closed>
     ensures told { IfSome result (λ file. named_close catalogue.now file ≡ named_close_of line.now) }
     ensures only { AreApart catalogue.now slots.now → (file : File)

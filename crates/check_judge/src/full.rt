@@ -1,5 +1,5 @@
-//! An allocation range without slots: an open at any slot finds it full at every moment, and no part of the table has a slot of
-//! it. Nothing is promised of an order that is made here: it is looked through as any other.
+//! An allocation range without slots: an open at any slot always finds it full, and no part of the table has a slot of it.
+//! No contract says anything of an order that is made here; it is checked like any other.
 
 ghost use Rattle.std.specs.Prelude.{◌<◌, ◌+◌, ◌^◌, length};
 
@@ -8,13 +8,13 @@ use fx_base::NoMemory;
 use fx_order::{Access, ChainAccess, Slots};
 use std::alloc::Global;
 
-/// Whether a table has no slot of its allocation range.
+/// Checks whether a table has no slot of its allocation range.
 pub(crate) fn is_range_empty(slots: &Slots) -> bool {
     slots.range.1 == 0 || slots.range.0 as usize >= slots.at.len()
 }
 
-// Adds the accesses of a chain from a place on that find the range full, up to the first other one. It answers the place of
-// that.
+// Appends the accesses of a chain, from a position on, that find the range full. Returns the position of the first other
+// claim.
 fn push_full(
     whole: &mut Vec<ChainAccess>,
     chain: u32,
@@ -33,7 +33,7 @@ fn push_full(
     Ok(claims.len())
 }
 
-/// An order with the accesses that find the range full, each at its place among those of its chain.
+/// Returns an order with the accesses that find the range full, each at its place among those of its chain.
 pub(crate) fn with_full(
     alloc: Global,
     chains: &[Vec<Claim>],

@@ -11,7 +11,7 @@ pub enum Fault {
     /// A line that the submission's report can't have at its place: its number, from 0, counted from the break, and the line that is
     /// expected there, in words.
     Line(usize, String),
-    /// No order of the submission's requests gives the text: the submission, from 1, and the reason.
+    /// No order of the submission's requests leads to the text: the submission, from 1, and the reason.
     Order(u32, Reason),
 }
 

@@ -19,7 +19,7 @@ use fx_chain::{Request, cut};
 use fx_order::{ChainAccess, RingSlots, SubmissionReport, slots_left};
 use std::alloc::Global;
 
-/// What is judged: what was told of a submission's requests.
+/// A submission's requests, and the report of them that is judged.
 #[derive(Drop)]
 struct Case<'a> {
     alloc: Global,
@@ -29,7 +29,7 @@ struct Case<'a> {
     pub ghost accepted: { IsAccepted (all_asked requests.now) },
 }
 
-// Makes an order, if what was told came of it; the ring is then the one behind the submission.
+// Makes an order if it leads to the report, and returns whether it does. The ring becomes the one after the submission.
 fn confirm(case: &Case<'_>, ring: &mut RingSlots, order: &[ChainAccess]) -> Result<bool, NoMemory>
     requires ring { IsRing (ring_with_slots case.now.catalogue.now ring.old) }
     requires few_slots { length ring.old.slots.at.items ≤ MOST_SLOTS }
@@ -59,8 +59,7 @@ fn confirm(case: &Case<'_>, ring: &mut RingSlots, order: &[ChainAccess]) -> Resu
     Ok(true)
 }
 
-// What was told, as a search has it: no order of the accesses that the completions tell of is known to be missing, or one
-// is known to be that has to be made.
+// Searches for an order of the accesses that the completions imply. An order that it returns is still to be confirmed.
 fn judge_told(case: &Case<'_>, ring: &RingSlots, limits: Limits) -> Result<PartVerdict, NoMemory>
     requires ring { IsRing (ring_with_slots case.now.catalogue.now ring.now) }
     requires few_slots { length ring.now.slots.at.items ≤ MOST_SLOTS }

@@ -1,4 +1,4 @@
-//! What was told of the slots of a table, judged slot by slot and by slots that chains have in common.
+//! Judges the closes and claims of a table, slot by slot and by slots that chains have in common.
 ghost use Rattle.std.specs.Prelude.{◌≡◌, ◌<◌, ◌+◌, ◌^◌, All, IfOk, length, ℕ};
 ghost use Rattle.fx_order.specs.Slots.{table_of_slots};
 ghost use Rattle.check_judge.specs.Played.{IsCell, IsOutcome};
@@ -27,7 +27,7 @@ pub enum PartVerdict {
     Unsettled(Doubt),
 }
 
-/// What was told of a table: the files that were closed, and the claims of each chain.
+/// A table, the files that were closed, and the claims of each chain.
 #[derive(Clone, Copy)]
 pub(crate) struct TableTold<'a> {
     pub slots: &'a Slots,
@@ -35,7 +35,7 @@ pub(crate) struct TableTold<'a> {
     pub chains: &'a [Vec<Claim>],
 }
 
-/// A slot as it is before the submission.
+/// Returns a slot as it is before the submission.
 pub(crate) fn cell_of(table: &TableTold<'_>, slot: usize) -> Cell
     requires inside { slot < length table.now.slots.now.at.items }
     requires small { length table.now.slots.now.at.items < 2 ^ 32 }
@@ -50,7 +50,7 @@ pub(crate) fn cell_of(table: &TableTold<'_>, slot: usize) -> Cell
     }
 }
 
-// The access that a claim tells of, where this was at the slot.
+// Returns the access that a claim describes, if `found` was at the slot.
 fn access_of(claim: &Claim, found: Option<Closed>) -> Access {
     match claim {
         Claim::Full => Access::FindsFull,
@@ -65,7 +65,7 @@ fn access_of(claim: &Claim, found: Option<Closed>) -> Access {
     }
 }
 
-// The accesses of an order of claims.
+// Returns the accesses of an order of claims.
 fn accesses_along(
     alloc: Global,
     strands: &[Strand],
@@ -99,7 +99,7 @@ fn accesses_along(
     Ok(accesses)
 }
 
-// Whether what was told of these slots comes of an order of the accesses there.
+// Judges the claims of these slots: searches for an order of the accesses there.
 fn judge_part(
     alloc: Global,
     table: &TableTold<'_>,
@@ -132,7 +132,7 @@ fn judge_part(
     }
 }
 
-// The first slot where what was told of it alone comes of no order. A slot that is a part by itself is left out.
+// Looks for the first slot whose own claims have no order. A slot that is a part by itself is left out.
 fn judge_slots(
     alloc: Global,
     table: &TableTold<'_>,
@@ -162,7 +162,7 @@ fn judge_slots(
     Ok(PartVerdict::Unsettled(Doubt::NotShown))
 }
 
-/// The slots of a part as they are before the submission.
+/// Returns the slots of a part as they are before the submission.
 pub(crate) fn cells_of(
     alloc: Global,
     table: &TableTold<'_>,
@@ -181,7 +181,7 @@ pub(crate) fn cells_of(
     Ok(cells)
 }
 
-// Where a part's slots are one, it is that slot that has no order, and else its chains.
+// Returns the reason for a part that has no order: its slot if it has one slot, otherwise its chains.
 fn reason_of(slots: &[usize]) -> Reason {
     match slots {
         [slot] => Reason::Slot(u32::try_from(*slot).unwrap_or(u32::MAX)),
@@ -189,7 +189,7 @@ fn reason_of(slots: &[usize]) -> Reason {
     }
 }
 
-// What was told, judged by parts of the table that no chain joins.
+// Judges a table by its parts: slots of different parts have no chain in common.
 fn judge_components(
     alloc: Global,
     table: &TableTold<'_>,
@@ -221,7 +221,7 @@ fn judge_components(
     Ok(PartVerdict::Order(order))
 }
 
-// Limits for a first search, before slots are judged by themselves.
+// Returns the limits of a first search, before slots are judged by themselves.
 fn first_limits(table: &TableTold<'_>, limits: Limits) -> Limits {
     let mut states = FEW_STATES;
     for claims in table.chains {
@@ -233,7 +233,7 @@ fn first_limits(table: &TableTold<'_>, limits: Limits) -> Limits {
     }
 }
 
-// What was told, judged by searches: of the parts through few states, then of the slots by themselves, and then of the parts.
+// Judges a table by searches: of the parts through few states, then of the slots by themselves, and then of the parts.
 fn judge_searched(
     alloc: Global,
     table: &TableTold<'_>,
@@ -258,7 +258,7 @@ fn judge_searched(
     }
 }
 
-/// Whether what was told of a table comes of an order.
+/// Judges whether the closes and claims of a table are those of an order.
 pub(crate) fn judge_table(
     alloc: Global,
     table: &TableTold<'_>,

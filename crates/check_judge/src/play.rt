@@ -23,7 +23,7 @@ use fx_order::{RingSlots, Slots};
 use fx_script::teardown_text;
 use std::alloc::Global;
 
-// A ring without a table, with nothing counted.
+// Returns a ring without a table, with nothing counted.
 fn new_ring(alloc: Global) -> RingSlots
     ensures ring { (catalogue : List FileEntry)
         → ring_with_slots catalogue result ≡ new_ring catalogue }
@@ -39,7 +39,7 @@ fn new_ring(alloc: Global) -> RingSlots
     }
 }
 
-// Plays a command against what is left of the text.
+// Plays a command against the rest of the text.
 fn play_command(
     alloc: Global,
     catalogue: &Catalogue,
@@ -60,7 +60,7 @@ fn play_command(
     Ok(CommandVerdict::of(met))
 }
 
-// Whether what is left of the text is what the end of the script prints; or else what that is.
+// Returns the text of the end of the script, or `None` if it is the rest of the text.
 fn play_end(
     alloc: Global,
     catalogue: &Catalogue,

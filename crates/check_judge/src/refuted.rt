@@ -1,4 +1,4 @@
-//! What is seen without a search: a slot's files don't come out even, or a request waits for one that doesn't come.
+//! Refutes without a search: the counts of a slot's files differ, or a request waits for a file that is never installed.
 ghost use Rattle.std.specs.Prelude.{◌≡◌, ◌<◌, ◌+◌, ◌^◌, All, IfOk, IsTrue, length, ℕ};
 ghost use Rattle.fx_order.specs.Slots.{table_of_slots};
 ghost use Rattle.check_search.specs.Machine.{HasNoEnd};
@@ -12,7 +12,7 @@ use check_search::{Cell, Doubt, Steps, Strand, is_dead_by, is_uneven, start_of};
 use fx_base::NoMemory;
 use std::alloc::Global;
 
-// Whether it is seen of a slot that no order of the claims leads to an end.
+// Checks whether the counts of a slot show that no order of the claims leads to an end.
 fn sees_no_end(
     alloc: Global,
     strands: &[Strand],
@@ -31,7 +31,7 @@ fn sees_no_end(
     Ok(is_dead_by(strands, &start, waits))
 }
 
-// Whether it is seen of a slot that what was told of it comes of no order.
+// Checks whether the counts of a slot show that the table has no order.
 fn is_refuted_by(
     alloc: Global,
     table: &TableTold<'_>,
@@ -51,7 +51,7 @@ fn is_refuted_by(
     Ok(true)
 }
 
-// The slots of which it is to be seen, as counts of their claims say. Nothing is promised of it.
+// Returns the slots whose counts of claims differ. No contract says anything of them.
 fn suspects(alloc: Global, table: &TableTold<'_>) -> Result<Vec<usize>, NoMemory>
     requires small { length table.now.slots.now.at.items < 2 ^ 32 }
     requires few { length table.now.chains.now + 1 < 2 ^ 32 }
@@ -75,7 +75,7 @@ fn suspects(alloc: Global, table: &TableTold<'_>) -> Result<Vec<usize>, NoMemory
     Ok(slots)
 }
 
-/// The first slot of which it is seen without a search that what was told of it comes of no order.
+/// Looks for the first slot whose counts show, without a search, that the table has no order.
 pub(crate) fn judge_counts(alloc: Global, table: &TableTold<'_>) -> Result<PartVerdict, NoMemory>
     requires small { length table.now.slots.now.at.items < 2 ^ 32 }
     requires few { length table.now.chains.now + 1 < 2 ^ 32 }

@@ -19,19 +19,19 @@ use fx_base::{Catalogue, Closed, Errno, NoMemory};
 use fx_chain::{Completion, LONGEST_READ, Op, Place, Request, Target, refusal_of};
 use std::alloc::Global;
 
-/// What is known where claims are looked for.
+/// The values that are known when claims are derived.
 #[derive(Clone, Copy)]
 pub(crate) struct ClaimSetting<'a> {
     pub catalogue: &'a Catalogue,
-    /// How many slots there are.
+    /// The number of slots.
     pub size: u32,
-    /// The first slot of the allocation range, and how many slots it has.
+    /// The first slot of the allocation range, and its number of slots.
     pub range: (u32, u32),
-    /// The files that are told to be closed.
+    /// The closed files of the report.
     pub closes: &'a [Closed],
 }
 
-// The claims of a refused request.
+// Returns the claims of a refused request.
 fn refused(alloc: Global, place: Place, errno: Errno, c: &Completion) -> Result<Vec<Claim>, Stop>
     ensures { (closes : List FileAt)
         → Tells (λ own. IsRefused place errno own (completed_of c.now)) closes result }
@@ -42,7 +42,7 @@ fn refused(alloc: Global, place: Place, errno: Errno, c: &Completion) -> Result<
     Ok(Vec::new(alloc))
 }
 
-// A single claim.
+// Returns a single claim.
 fn one(alloc: Global, claim: Claim) -> Result<Vec<Claim>, Stop>
     ensures { (closes : List FileAt) → Tells (λ own. (access : OneAccess)
         × (own ≡ access ∷ []) × Fits closes claim access) closes result }
@@ -52,7 +52,7 @@ fn one(alloc: Global, claim: Claim) -> Result<Vec<Claim>, Stop>
     Ok(claims)
 }
 
-// The claims of an open at a slot.
+// Returns the claims of an open at a slot.
 fn claims_of_open_at(
     alloc: Global,
     setting: &ClaimSetting<'_>,
@@ -71,7 +71,7 @@ fn claims_of_open_at(
     one(alloc, Claim::At(slot, Wants::Anything, Leaves::File(file)))
 }
 
-// Whether a slot is one of the table and of its allocation range.
+// Checks whether a slot is one of the table and of its allocation range.
 fn is_in_range(setting: &ClaimSetting<'_>, slot: u32) -> bool
     ensures { IsTrue result ↔ ((slot < setting.now.size) × (setting.now.range.0 ≤ slot)
         × (slot < setting.now.range.0 + setting.now.range.1)) }
@@ -80,7 +80,7 @@ fn is_in_range(setting: &ClaimSetting<'_>, slot: u32) -> bool
     slot < setting.size && first <= slot && (slot as u64) < first as u64 + len as u64
 }
 
-// The claims of an open at any slot.
+// Returns the claims of an open at any slot.
 fn claims_of_open_any(
     alloc: Global,
     setting: &ClaimSetting<'_>,
@@ -105,7 +105,7 @@ fn claims_of_open_any(
     one(alloc, Claim::At(slot, Wants::Nothing, Leaves::File(file)))
 }
 
-// Which catalogue entries have the bytes that a read gave.
+// Checks for each catalogue entry whether it has the bytes that a read returned.
 fn fits_of(
     alloc: Global,
     catalogue: &Catalogue,
@@ -132,7 +132,7 @@ fn fits_of(
     Ok(fits)
 }
 
-// The claims of a read.
+// Returns the claims of a read.
 fn claims_of_read(
     alloc: Global,
     setting: &ClaimSetting<'_>,
@@ -158,7 +158,7 @@ fn claims_of_read(
     one(alloc, Claim::At(slot, Wants::Bytes(fits), Leaves::Same))
 }
 
-// The claims of a close.
+// Returns the claims of a close.
 fn claims_of_close(
     alloc: Global,
     setting: &ClaimSetting<'_>,
@@ -178,7 +178,7 @@ fn claims_of_close(
     one(alloc, Claim::At(slot, Wants::Something, Leaves::Empty))
 }
 
-// Whether an entry is the only one that has this name.
+// Checks whether an entry is the only one that has this name.
 fn is_only(catalogue: &Catalogue, name: &str, entry: u8) -> bool
     ensures { IsTrue result → ((other : ℕ)
         → name_at catalogue.now other ≡ Some name.now → other ≡ entry) }
@@ -191,7 +191,7 @@ fn is_only(catalogue: &Catalogue, name: &str, entry: u8) -> bool
     true
 }
 
-// The claims of an open.
+// Returns the claims of an open.
 fn claims_of_open(
     alloc: Global,
     setting: &ClaimSetting<'_>,
@@ -218,7 +218,7 @@ fn claims_of_open(
     }
 }
 
-/// The claims of a request.
+/// Returns the claims of a request.
 pub(crate) fn claims_of_request(
     alloc: Global,
     setting: &ClaimSetting<'_>,

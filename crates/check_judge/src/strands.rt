@@ -11,7 +11,7 @@ use check_search::{Cell, Claim, Strand, has_slot};
 use fx_base::NoMemory;
 use std::alloc::Global;
 
-// Whether one of these slots is of the allocation range.
+// Checks whether one of these slots is of the allocation range.
 fn has_range(cells: &[Cell]) -> bool
     ensures { result ≡ list_any (λ cell. cell.in_range) cells.now }
 {
@@ -23,7 +23,7 @@ fn has_range(cells: &[Cell]) -> bool
     false
 }
 
-// Whether a claim is of one of these slots, or of the allocation range where they have one of it.
+// Checks whether a claim is of one of these slots, or of the allocation range if one of them is of it.
 fn keeps(cells: &[Cell], claim: &Claim) -> bool
     ensures { result ≡ keeps cells.now claim.now }
 {
@@ -33,7 +33,7 @@ fn keeps(cells: &[Cell], claim: &Claim) -> bool
     }
 }
 
-// The claims of these slots.
+// Returns the claims of these slots.
 fn kept(alloc: Global, cells: &[Cell], claims: &[Claim]) -> Result<Vec<Claim>, NoMemory>
     ensures { IfOk result (λ own. own.items ≡ filter (keeps cells.now) claims.now) }
 {
@@ -46,7 +46,7 @@ fn kept(alloc: Global, cells: &[Cell], claims: &[Claim]) -> Result<Vec<Claim>, N
     Ok(own)
 }
 
-// Adds the claims of a chain, if it has some.
+// Appends the claims of a chain, if it has some.
 fn push_strand(strands: &mut Vec<Strand>, chain: u32, claims: Vec<Claim>) -> Result<(), NoMemory>
     ensures { OnOk result (strands.new.items ≡ strands.old.items ++ strand_for chain claims) }
 {
@@ -57,7 +57,7 @@ fn push_strand(strands: &mut Vec<Strand>, chain: u32, claims: Vec<Claim>) -> Res
     Ok(())
 }
 
-/// The chains that have claims of these slots, with these claims.
+/// Returns the chains that have claims of these slots, with these claims.
 pub(crate) fn strands_of(
     alloc: Global,
     cells: &[Cell],

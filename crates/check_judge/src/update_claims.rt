@@ -17,7 +17,7 @@ use fx_base::MOST_ENTRIES;
 use fx_chain::{Completion, LONGEST_UPDATE, Place};
 use std::alloc::Global;
 
-// The claim of an entry at a place in its list, and at a slot; an entry that leaves its slot has none.
+// Returns the claim of an entry at a position in its list and at a slot, or `None` if the entry is a skip.
 fn claim_of_entry(
     setting: &ClaimSetting<'_>,
     place: Place,
@@ -40,7 +40,7 @@ fn claim_of_entry(
     None
 }
 
-// The claims of the entries of a list, from a slot on.
+// Returns the claims of the entries of a list, from a slot on.
 fn claims_of_entries(
     alloc: Global,
     setting: &ClaimSetting<'_>,
@@ -62,7 +62,7 @@ fn claims_of_entries(
     Ok(claims)
 }
 
-/// The claims of an update.
+/// Returns the claims of an update.
 pub(crate) fn claims_of_update(
     alloc: Global,
     setting: &ClaimSetting<'_>,

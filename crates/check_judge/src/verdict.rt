@@ -3,7 +3,7 @@ use check_search::Doubt;
 use fx_chain::Place;
 use fx_order::ChainAccess;
 
-/// The place where no order gives what was reported. It is advice for a person, and no contract says anything of it.
+/// The reason why no order leads to a report. It is advice for a person, and no contract speaks of it.
 #[derive(Clone, Copy, Debug, PartialEq, Eq)]
 pub enum Reason {
     /// The request at this place has no completion, or one that is impossible with any table.
@@ -12,18 +12,18 @@ pub enum Reason {
     TooManyCompletions,
     /// The closes aren't in order of mark, or contain a file that was never in the table.
     Closes,
-    /// No order of the accesses to this slot gives what was reported of it.
+    /// No order of the accesses to this slot leads to the report.
     Slot(u32),
-    /// No order of the accesses of chains that share slots gives what was reported of them.
+    /// No order of the accesses of chains that share slots leads to the report.
     Chains,
 }
 
-/// A verdict on what was reported of a submission (this project's own).
+/// A verdict on the report of a submission (this project's own).
 #[derive(Debug, Drop)]
 pub enum Verdict {
-    /// This order of accesses gives it.
+    /// This order of accesses leads to the report.
     Legal(Vec<ChainAccess>),
-    /// No order gives it.
+    /// No order leads to the report.
     NotLegal(Reason),
     /// Neither was shown within the limits.
     Undecided(Doubt),

@@ -13,7 +13,7 @@ loop-i-init c = rw c.new-claims.ensures.items (none_told _ _ _ _ _ _ _)
 abbrev no_chain : Chain
 no_chain = record { first = 0; len = 0 }
 
--- the chain that is next, and those behind it
+-- the next chain, and those after it
 next : (c : After-members-members)
     → drop c.loop-i.i (map (members_of (all_asked c.args.parts.now.requests.now)) c.args.parts.now.chains.now)
     ≡ all_asked c.members-members.result.now
