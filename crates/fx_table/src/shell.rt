@@ -76,8 +76,8 @@ fn make_room(plain: &mut PlainTable) -> Result<(), NoMemory>
     Ok(())
 }
 
-/// Puts all files that [`move_out`] took out back at their slots. The table has its files, size and range again, and is
-/// settled.
+/// Puts all files that [`move_out`] took out back at their slots. Requires the table and the places as it left them.
+/// Afterwards the table is settled and has its files, size and range again.
 pub fn put_all(plain: &mut PlainTable, mut homes: Vec<Option<OpenFile>>)
     requires { (before : Contents) × (count : ℕ)
         × HasMovedOut before count plain.old homes.items }
