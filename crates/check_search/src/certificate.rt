@@ -80,14 +80,8 @@ fn step_leads_inside(
     if is_at(alloc, web, web.rows.get_index_of(&row), &next)? {
         return Ok(true);
     }
-    if is_dead_by(
-        strands,
-        &next,
-        web.steps.hopeless_behind(here.row, &row, chain),
-    ) {
-        return Ok(true);
-    }
-    Ok(is_uneven_behind(strands, here.node, &next, chain))
+    let waits = web.steps.hopeless_behind(here.row, &row, chain);
+    Ok(is_dead_by(strands, &next, waits) || is_uneven_behind(strands, here.node, &next, chain))
 }
 
 // Checks whether each step from a state leads to one of the states.
@@ -130,10 +124,7 @@ fn test_leads_inside(
         return Ok(false);
     };
     let row = web.steps.row_after(alloc, here.row, chain)?;
-    if !is_at(alloc, web, web.rows.get_index_of(&row), &next)? {
-        return Ok(false);
-    }
-    Ok(true)
+    is_at(alloc, web, web.rows.get_index_of(&row), &next)
 }
 
 // Checks whether a state was looked at: by one step that only tests, where there is one, and else by all steps.

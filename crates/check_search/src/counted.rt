@@ -1,5 +1,5 @@
 //! Counts of the files that come to a slot and leave it: where they don't balance, no order leads to an end.
-ghost use Rattle.std.specs.Prelude.{◌≡◌, ◌≤◌, IfSome, IsTrue, cond, count_by, drop};
+ghost use Rattle.std.specs.Prelude.{◌≡◌, ◌⊎◌, ◌≤◌, IfSome, IsTrue, cond, count_by, drop};
 ghost use Rattle.check_search.specs.Counted.{LastStays, TooFewLeave, TwoStay, changes, is_change, leaving_files, staying, to_come};
 ghost use Rattle.check_search.specs.Machine.{HasNoEnd, view};
 
@@ -146,6 +146,16 @@ fn last_stays(strands: &[Strand], node: &SearchNode, slot: u32) -> bool
     leaving(found).saturating_add(leaves) >= 1
 }
 
+// Checks whether the counts of a slot's files show that they don't balance.
+fn shows_uneven(strands: &[Strand], node: &SearchNode, slot: u32) -> bool
+    ensures { IsTrue result → TwoStay strands.now (view node.now) slot
+        ⊎ (TooFewLeave strands.now (view node.now) slot ⊎ LastStays strands.now (view node.now) slot) }
+{
+    two_stay(strands, node, slot)
+        || too_few_leave(strands, node, slot)
+        || last_stays(strands, node, slot)
+}
+
 /// Checks whether the files of `slot` don't balance, so that no order leads to an end.
 pub fn is_uneven(strands: &[Strand], node: &SearchNode, slot: u32) -> bool
     ensures { IsTrue result → HasNoEnd strands.now (view node.now) }
@@ -153,11 +163,5 @@ pub fn is_uneven(strands: &[Strand], node: &SearchNode, slot: u32) -> bool
     if node.places.len() != strands.len() || !has_slot(&node.cells, slot) {
         return false;
     }
-    if two_stay(strands, node, slot) {
-        return true;
-    }
-    if too_few_leave(strands, node, slot) {
-        return true;
-    }
-    last_stays(strands, node, slot)
+    shows_uneven(strands, node, slot)
 }
