@@ -1,5 +1,5 @@
 -- A worker goes on by one chain that its pass drew.
-use Rattle.fx_ring.proofs.Words.{◌≡◌, ◌≢◌, ℕ, ◌+◌, ◌-◌, ◌<◌, ◌≤◌, List, [], ◌∷◌, ◌++◌, map, length, refl, sym, ap, subst, ◌∙◌, All, Contains, Some}
+use Rattle.fx_ring.proofs.Words.{◌≡◌, ◌≢◌, ℕ, ◌+◌, ◌-◌, ◌<◌, ◌≤◌, List, [], ◌∷◌, ◌++◌, map, length, sym, ap, subst, ◌∙◌, All, Contains, Some}
 use Rattle.fx_ring.proofs.Words.{None, ⊎_elim, length-append, arith, map-append, map-id, map-map, All-append, FileEntry, CloseListView, Closed, Event, Action}
 use Rattle.fx_ring.proofs.Words.{action_of, closes_in, part_of_chain, ◌▷◌, Opening, size_of, PassView, event_of, Completed, Explains, first_member}
 use Rattle.fx_ring.proofs.Words.{Asked, all_weights, IsEnoughFor, WorkerState, worker_state, run_of_chain, completions_of_chain, HasWorked, HasRoom, drop, slice_index_or}

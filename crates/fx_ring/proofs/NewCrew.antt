@@ -1,31 +1,18 @@
 -- What a crew is before it plays: new passes, with room for all.
-use Rattle.fx_ring.proofs.Words.{◌≡◌, ℕ, ◌≤◌, List, [], ◌∷◌, ◌++◌, map, flat_map, reverse, length, All, sum_by, refl, sym, ap, subst, ◌∙◌, arith}
-use Rattle.fx_ring.proofs.Words.{vec_capacity, length-map, reverse-append, map-append, map-map, length-flat_map, All-nil, All-contains, sum_by-cons}
+use Rattle.fx_ring.proofs.Words.{◌≡◌, ℕ, ◌≤◌, List, [], ◌∷◌, map, flat_map, length, All, sum_by, refl, sym, ap, subst, ◌∙◌, arith}
+use Rattle.fx_ring.proofs.Words.{vec_capacity, length-map, map-map, length-flat_map, All-nil, All-contains, sum_by-cons}
 use Rattle.fx_ring.proofs.Words.{sum_by-append, FileEntry, CloseListView, PassView, new_pass, new_passes, Event, Completed, all_completed, Asked}
 use Rattle.fx_ring.proofs.Words.{runs_of, all_weights, weight_of, Completion, HasRoomFor, HasWorked, HasRoom, worker_state, Outcome, Worker, Contains}
-use Rattle.fx_ring.proofs.Words.{contains_none, contains_map, contains_mapped, contains_reverse, each_all, PASS_LOOKS, range_with_len, map-id}
-use Rattle.fx_ring.proofs.Words.{length-map-range_with_len, ◌*◌, sum_by-le, All-weaker, IsShortRun, IsChain, members_of, all_asked, asked_of, Chain}
+use Rattle.fx_ring.proofs.Words.{contains_none, contains_map, contains_mapped, each_all, PASS_LOOKS, range_with_len, map-id}
+use Rattle.fx_ring.proofs.Words.{length-map-range_with_len, ◌*◌, sum_by-le, All-weaker, IsShortRun, Chain}
 use Rattle.fx_ring.proofs.Words.{AreCutInto, MOST_MEMBERS}
 use Rattle.fx_ring.proofs.Runs.{as_many, runs_within}
 use Rattle.fx_chain.proofs.Runs.{are_runs}
 
-pub map_reversed : {X Y : Type 0} (f : X → Y) (xs : List X) → map f (reverse xs) ≡ reverse (map f xs)
-map_reversed f [] = refl
-map_reversed {X} {Y} f (x ∷ xs) =
-    ap (map f) (reverse-append (x ∷ []) xs)
-    ∙ (map-append f (reverse xs) (x ∷ [])
-    ∙ (ap (λ (l : List Y). l ++ f x ∷ []) (map_reversed f xs) ∙ sym (reverse-append (f x ∷ []) (map f xs))))
-
--- what holds of all elements holds of their pieces, whichever way round
-module _ {A W : Type 0} (P : A → Type 0) (f : W → A) (ws : List W) (xs : List A) where
-  pub all_gathered : map f ws ≡ reverse xs → All P xs → All (λ w. P (f w)) ws
-  all_gathered e a = each_all (λ w. P (f w)) ws (λ w h.
-      All-contains P xs (f w) a (contains_reverse xs (f w) (subst (λ (l : List A). Contains l (f w)) e (contains_mapped f ws w h))))
-
-  pub all_scattered : xs ≡ reverse (map f ws) → All (λ w. P (f w)) ws → All P xs
-  all_scattered e a = each_all P xs (λ x h.
-      let m = contains_map f ws x (contains_reverse (map f ws) x (subst (λ (l : List A). Contains l x) e h)) in
-      subst P (sym m.2) (All-contains (λ w. P (f w)) ws m.0 a m.1))
+-- what holds of all elements holds of what they were made into
+pub all_gathered : {A W : Type 0} (P : A → Type 0) (f : W → A) (ws : List W) (xs : List A) → map f ws ≡ xs → All P xs → All (λ w. P (f w)) ws
+all_gathered P f ws xs e a = each_all (λ w. P (f w)) ws
+    (λ w h. All-contains P xs (f w) a (subst (λ (l : List _). Contains l (f w)) e (contains_mapped f ws w h)))
 
 -- a pass that has done nothing, and can look up so often
 pub record IsNew (often : ℕ) (v : PassView) : Type 0 where
@@ -43,13 +30,11 @@ module _ {P : Type 0} (V : P → PassView) (ps : List P) (n : ℕ) (new : map (�
       let from = contains_map new_pass (range_with_len 1 n) (V p) (subst (λ (l : List PassView). Contains l (V p)) new (contains_mapped V ps p h)) in
       subst (IsNew PASS_LOOKS) (sym from.2) (record { own = refl; drawn = refl; chain = refl; looks = omega arith }))
 
-  pub numbers_are : (crew : List (Worker P)) → map (λ w. w.pass) crew ≡ reverse ps
-      → map (λ w. (V w.pass).number) crew ≡ reverse (range_with_len 1 n)
+  pub numbers_are : (crew : List (Worker P)) → map (λ w. w.pass) crew ≡ ps → map (λ w. (V w.pass).number) crew ≡ range_with_len 1 n
   numbers_are crew gathered =
-      let number : P → ℕ = λ p. (V p).number in
-      sym (map-map number (λ w. w.pass) crew) ∙ (ap (map number) gathered ∙ (map_reversed number ps
-      ∙ ap reverse (sym (map-map (λ v. v.number) V ps) ∙ (ap (map (λ v. v.number)) new
-      ∙ (map-map (λ v. v.number) new_pass (range_with_len 1 n) ∙ map-id (range_with_len 1 n))))))
+      let number : PassView → ℕ = λ v. v.number in
+      sym (map-map (λ p. number (V p)) (λ w. w.pass) crew) ∙ ap (map (λ p. number (V p))) gathered ∙ sym (map-map number V ps)
+      ∙ ap (map number) new ∙ map-map number new_pass (range_with_len 1 n) ∙ map-id (range_with_len 1 n)
 
 weights_joined : (runs : List (List Asked)) → all_weights (flat_map (λ run. run) runs) ≡ sum_by all_weights runs
 weights_joined [] = refl

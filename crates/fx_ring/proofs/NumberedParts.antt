@@ -1,8 +1,8 @@
 -- Lists with a part for each number from one on, and lists of which one element alone has a part.
-use Rattle.fx_ring.proofs.Words.{◌≡◌, ℕ, ◌+◌, ◌<◌, ◌≤◌, List, [], ◌∷◌, ◌++◌, flat_map, reverse, All, sum_by, refl, sym, ap, subst, ◌∙◌, arith}
-use Rattle.fx_ring.proofs.Words.{append-nil, ⊎_elim, reverse-append, flat_map-append, All-nil, All-append, IsPermutation-refl, IsPermutation-trans}
-use Rattle.fx_ring.proofs.Words.{IsPermutation-append_left, IsPermutation-append_comm, sum_by-cons, sum_of, Contains, range_with_len}
-use Rattle.fx_ring.proofs.Words.{length-range_with_len, get_or-range_with_len, IsPermutation, contains_none, contains_head, contains_tail}
+use Rattle.fx_ring.proofs.Words.{◌≡◌, ℕ, ◌+◌, ◌<◌, ◌≤◌, List, [], ◌∷◌, ◌++◌, flat_map, All, sum_by, refl, sym, ap, ◌∙◌, arith}
+use Rattle.fx_ring.proofs.Words.{append-nil, ⊎_elim, All-nil, All-append}
+use Rattle.fx_ring.proofs.Words.{sum_by-cons, sum_of, Contains, range_with_len}
+use Rattle.fx_ring.proofs.Words.{length-range_with_len, get_or-range_with_len, contains_none, contains_head, contains_tail}
 use Rattle.fx_ring.proofs.Words.{contains_cases}
 
 pub number_within : {first : ℕ} (n : ℕ) {k : ℕ} → Contains (range_with_len first n) k → (first ≤ k) × (k < first + n)
@@ -42,17 +42,6 @@ module _ {W X : Type 0} (g : W → List X) where
   made_of_parts made none both [] = none
   made_of_parts {Y} made none both (w ∷ ws) =
       both (g w) (flat_map g ws) ∙ ap (λ (l : List Y). made (g w) ++ l) (made_of_parts made none both ws)
-
-  pub parts_reversed : (ws : List W) → IsPermutation (flat_map g ws) (flat_map g (reverse ws))
-  parts_reversed [] = IsPermutation-refl []
-  parts_reversed (w ∷ ws) =
-      let last : flat_map g (reverse (w ∷ ws)) ≡ flat_map g (reverse ws) ++ g w =
-      ap (flat_map g) (reverse-append (w ∷ []) ws)
-      ∙ (flat_map-append g (reverse ws) (w ∷ []) ∙ ap (λ (l : List X). flat_map g (reverse ws) ++ l) (append-nil (g w))) in
-      subst (IsPermutation (g w ++ flat_map g ws)) (sym last)
-      (IsPermutation-trans (g w ++ flat_map g ws) (flat_map g ws ++ g w) (flat_map g (reverse ws) ++ g w)
-      (IsPermutation-append_comm (g w) (flat_map g ws))
-      (IsPermutation-append_left (g w) (flat_map g ws) (flat_map g (reverse ws)) (parts_reversed ws)))
 
 -- parts that are the same for each element
 pub same_parts : {W X : Type 0} {g h : W → List X} (ws : List W) → ((w : W) → Contains ws w → g w ≡ h w) → flat_map g ws ≡ flat_map h ws

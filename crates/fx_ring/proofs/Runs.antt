@@ -1,5 +1,5 @@
 -- Where the members of a chain stand in the list of requests.
-use Rattle.fx_ring.proofs.Words.{◌≡◌, ℕ, ◌+◌, ◌-◌, ◌<◌, List, [], length, map, take, drop, slice_index_or, sym, ap, subst, ◌∙◌, All, arith}
+use Rattle.fx_ring.proofs.Words.{◌≡◌, ℕ, ◌+◌, ◌-◌, ◌<◌, List, [], length, take, drop, slice_index_or, sym, ap, subst, ◌∙◌, All, arith}
 use Rattle.fx_ring.proofs.Words.{get_or-map, length-map, IsChain, IsShortRun, members_of, Asked, all_asked, runs_of, all_installs, Chain, Request}
 use Rattle.fx_ring.proofs.Words.{AreCutInto, InstallAtMost, All-map, All-weaker, ◌≤◌}
 use Rattle.fx_chain.proofs.Asking.{asked_part}

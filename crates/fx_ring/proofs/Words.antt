@@ -1,15 +1,14 @@
 -- The names that most proofs of this crate use.
-pub use Rattle.fx_base.specs.AddFault.{has_name}
 pub use Rattle.fx_base.specs.Catalogue.{FileEntry}
 pub use Rattle.fx_base.specs.CloseList.{IsInOrderOfMark}
 pub use Rattle.fx_base.specs.CloseListView.{CloseListView}
 pub use Rattle.fx_base.specs.declared.errno.Errno.{Errno}
-pub use Rattle.fx_base.specs.declared.errno.Errno.TheVariants.{EBADF, EINVAL, ENFILE, ENOENT, ENOMEM, ENXIO}
+pub use Rattle.fx_base.specs.declared.errno.Errno.TheVariants.{ENOMEM}
 pub use Rattle.fx_base.specs.declared.mark.Mark.{Mark}
 pub use Rattle.fx_base.specs.declared.mark.Mark.TheVariants.{Registered, Submitted}
 pub use Rattle.fx_base.specs.declared.open_file.Closed.{Closed}
 pub use Rattle.fx_chain.proofs.Accepted.{accepted-each, accepted-length, all_weights-small}
-pub use Rattle.fx_chain.proofs.Cases.{either_case, either_option, either_way}
+pub use Rattle.fx_chain.proofs.Cases.{either_case, either_option}
 pub use Rattle.fx_chain.specs.Accepted.{IsAccepted, IsChain, IsShortRun, members_of}
 pub use Rattle.fx_chain.specs.Answers.{Answers, AnswersAtTable, AppliesEntry, AppliesList, MayClose, OpensAt, Refuses, installed, is_bad_entry}
 pub use Rattle.fx_chain.specs.Completed.{Completed, all_completed, completed_of, next_member}
@@ -39,12 +38,13 @@ pub use Rattle.fx_plain.specs.declared.event.Action.TheVariants.{Allocate, Clear
 pub use Rattle.fx_plain.specs.declared.event.Event.{Event}
 pub use Rattle.fx_plain.specs.declared.event.File.{File}
 pub use Rattle.fx_plain.specs.declared.table.TheConstants.{MOST_SLOTS}
-pub use Rattle.fx_ring.specs.OpenRings.{IsAloneAt, IsKeptOpen, OpenRingContents, begun_behind, chain_less, chains_to, listed, node_if}
+pub use Rattle.fx_ring.specs.Calls.{ListsFiles}
+pub use Rattle.fx_ring.specs.OpenRings.{IsAloneAt, IsKeptOpen, OpenRingContents, begun_behind, chain_less, chains_to, node_if}
 pub use Rattle.fx_ring.specs.OpenRings.{number_if, ring_led_by, table_with_files}
 pub use Rattle.fx_ring.specs.Outcomes.{HasRoomFor}
 pub use Rattle.fx_ring.specs.Playing.{number_of_worker, state_of_worker}
 pub use Rattle.fx_ring.specs.Registration.{file_after, file_listed, files_after, is_bad_file, registered, removed_by_number, removed_from, updated}
-pub use Rattle.fx_ring.specs.Ring.{AreEntries, HasClosed, HasCounted, IsAtRest, IsRing, ListsFiles, RingContents, RingState, ring_files_in_order, files_of_ring, ring_of}
+pub use Rattle.fx_ring.specs.Ring.{AreEntries, HasClosed, HasCounted, IsAtRest, IsRing, RingContents, RingState, ring_files_in_order, files_of_ring, ring_of}
 pub use Rattle.fx_ring.specs.Ring.{ring_with, with_table}
 pub use Rattle.fx_ring.specs.Slots.{AreFresh, CanRetire, SetsList, SetsNumber, SetsSlot, closes_of_removed, file_removed, files_at}
 pub use Rattle.fx_ring.specs.Submission.{ExplainsParts, IsOneHistory, Reported}
@@ -54,9 +54,9 @@ pub use Rattle.fx_ring.specs.declared.outcome.Outcome.{Outcome}
 pub use Rattle.fx_ring.specs.declared.ring.TheConstants.{MOST_SUBMISSIONS}
 pub use Rattle.fx_ring.specs.declared.worker.Worker.{Worker}
 pub use Rattle.fx_table.proofs.Chains.{part_of_drawn, some_times}
-pub use Rattle.fx_table.proofs.Members.{contains_cases, contains_head, contains_map, contains_mapped, contains_none, contains_reverse}
-pub use Rattle.fx_table.proofs.Members.{contains_reversed, contains_tail, each_all}
-pub use Rattle.fx_table.proofs.SumLemmas.{sum_map, sum_of, sum_reverse}
+pub use Rattle.fx_table.proofs.Members.{contains_cases, contains_head, contains_map, contains_mapped, contains_none}
+pub use Rattle.fx_table.proofs.Members.{contains_tail, each_all}
+pub use Rattle.fx_table.proofs.SumLemmas.{sum_map, sum_of}
 pub use Rattle.fx_table.specs.Calls.{Draws, Use}
 pub use Rattle.fx_table.specs.Closing.{ClosesTable, times_drawn}
 pub use Rattle.fx_table.specs.Numbers.{numbers_for}
@@ -66,18 +66,17 @@ pub use Rattle.fx_table.specs.Settling.{IsSettledSoFar}
 pub use Rattle.fx_table.specs.declared.limits.TheConstants.{MAX_CHAINS, PASS_LOOKS}
 pub use Rattle.std.proofs.Common.{All, Bool, Contains, IsPermutation, List, None, Option, Some, [], add-one, ap, append-nil, append_assoc, arith}
 pub use Rattle.std.proofs.Common.{cond, count_by, drop, eq-eqb, eqb, eqb-true, false, filter, flat_map, get_or, if◌then◌else◌, inl, inr, length}
-pub use Rattle.std.proofs.Common.{length-append, map, nat_le, nat_lt, ne_eqb, negsuc, not, option_to_list, pos, refl, reverse, rules, slice_get}
-pub use Rattle.std.proofs.Common.{slice_index_or, slice_set, subst, suc, sum_by, sym, take, true, vec_capacity, vec_len, zero, ℕ, ℤ, ⊎_elim, ◌*◌}
+pub use Rattle.std.proofs.Common.{length-append, map, nat_lt, ne_eqb, negsuc, not, option_to_list, pos, refl, rules, slice_get}
+pub use Rattle.std.proofs.Common.{slice_index_or, subst, suc, sum_by, sym, take, true, vec_capacity, vec_len, zero, ℕ, ℤ, ⊎_elim, ◌*◌}
 pub use Rattle.std.proofs.Common.{◌++◌, ◌+◌, ◌-◌, ◌<◌, ◌==◌, ◌||◌, ◌∙◌, ◌∷◌, ◌≡◌, ◌≢◌, ◌≤◌, ◌⊎◌}
 pub use Rattle.std.proofs.Math.Seq.{drop-cons}
 pub use Rattle.std.proofs.lemmas.Bool.{cases_lt, le-ltb, leb-false, lt-ltb, ltb-false, or_from, or_parts}
-pub use Rattle.std.proofs.lemmas.List.{drop-drop, get_or-map, get_or_past, length-map, map-append, map-id, reverse-append, reverse-reverse, take_all}
-pub use Rattle.std.proofs.lemmas.List.Concat.{flat_map-append, length-flat_map}
+pub use Rattle.std.proofs.lemmas.List.{drop-drop, get_or-map, get_or_past, length-map, map-append, map-id, take_all}
+pub use Rattle.std.proofs.lemmas.List.Concat.{length-flat_map}
 pub use Rattle.std.proofs.lemmas.List.Elements.{All-append, All-cons, All-contains, All-head, All-map, All-more, All-nil, All-tail, All-weaker}
 pub use Rattle.std.proofs.lemmas.List.Elements.{Contains-append_cases, filter-append, filter_passes}
 pub use Rattle.std.proofs.lemmas.List.Folds.{flat_map-map}
 pub use Rattle.std.proofs.lemmas.List.FromFn.{get_or-map-range_with_len, get_or-range_with_len, length-map-range_with_len, length-range_with_len}
-pub use Rattle.std.proofs.lemmas.List.FromFn.{map-range_with_len_more}
 pub use Rattle.std.proofs.lemmas.List.Sorted.{All-permutation, Contains-permutation, IsNonDecreasingBy-from_sort_by_key, IsPermutation-append_comm}
 pub use Rattle.std.proofs.lemmas.List.Sorted.{IsPermutation-append_left, IsPermutation-append_right, IsPermutation-filter_both, IsPermutation-map}
 pub use Rattle.std.proofs.lemmas.List.Sorted.{IsPermutation-refl, IsPermutation-sym, IsPermutation-trans, length_permutation, sum_by-IsPermutation}

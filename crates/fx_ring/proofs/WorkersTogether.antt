@@ -1,15 +1,15 @@
 -- What the workers of a submission did, taken together.
-use Rattle.fx_ring.proofs.Words.{◌≡◌, ℕ, ◌+◌, ◌-◌, ◌<◌, ◌≤◌, ◌==◌, true, List, [], map, flat_map, reverse, length, All, sum_by, count_by}
+use Rattle.fx_ring.proofs.Words.{◌≡◌, ℕ, ◌+◌, ◌-◌, ◌<◌, ◌≤◌, ◌==◌, true, List, [], map, flat_map, length, All, sum_by, count_by}
 use Rattle.fx_ring.proofs.Words.{slice_index_or, closed_by, filter, filter-append, refl, sym, ap, subst, ◌∙◌, arith, eqb, IsNonDecreasingBy}
 use Rattle.fx_ring.proofs.Words.{All-contains, IsPermutation-trans, length_permutation, FileEntry, IsInOrderOfMark, CloseListView, Closed, opening}
 use Rattle.fx_ring.proofs.Words.{Contents, state_of, IsLegal, action_of, part_of_chain, Event, ClosesTable, times_drawn, numbers_for, Opening}
-use Rattle.fx_ring.proofs.Words.{size_of, state_at, PassView, IsOfDrawnChains, some_times, part_of_drawn, sum_reverse, sum_map, Completed, Explains}
+use Rattle.fx_ring.proofs.Words.{size_of, state_at, PassView, IsOfDrawnChains, some_times, part_of_drawn, sum_map, Completed, Explains}
 use Rattle.fx_ring.proofs.Words.{first_member, Asked, runs_of, all_weights, ring_with, IsOneHistory, WorkerState, HasWorked, run_of_chain}
-use Rattle.fx_ring.proofs.Words.{completions_of_chain, Contains, IsPermutation, contains_map, contains_mapped, contains_reverse, contains_reversed}
+use Rattle.fx_ring.proofs.Words.{completions_of_chain, Contains, IsPermutation, contains_map, contains_mapped}
 use Rattle.fx_ring.proofs.Words.{each_all, range_with_len, flat_map-map, State, false}
 use Rattle.fx_ring.proofs.ClosesInParts.{closes_of, closes_by_key, closes_sum}
 use Rattle.fx_table.proofs.Chains.{in_part}
-use Rattle.fx_ring.proofs.NumberedParts.{number_within, one_part, all_parts, made_of_parts, parts_reversed, same_parts}
+use Rattle.fx_ring.proofs.NumberedParts.{number_within, one_part, all_parts, made_of_parts, same_parts}
 use Rattle.fx_ring.proofs.CompletionPlaces.{place_key}
 use Rattle.fx_ring.proofs.Rings.{ring_as}
 use Rattle.fx_ring.proofs.Parts.{few_by_key, none_kept}
@@ -36,18 +36,20 @@ none_of_chain c drawn xs own zero = none_kept (λ x. x.place.chain) c xs
 
 -- the workers of a submission have played all of its chains, and their passes have come back
 pub record HavePlayed (catalogue : List FileEntry) (submission : ℕ) (runs : List (List Asked)) (o : Opening) (crew : List WorkerState)
-    (passes : List PassView) (left : Contents) : Type 0 where
+    (left : Contents) : Type 0 where
   pub worked : All (HasWorked catalogue (size_of o) submission runs) crew
   pub told : All (λ w. w.pass.no_chains_left ≡ true) crew
   pub chains : o.chains ≡ length runs
   pub ends : o.lasts ≡ false
   pub short : All IsShort runs
-  pub are : passes ≡ reverse (map pass_of crew)
-  pub numbers : map number_of crew ≡ reverse (range_with_len 1 o.passes)
-  pub closing : ClosesTable o passes left
+  pub numbers : map number_of crew ≡ range_with_len 1 o.passes
+  pub closing : ClosesTable o (map pass_of crew) left
 
 module _ {catalogue : List FileEntry} {submission : ℕ} {runs : List (List Asked)} {o : Opening} {crew : List WorkerState}
-    {passes : List PassView} {left : Contents} (played : HavePlayed catalogue submission runs o crew passes left) where
+    {left : Contents} (played : HavePlayed catalogue submission runs o crew left) where
+  abbrev passes : List PassView
+  passes = map pass_of crew
+
   abbrev closing : ClosesTable o passes left
   closing = played.closing
 
@@ -55,11 +57,7 @@ module _ {catalogue : List FileEntry} {submission : ℕ} {runs : List (List Aske
   joined = flat_map completed_by crew
 
   worker_of : {v : PassView} → Contains passes v → (w : WorkerState) × Contains crew w × (v ≡ w.pass)
-  worker_of {v} h = contains_map pass_of crew v (contains_reverse (map pass_of crew) v (subst (λ (l : List PassView). Contains l v) played.are h))
-
-  view_of : {w : WorkerState} → Contains crew w → Contains passes w.pass
-  view_of {w} h = subst (λ (l : List PassView). Contains l w.pass) (sym played.are)
-      (contains_reversed (map pass_of crew) w.pass (contains_mapped pass_of crew w h))
+  worker_of {v} h = contains_map pass_of crew v h
 
   works : (w : WorkerState) → Contains crew w → HasWorked catalogue (size_of o) submission runs w
   works w h = All-contains (HasWorked catalogue (size_of o) submission runs) crew w played.worked h
@@ -71,7 +69,7 @@ module _ {catalogue : List FileEntry} {submission : ℕ} {runs : List (List Aske
       let w = worker_of a.1 in
       let number : e.pass ≡ w.0.pass.number = a.2 ∙ ap (λ (v : PassView). v.number) w.2 in
       let mine = in_part w.0.pass.number closing.history e h number in
-      (w.0, w.1, number, subst (λ (l : List Event). Contains l e) (closing.own w.0.pass (view_of w.1)) mine)
+      (w.0, w.1, number, subst (λ (l : List Event). Contains l e) (closing.own w.0.pass (contains_mapped pass_of crew w.0 w.1)) mine)
 
   pub events_inside : (e : Event) → Contains closing.history e → (1 ≤ e.chain) × (e.chain ≤ length runs)
   events_inside e h = let a = author_of h in drawn_inside (works a.0 a.1) ((works a.0 a.1).own e a.3)
@@ -87,9 +85,7 @@ module _ {catalogue : List FileEntry} {submission : ℕ} {runs : List (List Aske
       (w.0, w.1, subst (λ (v : PassView). Contains v.drawn c) w.2 given.2)
 
   once : (c : ℕ) → sum_by (λ w. times_drawn c w.pass) crew ≤ 1
-  once c =
-      let same = ap (sum_by (times_drawn c)) played.are in
-      omega (arith, same, sum_reverse (times_drawn c) (map pass_of crew), sum_map (times_drawn c) pass_of crew, closing.drawn_once c)
+  once c = omega (arith, sum_map (times_drawn c) pass_of crew, closing.drawn_once c)
 
   part_is : {c : ℕ} {w : WorkerState} → Contains crew w → Contains w.pass.drawn c
       → completions_of_chain c joined ≡ completions_of_chain c w.completions
@@ -100,7 +96,7 @@ module _ {catalogue : List FileEntry} {submission : ℕ} {runs : List (List Aske
 
   history_is : (c : ℕ) (w : WorkerState) → Contains crew w → Contains w.pass.drawn c → part_of_chain c closing.history ≡ part_of_chain c w.pass.own
   history_is c w h drew = part_of_drawn o passes left c w.pass closing
-      (λ v i. let u = worker_of i in subst IsOfDrawnChains (sym u.2) (works u.0 u.1).own) (view_of h) drew
+      (λ v i. let u = worker_of i in subst IsOfDrawnChains (sym u.2) (works u.0 u.1).own) (contains_mapped pass_of crew w h) drew
 
   abbrev pub ExplainsChain : ℕ → List Event → List Completed → Type 0
   ExplainsChain c h completions = Explains catalogue (size_of o) (first_member submission c) (run_of_chain runs c) (map action_of h) completions
@@ -125,16 +121,14 @@ module _ {catalogue : List FileEntry} {submission : ℕ} {runs : List (List Aske
       let part : ℕ → List Closed = λ k. closes_of (filter (λ e. e.pass == k) closing.history) in
       let all = each_all (λ e. (1 ≤ e.pass) × (e.pass < 1 + o.passes)) closing.history (λ e h.
       let a = author_of h in
-      let mine : Contains (reverse (range_with_len 1 o.passes)) a.0.pass.number =
+      let mine : Contains (range_with_len 1 o.passes) a.0.pass.number =
       subst (λ (l : List ℕ). Contains l a.0.pass.number) played.numbers (contains_mapped number_of crew a.0 a.1) in
-      let is = number_within o.passes (contains_reverse (range_with_len 1 o.passes) a.0.pass.number mine) in
+      let is = number_within o.passes mine in
       (omega (arith, a.2, is.0), omega (arith, a.2, is.1))) in
-      let by_pass = closes_by_key (λ e. e.pass) 1 o.passes closing.history all in
-      let back = parts_reversed part (range_with_len 1 o.passes) in
-      let of_crew : flat_map part (reverse (range_with_len 1 o.passes)) ≡ flat_map closed_by_worker crew =
+      let of_crew : flat_map part (range_with_len 1 o.passes) ≡ flat_map closed_by_worker crew =
       ap (flat_map part) (sym played.numbers) ∙ flat_map-map part number_of crew ∙ same_parts crew
-      (λ w h. ap closes_of (closing.own w.pass (view_of h)) ∙ sym (works w h).closed) in
-      subst (IsPermutation (closes_of closing.history)) of_crew (IsPermutation-trans _ _ _ by_pass back)
+      (λ w h. ap closes_of (closing.own w.pass (contains_mapped pass_of crew w h)) ∙ sym (works w h).closed) in
+      subst (IsPermutation (closes_of closing.history)) of_crew (closes_by_key (λ e. e.pass) 1 o.passes closing.history all)
 
   -- and no more than the requests weigh
   pub closes_weigh : length (flat_map closed_by_worker crew) ≤ sum_by all_weights runs
@@ -153,8 +147,8 @@ module _ {catalogue : List FileEntry} {submission : ℕ} {runs : List (List Aske
 
 -- the headline, once the completions are in order of place and the closes in order of mark
 pub one_history : {catalogue : List FileEntry} {submissions : ℕ} {requests : List Asked} {o : Opening} {crew : List WorkerState}
-    {passes : List PassView} {left : Contents} {sorted : List Completed} {closes : CloseListView} (registrations : ℕ)
-    → HavePlayed catalogue (submissions + 1) (runs_of requests) o crew passes left
+    {left : Contents} {sorted : List Completed} {closes : CloseListView} (registrations : ℕ)
+    → HavePlayed catalogue (submissions + 1) (runs_of requests) o crew left
     → IsPermutation (flat_map completed_by crew) sorted → IsNonDecreasingBy place_key sorted
     → IsPermutation (flat_map closed_by_worker crew) closes.files → IsInOrderOfMark closes.files
     → IsOneHistory (ring_with catalogue o.contents submissions registrations) requests

@@ -1,6 +1,6 @@
 pub mod Ring
 pub mod Tags
-pub mod Failing
+pub mod Calls
 pub mod Registration
 pub mod Slots
 pub mod Submission

@@ -1,8 +1,9 @@
 -- A ring whose table stays open between submissions of one worker.
-use Rattle.std.specs.Prelude.{◌≡◌, ℕ, false, zero, suc, ◌+◌, ◌-◌, ◌*◌, ◌≤◌, List, [], ◌∷◌, ◌++◌}
+use Rattle.std.specs.Prelude.{◌≡◌, ℕ, false, zero, suc, ◌+◌, ◌-◌, ◌*◌, ◌≤◌, List, []}
 use Rattle.std.specs.Global.{Vec}
 use Rattle.std.specs.Prelude.{map, replicate, vec_capacity}
 use Rattle.std.specs.Prelude.{length, All, Contains, Option, Some, None, IsPermutation}
+use Rattle.std.specs.List.{range_with_len}
 use Rattle.std.specs.List.Sorted.{IsNonDecreasingBy}
 use Rattle.fx_base.specs.Catalogue.{FileEntry}
 use Rattle.fx_base.specs.CloseListView.{CloseListView}
@@ -27,11 +28,6 @@ use Rattle.fx_ring.specs.Ring.{RingContents, HasClosed, IsAtRest, ring_with}
 use Rattle.fx_ring.specs.Submission.{IsOneHistory}
 use Rattle.fx_ring.specs.Work.{HasWorked, worker_state}
 
--- the list of what stands at the first so many places
-abbrev pub listed : {X : Type 0} → (ℕ → X) → ℕ → List X
-listed at zero = []
-listed at (suc n) = listed at n ++ at n ∷ []
-
 abbrev pub number_if : ℕ → Option File → Option ℕ
 number_if slot None = None
 number_if slot (Some f) = Some slot
@@ -43,9 +39,9 @@ node_if slot (Some f) = At slot f.identity
 -- a table of one thread with the files of a state
 abbrev pub table_with_files : State → Contents
 table_with_files st = record {
-  slots = listed (λ slot. number_if slot (st.at slot)) st.size;
+  slots = map (λ slot. number_if slot (st.at slot)) (range_with_len 0 st.size);
   range = st.range;
-  nodes = listed (λ slot. node_if slot (st.at slot)) st.size;
+  nodes = map (λ slot. node_if slot (st.at slot)) (range_with_len 0 st.size);
   holds = replicate st.size 0;
   numbers = st.size;
 }

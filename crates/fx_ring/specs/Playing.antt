@@ -1,13 +1,12 @@
 -- The play of a submission, and a worker between two of its chains.
 use Rattle.std.specs.Prelude.{◌≡◌, ◌+◌, ℕ, true, List, vec_capacity}
 use Rattle.fx_base.specs.Catalogue.{FileEntry}
-use Rattle.fx_table.specs.Opening.{Opening, size_of}
+use Rattle.fx_table.specs.Opening.{size_of}
 use Rattle.fx_table.specs.Pass.{PassView, IsIdle}
 use Rattle.fx_plain.specs.Contents.{Contents}
 use Rattle.fx_chain.specs.Completed.{all_completed}
 use Rattle.fx_chain.specs.Operation.{Asked, all_asked}
 use Rattle.fx_chain.specs.Runs.{runs_of}
-use Rattle.fx_chain.specs.declared.request.Request.{Request}
 use Rattle.fx_ring.specs.Work.{WorkerState, worker_state, HasWorked, HasRoom}
 use Rattle.fx_ring.specs.Ring.{ring_with}
 use Rattle.fx_ring.specs.Submission.{IsOneHistory, reported}
@@ -27,14 +26,6 @@ pub record Setting : Type 0 where
   pub size : ℕ
   pub submission : ℕ
   pub runs : List (List Asked)
-
-abbrev pub setting_of : List FileEntry → Opening → ℕ → List Request → Setting
-setting_of catalogue o submission requests = record {
-  catalogue = catalogue;
-  size = size_of o;
-  submission = submission;
-  runs = runs_of (all_asked requests);
-}
 
 -- its pass does nothing, and its chains have been played as they may be
 pub record IsBetweenChains {P : Type 0} (V : P → PassView) (Fits : P → Type 0) (s : Setting)
@@ -64,7 +55,12 @@ number_of_worker V w = (V w.pass).number
 abbrev pub setting : {T R G P : Type 0} {t : _} → Play T R G P t → Setting
 setting {t = t} p =
     let s = p.submission.now in
-    setting_of s.catalogue.now (t.opening p.table.now) (s.earlier + 1) s.requests.now
+    record {
+      catalogue = s.catalogue.now;
+      size = size_of (t.opening p.table.now);
+      submission = s.earlier + 1;
+      runs = runs_of (all_asked s.requests.now);
+    }
 
 -- the worker can play one more chain
 abbrev pub IsReadyFor : {T R G P : Type 0} {t : _} → Play T R G P t → Worker P → Type 0

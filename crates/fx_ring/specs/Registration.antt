@@ -1,5 +1,5 @@
--- What the calls between submissions refuse, and what they leave (io_uring_register(2); the order
--- of the refusals is this project's own).
+-- The refusals of the calls between submissions, and the rings that they leave
+-- (io_uring_register(2); the order of the refusals is this project's own).
 use Rattle.std.specs.Prelude.{ℕ, zero, suc, ◌+◌, ◌-◌, ◌==◌, ◌||◌, nat_le, nat_lt, Bool, ℤ, pos}
 use Rattle.std.specs.Prelude.{negsuc}
 use Rattle.std.specs.Prelude.{List, [], ◌∷◌, ◌++◌, length, slice_get, Option, Some, None}
@@ -17,8 +17,8 @@ use Rattle.fx_base.specs.Identity.{Identity}
 use Rattle.fx_base.specs.declared.open_file.Closed.{Closed}
 use Rattle.fx_chain.specs.Answers.{is_bad_entry}
 use Rattle.fx_plain.specs.declared.table.TheConstants.{MOST_SLOTS}
-use Rattle.fx_ring.specs.Failing.{FailsOnlyAs}
-use Rattle.fx_ring.specs.Ring.{ListsFiles, RingContents, RingState, new_ring, ring_of}
+use Rattle.fx_ring.specs.Calls.{FailsOnlyAs, ListsFiles}
+use Rattle.fx_ring.specs.Ring.{RingContents, RingState, new_ring, ring_of}
 use Rattle.fx_ring.specs.Tags.{are_bad_tags, tag_at}
 use Rattle.fx_ring.specs.declared.ring.TheConstants.{MOST_REGISTRATIONS}
 
@@ -33,7 +33,7 @@ abbrev pub counted_ring : List FileEntry → ℕ → ℕ → RingState
 counted_ring catalogue size registrations =
     record (new_ring catalogue) { size = size; registrations = registrations }
 
--- why a registration is refused, except when out of memory
+-- the reason to refuse a registration, memory aside
 abbrev pub register_refusal : RingState → List ℤ → List ℕ → Option Errno
 register_refusal ring list tags =
     if nat_lt 0 ring.size then Some EBUSY
@@ -43,7 +43,7 @@ register_refusal ring list tags =
     else if nat_le MOST_REGISTRATIONS ring.registrations then Some EAGAIN
     else None
 
--- why a registration of so many empty slots is refused
+-- the reason to refuse a registration of `n` empty slots, memory aside
 abbrev pub sparse_refusal : RingState → ℕ → Option Errno
 sparse_refusal ring n =
     if nat_lt 0 ring.size then Some EBUSY
@@ -51,15 +51,15 @@ sparse_refusal ring n =
     else if nat_lt MOST_SLOTS n then Some EMFILE
     else None
 
--- why a ring's table can't be unregistered
+-- the reason not to unregister a ring's table, memory aside
 abbrev pub unregister_refusal : RingState → Option Errno
 unregister_refusal ring = if ring.size == 0 then Some ENXIO else None
 
--- why an allocation range is refused
+-- the reason to refuse an allocation range
 abbrev pub range_refusal : RingState → ℕ → ℕ → Option Errno
 range_refusal ring off len = if nat_lt ring.size (off + len) then Some EINVAL else None
 
--- why an update is refused
+-- the reason to refuse an update, memory aside
 abbrev pub update_refusal : RingState → ℕ → List ℤ → List ℕ → Option Errno
 update_refusal ring off list tags =
     if ring.size == 0 then Some ENXIO

@@ -101,12 +101,6 @@ pub record HasClosed (files : List Closed) (closes : CloseListView) : Type 0 whe
   pub same_files : IsPermutation files closes.files
   pub in_order : IsInOrderOfMark closes.files
 
--- the list has exactly these files, in order of mark, all of the ring's catalogue
-pub record ListsFiles (ring : RingState) (files : List Closed) (closes : CloseListView)
-    : Type 0 where
-  pub closed : HasClosed files closes
-  pub entries : AreEntries ring closes.files
-
 -- what a ring with this catalogue and table keeps, with so much counted
 abbrev pub ring_with : List FileEntry → Contents → ℕ → ℕ → RingContents
 ring_with catalogue table submissions registrations = record {

@@ -1,41 +1,18 @@
 -- A submission: its completions come from one legal history of a sequential file table.
-use Rattle.std.specs.Prelude.{◌≡◌, ℕ, ◌+◌, ◌==◌, ◌||◌, ◌≤◌, nat_le, nat_lt, List, [], ◌∷◌}
-use Rattle.std.specs.Prelude.{◌++◌, length, map, Contains, Option, Some, None, if◌then◌else◌}
+use Rattle.std.specs.Prelude.{◌≡◌, ℕ, ◌+◌, ◌≤◌, List, [], ◌∷◌, ◌++◌, length, map, Contains}
 use Rattle.fx_base.specs.Catalogue.{FileEntry}
 use Rattle.fx_base.specs.CloseListView.{CloseListView}
 use Rattle.fx_plain.specs.State.{State, IsSettled, opening}
 use Rattle.fx_plain.specs.Contents.{state_of}
 use Rattle.fx_plain.specs.History.{IsLegal, part_of_chain, action_of, closes_in}
 use Rattle.fx_plain.specs.declared.event.Event.{Event}
-use Rattle.fx_table.specs.declared.limits.TheConstants.{MAX_PASSES}
 use Rattle.fx_table.specs.Numbers.{numbers_for}
 use Rattle.fx_chain.specs.Completed.{Completed, all_completed}
 use Rattle.fx_chain.specs.Explains.{Explains, first_member}
-use Rattle.fx_chain.specs.Faults.{fault_of}
 use Rattle.fx_chain.specs.Operation.{Asked}
 use Rattle.fx_chain.specs.Runs.{runs_of}
-use Rattle.fx_chain.specs.declared.fault.CutFault.{CutFault}
-use Rattle.fx_ring.specs.Ring.{RingContents, RingState, HasClosed, ring_of, with_table}
-use Rattle.fx_ring.specs.declared.ring.TheConstants.{MOST_SUBMISSIONS}
+use Rattle.fx_ring.specs.Ring.{RingContents, HasClosed, ring_of, with_table}
 use Rattle.fx_ring.specs.declared.report.Report.{Report}
-use Rattle.fx_ring.specs.declared.report.SubmitFault.{SubmitFault}
-use Rattle.fx_ring.specs.declared.report.SubmitFault.TheVariants.{Workers, Cut, TooMany}
-
--- the first request with a fault, or else what comes later
-abbrev pub or_later_fault : Option CutFault → Option SubmitFault → Option SubmitFault
-or_later_fault None later = later
-or_later_fault (Some fault) later = Some (Cut fault)
-
--- why a submission is refused after so many accepted ones, except when out of memory
-abbrev pub refusal_after : ℕ → List Asked → ℕ → Option SubmitFault
-refusal_after submissions requests workers =
-    if workers == 0 || nat_lt MAX_PASSES workers then Some Workers
-    else or_later_fault (fault_of requests)
-    (if nat_le MOST_SUBMISSIONS submissions then Some TooMany else None)
-
--- why a ring refuses a submission, except when out of memory
-abbrev pub submit_refusal : RingState → List Asked → ℕ → Option SubmitFault
-submit_refusal ring requests workers = refusal_after ring.submissions requests workers
 
 -- the completions are those of the chains from this one on, in order of place; each chain's are
 -- explained by the part of the history that is the chain's

@@ -59,7 +59,7 @@ pub record HasWorked (catalogue : List FileEntry) (size submission : ℕ) (runs 
   pub weighed : (c : ℕ) → Contains w.pass.drawn c
       → length (closes_in (map action_of (part_of_chain c w.pass.own)))
       ≤ all_weights (run_of_chain runs c)
-  -- those chains are of the submission, and none is behind the last one
+  -- those chains are of the submission, and none is after the last one
   pub inside : (c : ℕ) → Contains w.pass.drawn c → (1 ≤ c) × (c ≤ w.pass.chain)
   pub reached : w.pass.chain ≤ length runs
   -- all that it did, and each of its completions, is of a chain that it drew
@@ -68,14 +68,14 @@ pub record HasWorked (catalogue : List FileEntry) (size submission : ℕ) (runs 
   -- its closes are the files that its pass closed
   pub closed : w.closes.files ≡ closes_in (map action_of w.pass.own)
 
--- how many requests the chains behind this one have, and how many files those may close
+-- the number of requests of the chains after this one, and of files that these may close
 abbrev pub requests_behind : List (List Asked) → ℕ → ℕ
 requests_behind runs chain = sum_by (λ run. length run) (drop chain runs)
 
 abbrev pub weights_behind : List (List Asked) → ℕ → ℕ
 weights_behind runs chain = sum_by all_weights (drop chain runs)
 
--- What is left to a worker suffices for the chains behind its last one
+-- the worker has room left for the chains after its last one
 pub record HasRoom (runs : List (List Asked)) (w : WorkerState) (capacity : ℕ) : Type 0 where
   pub looks : requests_behind runs w.pass.chain ≤ w.pass.looks_left
   pub completions : length w.completions + requests_behind runs w.pass.chain ≤ capacity

@@ -1,12 +1,12 @@
 //! The crew of a submission: its workers are made of passes before they play, and taken apart
 //! afterwards.
-ghost use Rattle.std.specs.Prelude.{◌≡◌, ◌≤◌, [], length, map, reverse, IfOk, vec_capacity};
+ghost use Rattle.std.specs.Prelude.{◌≡◌, ◌≤◌, [], length, map, IfOk, vec_capacity};
 ghost use Rattle.fx_chain.specs.Accepted.{IsAccepted};
 ghost use Rattle.fx_chain.specs.Operation.{all_asked};
 ghost use Rattle.fx_ring.specs.Outcomes.{HasRoomForCrew};
 
 use crate::outcome::Outcome;
-use crate::worker::Worker;
+use crate::worker::{Spacing, Worker};
 use fx_base::NoMemory;
 use fx_chain::Request;
 use std::alloc::Global;
@@ -60,14 +60,15 @@ pub(crate) fn gather<P>(passes: &mut Vec<P>, outcomes: &mut Vec<Outcome>, crew: 
     ensures none_left { (passes.new.items ≡ []) × (outcomes.new.items ≡ []) }
     ensures passes_room { vec_capacity passes.new ≡ vec_capacity passes.old }
     ensures outcomes_room { vec_capacity outcomes.new ≡ vec_capacity outcomes.old }
-    ensures passes { map (λ w. w.pass) crew.new.items ≡ reverse passes.old.items }
-    ensures outcomes { map (λ w. w.outcome) crew.new.items ≡ reverse outcomes.old.items }
+    ensures passes { map (λ w. w.pass) crew.new.items ≡ passes.old.items }
+    ensures outcomes { map (λ w. w.outcome) crew.new.items ≡ outcomes.old.items }
 {
-    while let Some(pass) = passes.pop() {
-        let Some(outcome) = outcomes.pop() else {
-            unreachable!()
-        };
-        crew.push_reserved(Worker::new(pass, outcome));
+    while !passes.is_empty() {
+        crew.push_reserved(Worker {
+            pass: passes.remove(0),
+            outcome: outcomes.remove(0),
+            spacing: Spacing { unused: [0; 8] },
+        });
     }
 }
 
@@ -81,15 +82,15 @@ pub(crate) fn scatter<P>(
     requires passes_room { length crew.old.items ≤ vec_capacity passes.old }
     requires outcomes_room { length crew.old.items ≤ vec_capacity outcomes.old }
     ensures none_left { crew.new.items ≡ [] }
-    ensures passes { passes.new.items ≡ reverse (map (λ w. w.pass) crew.old.items) }
-    ensures outcomes { outcomes.new.items ≡ reverse (map (λ w. w.outcome) crew.old.items) }
+    ensures passes { passes.new.items ≡ map (λ w. w.pass) crew.old.items }
+    ensures outcomes { outcomes.new.items ≡ map (λ w. w.outcome) crew.old.items }
 {
-    while let Some(worker) = crew.pop() {
+    while !crew.is_empty() {
         let Worker {
             pass,
             outcome,
             spacing: _,
-        } = worker;
+        } = crew.remove(0);
         passes.push_reserved(pass);
         outcomes.push_reserved(outcome);
     }

@@ -1,5 +1,5 @@
 //! The completions and closes of a submission's chains, of one worker or of all.
-ghost use Rattle.std.specs.Prelude.{◌≡◌, ◌+◌, ◌*◌, ◌≤◌, [], length, flat_map, sum_by, reverse, All, IfOk, IsPermutation, vec_capacity};
+ghost use Rattle.std.specs.Prelude.{◌≡◌, ◌+◌, ◌*◌, ◌≤◌, [], length, flat_map, sum_by, All, IfOk, IsPermutation, vec_capacity};
 ghost use Rattle.std.specs.List.Sorted.{IsNonDecreasingBy};
 ghost use Rattle.fx_base.specs.CloseList.{IsInOrderOfMark};
 ghost use Rattle.fx_chain.specs.Accepted.{IsAccepted};
@@ -82,21 +82,18 @@ impl Outcome {
         requires closes { sum_by (λ other. length other.closes.files) others.items
             ≤ self.closes.room }
         ensures completions { result.completions.items
-            ≡ flat_map (λ other. other.completions.items) (reverse others.items) }
+            ≡ flat_map (λ other. other.completions.items) others.items }
         ensures closes { result.closes.files
-            ≡ flat_map (λ other. other.closes.files) (reverse others.items) }
+            ≡ flat_map (λ other. other.closes.files) others.items }
     {
         if others.len() == 1 {
-            let Some(only) = others.pop() else {
-                unreachable!()
-            };
-            return only;
+            return others.remove(0);
         }
-        while let Some(other) = others.pop() {
+        while !others.is_empty() {
             let Outcome {
                 mut completions,
                 closes,
-            } = other;
+            } = others.remove(0);
             self.completions.append(&mut completions).unwrap();
             self.closes.append(closes);
         }

@@ -3,8 +3,8 @@ ghost use Rattle.std.specs.Prelude.{◌≡◌, ◌<◌, ◌≤◌, false, length
 ghost use Rattle.fx_base.specs.declared.errno.Errno.TheVariants.{ENOMEM};
 ghost use Rattle.std.specs.List.{list_any};
 ghost use Rattle.fx_chain.specs.Answers.{is_bad_entry};
-ghost use Rattle.fx_ring.specs.Ring.{ListsFiles, files_of_ring, ring_of, without_table};
-ghost use Rattle.fx_ring.specs.Failing.{FailsOnlyAs};
+ghost use Rattle.fx_ring.specs.Ring.{files_of_ring, ring_of, without_table};
+ghost use Rattle.fx_ring.specs.Calls.{FailsOnlyAs, ListsFiles};
 ghost use Rattle.fx_ring.specs.Registration.{Registers, Updates, is_bad_file, range_refusal, register_refusal, registered_sparse, sparse_refusal, unregister_refusal, update_refusal};
 ghost use Rattle.fx_ring.specs.Tags.{no_tags, tags_for};
 
@@ -17,13 +17,6 @@ use std::alloc::Global;
 use std::mem;
 
 impl Ring {
-    // Returns the reason to refuse a table of `n` slots.
-    fn sparse_refusal(&self, n: usize) -> Option<Errno>
-        ensures { result ≡ sparse_refusal (ring_of self.now) n }
-    {
-        sparse_refusal(self.table.size() as usize, n)
-    }
-
     // Returns the reason to refuse a registration of the list with its tags, if any are given.
     fn register_refusal(&self, list: &[i32], tags: Option<&[u64]>) -> Option<Errno>
         ensures value { result ≡ register_refusal (ring_of self.now) list.now
@@ -137,7 +130,7 @@ impl Ring {
         ensures ok { OnOk result (ring_of self.new ≡ registered_sparse (ring_of self.old) n) }
         ensures err { OnErr result (self.new ≡ self.old) }
     {
-        if let Some(errno) = self.sparse_refusal(n as usize) {
+        if let Some(errno) = sparse_refusal(self.table.size() as usize, n as usize) {
             return Err(errno);
         }
         let Ok(table) = PlainTable::sparse(alloc, n) else {

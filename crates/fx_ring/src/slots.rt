@@ -36,7 +36,7 @@ pub(crate) fn clear_slot(table: &mut PlainTable, slot: u32, closes: &mut CloseLi
     requires room { length (option_to_list (files_at (state_of table.old) slot)) ≤ closes.old.room }
     ensures set { SetsSlot (state_of table.old) (state_of table.new) slot None
         closes.old closes.new }
-    ensures fresh { (state_of table.new).fresh ≡ (state_of table.old).fresh }
+    ensures fresh { (other : ℕ) → (state_of table.new).fresh other ≡ (state_of table.old).fresh other }
 {
     let removed = table.clear(slot);
     close_removed(table, removed, closes);

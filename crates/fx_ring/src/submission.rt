@@ -6,12 +6,12 @@ ghost use Rattle.fx_table.specs.Opening.{IsGivenBack};
 ghost use Rattle.fx_table.specs.Pass.{IsIdle, new_passes};
 ghost use Rattle.fx_table.specs.declared.limits.TheConstants.{MAX_PASSES};
 ghost use Rattle.fx_chain.specs.Operation.{all_asked};
-ghost use Rattle.fx_ring.specs.Failing.{FailsOnlyAs};
+ghost use Rattle.fx_ring.specs.Calls.{FailsOnlyAs, refusal_after, submit_refusal};
 ghost use Rattle.fx_ring.specs.Outcomes.{HasRoomForCrew};
 ghost use Rattle.fx_ring.specs.Ring.{AreEntries, ring_of};
 ghost use Rattle.fx_ring.specs.Playing.{IsPlayOf};
 ghost use Rattle.fx_ring.specs.Work.{AreCutInto, InstallAtMost};
-ghost use Rattle.fx_ring.specs.Submission.{IsOneHistory, refusal_after, reported, submit_refusal};
+ghost use Rattle.fx_ring.specs.Submission.{IsOneHistory, reported};
 ghost use Rattle.fx_ring.specs.declared.report.SubmitFault.TheVariants.{NoMemory as Refused};
 
 use crate::crew::{Room, gather, scatter};

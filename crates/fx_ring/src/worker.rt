@@ -22,20 +22,7 @@ pub(crate) struct Worker<P> {
 // The padding between a worker and the next one.
 #[derive(Drop)]
 pub(crate) struct Spacing {
-    unused: [u64; 8],
-}
-
-impl<P> Worker<P> {
-    pub(crate) fn new(pass: P, outcome: Outcome) -> Worker<P>
-        ensures pass { result.pass ≡ pass }
-        ensures outcome { result.outcome ≡ outcome }
-    {
-        Worker {
-            pass,
-            outcome,
-            spacing: Spacing { unused: [0; 8] },
-        }
-    }
+    pub(crate) unused: [u64; 8],
 }
 
 // Plays the chains that the worker's pass draws.

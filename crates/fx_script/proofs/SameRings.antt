@@ -1,5 +1,5 @@
 -- The output of a command on a ring is that on a ring that shows the same.
-use Rattle.fx_script.proofs.Words.{◌≡◌, ℕ, pos, List, [], ◌∷◌, length, sym, subst, ◌∙◌, Option, Some, None, Bool, true, false, nat_le, inl, inr}
+use Rattle.fx_script.proofs.Words.{◌≡◌, ℕ, pos, List, length, sym, subst, Option, Some, None, Bool, true, false, nat_le}
 use Rattle.fx_script.proofs.Words.{codes, Asked, RingContents, RingState, files_of_ring, ring_of, without_table, Instruction, MakesSparse, RegistersList}
 use Rattle.fx_script.proofs.Words.{Unregisters, SetsRange, UpdatesRing, SubmitsAll, CallAnswers, IsCallRefused, Prints, PrintsClosed, PrintsReport}
 use Rattle.std.specs.Bool.{MatchBool}

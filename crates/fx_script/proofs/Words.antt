@@ -1,5 +1,5 @@
 -- The names that several proofs of this crate use.
-pub use Rattle.fx_chain.specs.Operation.{Asked, all_asked}
+pub use Rattle.fx_chain.specs.Operation.{Asked}
 pub use Rattle.fx_language.specs.Instruction.{Instruction, MakesSparse, RegistersList, SetsRange, SubmitsAll, Unregisters, UpdatesRing}
 pub use Rattle.fx_language.specs.Instruction.{instruction_of, instructions_of}
 pub use Rattle.fx_language.specs.declared.limits.TheConstants.{LONGEST_SCRIPT}
@@ -10,9 +10,9 @@ pub use Rattle.fx_script.specs.Run.{IsInput, IsInputFault, IsPlayFault, Writes}
 pub use Rattle.fx_script.specs.declared.play_fault.PlayFault.{PlayFault}
 pub use Rattle.fx_table.specs.declared.limits.TheConstants.{CHAIN_NUMBERS, MAX_CHAINS}
 pub use Rattle.std.proofs.Common.{Bool, List, None, Option, Some, [], ap, append_assoc, arith, codes, drop, false, inl, inr, length, length-append}
-pub use Rattle.std.proofs.Common.{length-drop, nat_le, nat_lt, pos, refl, rules, slice_index_or, string_bytes, subst, suc, sym, take, true, zero, ℕ}
+pub use Rattle.std.proofs.Common.{nat_le, nat_lt, pos, refl, rules, slice_index_or, string_bytes, subst, suc, sym, take, true, zero, ℕ}
 pub use Rattle.std.proofs.Common.{◌++◌, ◌+◌, ◌-◌, ◌<◌, ◌∙◌, ◌∷◌, ◌≡◌, ◌≤◌}
-pub use Rattle.std.proofs.lemmas.List.{append-nil, length-take, map-append, take-append-drop, take_all, take_rest}
+pub use Rattle.std.proofs.lemmas.List.{append-nil, length-take, map-append, take-append-drop, take_all}
 pub use Rattle.std.proofs.lemmas.Result.{IfErr-weaker, IfOk-weaker, err_from_is_err_and, on_ok_weaker}
 pub use Rattle.std.specs.Io.KnownBytes.{Appends, Consumes, IsAtEnd}
 pub use Rattle.std.specs.Prelude.{Err, IfErr, IfOk, IfSome, Ok, Result}

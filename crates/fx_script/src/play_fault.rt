@@ -3,9 +3,8 @@ ghost use Rattle.std.specs.Prelude.{◌≡◌};
 ghost use Rattle.fx_script.specs.RunView.{fault_told};
 ghost use Rattle.fx_script.specs.declared.play_fault.PlayFault.TheVariants.{NoMemory};
 
-use fx_base::NoMemory;
 use fx_language::{ScriptError, ScriptFault};
-use std::alloc::{AllocError, AllocFailed};
+use std::alloc::AllocError;
 use thiserror::Error;
 
 /// The reason why a run ended early (this project's own). Its text is what the program prints.
@@ -30,26 +29,10 @@ pub enum PlayFault {
     NoMemory,
 }
 
-impl From<NoMemory> for PlayFault {
-    ghost from_gives = { λ _ e. e ≡ NoMemory };
-
-    fn from(_refused: NoMemory) -> PlayFault {
-        PlayFault::NoMemory
-    }
-}
-
 impl From<AllocError> for PlayFault {
     ghost from_gives = { λ _ e. e ≡ NoMemory };
 
     fn from(_refused: AllocError) -> PlayFault {
-        PlayFault::NoMemory
-    }
-}
-
-impl<T: Drop> From<AllocFailed<T>> for PlayFault {
-    ghost from_gives = { λ _ e. e ≡ NoMemory };
-
-    fn from(_refused: AllocFailed<T>) -> PlayFault {
         PlayFault::NoMemory
     }
 }

@@ -3,19 +3,12 @@ use Rattle.fx_ring.proofs.ListSteps.{all_applied, none_applied, room_next, appli
 use Rattle.fx_ring.proofs.Rings.{opening_files}
 use Rattle.fx_ring.proofs.list.apply_list.Goals as goal
 
-pub apply_number-requires : goal.apply_number-requires
-apply_number-requires c =
-    let done = c.loop-i.invariant.applied in
-    let inside = c.loop-i-test.true in
-    record {
-      place = inside;
-      settled = done.settled;
-      slots = omega (arith, done.size, c.requires.slots);
-      few_slots = omega (arith, done.size, c.size-first.ensures.few, c.size-first.ensures.value);
-      few = omega (arith, c.size-first.ensures.few);
-      fresh = c.loop-i.invariant.fresh (c.size-first.result + c.loop-i.i) (omega arith) (omega (arith, inside));
-      room = room_next inside done c.requires.room;
-    }
+pub apply_number-requires-clause-fresh : goal.apply_number-requires-clause-fresh
+apply_number-requires-clause-fresh c =
+    c.loop-i.invariant.fresh (c.size-first.result + c.loop-i.i) (omega arith) (omega (arith, c.loop-i-test.true))
+
+pub apply_number-requires-clause-room : goal.apply_number-requires-clause-room
+apply_number-requires-clause-room c = room_next c.loop-i-test.true c.loop-i.invariant.applied c.requires.room
 
 pub loop-i-preserved : goal.loop-i-preserved
 loop-i-preserved c = record {

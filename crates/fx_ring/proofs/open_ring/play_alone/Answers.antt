@@ -1,4 +1,4 @@
-use Rattle.fx_ring.proofs.Words.{◌≡◌, ◌+◌, ◌-◌, ◌≤◌, [], length, arith, sym, ap, subst, Some, PassView, all_asked, runs_of, asked_of, length-map, Reported}
+use Rattle.fx_ring.proofs.Words.{◌≡◌, ◌+◌, ◌-◌, ◌≤◌, [], length, arith, sym, ap, subst, Some, PassView, all_asked, runs_of, Reported}
 use Rattle.fx_ring.proofs.Words.{IsOneHistory, IsSettledSoFar, ring_led_by}
 use Rattle.fx_ring.proofs.NewCrew.{few_of_chains}
 use Rattle.fx_ring.proofs.Runs.{as_many, runs_within}

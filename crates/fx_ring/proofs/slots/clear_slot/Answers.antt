@@ -1,4 +1,4 @@
-use Rattle.fx_ring.proofs.Words.{refl, ap, None, State, state_of, leaving}
+use Rattle.fx_ring.proofs.Words.{ℕ, refl, ap, None, State, state_of, leaving}
 use Rattle.fx_ring.proofs.Removals.{can_retire, removed_and_closed}
 use Rattle.fx_ring.proofs.slots.clear_slot.Goals as goal
 
@@ -11,4 +11,4 @@ pub returns : goal.returns
 returns c =
     let left = removed_and_closed None _ c.close_removed.new.closes c.requires.settled refl c.clear-removed.ensures.answer
     c.clear-removed.ensures.step.1 c.close_removed.ensures.steps c.close_removed.ensures.files c.close_removed.ensures.room in
-    record { set = left.0; fresh = left.1 }
+    record { set = left.0; fresh = λ other. ap (λ (g : ℕ → _). g other) left.1 }

@@ -1,11 +1,11 @@
 use Rattle.fx_ring.proofs.Words.{◌+◌, List, length, sym, ap, subst, ◌∙◌, arith, PassView, IsIdle, all_asked, runs_of, Completed, all_completed}
-use Rattle.fx_ring.proofs.Words.{HasRoomFor, ring_with, IsOneHistory, Reported, Worker, Completion, CloseListView, Closed, map, IsPermutation}
-use Rattle.fx_ring.proofs.Words.{accepted-length, PASS_LOOKS}
-use Rattle.fx_ring.proofs.NewCrew.{IsNew, all_gathered, all_scattered, all_new, numbers_are, as_many_passes, new_has_worked, new_has_room, runs_have_all}
+use Rattle.fx_ring.proofs.Words.{HasRoomFor, ring_with, IsOneHistory, Reported, Worker, Completion, CloseListView, Closed, IsPermutation}
+use Rattle.fx_ring.proofs.Words.{accepted-length, ClosesTable, PASS_LOOKS}
+use Rattle.fx_ring.proofs.NewCrew.{IsNew, all_gathered, all_new, numbers_are, as_many_passes, new_has_worked, new_has_room, runs_have_all}
 use Rattle.fx_ring.proofs.NewCrew.{runs_weigh_all}
 use Rattle.fx_ring.proofs.WorkersTogether.{HavePlayed, number_of, one_of_each, closes_weigh, one_history}
 use Rattle.fx_ring.proofs.PlayedCrew.{states, scattered_views, completions_joined, files_joined, as_many_completions, as_many_files}
-use Rattle.fx_ring.proofs.Words.{◌≡◌, true, All-map, All-weaker, HasWorked, IsShortRun, map-map, size_of, state_of_worker}
+use Rattle.fx_ring.proofs.Words.{◌≡◌, true, All, All-map, All-weaker, HasWorked, IsShortRun, map-map, size_of, state_of_worker}
 use Rattle.fx_ring.proofs.PartsExplained.{IsShort}
 use Rattle.fx_ring.proofs.Runs.{as_many, runs_within}
 use Rattle.fx_ring.proofs.submission.play_open.Given.{Over}
@@ -39,8 +39,9 @@ work_crew-requires-clause-ready g c κs within =
 
 pub close-left-requires-clause-ready : goal.close-left-requires-clause-ready
 close-left-requires-clause-ready g c =
-    all_scattered (λ p. g.T.SharedTable.fits c.args.table p × IsIdle (g.T.SharedTable.view p)) _ _ _ c.scatter.ensures.passes
-    (λ k d l. let is = (c.work_crew.ensures.done k d l).between in (is.fits, is.idle))
+    let Ready : g.row.T-Pass.Denot → Type 0 = λ p. g.T.SharedTable.fits c.args.table p × IsIdle (g.T.SharedTable.view p) in
+    subst (All Ready) (sym c.scatter.ensures.passes)
+    (All-map Ready (λ w. w.pass) _ (λ k d l. let is = (c.work_crew.ensures.done k d l).between in (is.fits, is.idle)))
 
 -- the crew has played, and its passes are back
 module _ (g : Over) (c : After-close-left g) where
@@ -51,7 +52,7 @@ module _ (g : Over) (c : After-close-left g) where
   ws = c.work_crew.new.crew.items
 
   played : HavePlayed c.args.submission.now.catalogue.now (c.args.submission.now.earlier + 1) (runs_of (all_asked c.args.submission.now.requests.now))
-      (g.T.SharedTable.opening c.args.table) (states V ws) (map V c.scatter.new.passes.items) c.close-left.result
+      (g.T.SharedTable.opening c.args.table) (states V ws) c.close-left.result
   played =
       let s = c.args.submission.now in
       let o = g.T.SharedTable.opening c.args.table in
@@ -63,10 +64,10 @@ module _ (g : Over) (c : After-close-left g) where
         chains = c.requires.chains ∙ sym (as_many s.cut);
         ends = (g.met.T.FileTable g.world.𝓛 g.world.𝓜 g.world.𝓡 ((λ s x. x), (λ x. x), (λ x. x), λ x. x)).ends c.args.table;
         short = All-weaker IsShortRun IsShort (λ run is. is.members) runs (runs_within s.cut);
-        are = scattered_views V ws c.scatter.ensures.passes;
         numbers = map-map number_of (state_of_worker V) ws ∙ (c.work_crew.ensures.numbers
             ∙ numbers_are V c.args.passes.items o.passes c.requires.new c.gather.new.crew.items c.gather.ensures.passes);
-        closing = c.close-left.ensures;
+        closing = subst (λ (l : List PassView). ClosesTable o l c.close-left.result) (scattered_views V ws c.scatter.ensures.passes)
+            c.close-left.ensures;
       }
 
 pub joined-all-requires-clause-completions : goal.joined-all-requires-clause-completions

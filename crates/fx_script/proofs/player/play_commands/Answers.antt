@@ -1,4 +1,4 @@
-use Rattle.fx_script.proofs.Words.{rules, ◌<◌, length, arith, string_bytes, ring_of, PrintsEnd, IfErr-weaker, on_ok_weaker}
+use Rattle.fx_script.proofs.Words.{rules, string_bytes, ring_of, PrintsEnd, IfErr-weaker, on_ok_weaker}
 use Rattle.fx_script.proofs.PlaySteps.{one_more, ends, fails, text_written, known_ok}
 use Rattle.fx_script.proofs.player.play_commands.Goals as goal
 
