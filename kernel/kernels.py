@@ -11,7 +11,7 @@ from typing import NamedTuple
 from model import CHAINS, REGISTRATIONS, SUBMISSIONS, Script, play
 from orders import TooManyOrders, ending_of
 from programs import LEGAL, NOT_LEGAL, UNDECIDED, run, verdict
-from repository import BUILD, ROOT, read, write
+from repository import BUILD, ROOT, read
 from rules import Linux
 
 PLAYER = os.path.join(BUILD, "play-on-kernel")
@@ -103,11 +103,3 @@ def text_of_kernel(player, text, nth, seconds=120):
     the kernel, so that chains run beside each other."""
     status, written, complaint = run([player, *(["--async"] if nth % 2 else [])], text, seconds)
     return None if status or complaint else written
-
-
-def keep(name, text, written):
-    """Keeps a failed script and its text. Returns their paths, which are relative below this folder."""
-    paths = [os.path.join(BUILD, f"{os.path.basename(name)}.{ending}") for ending in ("script", "text")]
-    for path, content in zip(paths, (text, written)):
-        write(path, content)
-    return [os.path.relpath(it, ROOT) if it.startswith(ROOT) else it for it in paths]

@@ -1,6 +1,7 @@
 """Runs programs, asks fixcheck, and builds the C code that is preloaded."""
 import concurrent.futures
 import contextlib
+import multiprocessing
 import os
 import resource
 import subprocess
@@ -33,6 +34,12 @@ def in_parallel(function, cases):
     """Returns the function's result for each case, in their order. Several run at a time."""
     with concurrent.futures.ThreadPoolExecutor(os.cpu_count()) as pool:
         return list(pool.map(function, cases))
+
+
+def in_processes(function, cases, each):
+    """Yields the function's result for each case, in their order. Several processes take `each` cases at a time."""
+    with concurrent.futures.ProcessPoolExecutor(os.cpu_count(), multiprocessing.get_context("fork")) as pool:
+        yield from pool.map(function, cases, chunksize=each)
 
 
 def difference(found, wanted):

@@ -33,6 +33,14 @@ def write(path, content):
         file.write(content if isinstance(content, bytes) else content.encode())
 
 
+def keep(name, script, text):
+    """Keeps a script and its text, on which something was found wrong. Returns their paths, which are relative below this folder."""
+    paths = [os.path.join(BUILD, f"{os.path.basename(name)}.{ending}") for ending in ("script", "text")]
+    for path, content in zip(paths, (script, text)):
+        write(path, content)
+    return [os.path.relpath(it, ROOT) if it.startswith(ROOT) else it for it in paths]
+
+
 def scripts_of(*folders):
     """The scripts of these folders, each with its path from the top, in the order of the paths."""
     found = (glob.glob(f"{folder}/*.script", root_dir=ROOT) for folder in folders)

@@ -1,8 +1,6 @@
 //! The proved table that never has to be closed, by the Rust crate of this project.
-use crate::table::{read_entry, File, Shape, Table};
+use crate::table::{read_entry, File, Shape, Table, FILE};
 use yachtbanyan::{Options, Worker};
-
-const FILE: File = File { entry: 0, mark: 0 };
 
 /// A table of the crate. Its allocation range is all its slots.
 pub struct Lasting(yachtbanyan::Table<File>);

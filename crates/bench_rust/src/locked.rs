@@ -1,5 +1,5 @@
 //! The same table with a lock of std. Each call takes the lock on its own.
-use crate::table::{read_entry, File, Shape, Table};
+use crate::table::{read_entry, File, Shape, Table, FILE};
 use std::hint::black_box;
 use std::sync::Mutex;
 
@@ -85,7 +85,7 @@ impl Table for Locked {
             ..
         } = shape;
         let mut nodes = Vec::with_capacity(slots + threads * installs);
-        nodes.extend((0..full).map(|_| Node::new(File { entry: 0, mark: 0 })));
+        nodes.extend((0..full).map(|_| Node::new(FILE)));
         let slots = (0..slots).map(|n| (n < full).then_some(n)).collect();
         Locked(Mutex::new(Plain { slots, nodes }))
     }

@@ -1,50 +1,48 @@
 //! The same table on arc-swap, with two kinds of look-up, and on crossbeam-epoch.
-use crate::table::{read_entry, File, Shape, Table};
+use crate::table::{read_entry, File, Line, Shape, Table, FILE};
 use arc_swap::ArcSwapOption;
 use crossbeam_epoch::{self as epoch, Atomic, Owned};
 use std::sync::atomic::Ordering::SeqCst;
 use std::sync::Arc;
 
-/// A cache line of its own, as a slot's words have.
-#[repr(align(64))]
-pub struct Line<T>(T);
-
-const FILE: File = File { entry: 0, mark: 0 };
-
-/// A table whose look-up is `load`: a guard. A thread has eight of them at once; a further one costs as much as
+/// A table on arc-swap. With `FULL` its look-up is `load_full`: an `Arc` of its own, which lives as long as its user needs
+/// it, as a hold does. Otherwise it is `load`: a guard. A thread has eight of them at once; a further one costs as much as
 /// `load_full`.
-pub struct Guards(Vec<Line<ArcSwapOption<File>>>);
+pub struct Swaps<const FULL: bool>(Vec<Line<ArcSwapOption<File>>>);
 
-/// A table whose look-up is `load_full`: an `Arc` of its own, which lives as long as its user needs it, as a hold does.
-pub struct Arcs(Guards);
+impl<const FULL: bool> Swaps<FULL> {
+    #[inline(always)]
+    fn with_entry(&self, slot: usize, read: impl FnOnce(u8)) {
+        let slot = &self.0[slot].0;
+        if FULL {
+            if let Some(file) = slot.load_full() {
+                read(file.entry);
+            }
+        } else if let Some(file) = &*slot.load() {
+            read(file.entry);
+        }
+    }
+}
 
-impl Table for Guards {
+impl<const FULL: bool> Table for Swaps<FULL> {
     type Pass = ();
 
-    fn open(shape: Shape) -> Guards {
+    fn open(shape: Shape) -> Self {
         let file = |n| (n < shape.full).then(|| Arc::new(FILE));
-        Guards(
-            (0..shape.slots)
-                .map(|n| Line(ArcSwapOption::new(file(n))))
-                .collect(),
-        )
+        let line = |n| Line(ArcSwapOption::new(file(n)));
+        Swaps((0..shape.slots).map(line).collect())
     }
 
     fn pass(&self, _: usize) {}
 
     fn look(&self, _: &mut (), slot: usize) -> u64 {
-        self.0[slot]
-            .0
-            .load()
-            .as_ref()
-            .map_or(0, |file| u64::from(file.entry))
+        let mut found = 0;
+        self.with_entry(slot, |entry| found = u64::from(entry));
+        found
     }
 
     fn read(&self, _: &mut (), slot: usize, catalogue: &[Vec<u8>], into: &mut Vec<u8>) {
-        let file = self.0[slot].0.load();
-        if let Some(file) = &*file {
-            read_entry(catalogue, file.entry, into);
-        }
+        self.with_entry(slot, |entry| read_entry(catalogue, entry, into));
     }
 
     fn put(&self, _: &mut (), slot: usize, file: File) {
@@ -64,39 +62,6 @@ impl Table for Guards {
 
     fn take(&self, _: &mut (), slot: usize) {
         drop(self.0[slot].0.swap(None));
-    }
-}
-
-impl Table for Arcs {
-    type Pass = ();
-
-    fn open(shape: Shape) -> Arcs {
-        Arcs(Guards::open(shape))
-    }
-
-    fn pass(&self, _: usize) {}
-
-    fn look(&self, _: &mut (), slot: usize) -> u64 {
-        let file = self.0 .0[slot].0.load_full();
-        file.map_or(0, |file| u64::from(file.entry))
-    }
-
-    fn read(&self, _: &mut (), slot: usize, catalogue: &[Vec<u8>], into: &mut Vec<u8>) {
-        if let Some(file) = self.0 .0[slot].0.load_full() {
-            read_entry(catalogue, file.entry, into);
-        }
-    }
-
-    fn put(&self, pass: &mut (), slot: usize, file: File) {
-        self.0.put(pass, slot, file);
-    }
-
-    fn put_any(&self, pass: &mut (), file: File) -> Option<usize> {
-        self.0.put_any(pass, file)
-    }
-
-    fn take(&self, pass: &mut (), slot: usize) {
-        self.0.take(pass, slot);
     }
 }
 

@@ -55,12 +55,10 @@ fn printed() -> String {
     text
 }
 
-/// Returns the seconds that a proved table, "lasting" or "counted", needs for the row with this name, on `threads`
+/// Returns the seconds that a proved table, "lasting" or "counted", needs for the row of these words, on `threads`
 /// threads. Nothing else uses the environment or standard output meanwhile.
 pub fn time(table: &str, row: &str, threads: usize) -> f64 {
-    env::set_var("TABLE_BENCH_TABLE", table);
-    env::set_var("TABLE_BENCH_ROW", row);
-    env::set_var("TABLE_BENCH_THREADS", threads.to_string());
+    env::set_var("TABLE_BENCH_ROW", format!("{table} {row} {threads}"));
     let nanoseconds: f64 = printed().trim().parse().expect("nanoseconds");
     nanoseconds / 1e9
 }

@@ -1,19 +1,13 @@
 //! The same table on sharded-slab: a slot has the key of its file in the slab, and the last guard of a removed file drops it.
-use crate::table::{read_entry, File, Shape, Table};
+use crate::table::{read_entry, File, Line, Shape, Table, FILE};
 use sharded_slab::{Entry, Slab};
 use std::sync::atomic::{AtomicUsize, Ordering::SeqCst};
 
-/// A cache line of its own, as a slot's words have.
-#[repr(align(64))]
-struct Line(AtomicUsize);
-
 /// A table of keys, 0 for an empty slot and else the key plus 1.
 pub struct Slabs {
-    slots: Vec<Line>,
+    slots: Vec<Line<AtomicUsize>>,
     files: Slab<File>,
 }
-
-const FILE: File = File { entry: 0, mark: 0 };
 
 impl Slabs {
     fn insert(&self, file: File) -> usize {
@@ -69,7 +63,7 @@ impl Table for Slabs {
 
     fn put_any(&self, _: &mut (), file: File) -> Option<usize> {
         let key = self.insert(file);
-        let is_free = |it: &Line| {
+        let is_free = |it: &Line<AtomicUsize>| {
             it.0.load(SeqCst) == 0 && it.0.compare_exchange(0, key, SeqCst, SeqCst).is_ok()
         };
         let found = self.slots.iter().position(is_free);

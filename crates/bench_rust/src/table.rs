@@ -11,6 +11,13 @@ pub struct File {
     pub mark: u64,
 }
 
+/// A file that is there at first.
+pub const FILE: File = File { entry: 0, mark: 0 };
+
+/// A cache line of its own, as a slot's words have.
+#[repr(align(64))]
+pub struct Line<T>(pub T);
+
 /// The shape that a table is opened with.
 #[derive(Clone, Copy)]
 pub struct Shape {

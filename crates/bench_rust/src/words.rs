@@ -1,7 +1,7 @@
 //! The words of the counted table, in plain, unproved Rust: the proved table is measured against it. A slot's word
 //! has the number of its file and its takes, and a file's word its releases; the thread that brings it to 0 gets the
 //! file.
-use crate::table::{read_entry, File, Shape, Table};
+use crate::table::{read_entry, File, Line, Shape, Table};
 use std::cell::UnsafeCell;
 use std::sync::atomic::{AtomicU64, Ordering::SeqCst};
 
@@ -22,18 +22,14 @@ struct Pair {
     node: AtomicU64,
 }
 
-/// A word on a cache line of its own.
-#[repr(align(64))]
-struct Line(AtomicU64);
-
 /// The lock-free table, unproved.
 pub struct Words {
     pairs: Vec<Pair>,
     nodes: Vec<AtomicU64>,
     places: Vec<UnsafeCell<Option<File>>>,
-    control: Line,
+    control: Line<AtomicU64>,
     /// The number of chains that were drawn.
-    draw: Line,
+    draw: Line<AtomicU64>,
     in_range: bool,
 }
 

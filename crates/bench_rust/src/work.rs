@@ -16,10 +16,30 @@ pub enum Work {
     Allocate,
 }
 
+impl Work {
+    /// Returns the work of a word of `bench/rows.txt`, unless only the proved tables are timed at it.
+    pub fn named(word: &str) -> Option<Work> {
+        match word {
+            "look" => Some(Work::Look),
+            "mix" => Some(Work::Mixed),
+            "outside" => Some(Work::Chain { in_range: false }),
+            "inside" => Some(Work::Chain { in_range: true }),
+            "allocate" => Some(Work::Allocate),
+            _ => None,
+        }
+    }
+
+    fn times(self) -> usize {
+        match self {
+            Work::Look => 200_000,
+            Work::Mixed => 10 * INSTALLS,
+            Work::Chain { .. } | Work::Allocate => INSTALLS,
+        }
+    }
+}
+
 /// The number of files that a thread installs.
 pub const INSTALLS: usize = 15_000;
-
-const LOOKS: usize = 200_000;
 
 fn next(random: u32) -> u32 {
     random.wrapping_mul(1_664_525).wrapping_add(1_013_904_223)
@@ -32,53 +52,32 @@ fn file() -> File {
     }
 }
 
-fn look<T: Table>(table: &T, pass: &mut T::Pass, slots: usize, mut random: u32) {
-    for _ in 0..LOOKS {
-        random = next(random);
-        black_box(table.look(pass, (random >> 16) as usize & (slots - 1)));
-    }
-}
-
-fn mix<T: Table>(table: &T, pass: &mut T::Pass, slots: usize, mut random: u32) {
-    for i in 0..10 * INSTALLS {
-        random = next(random);
-        let slot = (random >> 16) as usize & (slots - 1);
-        if i % 10 == 9 {
-            table.put(pass, slot, file());
-        } else {
-            black_box(table.look(pass, slot));
-        }
-    }
-}
-
-fn chain<T: Table>(table: &T, pass: &mut T::Pass, slots: usize, thread: usize) {
-    let catalogue = black_box(vec![vec![7; READ_LEN]]);
-    let mut into = Vec::with_capacity(READ_LEN);
-    for i in 0..INSTALLS {
-        let slot = (64 * thread + i % 64) & (slots - 1);
-        table.put(pass, slot, file());
-        table.read(pass, slot, &catalogue, &mut into);
-        black_box(&into);
-        table.take(pass, slot);
-    }
-}
-
-fn allocate<T: Table>(table: &T, pass: &mut T::Pass) {
-    for _ in 0..INSTALLS {
-        if let Some(slot) = table.put_any(pass, file()) {
-            table.take(pass, slot);
-        }
-    }
-}
-
 /// Does the work of the thread with this number.
 pub fn work<T: Table>(table: &T, work: Work, slots: usize, thread: usize) {
-    let random = (thread as u32).wrapping_mul(40_503).wrapping_add(1);
     let pass = &mut table.pass(thread);
-    match work {
-        Work::Look => look(table, pass, slots, random),
-        Work::Mixed => mix(table, pass, slots, random),
-        Work::Chain { .. } => chain(table, pass, slots, thread),
-        Work::Allocate => allocate(table, pass),
+    let catalogue = black_box(vec![vec![7; READ_LEN]]);
+    let mut into = Vec::with_capacity(READ_LEN);
+    let mut random = (thread as u32).wrapping_mul(40_503).wrapping_add(1);
+    for i in 0..work.times() {
+        random = next(random);
+        let slot = (random >> 16) as usize & (slots - 1);
+        match work {
+            Work::Mixed if i % 10 == 9 => table.put(pass, slot, file()),
+            Work::Look | Work::Mixed => {
+                black_box(table.look(pass, slot));
+            }
+            Work::Chain { .. } => {
+                let slot = (64 * thread + i % 64) & (slots - 1);
+                table.put(pass, slot, file());
+                table.read(pass, slot, &catalogue, &mut into);
+                black_box(&into);
+                table.take(pass, slot);
+            }
+            Work::Allocate => {
+                if let Some(slot) = table.put_any(pass, file()) {
+                    table.take(pass, slot);
+                }
+            }
+        }
     }
 }

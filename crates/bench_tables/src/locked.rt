@@ -1,13 +1,123 @@
 //! Measuring a table of one thread with the kit's lock. Each call takes the lock on its own.
+ghost use Rattle.std.specs.Prelude.{◌≡◌, ◌≤◌, IfOk, IfErr};
 ghost use Rattle.fx_plain.specs.State.{IsSettled};
 ghost use Rattle.fx_plain.specs.Contents.{state_of};
+ghost use Rattle.fx_table.specs.declared.limits.TheConstants.{MAX_CHAINS};
+ghost use Rattle.bench_tables.specs.Holds.{HasHoldsUpTo};
 
-use crate::guarded::Guarded;
-use crate::subject::{READ_LEN, Subject};
-use fx_base::{Catalogue, OpenFile};
+use crate::shared::discard;
+use crate::subject::Subject;
+use fx_base::OpenFile;
 use fx_plain::PlainTable;
+use fx_table::numbers_for;
 use std::alloc::Global;
 use std::sync::{Mutex, Wait};
+
+// A table of one thread that checks the requirements of its calls: a lock guarantees nothing else.
+struct Guarded {
+    plain: PlainTable,
+    // the number of look-ups so far
+    looks: u32,
+    // the next file number
+    next: u32,
+    ghost few_holds: { HasHoldsUpTo looks (state_of plain) },
+}
+
+impl Guarded {
+    // Creates a table with the file numbers of `chains` chains from a settled table, or returns that table.
+    fn new(mut plain: PlainTable, chains: u32) -> Result<Guarded, PlainTable>
+        requires settled { IsSettled (state_of plain) }
+        requires chains { chains ≤ MAX_CHAINS }
+        ensures refused { IfErr result (λ back. IsSettled (state_of back)) }
+    {
+        let next = plain.size();
+        if plain.prepare(numbers_for(chains)).is_err() {
+            return Err(plain);
+        }
+        Ok(Guarded {
+            plain,
+            looks: 0,
+            next,
+        })
+    }
+
+    // Returns the settled table that is left.
+    fn into_plain(self, alloc: Global) -> PlainTable
+        ensures { IsSettled (state_of result) }
+    {
+        let Guarded {
+            plain,
+            looks: _,
+            next: _,
+        } = self;
+        if plain.is_settled() {
+            return plain;
+        }
+        plain.abandon();
+        PlainTable::none(alloc)
+    }
+
+    // Looks a slot up, and returns the number and the entry of the file there.
+    fn look(&mut self, slot: u32) -> Option<(u32, u8)> {
+        if slot >= self.plain.size() || self.looks >= u32::MAX - 1 {
+            return None;
+        }
+        self.looks += 1;
+        self.plain.look(slot)
+    }
+
+    // Releases a file.
+    fn release(&mut self, number: u32) {
+        if self.plain.is_held(number) {
+            discard(self.plain.release(number));
+        }
+    }
+
+    // Installs a file at a slot, and returns the number of the file that was there.
+    fn put(&mut self, slot: u32, file: OpenFile) -> Option<u32> {
+        let number = self.next;
+        if slot >= self.plain.size() || !self.plain.is_fresh(number) {
+            file.discard();
+            return None;
+        }
+        self.next = number.wrapping_add(1);
+        self.plain.put(slot, number, file)
+    }
+
+    // Installs a file at an empty slot, and returns the slot.
+    fn put_any(&mut self, file: OpenFile) -> Option<u32> {
+        let number = self.next;
+        if !self.plain.is_fresh(number) {
+            file.discard();
+            return None;
+        }
+        match self.plain.put_any(number, file) {
+            Ok(slot) => {
+                self.next = number.wrapping_add(1);
+                Some(slot)
+            }
+            Err(file) => {
+                file.discard();
+                None
+            }
+        }
+    }
+
+    // Empties a slot, and returns the number of the file that was there.
+    fn take(&mut self, slot: u32) -> Option<u32> {
+        if slot >= self.plain.size() {
+            return None;
+        }
+        self.plain.take(slot)
+    }
+
+    // Retires a removed file.
+    fn retire(&mut self, number: u32) {
+        if self.plain.is_leaving(number) {
+            discard(self.plain.retire(number));
+        }
+    }
+}
 
 /// A table of one thread with a lock.
 pub(crate) struct Locked {
@@ -16,21 +126,10 @@ pub(crate) struct Locked {
 }
 
 impl Locked {
-    fn look_at<R: Wait>(&self, rt: &R, slot: u32) -> Option<(u32, u8)> {
-        self.table.lock(rt).look(slot)
-    }
-
-    fn release<R: Wait>(&self, rt: &R, number: u32) {
-        let file = self.table.lock(rt).release(number);
-        if let Some(file) = file {
-            file.discard();
-        }
-    }
-
-    fn retire<R: Wait>(&self, rt: &R, number: u32) {
-        let file = self.table.lock(rt).retire(number);
-        if let Some(file) = file {
-            file.discard();
+    // Retires the file that was removed, if any.
+    fn retire<R: Wait>(&self, rt: &R, removed: Option<u32>) {
+        if let Some(number) = removed {
+            self.table.lock(rt).retire(number);
         }
     }
 }
@@ -38,7 +137,11 @@ impl Locked {
 impl Subject for Locked {
     type Pass = ();
 
+    type Hold = u32;
+
     ghost ready = { λ s pass. Unit {0} };
+
+    ghost holds = { λ s pass number. Unit {0} };
 
     ghost gave = { λ s n. Unit {0} };
 
@@ -62,32 +165,17 @@ impl Subject for Locked {
         table.into_inner().into_plain(alloc)
     }
 
-    fn look<R: Wait>(&self, rt: &R, _pass: &mut (), slot: u32) {
-        if let Some((number, _)) = self.look_at(rt, slot) {
-            self.release(rt, number);
-        }
+    fn look_up<R: Wait>(&self, rt: &R, _pass: &mut (), slot: u32) -> Option<(u32, u8)> {
+        self.table.lock(rt).look(slot)
     }
 
-    fn read<R: Wait>(
-        &self,
-        rt: &R,
-        _pass: &mut (),
-        slot: u32,
-        catalogue: &Catalogue,
-        into: &mut Vec<u8>,
-    ) {
-        if let Some((number, entry)) = self.look_at(rt, slot) {
-            into.clear();
-            catalogue.read_into(entry, 0, READ_LEN, into);
-            self.release(rt, number);
-        }
+    fn release<R: Wait>(&self, rt: &R, _pass: &mut (), number: u32) {
+        self.table.lock(rt).release(number);
     }
 
     fn put<R: Wait>(&self, rt: &R, _pass: &mut (), slot: u32, file: OpenFile) {
         let replaced = self.table.lock(rt).put(slot, file);
-        if let Some(number) = replaced {
-            self.retire(rt, number);
-        }
+        self.retire(rt, replaced);
     }
 
     fn put_any<R: Wait>(&self, rt: &R, _pass: &mut (), file: OpenFile) -> Option<u32> {
@@ -96,8 +184,6 @@ impl Subject for Locked {
 
     fn take<R: Wait>(&self, rt: &R, _pass: &mut (), slot: u32) {
         let removed = self.table.lock(rt).take(slot);
-        if let Some(number) = removed {
-            self.retire(rt, number);
-        }
+        self.retire(rt, removed);
     }
 }

@@ -1,14 +1,12 @@
-//! The program `bench_tables`: compares the times of the file tables. Begin reading at `cases.rt` (the rows) and
-//! `subject.rt` (the tables that are measured).
+//! The program `bench_tables`: prints the nanoseconds that a table takes for the work which the variable TABLE_BENCH_ROW
+//! of the environment names (`row.rt`). Without that variable it prints what the measured calls return (`trial.rt`).
 #![tactic(auto)]
 
-mod alone;
-mod cases;
-mod guarded;
+ghost use Rattle.std.specs.Prelude.{◌<◌, length};
+
 mod locked;
 mod measure;
-mod one;
-mod report;
+mod row;
 mod shared;
 mod subject;
 mod trial;
@@ -16,21 +14,22 @@ mod watch;
 mod work;
 
 use fx_base::Catalogue;
-use one::report_one;
-use report::report_all;
+use fx_baton::BatonTable;
+use fx_counted::CountedTable;
+use fx_lasting::LastingTable;
+use fx_table::MAX_PASSES;
+use locked::Locked;
+use measure::time;
+use row::row_of;
+use shared::Shared;
 use std::alloc::Global;
 use std::env;
 use std::process::ExitCode;
+use std::rt::Clock;
+use std::sync::Wait;
+use std::thread::Threads;
+use std::time::CpuClock;
 use trial::try_tables;
-
-// Returns the task that the program's argument asks for.
-fn task_of(rt: &HostRuntime) -> Option<Task> {
-    let words: Vec<String> = env::args(rt).ok()?.collect(rt.alloc()).ok()?;
-    match words.get(1)?.as_str() {
-        "calls" => Some(Task::Calls),
-        rounds => rounds.parse().ok().map(Task::All),
-    }
-}
 
 // Creates a catalogue of one entry of 64 bytes.
 fn one_entry(alloc: Global) -> Option<Catalogue> {
@@ -41,34 +40,32 @@ fn one_entry(alloc: Global) -> Option<Catalogue> {
     Some(catalogue)
 }
 
-// The task of the program.
-enum Task {
-    // the results of the measured calls
-    Calls,
-    // every row, in this number of rounds
-    All(u32),
-    // one row of the lock-free table or of the lasting one, on this number of threads
-    One {
-        is_lasting: bool,
-        row: String,
-        threads: u32,
-    },
-}
-
-// Returns the row that the environment names, or else the task of the argument.
-fn read_task(rt: &HostRuntime) -> Option<Task> {
-    match env::var(rt, "TABLE_BENCH_ROW") {
-        Err(_) => task_of(rt),
-        Ok(row) => {
-            let threads: String = env::var(rt, "TABLE_BENCH_THREADS").ok()?;
-            let table: String = env::var(rt, "TABLE_BENCH_TABLE").ok()?;
-            Some(Task::One {
-                is_lasting: table.as_str() == "lasting",
-                row,
-                threads: threads.as_str().parse().ok()?,
-            })
-        }
+// Times a table at the row of these words, as "counted look 256 4": the table, the work, the number of slots, and the
+// number of threads, at most `MAX_PASSES`. Prints the nanoseconds. Returns `None` if there is no such row, or an
+// allocation, a clock or a write fails.
+fn report<R: Threads + Wait + Clock + CpuClock + Print + Sync>(
+    rt: &R,
+    alloc: Global,
+    catalogue: &Catalogue,
+    words: &str,
+) -> Option<()>
+    requires { 0 < length catalogue.now }
+{
+    let mut words = words.split_whitespace();
+    let table = words.next()?;
+    let row = row_of(words.next()?, words.next()?.parse().ok()?)?;
+    let threads: u32 = words.next()?.parse().ok()?;
+    if threads == 0 || threads > MAX_PASSES {
+        return None;
     }
+    let nanoseconds = match table {
+        "lasting" => time::<Shared<LastingTable>, R>(rt, alloc, catalogue, row, threads)?,
+        "counted" => time::<Shared<CountedTable>, R>(rt, alloc, catalogue, row, threads)?,
+        "baton" => time::<Shared<BatonTable>, R>(rt, alloc, catalogue, row, threads)?,
+        "mutex" => time::<Locked, R>(rt, alloc, catalogue, row, threads)?,
+        _ => return None,
+    };
+    println!(rt; "{nanoseconds}").ok()
 }
 
 fn main(rt: HostRuntime) -> ExitCode {
@@ -78,28 +75,9 @@ fn main(rt: HostRuntime) -> ExitCode {
     if catalogue.is_empty() {
         return ExitCode::FAILURE;
     }
-    let done = match read_task(&rt) {
-        Some(Task::Calls) => try_tables(&rt, rt.alloc(), &catalogue),
-        Some(Task::All(rounds)) => report_all(&rt, rt.alloc(), &catalogue, rounds),
-        Some(
-            Task::One {
-                is_lasting,
-                row,
-                threads,
-            },
-        ) => report_one(
-            &rt,
-            rt.alloc(),
-            &catalogue,
-            is_lasting,
-            row.as_str(),
-            threads,
-        ),
-        None => println!(rt;
-            "bench_tables ROUNDS compares the times of the file tables, in so many rounds, and\n\
-             bench_tables calls says what the calls answer that are timed"
-        )
-        .ok(),
+    let done = match env::var(&rt, "TABLE_BENCH_ROW") {
+        Ok(words) => report(&rt, rt.alloc(), &catalogue, words.as_str()),
+        Err(_) => try_tables(&rt, rt.alloc(), &catalogue),
     };
     match done {
         Some(()) => ExitCode::SUCCESS,

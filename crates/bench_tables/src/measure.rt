@@ -1,12 +1,13 @@
-//! The time of a job on a table, and the time of a table's opening and closing.
+//! The time of a row on a table.
 ghost use Rattle.std.specs.Prelude.{◌≡◌, ◌<◌, ◌≤◌, length, IfSome};
 ghost use Rattle.fx_plain.specs.State.{IsSettled};
 ghost use Rattle.fx_plain.specs.Contents.{state_of};
-ghost use Rattle.fx_table.specs.declared.limits.TheConstants.{MAX_CHAINS, MAX_PASSES};
+ghost use Rattle.fx_table.specs.declared.limits.TheConstants.{MAX_PASSES};
 
+use crate::row::{Row, Shape, Work};
 use crate::subject::Subject;
 use crate::watch::{Watch, used};
-use crate::work::{Job, work_all};
+use crate::work::work_all;
 use fx_base::{Catalogue, Mark};
 use fx_plain::PlainTable;
 use fx_table::MAX_CHAINS;
@@ -15,15 +16,6 @@ use std::rt::Clock;
 use std::sync::Wait;
 use std::thread::Threads;
 use std::time::CpuClock;
-
-/// A table at the beginning of a measurement: its number of slots, the number of first slots that have files, and the
-/// number of first slots that are its allocation range.
-#[derive(Clone, Copy)]
-pub(crate) struct Shape {
-    pub(crate) slots: u32,
-    pub(crate) full: u32,
-    pub(crate) range: u32,
-}
 
 /// Creates a table of this shape, or returns `None` if an allocation fails or there is no such table.
 pub(crate) fn shaped(alloc: Global, catalogue: &Catalogue, shape: Shape) -> Option<PlainTable>
@@ -59,80 +51,58 @@ fn fill(plain: &mut PlainTable, catalogue: &Catalogue, full: u32)
     }
 }
 
-/// Returns the nanoseconds that `threads` threads need for a job each, on a new table of this shape, or `None` if an
-/// allocation or a clock fails.
-pub(crate) fn time_of_work<S: Subject, R: Threads + Wait + Clock + CpuClock + Sync>(
+/// Returns the nanoseconds that `threads` threads need for the work of a row, on a new table of its shape, or `None` if
+/// an allocation or a clock fails.
+pub(crate) fn time<S: Subject, R: Threads + Wait + Clock + CpuClock + Sync>(
     rt: &R,
     alloc: Global,
     catalogue: &Catalogue,
-    shape: Shape,
-    job: Job,
+    row: Row,
     threads: u32,
 ) -> Option<u64>
     requires entry { 0 < length catalogue.now }
     requires threads { (1 ≤ threads) × (threads ≤ MAX_PASSES) }
 {
     let watch = Watch::new(rt, threads).ok()?;
-    let plain = shaped(alloc, catalogue, shape)?;
+    let plain = shaped(alloc, catalogue, row.shape)?;
+    if let Work::Open = row.work {
+        return time_of_openings::<S, R>(rt, alloc, plain, threads, row.times);
+    }
     match S::open(alloc, plain, MAX_CHAINS, threads) {
         Err(plain) => {
             plain.abandon();
             None
         }
         Ok((subject, mut passes)) => {
-            work_all(rt, alloc, &subject, &mut passes, catalogue, job, &watch);
+            if !passes.is_empty() {
+                let passes = passes.as_mut_slice();
+                work_all(rt, alloc, &subject, passes, catalogue, row, &watch);
+            }
             subject.close(passes).abandon();
             watch.took()
         }
     }
 }
 
-// Opens and closes a table `times` times.
-fn open_and_close<S: Subject>(
+// Returns the CPU time, in nanoseconds, of opening and closing a table `times` times, or `None` if the clock fails.
+fn time_of_openings<S: Subject, R: CpuClock>(
+    rt: &R,
     alloc: Global,
     plain: PlainTable,
-    chains: u32,
     passes: u32,
     times: u32,
-) -> PlainTable
+) -> Option<u64>
     requires settled { IsSettled (state_of plain) }
-    requires chains { chains ≤ MAX_CHAINS }
     requires passes { (1 ≤ passes) × (passes ≤ MAX_PASSES) }
-    ensures { IsSettled (state_of result) }
 {
+    let before = used(rt);
     let mut plain = plain;
     for _ in 0..times {
-        plain = match S::open(alloc, plain, chains, passes) {
+        plain = match S::open(alloc, plain, MAX_CHAINS, passes) {
             Ok((subject, passes)) => subject.close(passes),
             Err(back) => back,
         };
     }
-    plain
-}
-
-/// Returns the CPU time, in nanoseconds, of opening and closing a full table `times` times, or `None` if an allocation
-/// or the clock fails.
-pub(crate) fn time_of_life<S: Subject, R: CpuClock>(
-    rt: &R,
-    alloc: Global,
-    catalogue: &Catalogue,
-    slots: u32,
-    chains: u32,
-    passes: u32,
-    times: u32,
-) -> Option<u64>
-    requires entry { 0 < length catalogue.now }
-    requires chains { chains ≤ MAX_CHAINS }
-    requires passes { (1 ≤ passes) × (passes ≤ MAX_PASSES) }
-{
-    let shape = Shape {
-        slots,
-        full: slots,
-        range: slots,
-    };
-    let plain = shaped(alloc, catalogue, shape)?;
-    let before = used(rt);
-    let plain = open_and_close::<S>(alloc, plain, chains, passes, times);
     let after = used(rt);
     plain.abandon();
     after?.checked_sub(before?)

@@ -5,13 +5,13 @@ ghost use Rattle.fx_plain.specs.Contents.{state_of};
 ghost use Rattle.fx_table.specs.Pass.{IsIdle};
 ghost use Rattle.fx_table.specs.declared.limits.TheConstants.{MAX_CHAINS, MAX_PASSES};
 
-use crate::subject::{READ_LEN, Subject};
-use fx_base::{Catalogue, OpenFile};
+use crate::subject::Subject;
+use fx_base::OpenFile;
 use fx_baton::{BatonPass, BatonTable};
 use fx_counted::{CountedPass, CountedTable};
 use fx_lasting::{LastingPass, LastingTable};
 use fx_plain::PlainTable;
-use fx_table::{Empty, FileTable, LookUp, SharedTable};
+use fx_table::{FileTable, Hold, LookUp, SharedTable};
 use std::alloc::Global;
 use std::sync::Wait;
 
@@ -126,7 +126,8 @@ pub(crate) struct Shared<T: Opened> {
     table: T,
 }
 
-fn discard(file: Option<OpenFile>) {
+/// Discards a file that a call returned, if any.
+pub(crate) fn discard(file: Option<OpenFile>) {
     if let Some(file) = file {
         file.discard();
     }
@@ -134,11 +135,15 @@ fn discard(file: Option<OpenFile>) {
 
 impl<T: Opened> Subject for Shared<T> {
     ghost use Rattle.std.specs.Prelude.{◌≡◌};
-    ghost use Rattle.fx_table.specs.Pass.{IsIdle};
+    ghost use Rattle.fx_table.specs.Pass.{IsIdle, IsHoldOf};
 
     type Pass = T::Pass;
 
+    type Hold = Hold;
+
     ghost ready = { λ s pass. T.fits s.table pass × IsIdle (T.view pass) };
+
+    ghost holds = { λ s pass hold. T.fits s.table pass × IsHoldOf (T.view pass) hold };
 
     ghost gave = { λ s n. n ≡ (T.opening s.table).passes };
 
@@ -161,43 +166,27 @@ impl<T: Opened> Subject for Shared<T> {
         table.close(passes)
     }
 
-    fn look<R: Wait>(&self, rt: &R, pass: &mut T::Pass, slot: u32) {
+    fn look_up<R: Wait>(&self, rt: &R, pass: &mut T::Pass, slot: u32) -> Option<(Hold, u8)> {
         if slot >= self.table.size() {
-            return;
+            return None;
         }
         let LookUp { found, freed } = self.table.look_up(rt, pass, slot);
         discard(freed);
-        if let Ok(hold) = found {
-            discard(self.table.release(rt, pass, hold));
+        match found {
+            Ok(hold) => {
+                let entry = hold.entry;
+                Some((hold, entry))
+            }
+            Err(_) => None,
         }
     }
 
-    fn read<R: Wait>(
-        &self,
-        rt: &R,
-        pass: &mut T::Pass,
-        slot: u32,
-        catalogue: &Catalogue,
-        into: &mut Vec<u8>,
-    ) {
-        if slot >= self.table.size() {
-            return;
-        }
-        let LookUp { found, freed } = self.table.look_up(rt, pass, slot);
-        discard(freed);
-        if let Ok(hold) = found {
-            into.clear();
-            catalogue.read_into(hold.entry, 0, READ_LEN, into);
-            discard(self.table.release(rt, pass, hold));
-        }
+    fn release<R: Wait>(&self, rt: &R, pass: &mut T::Pass, hold: Hold) {
+        discard(self.table.release(rt, pass, hold));
     }
 
     fn put<R: Wait>(&self, rt: &R, pass: &mut T::Pass, slot: u32, file: OpenFile) {
-        if slot >= self.table.size() {
-            file.discard();
-            return;
-        }
-        if !self.table.can_install(pass) {
+        if slot >= self.table.size() || !self.table.can_install(pass) {
             file.discard();
             return;
         }
@@ -224,9 +213,8 @@ impl<T: Opened> Subject for Shared<T> {
         if slot >= self.table.size() {
             return;
         }
-        match self.table.take(rt, pass, slot) {
-            Err(Empty) => {}
-            Ok(retired) => discard(self.table.retire(rt, pass, retired)),
+        if let Ok(retired) = self.table.take(rt, pass, slot) {
+            discard(self.table.retire(rt, pass, retired));
         }
     }
 }

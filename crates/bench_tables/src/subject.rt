@@ -1,17 +1,13 @@
-//! The subject of a measurement: a table, with calls as its users make them: one that opens together with the one that
-//! ends it.
-ghost use Rattle.std.specs.Prelude.{◌≡◌, ℕ, ◌≤◌, length, All, IfOk, IfErr, vec_capacity};
+//! The subject of a measurement: a table, with calls as its users make them: a removal together with its retirement.
+ghost use Rattle.std.specs.Prelude.{◌≡◌, ℕ, ◌≤◌, length, All, IfOk, IfErr, IfSome, IfNone};
 ghost use Rattle.fx_plain.specs.State.{IsSettled};
 ghost use Rattle.fx_plain.specs.Contents.{state_of};
 ghost use Rattle.fx_table.specs.declared.limits.TheConstants.{MAX_CHAINS, MAX_PASSES};
 
-use fx_base::{Catalogue, OpenFile};
+use fx_base::OpenFile;
 use fx_plain::PlainTable;
 use std::alloc::Global;
 use std::sync::Wait;
-
-/// The number of bytes of a read.
-pub(crate) const READ_LEN: u32 = 64;
 
 /// A table that is measured. A call does nothing at a slot that the table doesn't have, and neither does an
 /// installation if the pass has no file numbers left; measurements are chosen so that neither happens.
@@ -19,8 +15,14 @@ pub(crate) trait Subject: Sync {
     /// The type of a thread's access to the table.
     type Pass: Send;
 
+    /// The type of a file that was looked up, until it is released.
+    type Hold;
+
     // The pass is one of the table's, and can begin a call.
     ghost ready: { Self → Self.Pass → Type 0 };
+
+    // The pass is one of the table's, and has looked this file up.
+    ghost holds: { Self → Self.Pass → Self.Hold → Type 0 };
 
     // The table requires this number of passes at its close.
     ghost gave: { Self → ℕ → Type 0 };
@@ -45,24 +47,16 @@ pub(crate) trait Subject: Sync {
         requires ready { All (ready self) passes.items }
         ensures { IsSettled (state_of result) };
 
-    /// Looks a slot up and releases what was there.
-    fn look<R: Wait>(&self, rt: &R, pass: &mut Self::Pass, slot: u32)
+    /// Looks a slot up, and returns the file there, to be released, with its entry of the catalogue.
+    fn look_up<R: Wait>(&self, rt: &R, pass: &mut Self::Pass, slot: u32) -> Option<(Self::Hold, u8)>
         requires { ready self.now pass.old }
-        ensures { ready self.now pass.new };
+        ensures found { IfSome result (λ (hold, _). holds self.now pass.new hold) }
+        ensures empty { IfNone result (ready self.now pass.new) };
 
-    /// Looks a slot up, reads from the file there, and releases it.
-    fn read<R: Wait>(
-        &self,
-        rt: &R,
-        pass: &mut Self::Pass,
-        slot: u32,
-        catalogue: &Catalogue,
-        into: &mut Vec<u8>,
-    )
-        requires ready { ready self.now pass.old }
-        requires room { READ_LEN ≤ vec_capacity into.old }
-        ensures ready { ready self.now pass.new }
-        ensures room { READ_LEN ≤ vec_capacity into.new };
+    /// Releases the file that the pass looked up.
+    fn release<R: Wait>(&self, rt: &R, pass: &mut Self::Pass, hold: Self::Hold)
+        requires { holds self.now pass.old hold }
+        ensures { ready self.now pass.new };
 
     /// Installs a file at a slot and retires the one that was there.
     fn put<R: Wait>(&self, rt: &R, pass: &mut Self::Pass, slot: u32, file: OpenFile)

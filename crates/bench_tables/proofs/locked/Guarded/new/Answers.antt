@@ -2,7 +2,7 @@ use Rattle.std.proofs.Common.{◌≡◌, arith, rules}
 use Rattle.fx_plain.specs.Contents.{state_of}
 use Rattle.fx_plain.specs.State.{opening}
 use Rattle.bench_tables.proofs.FewHolds.{still_few}
-use Rattle.bench_tables.proofs.guarded.Guarded.new.Goals as goal
+use Rattle.bench_tables.proofs.locked.Guarded.new.Goals as goal
 
 pub invariant_of-result : goal.invariant_of-result
 invariant_of-result c =

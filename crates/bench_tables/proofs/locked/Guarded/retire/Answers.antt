@@ -1,7 +1,7 @@
 use Rattle.fx_plain.specs.Contents.{state_of}
 use Rattle.fx_plain.specs.Table.{closed_by_retirement}
 use Rattle.bench_tables.proofs.FewHolds.{retire_few}
-use Rattle.bench_tables.proofs.guarded.Guarded.retire.Goals as goal
+use Rattle.bench_tables.proofs.locked.Guarded.retire.Goals as goal
 
 pub invariant_of-self : goal.invariant_of-self
 invariant_of-self c =

@@ -4,7 +4,7 @@ use Rattle.fx_plain.specs.declared.event.File.{File}
 use Rattle.fx_plain.specs.Contents.{state_of}
 use Rattle.fx_plain.specs.Table.{closed_by_release}
 use Rattle.bench_tables.proofs.FewHolds.{release_few}
-use Rattle.bench_tables.proofs.guarded.Guarded.release.Goals as goal
+use Rattle.bench_tables.proofs.locked.Guarded.release.Goals as goal
 
 pub invariant_of-self : goal.invariant_of-self
 invariant_of-self c =

@@ -1,6 +1,6 @@
 use Rattle.fx_plain.specs.Contents.{state_of}
 use Rattle.bench_tables.proofs.FewHolds.{look_few}
-use Rattle.bench_tables.proofs.guarded.Guarded.look.Goals as goal
+use Rattle.bench_tables.proofs.locked.Guarded.look.Goals as goal
 
 pub invariant_of-self : goal.invariant_of-self
 invariant_of-self c =
