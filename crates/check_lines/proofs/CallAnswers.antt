@@ -1,8 +1,7 @@
 -- A call between submissions, or a refused submission, leaves one ring and prints one line, or finds no memory.
-use Rattle.check_lines.proofs.Words.{Bool, List, MatchBool, None, Option, Some, if◌then◌else◌, inl, inr, length, nat_le, refl, sym, arith, true, ℕ, ◌++◌}
-use Rattle.check_lines.proofs.Words.{◌+◌, ◌<◌, ◌==◌, ◌^◌, ◌∙◌, ◌≡◌, ◌≤◌}
+use Rattle.check_lines.proofs.Words.{Bool, List, MatchBool, None, Option, Some, if◌then◌else◌, inl, inr, nat_le, refl, sym, arith, true, ℕ, ◌++◌}
+use Rattle.check_lines.proofs.Words.{◌+◌, ◌<◌, ◌^◌, ◌∙◌, ◌≡◌, ◌≤◌}
 use Rattle.std.proofs.Common.{⊎_elim, ◌↔◌, ◌⊎◌}
-use Rattle.std.proofs.lemmas.Bool.{ltb-false, or_parts}
 use Rattle.std.specs.Option.{MatchOption}
 use Rattle.fx_base.specs.declared.errno.Errno.{Errno}
 use Rattle.fx_base.specs.declared.errno.Errno.TheVariants.{ENOMEM}
@@ -18,7 +17,7 @@ use Rattle.fx_ring.specs.declared.ring.TheConstants.{MOST_SUBMISSIONS}
 use Rattle.fx_script.specs.Play.{CallAnswers, IsCallRefused, Prints, PrintsReport}
 use Rattle.check_lines.specs.Calls.{AnswersFound, IsCall, IsLineOf, after_call, count_behind, unless_refused, word_unless, memory_word}
 use Rattle.check_lines.proofs.Calls.{Call, TakesMemory, Tells, call_of, not_refused, one_line}
-use Rattle.check_lines.proofs.Refusals.{none_holds}
+use Rattle.check_lines.proofs.Refusals.{inside_of}
 
 -- what it leaves and prints
 abbrev pub Answers : RingState → Instruction → RingState → List ℕ → Type 0
@@ -95,9 +94,7 @@ one_line_of {ring} command {a} {b} is_ring first second =
 pub few_told : (ring : RingState) (command : Instruction) → ring.size ≤ MOST_SLOTS → (call_of ring command).refusal ≡ None
     → (call_of ring command).res < 2 ^ 31
 few_told ring (UpdatesRing off list tags) few none =
-    let good = (none_holds ring (UpdatesRing off list tags) none).1.0 in
-    let within = ltb-false ring.size (off + length list) (or_parts _ _ (or_parts (length list == 0) _ good).1).0 in
-    omega arith
+    let within = inside_of ring off list tags none in omega arith
 few_told ring _ few none = omega arith
 
 told_at : (x : Option Errno) (word : List ℕ) (prints : List ℕ → Type 0) (line : List ℕ) → x ≡ None → AnswersFound x word prints line → prints line

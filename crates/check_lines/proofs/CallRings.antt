@@ -1,24 +1,20 @@
 -- The ring that a call between submissions leaves.
 use Rattle.check_lines.proofs.Words.{List, None, Option, Some, [], ap, arith, refl, subst, sym, ℕ, ◌∙◌, ◌≡◌, ◌≤◌, FileEntry}
-use Rattle.std.proofs.Common.{IfOk, Result}
 use Rattle.std.proofs.lemmas.Bool.{leb-false}
-use Rattle.std.proofs.lemmas.Result.{IfOk-weaker}
 use Rattle.fx_base.specs.declared.errno.Errno.{Errno}
 use Rattle.fx_language.specs.Instruction.{Instruction, MakesSparse, RegistersList, SetsRange, SubmitsAll, Unregisters, UpdatesRing}
 use Rattle.fx_ring.proofs.Origins.{registered_rings, updated_rings}
 use Rattle.fx_ring.proofs.Rings.{counted_still, none_rings}
 use Rattle.fx_order.specs.Access.{Table}
-use Rattle.fx_order.specs.Slots.{ring_with_slots, table_of_slots}
+use Rattle.fx_order.specs.Slots.{ring_of_slots, ring_with_slots, table_of_slots}
 use Rattle.fx_order.specs.declared.ring_slots.RingSlots.{RingSlots}
 use Rattle.fx_order.specs.declared.slots.Slots.{Slots}
-use Rattle.fx_ring.specs.Registration.{range_refusal, registered_sparse}
+use Rattle.fx_ring.specs.Registration.{registered_sparse}
 use Rattle.fx_ring.specs.Ring.{IsRing, RingState, without_table}
 use Rattle.fx_ring.specs.Tags.{tags_given}
 use Rattle.fx_ring.specs.declared.ring.TheConstants.{MOST_REGISTRATIONS}
-use Rattle.check_lines.specs.Calls.{after_call, unless_refused}
+use Rattle.check_lines.specs.Calls.{after_call, call_of, unless_refused}
 use Rattle.check_lines.specs.InRange.{AreInRange}
-use Rattle.check_lines.specs.declared.call_answer.CallAnswer.{CallAnswer}
-use Rattle.check_lines.proofs.Calls.{call_of}
 use Rattle.check_lines.proofs.Refusals.{none_holds}
 
 -- what holds of the ring of a call, whether or not it is refused
@@ -32,34 +28,31 @@ pub still : (P : RingState → Type 0) {ring : RingState} (command : Instruction
 still P (SubmitsAll asked) so goes = so
 still P {ring} command so goes = unless_so P (call_of ring command).refusal so goes
 
--- what a call leaves that is refused, and what one leaves that sets a range
-
 abbrev AreSame : RingSlots → RingSlots → Type 0
 AreSame new old = (catalogue : List FileEntry) → ring_with_slots catalogue new ≡ ring_with_slots catalogue old
 
-pub refused_leaves : {E : Type 0} (called : Result CallAnswer E) {x : Option Errno} {errno : Errno} (catalogue : List FileEntry) (ring : RingSlots)
-    (left : RingState) → Some errno ≡ x → IfOk called (λ c. AreSame c.ring ring)
-    → IfOk called (λ c. ring_with_slots catalogue c.ring ≡ unless_refused x (ring_with_slots catalogue ring) left)
-refused_leaves called catalogue ring left is = IfOk-weaker called _ _ (λ c same.
-    subst (λ (y : Option Errno). ring_with_slots catalogue c.ring ≡ unless_refused y (ring_with_slots catalogue ring) left) is (same catalogue))
-
-pub ranged_leaves : (catalogue : List FileEntry) (ring copy : RingSlots) (range : ℕ × ℕ)
-    → None ≡ range_refusal (ring_with_slots catalogue ring) range.0 range.1 → AreSame copy ring
-    → ring_with_slots catalogue (record copy { slots = record copy.slots { range = range } })
-    ≡ after_call (ring_with_slots catalogue ring) (SetsRange range.0 range.1)
-ranged_leaves catalogue ring copy range none same =
+-- a call that is refused leaves a copy
+pub refused_leaves : (catalogue : List FileEntry) (ring copy : RingSlots) (command : Instruction) {errno : Errno} → AreSame copy ring
+    → (call_of (ring_with_slots catalogue ring) command).refusal ≡ Some errno
+    → ring_with_slots catalogue copy ≡ after_call (ring_with_slots catalogue ring) command
+refused_leaves catalogue ring copy command same is =
     let old = ring_with_slots catalogue ring in
-    subst (λ (x : Option Errno). record (ring_with_slots catalogue copy) { range = range } ≡ unless_refused x old (record old { range = range })) none
-    (ap (λ (r : RingState). record r { range = range }) (same catalogue))
+    subst (λ (x : Option Errno). ring_with_slots catalogue copy ≡ unless_refused x old (call_of old command).left) (sym is) (same catalogue)
+
+-- the slots of a copy with another range
+pub ranged_left : (catalogue : List FileEntry) (ring : RingSlots) (copy : Slots) (range : ℕ × ℕ) → table_of_slots copy ≡ table_of_slots ring.slots
+    → ring_of_slots catalogue (record copy { range = range }) ring.submissions ring.registrations ≡ record (ring_with_slots catalogue ring) { range = range }
+ranged_left catalogue ring copy range same =
+    ap (λ (t : Table). record (ring_with_slots catalogue ring) { size = t.size; range = range; at = t.at }) same
 
 -- the files of a copy, and of slots without files, are in range
 
-pub same_in_range : (copy ring : RingSlots) → AreSame copy ring → AreInRange (table_of_slots ring.slots).at → AreInRange (table_of_slots copy.slots).at
-same_in_range copy ring same = subst AreInRange (sym (ap (λ (r : RingState). r.at) (same [])))
+pub same_in_range : (copy old : Slots) → table_of_slots copy ≡ table_of_slots old → AreInRange (table_of_slots old).at
+    → AreInRange (table_of_slots copy).at
+same_in_range copy old same = subst (λ (t : Table). AreInRange t.at) (sym same)
 
-pub refused_in_range : {E : Type 0} (called : Result CallAnswer E) (ring : RingSlots) → IfOk called (λ c. AreSame c.ring ring)
-    → IfOk called (λ c. AreInRange (table_of_slots ring.slots).at → AreInRange (table_of_slots c.ring.slots).at)
-refused_in_range called ring = IfOk-weaker called _ _ (λ c same. same_in_range c.ring ring same)
+pub copy_in_range : (copy ring : RingSlots) → AreSame copy ring → AreInRange (table_of_slots ring.slots).at → AreInRange (table_of_slots copy.slots).at
+copy_in_range copy ring same = subst AreInRange (sym (ap (λ (r : RingState). r.at) (same [])))
 
 pub none_in_range : (slots : Slots) {n : ℕ} → table_of_slots slots ≡ record { size = n; range = (0, n); at = λ _. None }
     → AreInRange (table_of_slots slots).at
@@ -87,14 +80,10 @@ left_ring (SubmitsAll asked) is none = is
 pub called_ring : {ring : RingState} (command : Instruction) → IsRing ring → IsRing (after_call ring command)
 called_ring command is = still IsRing command is (left_ring command is)
 
--- a call counts no submission, keeps the catalogue, and is refused where no registration is counted any more
+-- a call counts no submission, and is refused where no registration is counted any more
 pub called_submissions : (ring : RingState) (command : Instruction) → (after_call ring command).submissions ≡ ring.submissions
 called_submissions ring (SubmitsAll asked) = refl
 called_submissions ring command = still (λ (r : RingState). r.submissions ≡ ring.submissions) command refl (λ _. refl)
-
-pub called_catalogue : (ring : RingState) (command : Instruction) → (after_call ring command).catalogue ≡ ring.catalogue
-called_catalogue ring (SubmitsAll asked) = refl
-called_catalogue ring command = still (λ (r : RingState). r.catalogue ≡ ring.catalogue) command refl (λ _. refl)
 
 left_registrations : (ring : RingState) (command : Instruction) → ring.registrations ≤ MOST_REGISTRATIONS → (call_of ring command).refusal ≡ None
     → (call_of ring command).left.registrations ≤ MOST_REGISTRATIONS

@@ -1,53 +1,19 @@
--- The calls between submissions: the refusals of a ring, and otherwise the ring that a call leaves and the text that it
--- prints.
-use Rattle.std.proofs.Common.{◌≡◌, ◌↔◌, ◌<◌, ◌^◌, ℕ, pos, negsuc, List, [], ◌++◌, All, codes, length, refl, sym, ap, ◌∙◌, arith, Option, Some, None}
-use Rattle.std.proofs.Common.{IfSome, append_assoc}
-use Rattle.std.proofs.lemmas.List.{append-nil}
+-- The calls between submissions: their lines, and what a failed allocation leaves.
+use Rattle.std.proofs.Common.{◌≡◌, ◌<◌, ◌^◌, ℕ, pos, negsuc, List, [], ◌++◌, All, refl, sym, ap, subst, ◌∙◌, arith, Option, Some, None, IfSome}
+use Rattle.std.proofs.Common.{append_assoc, unwrap_or}
+use Rattle.std.proofs.lemmas.List.{append-nil, nil_from_length}
+use Rattle.std.proofs.lemmas.List.Sorted.{length_permutation}
+use Rattle.fx_base.specs.CloseListView.{CloseListView}
 use Rattle.fx_base.specs.declared.errno.Errno.{Errno}
 use Rattle.fx_base.specs.declared.errno.Errno.TheVariants.{ENOMEM}
 use Rattle.fx_base.specs.declared.open_file.Closed.{Closed}
 use Rattle.fx_chain.specs.Completed.{negated}
-use Rattle.fx_ring.specs.Registration.{range_refusal, register_refusal, registered, registered_sparse, removed_from, sparse_refusal}
-use Rattle.fx_ring.specs.Registration.{unregister_refusal, update_refusal, updated}
-use Rattle.fx_ring.specs.Ring.{RingContents, RingState, IsRing, files_of_ring, ring_of, without_table}
-use Rattle.fx_ring.specs.Tags.{tags_given}
-use Rattle.fx_language.specs.Instruction.{Instruction, MakesSparse, RegistersList, SetsRange, SubmitsAll, Unregisters, UpdatesRing}
-use Rattle.fx_script.specs.Play.{CallAnswers, IsCallRefused, Prints, PrintsClosed}
+use Rattle.fx_ring.specs.Ring.{HasClosed, IsRing, RingState}
+use Rattle.fx_language.specs.Instruction.{Instruction, SetsRange, SubmitsAll, Unregisters, UpdatesRing}
+pub use Rattle.check_lines.specs.Calls.{AnswersFound, Call, IsLineOf, IsNoSubmission, Tells, TellsClosed, call_of}
 use Rattle.check_lines.proofs.ResultLines.{one_result}
 use Rattle.check_lines.proofs.FilesThere.{IsAtOne, all_in_order, all_removed, closes_printed}
 use Rattle.fx_print.specs.Text.{closes_text, result_line}
-
--- a call at a ring: its word, and its refusal, if any; otherwise the ring that it leaves, its result, and the files
--- that it lists as closed
-pub record Call : Type 0 where
-  pub word : List ℕ
-  pub refusal : Option Errno
-  pub left : RingState
-  pub res : ℕ
-  pub closed : Option (List Closed)
-
-abbrev pub call_of : RingState → Instruction → Call
-call_of ring (MakesSparse n) =
-    record { word = codes "sparse"; refusal = sparse_refusal ring n; left = registered_sparse ring n; res = 0; closed = None }
-call_of ring (RegistersList list tags) = record {
-  word = codes "register";
-  refusal = register_refusal ring list (tags_given list tags);
-  left = registered ring list (tags_given list tags);
-  res = 0;
-  closed = None;
-}
-call_of ring Unregisters =
-    record { word = codes "unregister"; refusal = unregister_refusal ring; left = without_table ring; res = 0; closed = Some (files_of_ring ring) }
-call_of ring (SetsRange off len) =
-    record { word = codes "range"; refusal = range_refusal ring off len; left = record ring { range = (off, len) }; res = 0; closed = None }
-call_of ring (UpdatesRing off list tags) = record {
-  word = codes "regupdate";
-  refusal = update_refusal ring off list (tags_given list tags);
-  left = updated ring off list (tags_given list tags);
-  res = length list;
-  closed = Some (removed_from ring.at off list);
-}
-call_of ring (SubmitsAll asked) = record { word = []; refusal = None; left = ring; res = 0; closed = None }
 
 -- the calls that allocate: a range allocates nothing, and a submission isn't such a call
 abbrev pub TakesMemory : Instruction → Type 0
@@ -55,24 +21,32 @@ TakesMemory (SetsRange off len) = ⊥
 TakesMemory (SubmitsAll asked) = ⊥
 TakesMemory _ = Unit {0}
 
--- the line of a result, and the lines of the files, if the call lists them
-abbrev pub TellsClosed : RingState → List ℕ → Option (List Closed) → List ℕ → Type 0
-TellsClosed ring head None line = line ≡ head
-TellsClosed ring head (Some files) line = PrintsClosed ring files head line
+-- an accepted call prints its result, and the lines of the files that it closes, if any
+pub told_closed : (ring : RingState) (head : List ℕ) (closed : Option (List Closed)) {closes : CloseListView} {line : List ℕ}
+    → HasClosed (unwrap_or closed []) closes → line ≡ head ++ closes_text ring.catalogue closes.files → TellsClosed ring head closed line
+told_closed ring head None {closes} has is =
+    let none : closes.files ≡ [] = nil_from_length closes.files (length_permutation [] closes.files has.same_files) in
+    is ∙ ap (λ (files : List Closed). head ++ closes_text ring.catalogue files) none ∙ append-nil head
+told_closed ring head (Some files) {closes} has is = (closes, has, is)
 
-abbrev pub Tells : RingState → Call → List ℕ → Type 0
-Tells ring call line = TellsClosed ring (result_line call.word (pos call.res)) call.closed line
+-- the line of a call by its refusal
+pub line_by : (ring : RingState) (command : Instruction) (line : List ℕ) {refusal : Option Errno} → IsNoSubmission command
+    → (call_of ring command).refusal ≡ refusal → AnswersFound refusal (call_of ring command).word (Tells ring (call_of ring command)) line
+    → IsLineOf ring command line
+line_by ring (SubmitsAll asked) line none is told = absurd none
+line_by ring command line none is told =
+    let call = call_of ring command in subst (λ (x : Option Errno). AnswersFound x call.word (Tells ring call) line) (sym is) told
 
--- the call leaves that ring and prints this, if this is its refusal or it has none
-abbrev pub Called : RingState → Call → Option Errno → RingState → List ℕ → Type 0
-Called old call refusal new line = CallAnswers refusal ((new ≡ call.left) × Tells old call line) (IsCallRefused old new call.word line)
-
--- `Prints` says the same
-pub called : (old new : RingContents) (command : Instruction) (line : List ℕ) → TakesMemory command
-    → Prints old command new line ↔ Called (ring_of old) (call_of (ring_of old) command) (call_of (ring_of old) command).refusal (ring_of new) line
-called old new (SetsRange off len) line takes = absurd takes
-called old new (SubmitsAll asked) line takes = absurd takes
-called old new _ line takes = ((λ p. p), (λ p. p))
+-- so that of an accepted one is its result, and the lines of the files that it closes
+pub accepted_line : (ring : RingState) (command : Instruction) (files : List Closed) (closes : CloseListView) (first line : List ℕ)
+    → IsNoSubmission command → (call_of ring command).refusal ≡ None → files ≡ unwrap_or (call_of ring command).closed [] → HasClosed files closes
+    → first ≡ result_line (call_of ring command).word (pos (call_of ring command).res) → line ≡ first ++ closes_text ring.catalogue closes.files
+    → IsLineOf ring command line
+accepted_line ring command files closes first line none accepted are has is_first is =
+    let call = call_of ring command in
+    line_by ring command line none accepted
+    (told_closed ring (result_line call.word (pos call.res)) call.closed (subst (λ (l : List Closed). HasClosed l closes) are has)
+    (is ∙ ap (λ (l : List ℕ). l ++ closes_text ring.catalogue closes.files) is_first))
 
 -- the files that it closes are at slots
 there : (ring : RingState) (command : Instruction) → IfSome (call_of ring command).closed (All (IsAtOne ring.at))

@@ -1,6 +1,7 @@
 -- Files with different marks have exactly one list in order of mark.
 use Rattle.std.proofs.Common.{◌≡◌, ℕ, suc, ◌+◌, ◌<◌, ◌≤◌, Bool, true, false, if◌then◌else◌, List, [], ◌∷◌, length, All, refl, sym, ap, ◌∙◌, arith}
-use Rattle.std.proofs.Common.{slice_index_or, Some}
+use Rattle.std.proofs.Common.{slice_index_or, Some, inl, inr}
+use Rattle.std.proofs.lemmas.Bool.{cases_Bool}
 use Rattle.std.specs.Cmp.{IsStrictWeakOrder}
 use Rattle.std.specs.Cmp.Lexicographic.{bytes_decides, nat_list_cmp_total, pointwise, slice_cmp, texts_po}
 use Rattle.std.specs.List.{sum_by}
@@ -93,13 +94,13 @@ found_above : (k : List ℕ) (y : Closed) (zs : List Closed) → AreNotBelow y z
 found_above k y [] rises some = absurd (omega arith)
 found_above k y (z ∷ zs) rises some =
     let parts = sum_by-cons (hits k) z zs in
-    by_test (pointwise nat_eq (numbers z.mark) k) k y z (sum_by (hits k) zs) refl (All-head (λ (x : Closed). is_below x y ≡ false) z zs rises)
-    (omega arith) (λ more. found_above k y zs (All-tail (λ (x : Closed). is_below x y ≡ false) z zs rises) more)
-  where
-    by_test : (b : Bool) (k : List ℕ) (y z : Closed) (more : ℕ) → pointwise nat_eq (numbers z.mark) k ≡ b → is_below z y ≡ false
-        → 1 ≤ (if b then 1 else 0) + more → (1 ≤ more → below k (numbers y.mark) ≡ false) → below k (numbers y.mark) ≡ false
-    by_test true k y z more is rises some rest = ap (λ (l : List ℕ). below l (numbers y.mark)) (sym ((bytes_decides (numbers z.mark) k).0 is)) ∙ rises
-    by_test false k y z more is rises some rest = rest (omega arith)
+    elim (cases_Bool (pointwise nat_eq (numbers z.mark) k)) [
+      | inl is ↦ ap (λ (l : List ℕ). below l (numbers y.mark)) (sym ((bytes_decides (numbers z.mark) k).0 is))
+          ∙ All-head (λ (x : Closed). is_below x y ≡ false) z zs rises
+      | inr is ↦
+          let none : hits k z ≡ 0 = ap (λ (b : Bool). if b then 1 else 0) is in
+          found_above k y zs (All-tail (λ (x : Closed). is_below x y ≡ false) z zs rises) (omega arith)
+    ]
 
 no_test : (b : Bool) → (b ≡ true → b ≡ false) → b ≡ false
 no_test true is = is refl

@@ -1,7 +1,7 @@
 -- The output of a play begins with no line of a closed file or of a tag.
-use Rattle.check_lines.proofs.Words.{◌≡◌, ℕ, ◌<◌, ◌≤◌, ◌==◌, Bool, true, false, nat_le, List, [], ◌∷◌, ◌++◌, length, drop, map, refl, sym, ap, subst}
-use Rattle.check_lines.proofs.Words.{◌∙◌, inl, inr, arith, All, Option, Some, None, if◌then◌else◌, ℤ, pos, codes, decimal, signed_decimal, MatchBool}
-use Rattle.check_lines.proofs.Words.{append_assoc, All-head, FileEntry, Closed, state_of, Event, Completed, Asked, runs_of, are_runs, ExplainsParts}
+use Rattle.check_lines.proofs.Words.{◌≡◌, ℕ, ◌≤◌, ◌==◌, Bool, true, false, nat_le, List, [], ◌∷◌, ◌++◌, length, drop, map, refl, sym, ap, subst}
+use Rattle.check_lines.proofs.Words.{◌∙◌, inl, inr, arith, Option, Some, None, if◌then◌else◌, ℤ, pos, codes, decimal, signed_decimal, MatchBool}
+use Rattle.check_lines.proofs.Words.{append_assoc, FileEntry, Closed, Event, Completed, Asked, runs_of}
 use Rattle.check_lines.proofs.Words.{Reported, HasNoCloses, completion_lines, got_text, result_line}
 use Rattle.std.specs.Prelude.{Contains}
 use Rattle.std.specs.Option.{MatchOption}
@@ -21,6 +21,7 @@ use Rattle.fx_ring.specs.declared.ring.TheConstants.{MOST_SUBMISSIONS}
 use Rattle.fx_language.specs.Instruction.{Instruction, MakesSparse, RegistersList, Unregisters, SetsRange, UpdatesRing, SubmitsAll}
 use Rattle.fx_script.specs.Play.{CallAnswers, IsCallRefused, Prints, PrintsClosed, PrintsEnd, PrintsReport}
 use Rattle.check_lines.specs.Laws.{PlaysBeginWithNoClose}
+use Rattle.check_lines.proofs.CompletionCounts.{each_request}
 use Rattle.check_lines.proofs.FirstBytes.{begins_with_digit, by_first, by_nothing, by_teardown, no_letter}
 use Rattle.fx_print.specs.Text.{closes_text, kind_name, refused_line, too_many_line}
 
@@ -32,16 +33,6 @@ end_text false rest = by_teardown rest
 end_begins : (ring : RingState) {text : List ℕ} → PrintsEnd ring text → HasNoCloses text
 end_begins ring (closes, are, is) = subst HasNoCloses (sym is) (end_text (length closes.files == 0) (closes_text ring.catalogue closes.files))
 
--- a submission whose runs are all played has a completion, or had no run
-some_completion : (catalogue : List FileEntry) (size submission chain : ℕ) (runs : List (List Asked)) (history : List Event) {completions : List Completed}
-    → All (λ run. 0 < length run) runs → ExplainsParts catalogue size submission chain runs history completions → completions ≡ [] → runs ≡ []
-some_completion catalogue size submission chain [] history some are empty = refl
-some_completion catalogue size submission chain ([] ∷ runs) history some are empty =
-    let none : List Asked = [] in
-    let long : 0 < length none = All-head (λ run. 0 < length run) none runs some in absurd (omega arith)
-some_completion catalogue size submission chain ((request ∷ run) ∷ runs) history some (own, others, whole, explained, more) empty =
-    let (events, rest, c, cs, split, is, answers, goes) = explained in cc (is, whole, empty)
-
 -- no events of no chains
 no_events : (history : List Event) → ((e : Event) → Contains history e → (1 ≤ e.chain) × (e.chain ≤ 0)) → history ≡ []
 no_events [] of_chains = refl
@@ -50,11 +41,10 @@ no_events (e ∷ history) of_chains = let (low, high) = of_chains e (0, omega ar
 -- a report that has no completions closed no files
 no_closes : {old : RingContents} {asked : List Asked} {report : Reported} {new : RingContents} → IsOneHistory old asked report new
     → report.completions ≡ [] → report.closes.files ≡ []
-no_closes {old} {asked} {report} one empty =
-    let none : runs_of asked ≡ [] = some_completion old.catalogue (state_of old.table).size report.submission 1 (runs_of asked) one.history
-    (are_runs asked).not_empty one.explained empty in
+no_closes {old} {asked} {report} {new} one empty =
+    let none : asked ≡ [] = nil_from_length asked (sym (each_request old asked report new one) ∙ ap length empty) in
     let nothing : one.history ≡ [] = no_events one.history
-    (λ e has. let (low, high) = one.chains e has in (low, subst (λ n. e.chain ≤ n) (ap length none) high)) in
+    (λ e has. let (low, high) = one.chains e has in (low, subst (λ (l : List Asked). e.chain ≤ length (runs_of l)) none high)) in
     let closed : closes_in (map action_of one.history) ≡ [] = ap (λ (h : List Event). closes_in (map action_of h)) nothing in
     let as_many : length report.closes.files ≡ length (closes_in (map action_of one.history)) =
     length_permutation (closes_in (map action_of one.history)) report.closes.files one.closed.same_files in

@@ -1,7 +1,7 @@
 -- Why a call between submissions is refused: the first that holds of its reasons, none of which is a want of memory.
-use Rattle.check_lines.proofs.Words.{Bool, List, None, Option, Some, [], false, if◌then◌else◌, length, refl, sym, true, ◌+◌, ◌==◌, ◌∙◌, ◌∷◌, ◌≡◌, nat_le}
+use Rattle.check_lines.proofs.Words.{Bool, List, None, Option, Some, [], false, if◌then◌else◌, length, refl, sym, true, ℕ, ℤ, ◌≤◌, ◌+◌, ◌==◌, ◌∙◌, ◌∷◌, ◌≡◌, nat_le}
 use Rattle.std.proofs.Common.{nat_lt, ◌||◌}
-use Rattle.std.proofs.lemmas.Bool.{or_parts}
+use Rattle.std.proofs.lemmas.Bool.{ltb-false, or_parts}
 use Rattle.std.specs.List.{AllByRecursion, list_any}
 use Rattle.fx_base.specs.declared.errno.Errno.{Errno}
 use Rattle.fx_base.specs.declared.errno.Errno.TheVariants.{EAGAIN, EBADF, EBUSY, EINVAL, EMFILE, ENOMEM, ENXIO}
@@ -13,7 +13,7 @@ use Rattle.fx_ring.specs.Registration.{is_bad_file}
 use Rattle.fx_ring.specs.Ring.{RingState}
 use Rattle.fx_ring.specs.Tags.{are_bad_tags, tags_given}
 use Rattle.fx_ring.specs.declared.ring.TheConstants.{MOST_REGISTRATIONS}
-use Rattle.check_lines.proofs.Calls.{call_of}
+use Rattle.check_lines.specs.Calls.{call_of}
 
 abbrev pub reasons_of : RingState → Instruction → List (Bool × Errno)
 reasons_of ring (MakesSparse n) = (nat_lt 0 ring.size, EBUSY) ∷ (n == 0, EINVAL) ∷ (nat_lt MOST_SLOTS n, EMFILE) ∷ []
@@ -45,6 +45,13 @@ all_fail (reason ∷ reasons) is = let (fails, rest) = passed reason.0 reason.1 
 pub none_holds : (ring : RingState) (command : Instruction) → (call_of ring command).refusal ≡ None
     → AllByRecursion (λ (reason : Bool × Errno). reason.0 ≡ false) (reasons_of ring command)
 none_holds ring command none = all_fail (reasons_of ring command) (sym (refusal_is ring command) ∙ none)
+
+-- an accepted update ends within the table
+pub inside_of : (ring : RingState) (off : ℕ) (list : List ℤ) (tags : Option (List ℕ)) → (call_of ring (UpdatesRing off list tags)).refusal ≡ None
+    → off + length list ≤ ring.size
+inside_of ring off list tags none =
+    let good = (none_holds ring (UpdatesRing off list tags) none).1.0 in
+    ltb-false ring.size (off + length list) (or_parts _ _ (or_parts (length list == 0) _ good).1).0
 
 abbrev is_memory : Bool × Errno → Bool
 is_memory (holds, ENOMEM) = true

@@ -1,11 +1,9 @@
 -- The lines of a report: those of its completions, then those of closed files, then those of tags.
-use Rattle.check_lines.proofs.Words.{◌≡◌, ℕ, ◌<◌, ◌^◌, true, false, List, [], ◌∷◌, ◌++◌, length, get_or, take, refl, sym, ap, ◌∙◌, Option, Some, None}
-use Rattle.check_lines.proofs.Words.{◌==◌, true≢false, codes, option_map, Bor, StartsWith, flat_map, append_assoc, take_at, Completed, AreAll}
+use Rattle.check_lines.proofs.Words.{◌≡◌, ℕ, ◌<◌, ◌^◌, List, [], ◌∷◌, ◌++◌, get_or, take, sym, ap, ◌∙◌, Option, Some, None}
+use Rattle.check_lines.proofs.Words.{◌==◌, true≢false, codes, StartsWith, flat_map, append_assoc, Completed, AreAll}
 use Rattle.check_lines.proofs.Words.{AreSoMany, FitsFront, lines_before, HasNoCloses, IsCloseInRange, IsCompletionInRange, NamedClose, line_of_tag}
 use Rattle.check_lines.proofs.Words.{named_line, ReadsPrinted, completion_line, completion_lines, FileEntry, Closed, Reported}
-use Rattle.std.specs.Prelude.{is_some}
 use Rattle.check_lines.specs.Lines.{IsReportBefore, Lines, ReadsReport, lines_of, lines_text}
-use Rattle.check_lines.proofs.LinesInTurn.{not_begun}
 use Rattle.fx_print.specs.Text.{name_of}
 use Rattle.std.proofs.lemmas.List.Folds.{flat_map-map}
 use Rattle.fx_base.specs.Tags.{tags_of}
@@ -95,14 +93,3 @@ module _ {count : ℕ} {text : List ℕ} {cs : List Completed} {rest : List ℕ}
             let second = (second_of_report other fits same).0 in
             λ i. (record { completions = first i; closed = second i; tags = three.0 i }, three.1 i);
       }
-
--- the test that a text begins with a word
-pub begun : {word : List ℕ} (text : List ℕ) (r : Option (Bor (List ℕ)))
-    → ReadsPrinted (λ (rest : List ℕ). word ++ rest) (λ _. Unit {0}) text (option_map (λ rest. rest.now) r) → is_some r ≡ true → StartsWith text word
-begun text None reads some = cc some
-begun {word} text (Some rest) reads some = ap (take (length word)) reads.printed ∙ take_at word rest.now (length word) refl
-
-pub unbegun : {word : List ℕ} (text : List ℕ) (r : Option (Bor (List ℕ)))
-    → ReadsPrinted (λ (rest : List ℕ). word ++ rest) (λ _. Unit {0}) text (option_map (λ rest. rest.now) r) → is_some r ≡ false → ¬ (StartsWith text word)
-unbegun {word} text None reads none = not_begun reads
-unbegun text (Some rest) reads none = cc none

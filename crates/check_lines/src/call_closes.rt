@@ -24,26 +24,6 @@ pub fn files_at(alloc: Global, slots: &Slots) -> Result<Vec<Closed>, NoMemory>
     Ok(files)
 }
 
-/// Returns a list of closes of these files, in their order. Each of them is of the catalogue.
-///
-/// # Errors
-/// `NoMemory` if an allocation fails.
-pub(crate) fn close_all(
-    alloc: Global,
-    catalogue: &Catalogue,
-    files: &[Closed],
-) -> Result<CloseList, NoMemory>
-    requires entries { All (λ file. file.entry < length catalogue.now) files.now }
-    requires few { length files.now < 2 ^ 32 }
-    ensures { IfOk result (λ closes. closes.files ≡ files.now) }
-{
-    let mut closes = CloseList::with_room(alloc, files.len() as u32)?;
-    for file in files {
-        closes.close(catalogue.open(file.entry, file.mark, file.tag));
-    }
-    Ok(closes)
-}
-
 /// Returns a list of closes of these files, in order of mark. Each of them is of the catalogue.
 ///
 /// # Errors
@@ -57,7 +37,10 @@ pub fn close_in_order(
     requires few { length files.now < 2 ^ 32 }
     ensures { IfOk result (HasClosed files.now) }
 {
-    let mut closes = close_all(alloc, catalogue, files)?;
+    let mut closes = CloseList::with_room(alloc, files.len() as u32)?;
+    for file in files {
+        closes.close(catalogue.open(file.entry, file.mark, file.tag));
+    }
     closes.sort();
     Ok(closes)
 }

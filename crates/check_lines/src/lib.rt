@@ -6,8 +6,8 @@
 mod accepted;
 mod call_answer;
 mod call_closes;
+mod call_head;
 mod call_list;
-mod call_refusal;
 mod closed_line;
 mod completion_line;
 mod cut;
@@ -18,7 +18,7 @@ mod report_lines;
 pub use accepted::{accepted_in, is_accepted};
 pub use call_answer::{CallAnswer, call, copy_of};
 pub use call_closes::{close_in_order, files_at};
-pub use call_refusal::memory_word;
+pub use call_head::memory_word;
 pub use closed_line::ClosedLine;
 pub use cut::rest_behind;
 pub use report_lines::{ReportLines, read_report};

@@ -5,7 +5,6 @@ ghost use Rattle.check_lines.specs.LinesView.{front_of};
 
 use crate::closed_line::{ClosedLine, read_closed, read_tags};
 use crate::completion_line::read_completions;
-use crate::cut::rest_behind;
 use fx_base::NoMemory;
 use fx_chain::Completion;
 use std::alloc::Global;
@@ -44,7 +43,7 @@ pub fn read_report(
     let Some((tags, rest)) = read_tags(alloc, rest)? else {
         return Ok(None);
     };
-    if rest_behind(rest, b"closed ").is_some() {
+    if rest.starts_with(b"closed ") {
         return Ok(None);
     }
     let lines = ReportLines {

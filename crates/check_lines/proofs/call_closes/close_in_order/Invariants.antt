@@ -1,5 +1,5 @@
 use Rattle.std.proofs.Common.{◌≡◌, ◌+◌, length, take}
-use Rattle.check_lines.proofs.call_closes.close_all.Given as goal
+use Rattle.check_lines.proofs.call_closes.close_in_order.Given as goal
 
 abbrev pub invariant-loop-file : goal.invariant-loop-file
 invariant-loop-file l = record {

@@ -1,0 +1,91 @@
+//! The word of a call between submissions, and the error with which it is refused.
+ghost use Rattle.std.specs.Prelude.{◌≡◌, IfNone, option_map};
+ghost use Rattle.fx_order.specs.Slots.{ring_with_slots};
+ghost use Rattle.fx_language.specs.Instruction.{instruction_of};
+ghost use Rattle.check_lines.specs.Calls.{HasEntries, call_of, memory_word};
+
+use fx_base::{Catalogue, Errno};
+use fx_language::Command;
+use fx_order::RingSlots;
+use fx_ring::{register_refusal, sparse_refusal, update_refusal};
+
+/// The beginning of a call's line.
+#[derive(Clone, Copy)]
+pub(crate) struct CallHead {
+    /// The word of the call.
+    pub word: &'static str,
+    /// The error with which the call is refused, or `None` if only a failed allocation could refuse it.
+    pub refusal: Option<Errno>,
+    /// The result of the call if it isn't refused.
+    pub res: usize,
+}
+
+fn head(word: &'static str, refusal: Option<Errno>, res: usize) -> CallHead
+    ensures word { result.word.now ≡ word.now }
+    ensures refusal { result.refusal ≡ refusal }
+    ensures res { result.res ≡ res }
+{
+    CallHead { word, refusal, res }
+}
+
+/// Returns the beginning of a call's line. That of a submission has no word.
+#[tactic(auto, using(crate::proofs::Entries::good_updated, crate::proofs::Entries::good_listed))]
+pub(crate) fn head_of(catalogue: &Catalogue, ring: &RingSlots, command: &Command) -> CallHead
+    ensures word { result.word.now
+        ≡ (call_of (ring_with_slots catalogue.now ring.now) (instruction_of command.now)).word }
+    ensures refusal { result.refusal
+        ≡ (call_of (ring_with_slots catalogue.now ring.now) (instruction_of command.now)).refusal }
+    ensures res { result.res
+        ≡ (call_of (ring_with_slots catalogue.now ring.now) (instruction_of command.now)).res }
+    ensures entries { IfNone result.refusal (HasEntries (instruction_of command.now)) }
+{
+    let size = ring.slots.at.len();
+    let count = ring.registrations;
+    match command {
+        Command::Sparse(n) => head("sparse", sparse_refusal(size, *n as usize), 0),
+        Command::Register(list, tags) => {
+            let refusal = register_refusal(catalogue, size, count, list, given(tags));
+            head("register", refusal, 0)
+        }
+        Command::Unregister => head("unregister", (size == 0).then_some(Errno::ENXIO), 0),
+        Command::Range(off, len) => {
+            let is_past = *off as u64 + *len as u64 > size as u64;
+            head("range", is_past.then_some(Errno::EINVAL), 0)
+        }
+        Command::Update(off, list, tags) => {
+            let refusal = update_refusal(catalogue, size, count, *off, list, given(tags));
+            head("regupdate", refusal, list.len())
+        }
+        Command::Submit(_) => head("", None, 0),
+    }
+}
+
+/// Returns the tags of a command, if it has any.
+pub(crate) fn given(tags: &Option<Vec<u64>>) -> Option<&[u64]>
+    ensures { option_map (λ given. given.now) result
+        ≡ option_map (λ given. given.items) tags.now }
+{
+    match tags {
+        Some(tags) => Some(tags.as_slice()),
+        None => None,
+    }
+}
+
+/// Returns the word of a call that may fail to allocate, or `None` if the call is refused, sets the range or is a submission.
+pub fn memory_word(
+    catalogue: &Catalogue,
+    ring: &RingSlots,
+    command: &Command,
+) -> Option<&'static str>
+    ensures { option_map (λ word. word.now) result
+        ≡ memory_word (ring_with_slots catalogue.now ring.now) (instruction_of command.now) }
+{
+    if matches!(command, Command::Range(_, _) | Command::Submit(_)) {
+        return None;
+    }
+    let head = head_of(catalogue, ring, command);
+    match head.refusal {
+        Some(_) => None,
+        None => Some(head.word),
+    }
+}
