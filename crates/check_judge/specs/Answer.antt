@@ -9,8 +9,8 @@ use Rattle.check_judge.specs.declared.answer.CommandVerdict.{CommandVerdict}
 use Rattle.check_judge.specs.declared.answer.CommandVerdict.TheVariants.{Printed, Broken, Undecided}
 use Rattle.fx_order.specs.Slots.{ring_with_slots}
 
--- the text continues with a text of the command in one way alone, by this order if there is one, and
--- leads to that ring; or in no way; an undecided verdict says nothing
+-- the text continues with a text of the command in one way alone, by this order if there is one,
+-- and leads to that ring; or in no way; an undecided verdict says nothing
 abbrev pub IsCommandVerdict :
     List FileEntry → RingSlots → Instruction → List ℕ → CommandVerdict → RingSlots → Type 0
 IsCommandVerdict catalogue old command text (Printed count order) new =

@@ -40,8 +40,8 @@ TellsChains catalogue size range closes submission runs completions (Err (Refute
 TellsChains catalogue size range closes submission runs completions (Err Unknown) = Unit {0}
 TellsChains catalogue size range closes submission runs completions (Err NoMemory) = Unit {0}
 
--- a member after the cut of its chain was canceled, and has no claims; another member has the claims
--- of its request, and cuts the chain if it severs it
+-- a member after the cut of its chain was canceled, and has no claims; another member has the
+-- claims of its request, and cuts the chain if it severs it
 abbrev pub TellsMember : List FileEntry → ℕ → ℕ × ℕ → List Closed → Place → Asked → Completed → Bool
     → Result MemberClaims Stop → Type 0
 TellsMember catalogue size range closes place request c cut (Ok told) =

@@ -39,7 +39,8 @@ abbrev pub LeadsNowhere : RingState → Instruction → List ℕ → Type 0
 LeadsNowhere old command text =
     (next : RingContents) (others : List ℕ) → ContinuesText old command text next others → ⊥
 
--- the text continues with a text of the command in one way alone, which leads to that ring, or in none
+-- the text continues with a text of the command in one way alone, which leads to that ring, or in
+-- no way
 abbrev pub IsStep : List FileEntry → RingSlots → Instruction → List ℕ → Met → RingSlots → Type 0
 IsStep catalogue old command text (Here count) new =
     (count ≤ length text)
