@@ -10,7 +10,7 @@ use Rattle.fx_base.specs.declared.open_file.Closed.{Closed}
 use Rattle.fx_chain.specs.Completed.{negated}
 use Rattle.fx_ring.specs.Ring.{HasClosed, IsRing, RingState}
 use Rattle.fx_language.specs.Instruction.{Instruction, SetsRange, SubmitsAll, Unregisters, UpdatesRing}
-pub use Rattle.check_lines.specs.Calls.{AnswersFound, Call, IsLineOf, IsNoSubmission, Tells, TellsClosed, call_of}
+pub use Rattle.check_lines.specs.Calls.{AnswersFound, Call, IsLineOf, IsNoSubmission, TellsCall as Tells, TellsClosed, call_of}
 use Rattle.check_lines.proofs.ResultLines.{one_result}
 use Rattle.check_lines.proofs.FilesThere.{IsAtOne, all_in_order, all_removed, closes_printed}
 use Rattle.fx_print.specs.Text.{closes_text, result_line}

@@ -22,8 +22,8 @@ use Rattle.fx_language.specs.Instruction.{SetsRange, UpdatesRing, SubmitsAll}
 use Rattle.fx_print.specs.Text.{refused_line, result_line, too_many_line}
 use Rattle.fx_script.specs.Play.{PrintsClosed}
 
--- a call at a ring: its word, and its refusal, if any; otherwise the ring that it leaves, its result,
--- and the files that it lists as closed. A submission is no call: it leaves the ring as it is
+-- a call at a ring: its word, and its refusal, if any; otherwise the ring that it leaves, its
+-- result, and the files that it lists as closed. A submission isn't such a call: its ring stays
 pub record Call : Type 0 where
   pub word : List ℕ
   pub refusal : Option Errno
@@ -90,8 +90,8 @@ abbrev pub TellsClosed : RingState → List ℕ → Option (List Closed) → Lis
 TellsClosed ring head None line = line ≡ head
 TellsClosed ring head (Some files) line = PrintsClosed ring files head line
 
-abbrev pub Tells : RingState → Call → List ℕ → Type 0
-Tells ring call line = TellsClosed ring (result_line call.word (pos call.res)) call.closed line
+abbrev pub TellsCall : RingState → Call → List ℕ → Type 0
+TellsCall ring call line = TellsClosed ring (result_line call.word (pos call.res)) call.closed line
 
 -- the line of a call between submissions, or of a refused submission, where it finds memory
 abbrev pub IsLineOf : RingState → Instruction → List ℕ → Type 0
@@ -99,7 +99,7 @@ IsLineOf ring (SubmitsAll asked) line =
     MatchOption (fault_of asked) (line ≡ too_many_line) (λ fault. line ≡ refused_line fault)
 IsLineOf ring command line =
     AnswersFound (call_of ring command).refusal (call_of ring command).word
-    (Tells ring (call_of ring command)) line
+    (TellsCall ring (call_of ring command)) line
 
 -- the word of a call that isn't refused
 abbrev pub word_unless : Option Errno → List ℕ → Option (List ℕ)
@@ -122,7 +122,7 @@ abbrev pub IsCall : ℕ → Instruction → Type 0
 IsCall count (SubmitsAll asked) = count_behind count (fault_of asked) ≡ count
 IsCall count _ = Unit {0}
 
--- the command is no submission
+-- the command isn't a submission
 abbrev pub IsNoSubmission : Instruction → Type 0
 IsNoSubmission (SubmitsAll asked) = ⊥
 IsNoSubmission _ = Unit {0}
