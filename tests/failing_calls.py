@@ -1,20 +1,12 @@
-"""Lists the calls of tests/check-allocation-failures, and what the program test_refusals may report of each if one of its allocations
-fails. The expected result is that of the call's documentation: its answer, what a refusal leaves, and what the same call answers
-afterwards. The calls between submissions, the reading of scripts and the making of texts are those of the scripts that fixfiles plays
+"""Lists the calls of tests/check-allocation-failures, and what the program test_refusals may print of each if one of its allocations
+fails. The expected result is that of the call's documentation: its answer, and what the same call answers after a refusal. The calls
+between submissions, the reading of scripts and the making of texts are those of the scripts that fixfiles plays
 (allocation_failures.py)."""
 
 TABLES = ("words", "baton")
-# the table of one thread on which calls are made, with a file at two of its slots
-TABLE = ["table: 4 slots, range 1 2, 2 full, settled true", "slot 0 has Registered { k: 1, i: 0 } 0",
-         "slot 2 has Registered { k: 1, i: 2 } 1"]
 # the closed files of a ring: the one that is there at first, and the one that a request opens
 FIRST = "Closed { mark: Registered { k: 1, i: 0 }, entry: 0, tag: 7 }"
 OPENED = "Closed { mark: Submitted { submission: 1, chain: 2, member: 1, entry: 0 }, entry: 1, tag: 0 }"
-
-
-def ring(submissions):
-    """Returns the line of a ring's state after some submissions."""
-    return f"ring: 2 slots, range 1 1, submissions {submissions}, registrations 1"
 
 
 def completion(chain, member, res, got=b""):
@@ -23,17 +15,16 @@ def completion(chain, member, res, got=b""):
 
 
 class Call:
-    """A call on some setting: what it tells where it does what it is asked for, and what is left then; and what it tells where
-    memory is refused, if it needs any. `others` are further answers, by their names; `torn` is what a tear-down at the end tells."""
+    """A call on some setting: what it prints if it succeeds. With `fails` an allocation of it may fail, which is printed before, with
+    the lines `before`. `others` are further answers, by their names; `torn` is what a tear-down at the end prints."""
 
-    def __init__(self, words, answer, after, before=None, torn=None, others=None):
+    def __init__(self, words, answer, fails=True, before=(), torn=None, others=None):
         self.words = words
-        done = [*answer, *after]
-        self.outcomes = {"done": done + (torn or [])}
-        if before is not None:
+        self.outcomes = {"done": answer + (torn or [])}
+        if fails:
             self.outcomes["no memory"] = [f"{words.split(' ')[0]}: NoMemory", *before, *self.outcomes["done"]]
         if torn is not None:
-            self.outcomes["after the call"] = [*done, "tear_down: NoMemory", *after, *torn]
+            self.outcomes["after the call"] = [*answer, "tear_down: NoMemory", *torn]
         self.outcomes.update(others or {})
         # the outcomes that must each come at some allocation
         self.wanted = {*self.outcomes} - {"done"}
@@ -54,30 +45,10 @@ class Call:
         return kind if end == "end" else "after all" if kind == "done" else None
 
 
-def entries(count):
-    """A file is added to so many."""
-    before = [f"entry {n} {n}.txt 0" for n in range(count)]
-    after = [*before, f"entry {count} new.txt 2", f"new.txt is entry {count}"]
-    return Call(f"add - {count}", ["add: done"], after, [*before, "new.txt is no entry"])
-
-
-def prepared(numbers):
-    """A table that was prepared for eight numbers, of which two are left, is prepared for so many: for fewer without memory."""
-    before = [*TABLE, "numbers 8", "fresh from 6", "fresh 2, the last one 7"]
-    after = [*TABLE, f"numbers {numbers}", "fresh from 4", f"fresh {numbers - 4}, the last one {numbers - 1}"]
-    return Call(f"prepare - {numbers}", ["prepare: done"], after, before if numbers > 8 else None)
-
-
-def opened(table, passes):
-    """A table is shared, and closed again."""
-    answer = ["open: done", f"shared: 4 slots, range 1 2, {passes} passes"]
-    return Call(f"open {table} {passes}", answer, TABLE, TABLE)
-
-
 def told_tags():
     """The completion of the tag of a closed file. The list of them asks again where its first allocation fails, so one failure need
     not end the call."""
-    call = Call("tags - 0", ["tags: [TagCompletion { user_data: 7, res: 0, flags: 0 }]"], [FIRST], [])
+    call = Call("tags - 0", ["tags: [TagCompletion { user_data: 7, res: 0, flags: 0 }]", FIRST])
     call.wanted = set()
     return call
 
@@ -88,11 +59,10 @@ def submitted(table, workers, verb="submit"):
     fail, or the submission."""
     whole = [f"{verb}: done", completion(1, 1, 5, b"hello"), completion(1, 2, 0), completion(2, 1, 1), FIRST]
     cut = [f"{verb}: done", completion(1, 1, -12), completion(1, 2, -125), completion(2, 1, 1)]
-    others = {"a read answers -12": [*cut, ring(1), FIRST, OPENED]}
+    others = {"a read answers -12": [*cut, FIRST, OPENED]}
     if verb == "submit_open":
-        others["no memory to submit"] = [f"{verb}: NoMemory", "open ring: 2 slots", *whole, ring(1), OPENED]
-    before = [ring(0), *["gate: 0 calls"] * (verb == "submit")]
-    call = Call(f"{verb} {table} {workers}", whole, [ring(1)], before, [OPENED], others)
+        others["no memory to submit"] = [f"{verb}: NoMemory", "open ring: 2 slots", *whole, OPENED]
+    call = Call(f"{verb} {table} {workers}", whole, True, ["gate: 0 calls"] * (verb == "submit"), [OPENED], others)
     # threads take memory beside each other, so on several workers that of the read may be another one each time
     call.wanted -= {"a read answers -12"} if workers > 1 else set()
     return call
@@ -100,9 +70,10 @@ def submitted(table, workers, verb="submit"):
 
 def calls():
     """Each call, as the program is asked for it."""
-    yield from (entries(count) for count in (0, 1, 4))
-    yield from (prepared(numbers) for numbers in (5, 9, 300))
-    yield from (opened(table, passes) for table in TABLES for passes in (1, 16))
+    yield from (Call(f"add - {count}", ["add: done"]) for count in (0, 1, 4))
+    # a table that was prepared for eight numbers needs no memory for fewer
+    yield from (Call(f"prepare - {numbers}", ["prepare: done"], numbers > 8) for numbers in (5, 9, 300))
+    yield from (Call(f"open {table} {passes}", ["open: done"]) for table in TABLES for passes in (1, 16))
     yield told_tags()
     yield from (submitted(table, workers) for table in TABLES for workers in (1, 2))
     yield from (submitted(table, 1, "submit_open") for table in TABLES)

@@ -3,8 +3,6 @@ use crate::{ATTEMPTS, tell};
 use fx_base::Catalogue;
 use std::alloc::Global;
 
-const NAME: &str = "new.txt";
-
 // Creates a catalogue of `entries` entries: the n-th, from 0, is `n.txt` and has no bytes.
 fn catalogue_of(alloc: Global, entries: u32) -> Option<Catalogue> {
     let mut catalogue = Catalogue::new(alloc);
@@ -19,18 +17,14 @@ fn catalogue_of(alloc: Global, entries: u32) -> Option<Catalogue> {
 pub(crate) fn add<R: Print>(rt: &R, alloc: Global, entries: u32) -> Option<()> {
     let mut catalogue = catalogue_of(alloc, entries)?;
     for _ in 0..ATTEMPTS {
-        let name = String::from_str(alloc, NAME).ok()?;
+        let name = String::from_str(alloc, "new.txt").ok()?;
         match catalogue.add(name, b"hi".to_vec(alloc).ok()?) {
             Ok(()) => {
                 tell::done(rt, "add");
                 break;
             }
-            Err(fault) => {
-                tell::refused(rt, "add", fault);
-                tell::catalogue(rt, &catalogue, NAME);
-            }
+            Err(fault) => tell::refused(rt, "add", fault),
         }
     }
-    tell::catalogue(rt, &catalogue, NAME);
     Some(())
 }

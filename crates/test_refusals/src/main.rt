@@ -1,6 +1,6 @@
 //! The program `test_refusals`: makes one call, whose allocations are refused from outside, and prints its result.
-//! After an allocation failure it prints what is left, and makes the call again. Then it prints what there is at the
-//! end. tests/check-allocation-failures runs it and judges what it prints. Begin reading at `rings.rt`.
+//! After an allocation failure it makes the call again. tests/check-allocation-failures runs it and judges what it
+//! prints. Contracts say what a failed call leaves. Begin reading at `rings.rt`.
 #![tactic(auto)]
 
 mod entries;

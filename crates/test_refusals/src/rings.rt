@@ -6,7 +6,6 @@ use fx_chain::{Gate, OpenGate, Place};
 use fx_ring::{OpenRing, Ring};
 use fx_table::FileTable;
 use std::alloc::Global;
-use std::fmt::Debug;
 use std::sync::Wait;
 use std::sync::atomic::{AtomicU32, Ordering};
 use std::thread::Threads;
@@ -25,24 +24,17 @@ impl Gate for Calls {
     }
 }
 
-// Prints what is left after an allocation failure.
-fn refused<R: Print, F: Debug + Drop>(rt: &R, call: &str, fault: F, ring: &Ring) {
-    tell::refused(rt, call, fault);
-    tell::ring(rt, ring);
-}
-
-// Prints what there is and tears the ring down, with a second attempt after an allocation failure.
+// Tears the ring down, with a second attempt after an allocation failure.
 fn end<R: Print>(rt: &R, alloc: Global, ring: Ring) {
-    tell::ring(rt, &ring);
     let ring = match ring.tear_down(alloc) {
         Ok(closes) => return tell::closes(rt, &closes),
         Err((ring, NoMemory)) => ring,
     };
-    refused(rt, "tear_down", NoMemory, &ring);
+    tell::refused(rt, "tear_down", NoMemory);
     match ring.tear_down(alloc) {
         Ok(closes) => tell::closes(rt, &closes),
         Err((ring, NoMemory)) => {
-            refused(rt, "tear_down", NoMemory, &ring);
+            tell::refused(rt, "tear_down", NoMemory);
             ring.abandon();
         }
     }
@@ -87,7 +79,7 @@ pub(crate) fn submit<T: FileTable, R: Threads + Wait + Print + Sync>(
                 break;
             }
             Err(fault) => {
-                refused(rt, "submit", fault, &ring);
+                tell::refused(rt, "submit", fault);
                 let _ = println!(rt; "gate: {} calls", calls.0.load(Ordering::SeqCst));
             }
         }
@@ -101,7 +93,7 @@ fn opened<T: FileTable, R: Print>(rt: &R, alloc: Global, ring: Ring) -> Result<O
     match ring.open::<T>(alloc, 2, 1) {
         Ok(opened) => Ok(opened),
         Err((ring, NoMemory)) => {
-            refused(rt, "submit_open", NoMemory, &ring);
+            tell::refused(rt, "submit_open", NoMemory);
             ring.open::<T>(alloc, 2, 1).map_err(|(ring, NoMemory)| ring)
         }
     }

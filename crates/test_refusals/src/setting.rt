@@ -4,7 +4,7 @@ ghost use Rattle.fx_plain.specs.State.{IsSettled};
 ghost use Rattle.fx_plain.specs.Contents.{state_of};
 
 use bitflags::Flags;
-use fx_base::{Catalogue, Mark};
+use fx_base::Catalogue;
 use fx_chain::{Op, Request, SqeFlags, Target};
 use fx_plain::PlainTable;
 use fx_ring::Ring;
@@ -30,27 +30,13 @@ pub(crate) fn ring_of_one_file(alloc: Global) -> Option<Ring> {
     Some(ring)
 }
 
-// Installs an entry at a slot, under a fresh number.
-fn put(plain: &mut PlainTable, catalogue: &Catalogue, slot: u32, number: u32, entry: u8) {
-    if slot < plain.size() && plain.is_fresh(number) && u32::from(entry) < catalogue.len() {
-        let file = catalogue.open(entry, Mark::Registered { k: 1, i: slot }, 0);
-        let _replaced = plain.put(slot, number, file);
-    }
-}
-
-/// Creates a settled table of four slots with the range 1 2: `a.txt` is at slot 0 and `b.txt` at slot 2. It was
-/// prepared for eight numbers; the last two are fresh.
-pub(crate) fn table_of_two_files(alloc: Global) -> Option<PlainTable>
+/// Creates a settled table of four slots, prepared for eight numbers.
+pub(crate) fn prepared_table(alloc: Global) -> Option<PlainTable>
     ensures { IfSome result (λ plain. IsSettled (state_of plain)) }
 {
-    let catalogue = two_files(alloc)?;
     let mut plain = PlainTable::sparse(alloc, 4).ok()?;
-    if plain.is_settled() && plain.size() <= 8 && plain.prepare(8).is_ok() {
-        put(&mut plain, &catalogue, 0, 4, 0);
-        put(&mut plain, &catalogue, 2, 5, 1);
-        if plain.set_range(1, 2).is_ok() && plain.is_settled() {
-            return Some(plain);
-        }
+    if plain.is_settled() && plain.size() <= 8 && plain.prepare(8).is_ok() && plain.is_settled() {
+        return Some(plain);
     }
     plain.abandon();
     None

@@ -4,7 +4,7 @@ ghost use Rattle.fx_plain.specs.State.{IsSettled};
 ghost use Rattle.fx_plain.specs.Contents.{state_of};
 ghost use Rattle.fx_table.specs.declared.limits.TheConstants.{MAX_PASSES};
 
-use crate::setting::table_of_two_files;
+use crate::setting::prepared_table;
 use crate::{ATTEMPTS, tell};
 use fx_base::NoMemory;
 use fx_plain::PlainTable;
@@ -14,12 +14,9 @@ use std::alloc::Global;
 /// The number of chains that a shared table is opened for.
 const CHAINS: u32 = 2;
 
-/// A number greater than all that a table is prepared for here.
-const PAST_ALL: u32 = 400;
-
-/// Prepares a table of two files for `numbers` numbers.
+/// Prepares a table for `numbers` numbers.
 pub(crate) fn prepare<R: Print>(rt: &R, alloc: Global, numbers: u32) -> Option<()> {
-    let mut plain = table_of_two_files(alloc)?;
+    let mut plain = prepared_table(alloc)?;
     for _ in 0..ATTEMPTS {
         if !plain.is_settled() || numbers < plain.size() {
             break;
@@ -29,15 +26,9 @@ pub(crate) fn prepare<R: Print>(rt: &R, alloc: Global, numbers: u32) -> Option<(
                 tell::done(rt, "prepare");
                 break;
             }
-            Err(NoMemory) => {
-                tell::refused(rt, "prepare", NoMemory);
-                tell::table(rt, &plain);
-                tell::numbers(rt, &plain, PAST_ALL);
-            }
+            Err(NoMemory) => tell::refused(rt, "prepare", NoMemory),
         }
     }
-    tell::table(rt, &plain);
-    tell::numbers(rt, &plain, PAST_ALL);
     plain.abandon();
     Some(())
 }
@@ -56,30 +47,27 @@ fn open_and_close<T: FileTable, R: Print>(
     match T::open(alloc, plain, CHAINS, passes) {
         Ok((table, list)) => {
             tell::done(rt, "open");
-            tell::shared(rt, &table, &list);
             Ok(table.close(list))
         }
         Err((back, NoMemory)) => {
             tell::refused(rt, "open", NoMemory);
-            tell::table(rt, &back);
             Err(back)
         }
     }
 }
 
-/// Shares a table of two files between `passes` passes, and closes it again.
+/// Shares a table between `passes` passes, and closes it again.
 pub(crate) fn open<T: FileTable, R: Print>(rt: &R, alloc: Global, passes: u32) -> Option<()> {
     if passes == 0 || passes > MAX_PASSES {
         return None;
     }
-    let plain = table_of_two_files(alloc)?;
+    let plain = prepared_table(alloc)?;
     let left = match open_and_close::<T, R>(rt, alloc, plain, passes) {
         Ok(closed) => closed,
         Err(back) => match open_and_close::<T, R>(rt, alloc, back, passes) {
             Ok(left) | Err(left) => left,
         },
     };
-    tell::table(rt, &left);
     left.abandon();
     Some(())
 }
