@@ -1,7 +1,7 @@
 -- A request's accesses and completion, by its operation. A new kind of request adds its cases here.
 use Rattle.fx_order.proofs.Words.{◌≡◌, inl, inr, ℕ, ◌<◌, ◌≤◌, ℤ, pos, negsuc, false, List, [], ◌∷◌, length, refl, sym, ap, subst, ◌∙◌, arith, Option}
 use Rattle.fx_order.proofs.Words.{Some, None, FileEntry, IsCatalogue, name_at, Errno, EBADF, ENFILE, ENOMEM, Closed, installed, either_option, both_options}
-use Rattle.fx_order.proofs.Words.{refusal_of, Operation, Opens, Reads, Closes, Updates, Target, Completed, completed, refusal, Place, Any, Slot, Looks, Puts}
+use Rattle.fx_order.proofs.Words.{refusal_of, Operation, Opens, Reads, Closes, Updates, Completed, completed, refusal, Place, Any, Slot, Looks, Puts}
 use Rattle.fx_order.proofs.Words.{Takes, Allocates, FindsFull, Access, gives, IsOpenDone, IsReadDone, IsCloseDone, IsUpdateDone, AreEntriesDone}
 use Rattle.fx_order.proofs.Words.{IsDoneAtTable, IsRequestDone, InstallsAt, installs_of, is_long_update, LONGEST_UPDATE, ltb-false, slice_get_within}
 use Rattle.fx_order.proofs.Words.{if◌then◌else◌, positions_of}
