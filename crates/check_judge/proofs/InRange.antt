@@ -1,20 +1,18 @@
 -- The lines of an accepted submission's report have numbers that their types have.
 use Rattle.check_judge.proofs.Words.{◌≡◌, inl, inr, ℕ, zero, suc, ◌+◌, ◌<◌, ◌≤◌, ◌^◌, pos, List, [], ◌∷◌, length, take, drop, All, refl, subst}
 use Rattle.check_judge.proofs.Words.{arith, Option, Some, None, slice_get, get_or_from_slice_get, slice_get_within, All-append, All-cons, All-get_or}
-use Rattle.check_judge.proofs.Words.{All-head, All-nil, All-tail, FileEntry, Errno, ENOENT, EBADF, ENFILE, ENOMEM, Completed, completed}
+use Rattle.check_judge.proofs.Words.{All-head, All-nil, All-tail, FileEntry, Errno, ENOENT, Completed, completed}
 use Rattle.check_judge.proofs.Words.{next_member}
-use Rattle.check_judge.proofs.Words.{canceled, first_member, severs, Asked, Operation, Opens, Reads, Closes, Updates, Place, Target, Slot, Any}
-use Rattle.check_judge.proofs.Words.{accesses_of, accesses_of_chain, Access, ChainAccess, IsDoneAtTable, IsOpenDone, IsRequestDone, IsChainDone, AreChainsDone}
-use Rattle.check_judge.proofs.Words.{either_way, AreFiles, allocates, puts, unless_refused, updates, length-drop, get_or-drop, get_or-take, get_or_past, length-take}
+use Rattle.check_judge.proofs.Words.{canceled, first_member, severs, Asked, Operation, Place}
+use Rattle.check_judge.proofs.Words.{accesses_of, accesses_of_chain, Access, ChainAccess, IsRequestDone, IsChainDone, AreChainsDone}
+use Rattle.check_judge.proofs.Words.{either_way, AreFiles, length-drop, get_or-drop, get_or-take, get_or_past, length-take}
 use Rattle.check_judge.proofs.Words.{IsCompletionInRange, IsPlaceInRange, cases_lt, refusal, bytes_at, part_of, LONGEST_ENTRY}
-use Rattle.check_judge.proofs.Words.{ECANCELED, both_parts}
+use Rattle.check_judge.proofs.Words.{Allocates, ECANCELED, both_parts}
 use Rattle.std.specs.List.{AllByRecursion}
 use Rattle.hex.specs.Hex.{IsBytes}
 use Rattle.check_judge.proofs.OfChain.{possible_of_chain}
 use Rattle.check_judge.specs.Claims.{IsAllocationInRange}
-use Rattle.fx_chain.proofs.Refused.{applied}
-use Rattle.fx_chain.specs.Refusal.{refusal_of}
-use Rattle.fx_order.proofs.RequestCases.{closes, reads}
+use Rattle.fx_order.proofs.RequestCases.{completion_so}
 
 -- an element of a list of which each is so
 all_got : {A : Type 0} (P : A → Type 0) (xs : List A) (i : ℕ) {x : A} → All P xs → slice_get xs i ≡ Some x → P x
@@ -33,7 +31,7 @@ taken_bytes n xs fits i = elim (cases_lt i n) [
 left_bytes : (n : ℕ) (xs : List ℕ) → IsBytes xs → IsBytes (drop n xs)
 left_bytes n xs fits i = rw get_or-drop (fits (n + i))
 
--- bytes that a read gives
+-- bytes that a read returns
 record AreGiven (got : List ℕ) : Type 0 where
   small : length got < 2 ^ 31
   bytes : IsBytes got
@@ -63,30 +61,14 @@ module _ (catalogue : List FileEntry) (are : AreFiles catalogue) (size : ℕ) (s
   AreInside accesses = AllByRecursion (IsAllocationInRange size range) accesses
 
   module _ (place : Place) (is : IsPlaceInRange place) where
-    open_so : (entry : ℕ) (target : Target) (accesses : List Access) {c : Completed} → AreInside accesses
-        → IsOpenDone place entry target accesses c → IsCompletionInRange c
-    open_so entry (Slot slot) accesses {c} inside done =
-        puts place (λ _. IsCompletionInRange) accesses c entry slot (λ _. number_in_range is (omega arith)) done
-    open_so entry Any accesses {c} inside done =
-        allocates place (λ own d. AreInside own → IsCompletionInRange d) accesses c entry
-        (λ slot within. let low = within.0.0 in number_in_range is (omega arith)) (λ _. error is ENFILE) done inside
-
-    at_table : (operation : Operation) (accesses : List Access) {c : Completed} → AreInside accesses → refusal_of catalogue size operation ≡ None
-        → IsDoneAtTable catalogue place operation accesses c → IsCompletionInRange c
-    at_table (Opens name target) accesses inside accepted x = open_so x.0 target accesses inside x.2
-    at_table (Reads slot off len) accesses {c} inside accepted x =
-        reads place (λ _. IsCompletionInRange) accesses c catalogue slot off len (error is ENOMEM) (error is EBADF) (λ file.
-        let g = given file.entry off len are in record { place = is; res = g.small; got = g.bytes }) x
-    at_table (Closes slot) accesses {c} inside accepted x =
-        closes place (λ _. IsCompletionInRange) accesses c slot (error is EBADF) (λ _. number_in_range is (omega arith)) x
-    at_table (Updates off list) accesses {c} inside accepted x =
-        updates place (λ _. IsCompletionInRange) accesses c off list (λ _.
-        let within = (applied (length catalogue) size off list accepted).fits in number_in_range is (omega arith)) x
-
     request_so : (operation : Operation) (accesses : List Access) {c : Completed} → AreInside accesses
         → IsRequestDone catalogue size place operation accesses c → IsCompletionInRange c
     request_so operation accesses {c} inside =
-        unless_refused place (λ _. IsCompletionInRange) accesses c catalogue size operation (error is) (at_table operation accesses inside)
+        completion_so catalogue place size IsCompletionInRange accesses c (error is)
+        (λ file off len. let g = given file.entry off len are in record { place = is; res = g.small; got = g.bytes })
+        (λ n few. number_in_range is (omega arith))
+        (λ slot file one. let within : AreInside (Allocates slot file ∷ []) = subst AreInside one inside in
+        let low = within.0.0 in number_in_range is (omega arith)) operation
 
   moved : {place : Place} (n : ℕ) → IsPlaceInRange place → place.member + suc n < 2 ^ 32 → IsPlaceInRange (next_member place)
   moved n is few = record { submission = is.submission; chain = is.chain; member = omega arith }

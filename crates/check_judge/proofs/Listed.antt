@@ -1,57 +1,24 @@
 -- The places of a chain's accesses.
-use Rattle.check_judge.proofs.Words.{◌≡◌, ◌≢◌, ℕ, suc, ◌+◌, ◌<◌, ◌==◌, Bool, true, if◌then◌else◌, ℤ, negsuc, int_le, List, [], ◌∷◌, ◌++◌, All, length}
-use Rattle.check_judge.proofs.Words.{Some, None, refl, sym, ap, ◌∙◌, arith, append-nil, append_assoc, length-append, slice_index_or, take}
-use Rattle.check_judge.proofs.Words.{length-take-le, take_more, All-append, FileEntry, Completed, next_member, severs, Asked, Operation, Updates}
-use Rattle.check_judge.proofs.Words.{Place}
-use Rattle.check_judge.proofs.Words.{IsChainDone, IsRequestDone, Access, by_equality, IsChainListed, entry_places, place_at}
-use Rattle.check_judge.proofs.Words.{AccessPlace}
-use Rattle.check_judge.proofs.Words.{unless_refused, inl, inr, add-zero, length-replicate, All-replicate, cases_Bool, cond_both, own_places, either_case}
-use Rattle.check_judge.proofs.Words.{All-nil}
-use Rattle.fx_order.proofs.EntriesMade.{done_ones, entries_made}
+use Rattle.check_judge.proofs.Words.{◌≡◌, ℕ, ◌+◌, ◌<◌, true, List, [], ◌∷◌, ◌++◌, All, length, Option, refl, sym, ap, ◌∙◌, arith, append-nil}
+use Rattle.check_judge.proofs.Words.{append_assoc, length-append, length-map, map, slice_index_or, take, length-take-le, take_more, All-append, All-map, All-nil}
+use Rattle.check_judge.proofs.Words.{FileEntry, Completed, next_member, severs, Asked, Operation, Place, IsChainDone, IsRequestDone, Access, IsChainListed}
+use Rattle.check_judge.proofs.Words.{place_at, AccessPlace, own_places, either_case}
+use Rattle.fx_order.proofs.RequestCases.{few_made}
+use Rattle.fx_order.specs.Requests.{positions_of}
+use Rattle.std.proofs.lemmas.List.{map-append}
 
--- with one more entry behind the list
-abbrev pub last_place : Place → ℕ → ℤ → List AccessPlace
-last_place place in_list entry = if int_le (negsuc 0) entry then place_at place (Some in_list) ∷ [] else []
-
-pub one_more_entry : (place : Place) (n : ℕ) (list : List ℤ) (entry : ℤ)
-    → entry_places place n (list ++ entry ∷ []) ≡ entry_places place n list ++ last_place place (n + length list) entry
-one_more_entry place n [] entry = rw (add-zero, append-nil)
-one_more_entry place n (x ∷ list) entry =
-    let e : n + suc (length list) ≡ n + 1 + length list = omega arith in rw (one_more_entry place (n + 1) list entry, e, append_assoc)
-
-one_taken : (place : Place) (list : List ℤ) {i : ℕ} (d : ℤ) → i < length list
-    → entry_places place 0 (take (i + 1) list) ≡ entry_places place 0 (take i list) ++ last_place place i (slice_index_or list i d)
-one_taken place list {i} d inside =
-    let e : 0 + length (take i list) ≡ i = omega (arith, length-take-le i list (omega arith)) in
-    rw (take_more list i d inside, one_more_entry place 0 (take i list) (slice_index_or list i d), e)
-
--- behind other places, the next entry's
-pub entries_more : (place : Place) (list : List ℤ) {i : ℕ} (d : ℤ) {b : Bool} (old : List AccessPlace) {mid new : List AccessPlace} → i < length list
-    → int_le (negsuc 0) (slice_index_or list i d) ≡ b → mid ≡ old ++ entry_places place 0 (take i list)
-    → new ≡ mid ++ (if b then place_at place (Some i) ∷ [] else []) → new ≡ old ++ entry_places place 0 (take (i + 1) list)
-entries_more place list {i} d old inside is so_far more = rw (more, so_far, append_assoc, one_taken place list d inside, is)
-
--- as many places as entries that aren't skips
-entries_listed : (place : Place) (n : ℕ) (list : List ℤ) → length (entry_places place n list) ≡ length (done_ones list)
-entries_listed place n [] = refl
-entries_listed place n (entry ∷ list) = elim (cases_Bool (int_le (negsuc 0) entry)) [
-  | inl done ↦ rw (done, entries_listed place (n + 1) list)
-  | inr skipped ↦ rw (skipped, entries_listed place (n + 1) list)
-]
-
-update_made : (catalogue : List FileEntry) (size : ℕ) (place : Place) (off : ℕ) (list : List ℤ) (own : List Access) (c : Completed) → length own ≢ 0
-    → IsRequestDone catalogue size place (Updates off list) own c → length own ≡ length (done_ones list)
-update_made catalogue size place off list own c some done =
-    unless_refused place (λ l _. length l ≢ 0 → length l ≡ length (done_ones list)) own c catalogue size (Updates off list)
-    (λ _ none. absurd (none refl)) (λ _ x _. entries_made place 0 off list own x.0) done some
+-- with the place of the next position
+pub places_more : (place : Place) (positions : List (Option ℕ)) {i : ℕ} (d : Option ℕ) (old : List AccessPlace) {mid new : List AccessPlace} → i < length positions
+    → mid ≡ old ++ map (place_at place) (take i positions) → new ≡ mid ++ place_at place (slice_index_or positions i d) ∷ []
+    → new ≡ old ++ map (place_at place) (take (i + 1) positions)
+places_more place positions {i} d old inside so_far more = rw (more, so_far, append_assoc, take_more positions i d inside, map-append)
 
 -- as many places as accesses
 pub own_listed : (catalogue : List FileEntry) (size : ℕ) (place : Place) (operation : Operation) (own : List Access) (c : Completed)
     → IsRequestDone catalogue size place operation own c → length (own_places place operation own) ≡ length own
-own_listed catalogue size place (Updates off list) own c done =
-    by_equality (length own) 0 (λ b. length (if b then [] else entry_places place 0 list) ≡ length own) (λ none. sym none)
-    (λ some. entries_listed place 0 list ∙ sym (update_made catalogue size place off list own c some done))
-own_listed catalogue size place _ own c done = length-replicate (length own) (place_at place None)
+own_listed catalogue size place operation own c done =
+    length-map (take (length own) (positions_of operation)) (place_at place)
+    ∙ length-take-le (length own) (positions_of operation) (few_made catalogue place size operation own c done)
 
 -- they are all of the chain
 abbrev pub AreOfChain : ℕ → List AccessPlace → Type 0
@@ -60,19 +27,9 @@ AreOfChain chain places = All (λ p. p.chain ≡ chain) places
 none_of_chain : (chain : ℕ) → AreOfChain chain []
 none_of_chain chain = All-nil (λ (p : AccessPlace). p.chain ≡ chain)
 
-entries_of_chain : (place : Place) (n : ℕ) (list : List ℤ) → AreOfChain place.chain (entry_places place n list)
-entries_of_chain place n [] = none_of_chain place.chain
-entries_of_chain place n (entry ∷ list) =
-    All-append (λ (p : AccessPlace). p.chain ≡ place.chain) (last_place place n entry) (entry_places place (n + 1) list)
-    (cond_both (int_le (negsuc 0) entry) (place_at place (Some n) ∷ []) [] (AreOfChain place.chain)
-    (λ _. All-replicate (λ (p : AccessPlace). p.chain ≡ place.chain) 1 (place_at place (Some n)) refl) (λ _. none_of_chain place.chain))
-    (entries_of_chain place (n + 1) list)
-
 own_of_chain : (place : Place) (operation : Operation) (own : List Access) → AreOfChain place.chain (own_places place operation own)
-own_of_chain place (Updates off list) own =
-    cond_both (length own == 0) [] (entry_places place 0 list) (AreOfChain place.chain)
-    (λ _. none_of_chain place.chain) (λ _. entries_of_chain place 0 list)
-own_of_chain place _ own = All-replicate (λ (p : AccessPlace). p.chain ≡ place.chain) (length own) (place_at place None) refl
+own_of_chain place operation own =
+    All-map (λ (p : AccessPlace). p.chain ≡ place.chain) (place_at place) (take (length own) (positions_of operation)) (λ _ _ _. refl)
 
 -- as many places as accesses, and all of the chain
 abbrev pub AreFor : ℕ → List Access → List AccessPlace → Type 0
@@ -96,7 +53,7 @@ chain_listed catalogue size place (request ∷ requests) accesses places complet
           (own_of_chain place request.operation x.0) behind.1),
     )
 
--- what is put behind other places, for a chain that was done
+-- the places that are appended, for a chain that was done
 abbrev pub IsPut : List FileEntry → ℕ → Place → List Asked → List Access → List Completed → List AccessPlace → List AccessPlace → Type 0
 IsPut catalogue size place requests accesses completions old new =
     (own : List AccessPlace) × (new ≡ old ++ own) × IsChainListed catalogue size place requests accesses own completions

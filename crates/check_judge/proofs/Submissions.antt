@@ -13,7 +13,7 @@ use Rattle.fx_order.proofs.Histories.{each_order_is_a_history}
 use Rattle.std.proofs.lemmas.Simd.{map-map}
 use Rattle.check_judge.proofs.OrderFiles.{IsCounted, left_in_range}
 
--- the lines of what is told are those that were read
+-- the lines of the completions and closes are those that were read
 pub told_lines : (catalogue : List FileEntry) (lines : ReportLines) (files : List Closed)
     → named_closes catalogue files ≡ map named_close_of lines.closed.items
     → map (λ file. file.tag) (filter (λ file. not (file.tag == 0)) files) ≡ lines.tags.items
@@ -26,7 +26,7 @@ told_lines catalogue lines files closed tags number room =
     let all : map (λ completion. completion.user_data) (tags_of files) ≡ lines.tags.items = rw map-map tags in
     λ i. record { completions = all_completed lines.completions.items; closed = closed i; tags = all i }
 
--- the tags of files are those that are told of them
+-- the tags of files are those of their lines
 pub tags_again : {files others : List Closed} → files ≡ others
     → map (λ file. file.tag) (filter (λ file. not (file.tag == 0)) files) ≡ map (λ completion. completion.user_data) (tags_of others)
 tags_again same = rw (same, map-map)
@@ -52,7 +52,7 @@ module _ {catalogue : List FileEntry} {old : RingSlots} {asked : List Asked} (s 
   abbrev Came : List ChainAccess → Type 0
   Came accesses = CameBy before asked told accesses after
 
-  -- an order of the submission, at the ring behind it
+  -- an order of the submission, at the ring after it
   pub ordered_is : {accesses : List ChainAccess} → Came accesses → IsOrderOf accesses before asked (told_report before told 0)
   ordered_is came = rw (came 0).1 at (came 0).0.is
 
@@ -71,7 +71,7 @@ module _ {catalogue : List FileEntry} {old : RingSlots} {asked : List Asked} (s 
 
   pub accepted_goes : (order : Order) (lines : ReportLines) {text : List ℕ} {count : ℕ} → Came order.accesses.items
       → order.submission ≡ new.submissions
-      → (AreDone order.accesses.items → PlacesAt (length new.slots.at.items) new.submissions order) → HasLines catalogue lines told
+      → PlacesAt (length new.slots.at.items) new.submissions order → HasLines catalogue lines told
       → BeginsWith text count (lines_text (lines_in lines))
       → (count ≤ length text) × MayPrintBy before (SubmitsAll asked) after (take count text) (Some order)
   accepted_goes order lines {text} {count} came numbered listed has begins = (
@@ -106,7 +106,7 @@ module _ {catalogue : List FileEntry} {old : RingSlots} {asked : List Asked} (s 
               left = history.1 ∙ led ∙ ap (ring_left accesses) (sym same);
               submission = numbered ∙ counted;
               places = subst (λ (r : RingState). AreAccessPlaces r.catalogue r.size report.submission (runs_of asked) report.completions accesses order.places.items)
-                  (sym same) (subst (λ (z : ℕ × ℕ). PlacesAt z.0 z.1 order) (λ t. (size t, counted t)) (listed (ordered_done came)));
+                  (sym same) (subst (λ (z : ℕ × ℕ). PlacesAt z.0 z.1 order) (λ t. (size t, counted t)) listed);
             },
           ),
         ),

@@ -27,7 +27,7 @@ pub use Rattle.check_judge.specs.Kept.{IsRingKept, IsOfScript}
 pub use Rattle.check_judge.specs.Met.{BeginsWith, IsMet}
 pub use Rattle.check_judge.specs.Ordered.{MayPrintBy, IsTextBy, MayPrintAllBy, PrintsAllBy}
 pub use Rattle.check_judge.specs.PlaceLists.{AreListsOf, IsListFor}
-pub use Rattle.check_judge.specs.Places.{AreAccessPlaces, IsChainListed, entry_places, place_at, places_of_chain, own_places, AreChainsListed}
+pub use Rattle.check_judge.specs.Places.{AreAccessPlaces, IsChainListed, place_at, places_of_chain, own_places, AreChainsListed}
 pub use Rattle.check_judge.specs.Step.{ContinuesText, IsStep, LeadsNowhere, LeadsTo}
 pub use Rattle.check_judge.specs.Told.{AreApart, AreFrom, HasLines, Installed, IsFileAtSlot, MayBeClosed, OneInstalled, TellsKnown, TellsCloses, HasNone}
 pub use Rattle.check_judge.specs.Told.{MayCloseAll}
@@ -49,7 +49,6 @@ pub use Rattle.check_lines.specs.declared.closed_line.ClosedLine.{ClosedLine}
 pub use Rattle.check_lines.specs.declared.report_lines.ReportLines.{ReportLines}
 pub use Rattle.fx_order.proofs.ChainFront.{length-done, both_parts}
 pub use Rattle.fx_order.proofs.Placed.{Has, placed, has_either, placed-append, left_from, removes_contained}
-pub use Rattle.fx_order.proofs.RequestCases.{allocates, close_none, puts, read_none, unless_refused, updates}
 pub use Rattle.fx_order.specs.Access.{Table, accesses_of, accesses_of_chain, files_removed_in}
 pub use Rattle.fx_order.specs.declared.access.Access.TheVariants.{Allocates, Puts, Looks}
 pub use Rattle.fx_order.specs.Order.{IsOneOrder, table_of, IsOrderOf, ring_left}

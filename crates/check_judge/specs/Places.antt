@@ -1,35 +1,26 @@
--- Whose the accesses of an order are: which member of which chain makes each.
-use Rattle.std.specs.Prelude.{◌≡◌, ℕ, ◌+◌, ◌==◌, ℤ, negsuc, int_le, List, [], ◌∷◌, ◌++◌, map}
-use Rattle.std.specs.Prelude.{filter, length, replicate, Option, Some, None, if◌then◌else◌}
+-- The places of an order's accesses: the member of a chain that makes each access.
+use Rattle.std.specs.Prelude.{◌≡◌, ℕ, ◌+◌, ◌==◌, List, [], ◌∷◌, ◌++◌, map, filter, length, take}
+use Rattle.std.specs.Prelude.{Option}
 use Rattle.std.specs.Bool.{MatchBool}
 use Rattle.fx_base.specs.Catalogue.{FileEntry}
 use Rattle.fx_chain.specs.Completed.{Completed, next_member}
 use Rattle.fx_chain.specs.Explains.{canceled, first_member, severs}
-use Rattle.fx_chain.specs.Operation.{Asked, Operation, Opens, Reads, Closes, Updates}
+use Rattle.fx_chain.specs.Operation.{Asked, Operation}
 use Rattle.fx_chain.specs.declared.completion.Place.{Place}
 use Rattle.fx_order.specs.Access.{accesses_of_chain}
-use Rattle.fx_order.specs.Requests.{IsRequestDone}
+use Rattle.fx_order.specs.Requests.{IsRequestDone, positions_of}
 use Rattle.fx_order.specs.declared.access.Access.{Access}
 use Rattle.fx_order.specs.declared.access.ChainAccess.{ChainAccess}
 use Rattle.fx_order.specs.declared.listed_order.AccessPlace.{AccessPlace}
 
--- the place of an access: that of its request, and of an update's the place in its list
+-- the place of an access: that of its request, and its position in the list of an update
 abbrev pub place_at : Place → Option ℕ → AccessPlace
 place_at place entry = record { chain = place.chain; member = place.member; entry = entry }
 
--- the places of an update's entries, from a place in its list on, without the skips
-abbrev pub entry_places : Place → ℕ → List ℤ → List AccessPlace
-entry_places place in_list [] = []
-entry_places place in_list (entry ∷ list) =
-    (if int_le (negsuc 0) entry then place_at place (Some in_list) ∷ [] else [])
-    ++ entry_places place (in_list + 1) list
-
 -- the places of the accesses that a request made
 abbrev pub own_places : Place → Operation → List Access → List AccessPlace
-own_places place (Opens name target) own = replicate (length own) (place_at place None)
-own_places place (Reads slot off len) own = replicate (length own) (place_at place None)
-own_places place (Closes slot) own = replicate (length own) (place_at place None)
-own_places place (Updates off list) own = if length own == 0 then [] else entry_places place 0 list
+own_places place operation own =
+    map (place_at place) (take (length own) (positions_of operation))
 
 -- the members of a chain from this place on make these accesses, one after another, and answer so,
 -- as `IsChainDone` has it; and these are the places of the accesses

@@ -28,8 +28,8 @@ fn or_no_memory(alloc: Global, text: &[u8], word: &str, likelier: String) -> Res
     }
 }
 
-/// Plays a call between submissions, or a submission that is refused. The text begins with the line of the call if no
-/// allocation fails, or with its ENOMEM line.
+/// Plays a call between submissions, or a submission that is refused: looks for its line if no allocation fails, and
+/// then for its ENOMEM line.
 ///
 /// # Errors
 /// `NoMemory` if an allocation fails.

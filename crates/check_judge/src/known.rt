@@ -7,10 +7,10 @@ ghost use Rattle.check_judge.specs.Told.{AreFrom, Installed, OneInstalled};
 use crate::closed_files::file_marked;
 use crate::told::Told;
 use fx_base::Mark;
-use fx_chain::{Completion, Op, Place, Request};
-use fx_order::Slots;
+use fx_chain::{Completion, Place, Request};
+use fx_order::{Slots, installs_at};
 
-// Whether a request that completed so installed a file with this mark.
+// Checks whether a request with this completion installed a file with this mark.
 fn has_installed(request: &Request, completion: &Completion, mark: Mark) -> bool
     ensures { result ≡ false → Installed (asked_of request.now) (completed_of completion.now) mark → ⊥ }
 {
@@ -34,16 +34,11 @@ fn has_installed(request: &Request, completion: &Completion, mark: Mark) -> bool
     if completion.res < 0 {
         return false;
     }
-    match &request.op {
-        Op::Open { name: _, target: _ } => entry == 0,
-        Op::Update { off: _, list } => {
-            matches!(list.as_slice().get(entry as usize), Some(number) if *number >= 0)
-        }
-        _ => false,
-    }
+    installs_at(&request.op, entry)
 }
 
-// The first completion, from one on, that isn't of a place in front of the mark's; all are in order of place.
+// Returns the position, from `from` on, of the first completion whose place isn't before the mark's. The completions are in
+// order of place.
 fn completion_of(completions: &[Completion], from: usize, mark: Mark) -> usize {
     for i in from..completions.len() {
         if completions[i].place.mark(u32::MAX) >= mark {
@@ -53,7 +48,7 @@ fn completion_of(completions: &[Completion], from: usize, mark: Mark) -> usize {
     completions.len()
 }
 
-// Whether one of the requests, each of which completed so, installed a file with this mark.
+// Checks whether one of the requests, with these completions, installed a file with this mark.
 fn is_installed(requests: &[Request], completions: &[Completion], mark: Mark) -> bool
     ensures { result ≡ false → OneInstalled (all_asked requests.now)
         (all_completed completions.now) mark → ⊥ }
@@ -84,7 +79,7 @@ pub(crate) fn unknown_file(slots: &Slots, requests: &[Request], told: &Told) -> 
         if installed || file_marked(slots, mark).is_some() {
             continue;
         }
-        // Only the request at the mark's place was looked at; the file is unknown where none of them installed it.
+        // Only the request at the mark's place was checked. The file is unknown if no request installed it.
         if !is_installed(requests, completions, mark) {
             return Some(i);
         }

@@ -1,7 +1,6 @@
 //! The places of the requests that make the accesses of an order.
 ghost use Rattle.std.specs.Prelude.{◌≡◌, ◌≤◌, ◌<◌, ◌+◌, ◌++◌, ◌^◌, ℕ, All, IfOk, OnOk, List, length, map, slice_get, Some};
 ghost use Rattle.std.specs.Global.{Vec as Items};
-ghost use Rattle.fx_base.specs.Catalogue.{FileEntry};
 ghost use Rattle.fx_chain.specs.Accepted.{IsChain, members_of};
 ghost use Rattle.fx_chain.specs.Completed.{all_completed, completed_of};
 ghost use Rattle.fx_chain.specs.Operation.{all_asked, operation_of};
@@ -9,84 +8,63 @@ ghost use Rattle.fx_order.specs.Requests.{AreChainsDone, IsChainDone, IsRequestD
 ghost use Rattle.fx_order.specs.declared.access.Access.{Access};
 ghost use Rattle.fx_order.specs.declared.access.ChainAccess.{ChainAccess as Made};
 ghost use Rattle.check_judge.specs.PlaceLists.{AreListsOf, IsListFor};
-ghost use Rattle.check_judge.specs.Places.{AreAccessPlaces, IsChainListed, entry_places, own_places, places_of_chain};
+ghost use Rattle.check_judge.specs.Places.{AreAccessPlaces, IsChainListed, own_places, places_of_chain};
 ghost use Rattle.fx_order.specs.declared.listed_order.AccessPlace.{AccessPlace as Listed};
 
 use fx_base::NoMemory;
-use fx_chain::{Chain, Completion, Op, Place, Request};
-use fx_order::{AccessPlace, ChainAccess, accesses_made, members};
+use fx_chain::{Chain, Completion, Place, Request};
+use fx_order::{AccessPlace, ChainAccess, OrderSetting, members, positions_made};
 use std::alloc::Global;
 
-/// The completions of a submission's requests, done at a table of `size` slots.
-#[derive(Clone, Copy)]
+/// The completions of a submission's requests.
+#[derive(Drop)]
 pub(crate) struct Answered<'a> {
-    pub size: u32,
+    pub setting: OrderSetting<'a>,
     pub submission: u32,
     pub requests: &'a [Request],
     pub chains: &'a [Chain],
     pub completions: &'a [Completion],
 }
 
-// Puts the places of an update's entries behind others.
-fn push_entries(places: &mut Vec<AccessPlace>, place: Place, list: &[i32]) -> Result<(), NoMemory>
-    ensures { OnOk result (places.new.items ≡ places.old.items ++ entry_places place 0 list.now) }
-{
-    for (entry, number) in list.iter().enumerate() {
-        if *number >= -1 {
-            places.push(AccessPlace {
-                chain: place.chain,
-                member: place.member,
-                entry: Some(entry),
-            })?;
-        }
-    }
-    Ok(())
-}
-
-// Puts the places of a request's accesses behind others.
+// Appends the places of a request's accesses.
 fn push_own(
     places: &mut Vec<AccessPlace>,
-    size: u32,
+    setting: &OrderSetting<'_>,
     place: Place,
     request: &Request,
     c: &Completion,
 ) -> Result<(), NoMemory>
-    ensures { OnOk result ((catalogue : List FileEntry) (own : List Access)
-        → IsRequestDone catalogue size place (operation_of request.now.op) own (completed_of c.now)
+    ensures { OnOk result ((own : List Access)
+        → IsRequestDone setting.now.catalogue.now setting.now.size place
+        (operation_of request.now.op) own (completed_of c.now)
         → places.new.items ≡ places.old.items ++ own_places place (operation_of request.now.op) own) }
 {
-    let made = accesses_made(size, request, c);
-    if let Op::Update { off: _, list } = &request.op {
-        if made > 0 {
-            push_entries(places, place, list)?;
-        }
-        return Ok(());
-    }
-    for _access in 0..made {
+    let positions = positions_made(setting, request, c)?;
+    for entry in &positions {
         places.push(AccessPlace {
             chain: place.chain,
             member: place.member,
-            entry: None,
+            entry: *entry,
         })?;
     }
     Ok(())
 }
 
-// Puts the places of the accesses of a chain's members, from this place on, behind others.
+// Appends the places of the accesses of a chain's members, from this place on.
 fn push_chain(
     places: &mut Vec<AccessPlace>,
-    size: u32,
+    setting: &OrderSetting<'_>,
     place: Place,
     requests: &[Request],
     completions: &[Completion],
 ) -> Result<(), NoMemory>
     requires { place.member + length requests.now < 2 ^ 32 }
-    ensures { OnOk result ((catalogue : List FileEntry) (accesses : List Access)
-        → IsChainDone catalogue size place (all_asked requests.now) accesses
-        (all_completed completions.now)
+    ensures { OnOk result ((accesses : List Access)
+        → IsChainDone setting.now.catalogue.now setting.now.size place (all_asked requests.now)
+        accesses (all_completed completions.now)
         → (own : List Listed) × (places.new.items ≡ places.old.items ++ own)
-        × IsChainListed catalogue size place (all_asked requests.now) accesses own
-        (all_completed completions.now)) }
+        × IsChainListed setting.now.catalogue.now setting.now.size place (all_asked requests.now)
+        accesses own (all_completed completions.now)) }
 {
     let [request, requests @ ..] = requests else {
         return Ok(());
@@ -94,7 +72,7 @@ fn push_chain(
     let [c, completions @ ..] = completions else {
         return Ok(());
     };
-    push_own(places, size, place, request, c)?;
+    push_own(places, setting, place, request, c)?;
     if request.severs(c) {
         return Ok(());
     }
@@ -102,12 +80,11 @@ fn push_chain(
         member: place.member + 1,
         ..place
     };
-    push_chain(places, size, next, requests, completions)
+    push_chain(places, setting, next, requests, completions)
 }
 
-// Puts the places of the chains from this one on behind others, a list for each chain.
+// Appends the places of the chains from this one on, a list for each chain.
 fn push_lists(
-    alloc: Global,
     lists: &mut Vec<Vec<AccessPlace>>,
     answered: &Answered<'_>,
     chain: u32,
@@ -116,12 +93,14 @@ fn push_lists(
 ) -> Result<(), NoMemory>
     requires within { All (IsChain (all_asked answered.now.requests.now)) chains.now }
     requires numbers { chain + length chains.now < 2 ^ 32 }
-    ensures { OnOk result ((catalogue : List FileEntry) (order : List Made)
-        → AreChainsDone catalogue answered.now.size answered.now.submission chain
+    ensures { OnOk result ((order : List Made)
+        → AreChainsDone answered.now.setting.catalogue.now answered.now.setting.size
+        answered.now.submission chain
         (map (members_of (all_asked answered.now.requests.now)) chains.now) order
         (all_completed completions.now)
         → (own : List (Items Listed)) × (lists.new.items ≡ lists.old.items ++ own)
-        × AreListsOf catalogue answered.now.size answered.now.submission chain
+        × AreListsOf answered.now.setting.catalogue.now answered.now.setting.size
+        answered.now.submission chain
         (map (members_of (all_asked answered.now.requests.now)) chains.now) order own
         (all_completed completions.now)) }
 {
@@ -138,13 +117,13 @@ fn push_lists(
         chain,
         member: 1,
     };
-    let mut places = Vec::new(alloc);
-    push_chain(&mut places, answered.size, place, members, own)?;
+    let mut places = Vec::new(answered.setting.alloc);
+    push_chain(&mut places, &answered.setting, place, members, own)?;
     lists.push(places)?;
-    push_lists(alloc, lists, answered, chain + 1, chains, others)
+    push_lists(lists, answered, chain + 1, chains, others)
 }
 
-// The places of all chains, as an order has their accesses.
+// Returns the places of all chains, as an order has their accesses.
 fn in_order(
     alloc: Global,
     lists: &[Vec<AccessPlace>],
@@ -173,38 +152,33 @@ fn in_order(
     Ok(places)
 }
 
-/// Returns the place of the request that makes each access of an order. The order must give the completions.
+/// Returns the place of the request that makes each access of an order. The order must lead to the completions.
 ///
 /// # Errors
 /// `NoMemory` if an allocation fails.
 pub(crate) fn places_of(
-    alloc: Global,
     answered: &Answered<'_>,
     order: &[ChainAccess],
 ) -> Result<Vec<AccessPlace>, NoMemory>
     requires within { All (IsChain (all_asked answered.now.requests.now)) answered.now.chains.now }
     requires few { 1 + length answered.now.chains.now < 2 ^ 32 }
     requires chains { All (λ x. (1 ≤ x.chain) × (x.chain ≤ length answered.now.chains.now)) order.now }
-    requires done { (catalogue : List FileEntry) × AreChainsDone catalogue answered.now.size
+    requires done { AreChainsDone answered.now.setting.catalogue.now answered.now.setting.size
         answered.now.submission 1
         (map (members_of (all_asked answered.now.requests.now)) answered.now.chains.now) order.now
         (all_completed answered.now.completions.now) }
-    ensures { IfOk result (λ places. (catalogue : List FileEntry)
-        → AreChainsDone catalogue answered.now.size answered.now.submission 1
-        (map (members_of (all_asked answered.now.requests.now)) answered.now.chains.now)
-        order.now (all_completed answered.now.completions.now)
-        → AreAccessPlaces catalogue answered.now.size answered.now.submission
+    ensures { IfOk result (λ places. AreAccessPlaces answered.now.setting.catalogue.now
+        answered.now.setting.size answered.now.submission
         (map (members_of (all_asked answered.now.requests.now)) answered.now.chains.now)
         (all_completed answered.now.completions.now) order.now places.items) }
 {
-    let mut lists = Vec::new(alloc);
+    let mut lists = Vec::new(answered.setting.alloc);
     push_lists(
-        alloc,
         &mut lists,
         answered,
         1,
         answered.chains,
         answered.completions,
     )?;
-    in_order(alloc, &lists, order)
+    in_order(answered.setting.alloc, &lists, order)
 }

@@ -1,4 +1,4 @@
-//! Refutes without a search: the counts of a slot's files differ, or a request waits for a file that is never installed.
+//! Refutes a table's claims without a search: the counts of a slot's files differ, or a request waits for a file that is never installed.
 ghost use Rattle.std.specs.Prelude.{◌≡◌, ◌<◌, ◌+◌, ◌^◌, All, IfOk, IsTrue, length, ℕ};
 ghost use Rattle.fx_order.specs.Slots.{table_of_slots};
 ghost use Rattle.check_search.specs.Machine.{HasNoEnd};

@@ -1,6 +1,5 @@
 //! Plays accepted submissions against a text.
-ghost use Rattle.std.specs.Prelude.{◌≡◌, ◌<◌, ◌≤◌, All, IfOk, List, OnOk, length};
-ghost use Rattle.fx_base.specs.Catalogue.{FileEntry};
+ghost use Rattle.std.specs.Prelude.{◌≡◌, ◌<◌, ◌≤◌, All, IfOk, OnOk, length};
 ghost use Rattle.fx_plain.specs.declared.table.TheConstants.{MOST_SLOTS};
 ghost use Rattle.fx_chain.specs.Accepted.{IsAccepted};
 ghost use Rattle.fx_chain.specs.Completed.{all_completed};
@@ -28,10 +27,10 @@ use check_lines::{ReportLines, read_report};
 use check_search::Limits;
 use fx_base::{Catalogue, NoMemory};
 use fx_chain::{Request, cut};
-use fx_order::{ChainAccess, Order, RingSlots};
+use fx_order::{ChainAccess, Order, OrderSetting, RingSlots};
 use std::alloc::Global;
 
-// What lines tell of a submission, or else which line can't be.
+// Returns the completions and closes that lines report, or the first invalid line.
 fn told_by(
     alloc: Global,
     catalogue: &Catalogue,
@@ -70,7 +69,8 @@ fn told_by(
     }))
 }
 
-// The same, where each closed file was at a slot or is one that a request installed.
+// Returns the completions and closes that lines report, or the first invalid line. Each closed file must have been at a slot,
+// or a request must have installed it.
 fn told_of(
     alloc: Global,
     catalogue: &Catalogue,
@@ -93,9 +93,10 @@ fn told_of(
     Ok(Ok(told))
 }
 
-// An order of a submission that was looked through; the ring has counted it.
+// Returns the order of a submission, with the places of its accesses. The ring has counted the submission.
 fn order_of(
     alloc: Global,
+    catalogue: &Catalogue,
     ring: &RingSlots,
     requests: &[Request],
     told: &Told,
@@ -105,27 +106,28 @@ fn order_of(
     requires few_slots { length ring.now.slots.at.items ≤ MOST_SLOTS }
     requires chains { All (λ x. (1 ≤ x.chain)
         × (x.chain ≤ length (runs_of (all_asked requests.now)))) accesses.items }
-    requires done { (catalogue : List FileEntry) × AreChainsDone catalogue
-        (length ring.now.slots.at.items) ring.now.submissions 1 (runs_of (all_asked requests.now))
-        accesses.items (all_completed told.now.completions.items) }
+    requires done { AreChainsDone catalogue.now (length ring.now.slots.at.items)
+        ring.now.submissions 1 (runs_of (all_asked requests.now)) accesses.items
+        (all_completed told.now.completions.items) }
     ensures accesses { IfOk result (λ order. order.accesses ≡ accesses) }
     ensures submission { IfOk result (λ order. order.submission ≡ ring.now.submissions) }
-    ensures places { IfOk result (λ order. (catalogue : List FileEntry) → AreChainsDone catalogue
-        (length ring.now.slots.at.items) ring.now.submissions 1 (runs_of (all_asked requests.now))
-        accesses.items (all_completed told.now.completions.items)
-        → AreAccessPlaces catalogue (length ring.now.slots.at.items) ring.now.submissions
-        (runs_of (all_asked requests.now)) (all_completed told.now.completions.items)
-        accesses.items order.places.items) }
+    ensures places { IfOk result (λ order. AreAccessPlaces catalogue.now
+        (length ring.now.slots.at.items) ring.now.submissions (runs_of (all_asked requests.now))
+        (all_completed told.now.completions.items) accesses.items order.places.items) }
 {
     let chains = cut(alloc, requests)?;
     let answered = Answered {
-        size: ring.slots.at.len() as u32,
+        setting: OrderSetting {
+            alloc,
+            catalogue,
+            size: ring.slots.at.len() as u32,
+        },
         submission: ring.submissions,
         requests,
         chains: &chains,
         completions: &told.completions,
     };
-    let places = places_of(alloc, &answered, &accesses)?;
+    let places = places_of(&answered, &accesses)?;
     Ok(Order {
         submission: ring.submissions,
         accesses,
@@ -133,8 +135,8 @@ fn order_of(
     })
 }
 
-/// Plays a submission that is accepted, if an order of its requests gives the report that the text begins with. The limits hold for
-/// the states of each part that has slots of its own.
+/// Plays a submission that is accepted, if an order of its requests leads to the report at the beginning of the text. The limits
+/// hold for the states of each part that has slots of its own.
 ///
 /// # Errors
 /// `NoMemory` if an allocation fails.
@@ -165,7 +167,7 @@ pub(crate) fn play_submission(
     };
     match judge_submission(alloc, catalogue, ring, requests, &told, limits)? {
         Verdict::Legal(accesses) => {
-            let order = order_of(alloc, ring, requests, &told, accesses)?;
+            let order = order_of(alloc, catalogue, ring, requests, &told, accesses)?;
             Ok(CommandVerdict::Printed(text.len() - rest.len(), Some(order)))
         }
         Verdict::NotLegal(reason) => Ok(CommandVerdict::Broken(Fault::Order(number, reason))),

@@ -1,5 +1,5 @@
 -- The members of chains, by their accesses and by the steps that these are: each explains the answers that the other does.
-use Rattle.fx_order.proofs.Words.{◌≡◌, ℕ, ◌+◌, List, [], ◌∷◌, map, same_cases, ap, ◌∙◌, FileEntry, Event, Action, action_of, part_of_chain}
+use Rattle.fx_order.proofs.Words.{ℕ, ◌+◌, List, [], ◌∷◌, map, same_cases, ap, ◌∙◌, FileEntry, Event, Action, action_of, part_of_chain}
 use Rattle.fx_order.proofs.Words.{Completed, next_member, Explains, severs, first_member, Asked, Place, ExplainsParts, accesses_of_chain, Access}
 use Rattle.fx_order.proofs.Words.{ChainAccess, IsChainDone, AreChainsDone}
 use Rattle.fx_order.proofs.Accesses.{accesses_in, accesses_in-then, order_in, accesses_of_chain-order_in}

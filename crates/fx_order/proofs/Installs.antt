@@ -1,5 +1,5 @@
 -- An order of a submission without a fault installs no more files than its chains have numbers.
-use Rattle.fx_order.proofs.Words.{◌≡◌, ℕ, ◌+◌, ◌*◌, ◌<◌, ◌≤◌, ◌==◌, List, [], ◌∷◌, ◌++◌, filter, refl, ◌∙◌, either_case, length, length-append, sym}
+use Rattle.fx_order.proofs.Words.{◌≡◌, ℕ, ◌+◌, ◌*◌, ◌≤◌, ◌==◌, List, [], ◌∷◌, ◌++◌, filter, refl, ◌∙◌, either_case, length, length-append, sym}
 use Rattle.fx_order.proofs.Words.{subst, arith, All, All-map, sum_by, sum_by-cons, FileEntry, IsAccepted, members_of, Completed, next_member, severs}
 use Rattle.fx_order.proofs.Words.{first_member, Asked, runs_of, Place, accesses_of, accesses_of_chain, Access, ChainAccess, IsChainDone, AreChainsDone}
 use Rattle.fx_order.proofs.Words.{chains_of, installs_of, all_installs, accepted-chains, members-are-runs}

@@ -1,7 +1,7 @@
 -- The history of an order: its accesses, each done at once.
 use Rattle.fx_order.proofs.Words.{◌≡◌, ℕ, ◌+◌, ◌<◌, ◌≤◌, ◌==◌, true, List, [], ◌∷◌, ◌++◌, map, filter, cond, refl, sym, ap, subst, ◌∙◌, append_assoc}
 use Rattle.fx_order.proofs.Words.{All-contains, arith, All, Contains, append-nil, map-append, All-head, All-tail, Contains-append_cases}
-use Rattle.fx_order.proofs.Words.{filter-append, Event, Action, State, IsSettled, ◌▷▷◌, action_of, part_of_chain, AllowsAll, Leads}
+use Rattle.fx_order.proofs.Words.{filter-append, Event, Action, State, IsSettled, action_of, part_of_chain, AllowsAll, Leads}
 use Rattle.fx_order.proofs.Words.{AllReleaseTheirOwn, state_after, closes_in, by_equality, Table, PermitsAll, access_of, accesses_of}
 use Rattle.fx_order.proofs.Words.{accesses_of_chain, files_removed_in, table_after, Access, ChainAccess, leads_then, closes_in-then, contains_none, ⊎_elim}
 use Rattle.fx_order.proofs.Words.{All-map}

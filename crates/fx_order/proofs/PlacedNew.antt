@@ -1,8 +1,8 @@
 -- The files that a submission places: of the catalogue, without a tag, with marks of its own, and no mark twice.
-use Rattle.fx_order.proofs.Words.{◌≡◌, inl, inr, ⊎_elim, ℕ, ◌+◌, ◌<◌, ◌≤◌, false, List, [], ◌∷◌, ◌++◌, length}
+use Rattle.fx_order.proofs.Words.{◌≡◌, inl, inr, ⊎_elim, ℕ, ◌+◌, ◌<◌, ◌≤◌, List, [], ◌∷◌, ◌++◌, length}
 use Rattle.fx_order.proofs.Words.{either_way, sym, ap, subst, ◌∙◌, arith, All, All-head, All-tail}
 use Rattle.fx_order.proofs.Words.{FileEntry, Closed, IsWithinLimits, Completed, next_member, severs, first_member, MOST_MEMBERS, LONGEST_UPDATE}
-use Rattle.fx_order.proofs.Words.{Operation, Asked, Place, accesses_of, accesses_of_chain, Access, ChainAccess, IsChainDone, AreChainsDone, InstallsAt}
+use Rattle.fx_order.proofs.Words.{Asked, Place, accesses_of, accesses_of_chain, Access, ChainAccess, IsChainDone, AreChainsDone, InstallsAt}
 use Rattle.fx_order.proofs.Accesses.{of_chain, own_first}
 use Rattle.fx_order.proofs.Apart.{Own, PlacesOnce, once_behind, once_between, once_then, own_both, own_none}
 use Rattle.fx_order.proofs.ChainFront.{chain_at}

@@ -1,14 +1,17 @@
 -- A request's accesses and completion, by its operation. A new kind of request adds its cases here.
 use Rattle.fx_order.proofs.Words.{◌≡◌, inl, inr, ℕ, ◌<◌, ◌≤◌, ℤ, pos, negsuc, false, List, [], ◌∷◌, length, refl, sym, ap, subst, ◌∙◌, arith, Option}
 use Rattle.fx_order.proofs.Words.{Some, None, FileEntry, IsCatalogue, name_at, Errno, EBADF, ENFILE, ENOMEM, Closed, installed, either_option, both_options}
-use Rattle.fx_order.proofs.Words.{refusal_of, Operation, Opens, Reads, Closes, Updates, Target, Completed, completed, refusal, Place, Any, Slot, Looks, Puts}
+use Rattle.fx_order.proofs.Words.{refusal_of, Operation, Opens, Reads, Closes, Updates, Completed, completed, refusal, Place, Any, Slot, Looks, Puts}
 use Rattle.fx_order.proofs.Words.{Takes, Allocates, FindsFull, Access, gives, IsOpenDone, IsReadDone, IsCloseDone, IsUpdateDone, AreEntriesDone}
 use Rattle.fx_order.proofs.Words.{IsDoneAtTable, IsRequestDone, InstallsAt, installs_of, is_long_update, LONGEST_UPDATE, ltb-false, slice_get_within}
+use Rattle.fx_order.proofs.Words.{if◌then◌else◌, positions_of}
 use Rattle.std.proofs.Common.{zero-add}
+use Rattle.std.proofs.lemmas.Bool.{cond_both}
+use Rattle.std.specs.Ordering.{int_eq}
 use Rattle.fx_base.proofs.Entries.{entry_named}
 use Rattle.fx_chain.proofs.Refused.{applied}
 use Rattle.fx_order.proofs.Apart.{Own, own_none, own_one, own_weaker}
-use Rattle.fx_order.proofs.EntriesMade.{IsMarked, list_few, list_own, list_placed, list_places}
+use Rattle.fx_order.proofs.EntriesMade.{IsMarked, entries_made, length-positions, list_few, list_own, list_placed, list_places}
 use Rattle.fx_order.proofs.Placed.{placed}
 
 module _ (place : Place) (P : List Access → Completed → Type 0) (own : List Access) (c : Completed) where
@@ -46,6 +49,45 @@ module _ (place : Place) (P : List Access → Completed → Type 0) (own : List 
   pub updates : (off : ℕ) (list : List ℤ) → (AreEntriesDone place 0 off list own → P own (completed place (pos (length list)) []))
       → IsUpdateDone place off list own c → P own c
   updates off list applied x = same own _ (applied x.0) (refl, x.1)
+
+-- the accesses of a request are all of its operation's, but none if a read finds no memory
+abbrev AreMade : Operation → List Access → Completed → Type 0
+AreMade operation own c = length own ≡ (if int_eq c.res (negsuc 11) then 0 else length (positions_of operation))
+
+module _ (catalogue : List FileEntry) (place : Place) where
+  are_made : (operation : Operation) (own : List Access) (c : Completed) → IsDoneAtTable catalogue place operation own c → AreMade operation own c
+  are_made (Opens name (Slot slot)) own c x = puts place (AreMade (Opens name (Slot slot))) own c x.0 slot (λ _. refl) x.2
+  are_made (Opens name Any) own c x = allocates place (AreMade (Opens name Any)) own c x.0 (λ _. refl) refl x.2
+  are_made (Reads slot off len) own c x = reads place (AreMade (Reads slot off len)) own c catalogue slot off len refl refl (λ _. refl) x
+  are_made (Closes slot) own c x = closes place (AreMade (Closes slot)) own c slot refl (λ _. refl) x
+  are_made (Updates off list) own c x =
+      updates place (AreMade (Updates off list)) own c off list (λ are. entries_made place 0 off list own are ∙ sym (length-positions 0 list)) x
+
+  pub few_made : (size : ℕ) (operation : Operation) (own : List Access) (c : Completed) → IsRequestDone catalogue size place operation own c
+      → length own ≤ length (positions_of operation)
+  few_made size operation own c = unless_refused place (λ l _. length l ≤ length (positions_of operation)) own c catalogue size operation
+      (λ _. omega arith) (λ _ x.
+      let made = are_made operation own c x in
+      cond_both (int_eq c.res (negsuc 11)) 0 (length (positions_of operation)) (λ n. length own ≡ n → length own ≤ length (positions_of operation))
+      (λ _ none. omega arith) (λ _ all. omega arith) made)
+
+  -- the completion is an error, the bytes of a file, or a number
+  module _ (size : ℕ) (Q : Completed → Type 0) (own : List Access) (c : Completed) (failed : (errno : Errno) → Q (refusal place errno))
+      (given : (file : Closed) (off len : ℕ) → Q (gives catalogue place file off len))
+      (number : (n : ℕ) → n ≤ size → Q (completed place (pos n) []))
+      (allocated : (slot : ℕ) (file : Closed) → own ≡ Allocates slot file ∷ [] → Q (completed place (pos slot) [])) where
+    at_table_so : (operation : Operation) → refusal_of catalogue size operation ≡ None → IsDoneAtTable catalogue place operation own c → Q c
+    at_table_so (Opens name (Slot slot)) accepted x = puts place (λ _. Q) own c x.0 slot (λ _. number 0 (omega arith)) x.2
+    at_table_so (Opens name Any) accepted x =
+        allocates place (λ l d. l ≡ own → Q d) own c x.0 (λ slot is. allocated slot (installed place 0 x.0) (sym is)) (λ _. failed ENFILE) x.2 refl
+    at_table_so (Reads slot off len) accepted x =
+        reads place (λ _. Q) own c catalogue slot off len (failed ENOMEM) (failed EBADF) (λ file. given file off len) x
+    at_table_so (Closes slot) accepted x = closes place (λ _. Q) own c slot (failed EBADF) (λ _. number 0 (omega arith)) x
+    at_table_so (Updates off list) accepted x =
+        let fits = (applied (length catalogue) size off list accepted).fits in updates place (λ _. Q) own c off list (λ _. number (length list) (omega arith)) x
+
+    pub completion_so : (operation : Operation) → IsRequestDone catalogue size place operation own c → Q c
+    completion_so operation = unless_refused place (λ _. Q) own c catalogue size operation failed (at_table_so operation)
 
 -- the catalogue entry that a request opens, if it opens one
 abbrev IsEntryOf : List FileEntry → Operation → ℕ → Type 0
@@ -158,11 +200,3 @@ listed_short (Opens name target) at short is = omega arith
 listed_short (Updates off list) at short is =
     let within = slice_get_within list at (pos is.0) is.1 in let all = ltb-false LONGEST_UPDATE (length list) short in omega arith
 listed_short operation at short is = absurd is
-
--- a read and a close place nothing
-pub read_none : (catalogue : List FileEntry) (place : Place) (slot off len : ℕ) (accesses : List Access) (c : Completed)
-    → IsReadDone catalogue place slot off len accesses c → placed accesses ≡ []
-read_none catalogue place slot off len accesses c = reads place (λ l _. placed l ≡ []) accesses c catalogue slot off len refl refl (λ _. refl)
-
-pub close_none : (place : Place) (slot : ℕ) (accesses : List Access) (c : Completed) → IsCloseDone place slot accesses c → placed accesses ≡ []
-close_none place slot accesses c = closes place (λ l _. placed l ≡ []) accesses c slot refl (λ _. refl)

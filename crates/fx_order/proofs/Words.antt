@@ -35,7 +35,7 @@ pub use Rattle.fx_order.specs.Access.{accesses_of_chain, file_removed_by, files_
 pub use Rattle.fx_order.specs.Laws.{AreKnown, IsOfNext}
 pub use Rattle.fx_order.specs.Order.{IsOneOrder, IsOrderOf, ring_left, table_of}
 pub use Rattle.fx_order.specs.Requests.{AreChainsDone, AreEntriesDone, IsChainDone, IsCloseDone, IsEntryDone, IsOpenDone, IsReadDone, IsRefused}
-pub use Rattle.fx_order.specs.Requests.{InstallsAt, IsDoneAtTable, IsRequestDone, IsUpdateDone, Makes, gives}
+pub use Rattle.fx_order.specs.Requests.{InstallsAt, IsDoneAtTable, IsRequestDone, IsUpdateDone, Makes, gives, positions_from, positions_of}
 pub use Rattle.fx_order.specs.Slots.{ring_of_slots, table_of_slots, ring_with_slots}
 pub use Rattle.fx_order.specs.declared.access.Access.{Access}
 pub use Rattle.fx_order.specs.declared.access.ChainAccess.{ChainAccess}

@@ -1,7 +1,8 @@
 -- The answers that a request may get when it is done at once, by its accesses of a table of the
 -- given size. And the answers of a chain.
 use Rattle.std.specs.Prelude.{◌≡◌, ◌⊎◌, ℕ, zero, suc, ◌+◌, ◌<◌, ℤ, pos, negsuc, List, [], ◌∷◌, ◌++◌}
-use Rattle.std.specs.Prelude.{length, slice_get, Option, Some, None, MatchOption}
+use Rattle.std.specs.Prelude.{length, slice_get, int_le, Option, Some, None, MatchOption}
+use Rattle.std.specs.Prelude.{if◌then◌else◌}
 use Rattle.std.specs.Bool.{MatchBool}
 use Rattle.fx_base.specs.declared.errno.Errno.{Errno}
 use Rattle.fx_base.specs.declared.errno.Errno.TheVariants.{EBADF, ENOMEM, ENFILE}
@@ -96,6 +97,18 @@ abbrev pub InstallsAt : Operation → ℕ → Type 0
 InstallsAt (Opens name target) entry = entry ≡ 0
 InstallsAt (Updates off list) entry = (file : ℕ) × (slice_get list entry ≡ Some (pos file))
 InstallsAt _ entry = ⊥
+
+-- the position, from `in_list` on, of each entry of a list that isn't a skip
+abbrev pub positions_from : ℕ → List ℤ → List (Option ℕ)
+positions_from in_list [] = []
+positions_from in_list (entry ∷ list) =
+    (if int_le (negsuc 0) entry then Some in_list ∷ [] else []) ++ positions_from (in_list + 1) list
+
+-- the accesses of a request that makes all of them, in order: for an update the position in its
+-- list of each entry that isn't a skip, and for another request one access, without a position
+abbrev pub positions_of : Operation → List (Option ℕ)
+positions_of (Updates off list) = positions_from 0 list
+positions_of _ = None ∷ []
 
 -- the request may have this completion, having made these accesses
 abbrev pub IsRequestDone : List FileEntry → ℕ → Place → Operation → List Access → Completed → Type 0

@@ -1,49 +1,14 @@
 //! Checking the accesses and completions of a chain's members, one after another.
-ghost use Rattle.std.specs.Prelude.{◌≡◌, ◌<◌, ◌+◌, ◌^◌, ◌↔◌, IfOk, IsTrue, List, filter, int_le, length, negsuc};
-ghost use Rattle.fx_base.specs.Catalogue.{FileEntry};
-ghost use Rattle.fx_chain.specs.Completed.{all_completed, completed_of};
+ghost use Rattle.std.specs.Prelude.{◌≡◌, ◌<◌, ◌+◌, ◌^◌, ◌↔◌, IfOk, IsTrue, length};
+ghost use Rattle.fx_chain.specs.Completed.{all_completed};
 ghost use Rattle.fx_chain.specs.Explains.{canceled};
-ghost use Rattle.fx_chain.specs.Operation.{all_asked, operation_of};
-ghost use Rattle.fx_order.specs.declared.access.Access.{Access as Made};
-ghost use Rattle.fx_order.specs.Requests.{IsChainDone, IsRequestDone};
+ghost use Rattle.fx_chain.specs.Operation.{all_asked};
+ghost use Rattle.fx_order.specs.Requests.{IsChainDone};
 
 use crate::access::Access;
-use crate::request::{OrderSetting, Performed, is_request_done};
+use crate::request::{OrderSetting, Performed, accesses_made, is_request_done};
 use fx_base::{Errno, NoMemory};
-use fx_chain::{Completion, Op, Place, Request};
-
-// Returns the number of entries of a list that aren't skips.
-fn entries_done(list: &[i32]) -> usize
-    ensures { result ≡ length (filter (λ entry. int_le (negsuc 0) entry) list.now) }
-{
-    list.iter().filter(|entry| **entry >= -1).count()
-}
-
-/// Returns the number of accesses that a request made, if it has this completion, at a table of `size` slots.
-pub fn accesses_made(size: u32, request: &Request, c: &Completion) -> usize
-    ensures { (catalogue : List FileEntry) (place : Place) (own : List Made)
-        → IsRequestDone catalogue size place (operation_of request.now.op) own (completed_of c.now)
-        → length own ≡ result }
-{
-    let answered = c.res >= 0;
-    match &request.op {
-        Op::Open { name: _, target: _ } => {
-            usize::from(answered || size > 0 && c.res == -Errno::ENFILE.code())
-        }
-        Op::Read {
-            slot,
-            off: _,
-            len: _,
-        } => usize::from(answered || *slot < size && c.res == -Errno::EBADF.code()),
-        Op::Close { slot: _ } => usize::from(answered || c.res == -Errno::EBADF.code()),
-        Op::Update { off: _, list } => {
-            if !answered {
-                return 0;
-            }
-            entries_done(list)
-        }
-    }
-}
+use fx_chain::{Completion, Place, Request};
 
 // Checks whether the members of a chain from this place on were canceled.
 fn are_canceled(place: Place, requests: &[Request], completions: &[Completion]) -> bool
@@ -85,7 +50,7 @@ pub(crate) fn is_chain_done(
     let [c, completions @ ..] = completions else {
         return Ok(false);
     };
-    let made = accesses_made(setting.size, request, c).min(accesses.len());
+    let made = accesses_made(setting, request, c).min(accesses.len());
     let (own, others) = accesses.split_at(made);
     if !is_request_done(setting, request, &Performed { place, own, c })? {
         return Ok(false);

@@ -19,7 +19,7 @@ module _ (c : In-Some) where
   begins : BeginsWith c.args.text.now (length c.args.text.now - length c.in-Some.front.1.now) (lines_text (lines_in c.in-Some.front.0))
   begins = begins_with c.in-Some.front.1.now found.printed
 
--- and this is told by them
+-- the completions and closes that they describe
 module _ (c : In-Ok) where
   has : HasLines c.args.catalogue.now c.in-Some.front.0 c.in-Ok.told
   has = rw c.in-Ok.is at c.in_ok-told.ensures.lines
@@ -28,7 +28,7 @@ module _ (c : In-Ok) where
       → TellsKnown c.args.catalogue.now c.args.ring.now.slots (all_asked c.args.requests.now) c.in-Some.front.0 (Ok c.in-Ok.told)
   tells = rw c.in-Ok.is at c.in_ok-told.ensures.only
 
--- which comes of these accesses
+-- the accesses that lead to them
 module _ (c : In-Legal) where
   came : CameBy (ring_with_slots c.args.catalogue.now c.args.ring.now) (all_asked c.args.requests.now) c.in-Ok.told c.in-Legal.accesses.items
       (ring_with_slots c.args.catalogue.now c.judge_submission.new.ring)
@@ -43,7 +43,7 @@ order_of-requires c =
       accepted = c.requires.accepted;
       few_slots = same_slots s new c.in-Ok.told by;
       chains = (ordered_is s new c.in-Ok.told by).chains;
-      done = (c.args.catalogue.now, ordered_done s new c.in-Ok.told by);
+      done = ordered_done s new c.in-Ok.told by;
     }
 
 pub returns-in-Legal-clause-kept : goal.returns-in-Legal-clause-kept
@@ -59,7 +59,7 @@ returns-in-Legal-clause-answer c =
     let by = came (goal.at.returns-in-Legal-clause-answer c).In-Legal in
     let made = c.in_ok-order-in-Legal.ensures.accesses in
     let goes = accepted_goes s c.judge_submission.new.ring c.in-Ok.told c.in_ok-order-in-Legal.order c.in-Some.front.0 (rw made by)
-    c.in_ok-order-in-Legal.ensures.submission (rw (sym made) at (c.in_ok-order-in-Legal.ensures.places c.args.catalogue.now)) (has o) (begins f) in (
+    c.in_ok-order-in-Legal.ensures.submission (rw (sym made) at c.in_ok-order-in-Legal.ensures.places) (has o) (begins f) in (
       goes.0,
       goes.1,
       one_ordered s c.args.text.now c.in-Some.front.0 c.in-Some.front.1.now (found f) c.in-Ok.told (has o) (tells o) (begins f) (λ room. (by room).0),

@@ -12,5 +12,5 @@ returns t c =
     (IfOk-weaker c.is_chain_done.result _ _
     (goes_on c.args.setting.now.catalogue.now c.args.setting.now.size c.args.place _ _ c.args.accesses.now _ _ c.accesses_made.result _ _
     c.min-made.result c.min-made.ensures c.split_at.ensures.front c.split_at.ensures.back
-    (c.accesses_made.ensures c.args.setting.now.catalogue.now c.args.place)
+    (c.accesses_made.ensures c.args.place)
     (sym c.severs.ensures ∙ c.if-severs.false) (c.in_ok-is_request_done.ensures.0 c.if-not-branch.false)) c.is_chain_done.ensures)
