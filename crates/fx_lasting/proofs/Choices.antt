@@ -2,7 +2,7 @@
 use Rattle.fx_lasting.proofs.Words.{◌≡◌, ◌≢◌, ℕ, ◌+◌, ◌<◌, Option, Some, None, ap, sym, ◌∙◌, subst, arith, File, Agrees, View, Shared, Start, get_elem?, some}
 use Rattle.fx_lasting.proofs.Words.{Names, IsSeated, WorkAgrees, SearchAgrees, free, file_in, removed_in, name_in}
 use Rattle.fx_lasting.proofs.Words.{slots_of, nodes_of, node_of_number, state_after_all, Searching, dite, Log, List, [], ◌∷◌, Contains, contains_head, ℕ_discrete}
-use Rattle.fx_lasting.proofs.Words.{refl, Work, once_is, sum_two, sum_of, logs_of, one_if, eqb, bit_here}
+use Rattle.fx_lasting.proofs.Words.{refl, once_is, sum_two, sum_of, logs_of, one_if, eqb, bit_here}
 use Rattle.fx_lasting.specs.Choices.{ChoiceIsFree}
 use Rattle.fx_lasting.specs.Bounds.{slot_word_in}
 use Rattle.fx_lasting.proofs.Frames.{one_block}
