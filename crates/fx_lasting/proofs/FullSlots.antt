@@ -1,7 +1,7 @@
 -- The control word when a slot changes.
-use Rattle.fx_lasting.proofs.Words.{◌≡◌, ◌≢◌, ℕ, zero, suc, ◌+◌, ◌<◌, ◌≤◌, List, set, sym, refl, ap, ◌∙◌, arith, Option, Some, None, IsSome, Bool, true}
-use Rattle.fx_lasting.proofs.Words.{false, cond, nat_lt, lt-ltb, le-ltb, dec_le, subst, dite, some, ℕ_discrete, get_elem?, changed_at, File, sum_set}
-use Rattle.fx_lasting.proofs.Words.{owing, owing_of, if_full, full_in, ControlCounts, is_in, uncounted, View, changed_here, changed_else}
+use Rattle.fx_lasting.proofs.Words.{◌≡◌, ℕ, suc, ◌+◌, ◌<◌, ◌≤◌, List, set, sym, refl, ap, ◌∙◌, arith, Option, Some, None, Bool, true}
+use Rattle.fx_lasting.proofs.Words.{false, cond, nat_lt, lt-ltb, le-ltb, dec_le, subst, dite, some, get_elem?, changed_at, File, sum_set}
+use Rattle.fx_lasting.proofs.Words.{owing, owing_of, if_full, full_in, ControlCounts, is_in, uncounted, View}
 use Rattle.fx_lasting.proofs.Words.{full_else, full_here}
 use Rattle.std.specs.Prelude.{is_some, not}
 

@@ -1,7 +1,6 @@
 -- Legal histories of a table.
-use Rattle.fx_lasting.proofs.Words.{◌≡◌, ◌≢◌, ℕ, List, [], ◌∷◌, ◌++◌, sym, refl, ap, ◌∙◌, eq-eqb, ne_eqb, held_after, held_by, IsSeenBy, part_of_pass, Event}
-use Rattle.fx_lasting.proofs.Words.{state_at_start, range_at_start, slots_of, state_after_all, Start, ReleasesItsOwn, map, action_of, IsHistory, changed_at, cond}
-use Rattle.fx_lasting.proofs.Words.{by_equality}
+use Rattle.fx_lasting.proofs.Words.{◌≡◌, List, [], ◌∷◌, ◌++◌, refl, held_by, Event}
+use Rattle.fx_lasting.proofs.Words.{state_at_start, range_at_start, slots_of, state_after_all, Start, ReleasesItsOwn, map, action_of, IsHistory}
 pub use Rattle.fx_table.proofs.Growing.{Grows, each_changed, grows_more, grows_none, grows_one, held_mine, part_mine}
 use Rattle.fx_plain.specs.Step.{Allows}
 use Rattle.fx_plain.proofs.Leading.{same_shape as shape_of_state}

@@ -1,4 +1,4 @@
-use Rattle.fx_lasting.proofs.Words.{◌≡◌, ℕ, List, sym, refl, ap, ◌∙◌, arith, rules, Option, Some, None, some, get_elem?, slots_items, Closed}
+use Rattle.fx_lasting.proofs.Words.{◌≡◌, ℕ, List, sym, refl, ap, ◌∙◌, arith, rules, Option, None, some, get_elem?, slots_items, Closed}
 use Rattle.fx_lasting.proofs.Words.{node_in, slot_place, false, get_or-set_other, slots_filled}
 use Rattle.fx_plain.proofs.Cells.{each_set}
 use Rattle.fx_table.proofs.Members.{read_at}
