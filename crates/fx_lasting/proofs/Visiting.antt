@@ -27,7 +27,7 @@ module _ (turn : Turn) (f : File) (n t : ℕ) (nx : Round) (m : ℕ) (works : tu
   pub retiring_same : {g : File} {i a : ℕ} {b : Round} {c : ℕ} → v.work ≡ Retiring g i a b c → Retiring f n t nx m ≡ Retiring g i a b c
   retiring_same its' = sym works ∙ its'
 
-  -- the round has come to nx', with m' marks
+  -- the round is at nx' now, with m' marks
   module _ (words' : List ℕ) (debt' : ℕ → ℕ) (nx' : Round) (m' : ℕ) where
     abbrev ph : Phase
     ph = leaving id t nx' m' f
