@@ -1,10 +1,8 @@
 -- The first words of a shared table, written one slot after the other, and the files of the slots, which move to its
 -- places.
-use Rattle.fx_lasting.proofs.Words.{◌≡◌, ℕ, zero, suc, ◌+◌, ◌<◌, ◌≤◌, List, length, refl, ap, arith, Option, Some, None, slice_index, State}
-use Rattle.fx_lasting.proofs.Words.{File, full_in, if_full, control_place, list_place, slot_place, hold_place, node_place, word_for}
-use Rattle.fx_lasting.proofs.Words.{node_for, length-append, [], ◌∷◌, ◌++◌, sym, ◌∙◌, dite}
-use Rattle.fx_lasting.proofs.Words.{some, ℕ_discrete, get_elem?, Closed, state_of, IsSettled, nodes_of}
-use Rattle.fx_lasting.proofs.Words.{at_index, dec_le, home_for, OpensWith, Start}
+use Rattle.fx_lasting.proofs.Words.{◌≡◌, ℕ, ◌+◌, ◌<◌, ◌≤◌, List, length, refl, ap, arith, Option, Some, None, slice_index, State}
+use Rattle.fx_lasting.proofs.Words.{File, full_in, control_place, list_place, slot_place, hold_place, node_place, word_for}
+use Rattle.fx_lasting.proofs.Words.{node_for, sym, ◌∙◌, dite, Closed, state_of, nodes_of, dec_le, home_for, OpensWith, Start}
 use Rattle.fx_plain.specs.State.{file_numbered}
 use Rattle.fx_plain.specs.Table.{identity_of}
 use Rattle.fx_words.specs.Words.{control_word_of}
