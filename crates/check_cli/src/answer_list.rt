@@ -3,9 +3,9 @@ ghost use Rattle.std.specs.Prelude.{◌≡◌};
 ghost use Rattle.check_cli.specs.Status.{may_status};
 
 use crate::order_lines::ListedOrders;
-use check_arguments::Settings;
 use check_explain::PlaceWords;
 use check_texts::RequestAnswers;
+use fx_arguments::fixcheck::Settings;
 use fx_base::NoMemory;
 use fx_chain::{Completion, Place};
 use fx_script::Script;

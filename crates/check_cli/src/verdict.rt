@@ -6,10 +6,10 @@ use crate::going_on::{Breaks, Remainder};
 use crate::order_lines::push_order;
 use crate::question::Question;
 use crate::unexpected::why_of;
-use check_arguments::Settings;
 use check_explain::{Complaint, explain, first_difference, line_after, line_number, shown_line};
 use check_judge::{Break, Fault, Judgement, Reason};
 use check_search::Doubt;
+use fx_arguments::fixcheck::Settings;
 use fx_base::NoMemory;
 use std::alloc::AllocError;
 
