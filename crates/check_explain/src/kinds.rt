@@ -130,7 +130,7 @@ pub(crate) fn why_refused(
     }
 }
 
-/// Returns the places of the accesses that the requests of a submission make at a table of `size` slots, in order of place, if no
+/// Returns for each chain of a submission the places of the accesses that its requests make at a table of `size` slots, in order, if no
 /// request is canceled and no allocation fails.
 ///
 /// # Errors
@@ -140,8 +140,8 @@ pub fn access_places(
     catalogue: &Catalogue,
     size: u32,
     requests: &[Request],
-) -> Result<Vec<AccessPlace>, AllocError> {
-    let mut places = Vec::new(alloc);
+) -> Result<Vec<Vec<AccessPlace>>, AllocError> {
+    let mut chains: Vec<Vec<AccessPlace>> = Vec::new(alloc);
     let mut at = Place {
         submission: 0,
         chain: 1,
@@ -149,7 +149,10 @@ pub fn access_places(
     };
     for request in requests {
         let Place { chain, member, .. } = at;
-        if refusal_of(catalogue, size, request).is_none() {
+        if member == 1 {
+            chains.push(Vec::new(alloc))?;
+        }
+        if let (None, Some(places)) = (refusal_of(catalogue, size, request), chains.last_mut()) {
             for Act { entry, .. } in acts_of(alloc, catalogue, request)? {
                 places.push(AccessPlace {
                     chain,
@@ -160,5 +163,5 @@ pub fn access_places(
         }
         at = next_place(at, request);
     }
-    Ok(places)
+    Ok(chains)
 }

@@ -28,4 +28,4 @@ pub use lines::{
     shown_line,
 };
 pub use report::KnownReport;
-pub use words::{MarkWords, PlaceWords};
+pub use words::{GotWords, MarkWords, PlaceWords, sign_before};
