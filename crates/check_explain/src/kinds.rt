@@ -18,6 +18,17 @@ pub(crate) enum Effect {
     Installs(u8),
 }
 
+impl Effect {
+    /// Returns what it leaves at the slot, a file of a catalogue entry or none, or `None` if it leaves what is there.
+    pub(crate) fn left(self) -> Option<Option<u8>> {
+        match self {
+            Effect::Looks => None,
+            Effect::Takes | Effect::Clears => Some(None),
+            Effect::Installs(entry) => Some(Some(entry)),
+        }
+    }
+}
+
 /// An access that a request makes unless it is refused or canceled, and the facts that the request's line shows of it.
 #[derive(Clone, Copy)]
 pub(crate) struct Act {

@@ -6,6 +6,7 @@ mod answers;
 mod case;
 mod claims;
 mod complaint;
+mod contents;
 mod contradiction;
 mod history;
 mod history_line;
