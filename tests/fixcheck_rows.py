@@ -47,7 +47,7 @@ def parts():
         return lines(*head, *requests, *more, "submit").encode(), lines(*text), FEW_STATES
 
     yield "the part alone", *case([], [], [], [*rest, *both], []), UNDECIDED, "undecided: submission 1"
-    yield "a slot by itself", *case(["read 5 0 1"], ["1.6.1 1 61"], [], [*rest, *both], []), NOT_LEGAL, "which is never at slot 5"
+    yield "a slot by itself", *case(["read 5 0 1"], ["1.6.1 1 61"], [], [*rest, *both], []), NOT_LEGAL, "which can't be at slot 5 then"
     # each of two chains puts a file, and then reads in the other one's slot what was there before that one put its file
     crossed = ["open a at 5 link", "read 6 0 1", "open b at 6 link", "read 5 0 1"]
     told = ["1.6.1 0", "1.6.2 1 63", "1.7.1 0", "1.7.2 1 63"]

@@ -3,9 +3,9 @@ ghost use Rattle.std.specs.Prelude.{◌≡◌};
 ghost use Rattle.check_cli.specs.Status.{may_status};
 
 use crate::order_lines::ListedOrders;
-use check_arguments::Settings;
-use check_explain::PlaceWords;
+use check_explain::{GotWords, PlaceWords};
 use check_texts::RequestAnswers;
+use fx_arguments::fixcheck::Settings;
 use fx_base::NoMemory;
 use fx_chain::{Completion, Place};
 use fx_script::Script;
@@ -34,16 +34,6 @@ pub(crate) fn place_of(word: &str) -> Option<Place> {
     })
 }
 
-// Appends the line of an answer: its place, its result, and the bytes of a read.
-fn push_answer(report: &mut String, it: &Completion) -> Result<(), AllocError> {
-    write!(report, "{} {}", PlaceWords(it.place), it.res)?;
-    for (i, byte) in it.got.iter().enumerate() {
-        report.push_str(if i == 0 { " " } else { "" })?;
-        write!(report, "{byte:02x}")?;
-    }
-    report.push('\n')
-}
-
 /// Appends that the list was not shown to be whole, with the limits.
 pub(crate) fn push_limits(report: &mut String, settings: Settings<'_>) -> Result<(), AllocError> {
     let (states, memory) = (settings.states, settings.memory);
@@ -63,7 +53,9 @@ pub(crate) fn listing(
     let mut report = String::new(alloc);
     let orders = ListedOrders::new(alloc, script, &may.orders)?;
     for said in &may.answers {
-        push_answer(&mut report, &said.completion)?;
+        let Completion { place, res, got } = &said.completion;
+        let (place, got) = (PlaceWords(*place), GotWords(got.as_slice()));
+        write!(report, "{place} {res}{got}\n")?;
         orders.push_way(&mut report, said.past)?;
     }
     if may.are_all {

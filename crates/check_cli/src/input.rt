@@ -1,22 +1,25 @@
 //! Reads the script and the text.
-use check_arguments::NoVerdict;
+use crate::ending::NoVerdict;
 use check_explain::{line_after, line_at};
+use fx_arguments::fixcheck::{Asked, Settings};
 use fx_script::{Command, PlayFault, Script, ScriptError};
 use std::alloc::{AllocError, Global};
 use std::fs;
-use std::io::{Error, ErrorKind, Read};
+use std::io::{self, ErrorKind, Read};
 
 // Returns the name of a path in messages.
 fn name_of(alloc: Global, path: &str) -> Result<String, AllocError> {
     (if path == "-" { "standard input" } else { path }).to_owned(alloc)
 }
 
-// Returns the ending for a failed read.
-fn unread(alloc: Global, path: &str, error: Error) -> NoVerdict {
-    match name_of(alloc, path) {
-        Ok(name) if error.kind() != ErrorKind::OutOfMemory => NoVerdict::Unread(name, error),
-        _ => NoVerdict::Fault(PlayFault::NoMemory),
+// Returns the bytes of a file, or those of standard input for `-`.
+fn bytes_of(rt: &HostRuntime, path: &str) -> io::Result<Vec<u8>> {
+    if path != "-" {
+        return fs::read(rt, path);
     }
+    let mut bytes = Vec::new(rt.alloc());
+    rt.reader().read_to_end(&mut bytes)?;
+    Ok(bytes)
 }
 
 /// Reads the bytes of a file, or those of standard input for `-`.
@@ -24,17 +27,12 @@ fn unread(alloc: Global, path: &str, error: Error) -> NoVerdict {
 /// # Errors
 /// `Unread` if the read fails, `Fault` if an allocation fails.
 pub fn read_path(rt: &HostRuntime, path: &str) -> Result<Vec<u8>, NoVerdict> {
-    let alloc = rt.alloc();
-    if path == "-" {
-        let mut bytes = Vec::new(alloc);
-        return match rt.reader().read_to_end(&mut bytes) {
-            Ok(_) => Ok(bytes),
-            Err(error) => Err(unread(alloc, path, error)),
-        };
-    }
-    match fs::read(rt, path) {
+    match bytes_of(rt, path) {
         Ok(bytes) => Ok(bytes),
-        Err(error) => Err(unread(alloc, path, error)),
+        Err(error) if error.kind() == ErrorKind::OutOfMemory => {
+            Err(NoVerdict::Fault(PlayFault::NoMemory))
+        }
+        Err(error) => Err(NoVerdict::Unread(name_of(rt.alloc(), path)?, error)),
     }
 }
 
@@ -57,6 +55,14 @@ fn is_script(alloc: Global, source: &[u8]) -> Result<bool, NoVerdict> {
     }
 }
 
+// Checks whether a path is seen to lead to such a script.
+fn leads_to_script(rt: &HostRuntime, path: &str) -> bool {
+    match read_path(rt, path) {
+        Ok(bytes) => matches!(is_script(rt.alloc(), &bytes), Ok(true)),
+        Err(_) => false,
+    }
+}
+
 /// Prints a note on standard error if a text is a script, which only a mistake in the arguments makes it.
 ///
 /// # Errors
@@ -70,33 +76,29 @@ pub fn note_script(rt: &HostRuntime, path: &str, text: &[u8]) -> Result<(), NoVe
     Ok(())
 }
 
-/// Returns the ending for a file that isn't a script: if the second path, the text's, leads to a script, that the two are swapped.
-pub fn swapped(rt: &HostRuntime, ending: NoVerdict, path: &str) -> NoVerdict {
-    match ending {
-        NoVerdict::NoScript(script, fault, has_return) => {
-            let Ok(text) = read_path(rt, path) else {
-                return NoVerdict::NoScript(script, fault, has_return);
-            };
-            match (is_script(rt.alloc(), &text), name_of(rt.alloc(), path)) {
-                (Ok(true), Ok(name)) => NoVerdict::Swapped(script, fault, name),
-                _ => NoVerdict::NoScript(script, fault, has_return),
-            }
-        }
-        other => other,
-    }
-}
-
-/// Reads a script from bytes that come from a path.
+/// Reads the script of a command line from its bytes.
 ///
 /// # Errors
-/// `NoScript` if they aren't a script, with its first fault, and `Fault` if an allocation fails.
-pub fn script_of(alloc: Global, path: &str, source: &[u8]) -> Result<Script, NoVerdict> {
-    match Script::read(alloc, source) {
-        Ok(script) => Ok(script),
-        Err(ScriptError::Fault { line, kind }) => {
-            let fault = PlayFault::Script { line, kind };
-            Err(NoVerdict::NoScript(name_of(alloc, path)?, fault, has_return(source, line)))
+/// `Fault` if an allocation fails. If they aren't a script: `Swapped` if the text is one, or else `HasReturn` or `NoScript`.
+pub fn script_of(
+    rt: &HostRuntime,
+    settings: Settings<'_>,
+    source: &[u8],
+) -> Result<Script, NoVerdict> {
+    let alloc = rt.alloc();
+    let fault = match Script::read(alloc, source) {
+        Ok(script) => return Ok(script),
+        Err(error) => PlayFault::from(error),
+    };
+    let PlayFault::Script { line, .. } = fault else {
+        return Err(NoVerdict::Fault(fault));
+    };
+    let name = name_of(alloc, settings.script)?;
+    Err(match settings.asked {
+        Asked::Verdict(text) if leads_to_script(rt, text) => {
+            NoVerdict::Swapped(name, fault, name_of(alloc, text)?)
         }
-        Err(ScriptError::NoMemory) => Err(NoVerdict::Fault(PlayFault::NoMemory)),
-    }
+        _ if has_return(source, line) => NoVerdict::HasReturn(name, fault),
+        _ => NoVerdict::NoScript(name, fault),
+    })
 }

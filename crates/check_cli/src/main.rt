@@ -2,6 +2,7 @@
 #![tactic(auto)]
 
 mod answer_list;
+mod ending;
 mod going_on;
 mod input;
 mod order_lines;
@@ -13,15 +14,17 @@ mod unexpected;
 mod verdict;
 
 use answer_list::{listing, place_of, status_of_answers};
-use check_arguments::{NoVerdict, Settings, settings_in, words};
 use check_explain::History;
 use check_judge::Judgement;
 use check_search::Limits;
 use check_texts::{may, texts_of};
+use ending::NoVerdict;
+use fx_arguments::fixcheck::{Asked, Settings, settings_in};
+use fx_arguments::words;
 use fx_order::Order;
 use fx_script::{PlayFault, Script};
 use going_on::breaks_from;
-use input::{note_script, read_path, script_of, swapped};
+use input::{note_script, read_path, script_of};
 use progress::judged;
 use question::Question;
 use std::io::{self, Write};
@@ -71,19 +74,20 @@ fn limits_of(settings: Settings<'_>) -> Limits {
     Limits { states, bytes }
 }
 
-// Prints the answers of the request that the arguments name. Returns the exit status.
+// Prints the answers of the request at the place that a word names. Returns the exit status.
 fn list_answers(
     rt: &HostRuntime,
     settings: Settings<'_>,
+    word: &str,
     script: &Script,
 ) -> Result<u8, NoVerdict> {
     let alloc = rt.alloc();
-    let Some(place) = place_of(settings.text) else {
-        return Err(NoVerdict::NoPlace(format!(in alloc; "{}", settings.text)?));
+    let Some(place) = place_of(word) else {
+        return Err(NoVerdict::NoPlace(word.to_owned(alloc)?));
     };
     let answers = may(alloc, script, place, limits_of(settings))?;
     if answers.answers.is_empty() && answers.are_all {
-        return Err(NoVerdict::NoRequest(format!(in alloc; "{}", settings.text)?));
+        return Err(NoVerdict::NoRequest(word.to_owned(alloc)?));
     }
     write(rt, listing(alloc, script, settings, &answers)?.as_str())?;
     Ok(status_of_answers(&answers))
@@ -105,14 +109,15 @@ fn list_texts(
     Ok(status_of_texts(&all))
 }
 
-// Judges a text, and prints the verdict. Returns the exit status.
+// Judges the text at a path, and prints the verdict. Returns the exit status.
 fn print_verdict(
     rt: &HostRuntime,
     settings: Settings<'_>,
+    path: &str,
     script: &Script,
     source: &[u8],
 ) -> Result<u8, NoVerdict> {
-    let text = read_path(rt, settings.text)?;
+    let text = read_path(rt, path)?;
     let question = Question {
         alloc: rt.alloc(),
         script,
@@ -124,7 +129,7 @@ fn print_verdict(
     let judgement = judged(rt, script, &text, limits)?;
     let status = status_of(&judgement);
     if matches!(&judgement, Judgement::NotLegal(_)) {
-        note_script(rt, settings.text, &text)?;
+        note_script(rt, path, &text)?;
     }
     match judgement {
         Judgement::Legal(orders) if settings.history => {
@@ -145,18 +150,12 @@ fn check(rt: &HostRuntime) -> Result<u8, NoVerdict> {
     let words = words(rt)?;
     let settings = settings_in(alloc, words.as_slice())?;
     let source = read_path(rt, settings.script)?;
-    let is_judged = settings.all.is_none() && !settings.may;
-    let script = match script_of(alloc, settings.script, &source) {
-        Err(ending) if is_judged => return Err(swapped(rt, ending, settings.text)),
-        other => other?,
-    };
-    if let Some(most) = settings.all {
-        return list_texts(rt, settings, most, &script);
+    let script = script_of(rt, settings, &source)?;
+    match settings.asked {
+        Asked::Texts(most) => list_texts(rt, settings, most, &script),
+        Asked::Answers(place) => list_answers(rt, settings, place, &script),
+        Asked::Verdict(path) => print_verdict(rt, settings, path, &script, &source),
     }
-    if settings.may {
-        return list_answers(rt, settings, &script);
-    }
-    print_verdict(rt, settings, &script, &source)
 }
 
 fn main(rt: HostRuntime) -> ExitCode {

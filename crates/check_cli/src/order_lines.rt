@@ -65,22 +65,18 @@ impl<'a> ListedOrders<'a> {
         let nth = (past.submission as usize).saturating_sub(1);
         let requests = self.submissions.get(nth).copied().unwrap_or(&[]);
         let size = u32::try_from(past.size).unwrap_or(0);
-        let all = access_places(self.alloc, self.script.catalogue(), size, requests)?;
-        // for each chain the number of its next access
-        let mut next = Vec::new(self.alloc);
-        for (i, place) in all.iter().enumerate() {
-            for _ in next.len()..place.chain as usize {
-                next.push(i)?;
-            }
+        // for each chain the places of the accesses that aren't made yet, the next one last
+        let mut chains = access_places(self.alloc, self.script.catalogue(), size, requests)?;
+        for rest in &mut chains {
+            rest.reverse();
         }
         let mut places = Vec::new(self.alloc);
         for made in &past.order {
-            if let Some(i) = next.get_mut((made.chain as usize).saturating_sub(1)) {
-                match all.get(*i) {
-                    Some(place) if place.chain == made.chain => places.push(*place)?,
-                    _ => {}
-                }
-                *i = i.saturating_add(1);
+            let Some(rest) = chains.get_mut((made.chain as usize).saturating_sub(1)) else {
+                continue;
+            };
+            if let Some(place) = rest.pop() {
+                places.push(place)?;
             }
         }
         Ok(push_order(report, past.submission, &places)?)

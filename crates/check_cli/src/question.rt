@@ -1,8 +1,8 @@
 //! A script and a text that is judged for it.
-use check_arguments::Settings;
 use check_explain::{Case, line_number, next_asked};
 use check_judge::Break;
 use check_lines::accepted_in;
+use fx_arguments::fixcheck::Settings;
 use fx_script::{Command, Script};
 use std::alloc::Global;
 

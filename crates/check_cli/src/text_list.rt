@@ -4,8 +4,8 @@ ghost use Rattle.check_cli.specs.Status.{all_status};
 
 use crate::answer_list::push_limits;
 use crate::order_lines::ListedOrders;
-use check_arguments::Settings;
 use check_texts::AllTexts;
+use fx_arguments::fixcheck::Settings;
 use fx_base::NoMemory;
 use fx_script::Script;
 use std::alloc::{AllocError, Global};

@@ -6,10 +6,12 @@ use crate::going_on::{Breaks, Remainder};
 use crate::order_lines::push_order;
 use crate::question::Question;
 use crate::unexpected::why_of;
-use check_arguments::Settings;
-use check_explain::{Complaint, explain, first_difference, line_after, line_number, shown_line};
+use check_explain::{
+    Complaint, explain, first_difference, line_after, line_number, shown_line, sign_before,
+};
 use check_judge::{Break, Fault, Judgement, Reason};
 use check_search::Doubt;
+use fx_arguments::fixcheck::Settings;
 use fx_base::NoMemory;
 use std::alloc::AllocError;
 
@@ -51,15 +53,13 @@ fn push_conflict(
     why: &str,
 ) -> Result<(), AllocError> {
     let first = line_number(question.text, from);
-    report.push_str(if lines.len() == 1 { "line" } else { "lines" })?;
+    report.push_str(if lines.len() == 1 { "line " } else { "lines " })?;
     for (i, line) in lines.iter().enumerate() {
-        let is_last = i.saturating_add(1) == lines.len();
-        report.push_str(match i {
-            0 => " ",
-            _ if is_last => " and ",
-            _ => ", ",
-        })?;
-        write!(report, "{}", first.saturating_add(*line))?;
+        let (sign, number) = (
+            sign_before(i, lines.len(), " and "),
+            first.saturating_add(*line),
+        );
+        write!(report, "{sign}{number}")?;
     }
     write!(report, " of the text: {why}\n")?;
     for line in lines {

@@ -1,103 +1,83 @@
 //! The answers that a request may give, whatever the other requests answer (docs/MODEL.md, "What a request answers").
 use crate::case::Case;
+use crate::contents::Contents;
 use crate::kinds::{Effect, acts_of, bytes_of, fixed_result, may_lack_memory};
-use crate::words::name_of;
+use crate::words::{GotWords, name_of, sign_before};
 use fx_base::{Errno, NoMemory};
 use fx_chain::{Completion, Request};
 use std::alloc::{AllocError, Global};
+use std::fmt;
+use std::fmt::Display;
 
 /// The largest number of answers, and of bytes of a file, that are shown.
 const SHOWN: usize = 16;
 
-/// Returns the possible contents of each slot during a submission, each once: files of catalogue entries, or none.
-pub(crate) fn may_be_at(case: &Case<'_>) -> Result<Vec<Vec<Option<u8>>>, NoMemory> {
-    let mut slots = Vec::new(case.alloc);
-    for file in &case.slots.at {
-        slots.push(vec![in case.alloc; file.map(|it| it.entry)]?)?;
-    }
-    for request in case.requests {
-        if case.refusal_of(request).is_some() {
-            continue;
-        }
-        for act in acts_of(case.alloc, case.catalogue, request)? {
-            let left = match act.effect {
-                Effect::Looks => continue,
-                Effect::Takes | Effect::Clears => None,
-                Effect::Installs(entry) => Some(entry),
-            };
-            let (first, count) = act.slot.map_or(case.slots.range, |slot| (slot, 1));
-            for it in slots.iter_mut().skip(first as usize).take(count as usize) {
-                if !it.contains(&left) {
-                    it.push(left)?;
-                }
-            }
-        }
-    }
-    Ok(slots)
-}
-
-/// An answer that a request may give: one of the results from `first` to `last`, with these bytes, of a file of this entry.
+/// An answer that a request may give: one of the results from `first` to `last`, with these bytes, of a file of this name.
 #[derive(Drop)]
-pub(crate) struct ValidAnswer {
+pub(crate) struct ValidAnswer<'a> {
     first: i32,
     last: i32,
     bytes: Vec<u8>,
-    entry: Option<u8>,
+    name: Option<&'a str>,
 }
 
-impl ValidAnswer {
+impl<'a> ValidAnswer<'a> {
     /// Returns the answer without bytes of one of some results.
-    pub(crate) fn among(alloc: Global, first: i32, last: i32) -> ValidAnswer {
-        let (bytes, entry) = (Vec::new(alloc), None);
+    pub(crate) fn among(alloc: Global, first: i32, last: i32) -> ValidAnswer<'a> {
         ValidAnswer {
             first,
             last,
-            bytes,
-            entry,
+            bytes: Vec::new(alloc),
+            name: None,
         }
-    }
-
-    // Returns the answer of a read of a file of an entry.
-    fn read(case: &Case<'_>, request: &Request, entry: u8) -> Result<ValidAnswer, NoMemory> {
-        let bytes = bytes_of(case, request, entry)?;
-        let number = i32::try_from(bytes.len()).unwrap_or(i32::MAX);
-        let mut answer = ValidAnswer::among(case.alloc, number, number);
-        answer.bytes = bytes;
-        answer.entry = Some(entry);
-        Ok(answer)
     }
 
     /// Checks whether it is that of a completion.
     pub(crate) fn fits(&self, it: &Completion) -> bool {
         (self.first..=self.last).contains(&it.res) && self.bytes.as_slice() == it.got.as_slice()
     }
+}
 
-    // Appends it: the result, or the range of results; the first 16 bytes, and the name of the file that has them.
-    fn push(&self, words: &mut String, case: &Case<'_>) -> Result<(), AllocError> {
-        write!(words, "{}", self.first)?;
+/// The result, or the range of results; the first 16 bytes, and the name of the file that has them.
+impl Display for ValidAnswer<'_> {
+    fn fmt<W: fmt::Write>(&self, f: &mut fmt::Formatter<W>) -> fmt::Result {
+        write!(f, "{}", self.first)?;
         if self.first < self.last {
-            write!(words, " to {}", self.last)?;
+            write!(f, " to {}", self.last)?;
         }
-        for (i, byte) in self.bytes.iter().take(SHOWN).enumerate() {
-            words.push_str(if i == 0 { " " } else { "" })?;
-            write!(words, "{byte:02x}")?;
+        match self.bytes.as_slice().get(..SHOWN) {
+            Some(shown) if self.bytes.len() > SHOWN => write!(f, "{}..", GotWords(shown))?,
+            _ => write!(f, "{}", GotWords(self.bytes.as_slice()))?,
         }
-        if self.bytes.len() > SHOWN {
-            words.push_str("..")?;
-        }
-        match self.entry {
-            Some(entry) => write!(words, " of {}", name_of(case.catalogue, entry)),
+        match self.name {
+            Some(name) => write!(f, " of {name}"),
             None => Ok(()),
         }
     }
 }
 
-/// Returns the answers that a request may give unless it is canceled.
-pub(crate) fn answers_of(
-    case: &Case<'_>,
-    slots: &[Vec<Option<u8>>],
+// Returns the answer of a read of a file of an entry.
+fn read_answer<'a>(
+    case: &Case<'a>,
     request: &Request,
-) -> Result<Vec<ValidAnswer>, NoMemory> {
+    entry: u8,
+) -> Result<ValidAnswer<'a>, NoMemory> {
+    let bytes = bytes_of(case, request, entry)?;
+    let number = i32::try_from(bytes.len()).unwrap_or(i32::MAX);
+    Ok(ValidAnswer {
+        first: number,
+        last: number,
+        bytes,
+        name: Some(name_of(case.catalogue, entry)),
+    })
+}
+
+/// Returns the answers that a request may give unless it is canceled.
+pub(crate) fn answers_of<'a>(
+    case: &Case<'a>,
+    contents: &Contents<'_>,
+    request: &Request,
+) -> Result<Vec<ValidAnswer<'a>>, NoMemory> {
     if let Some(res) = fixed_result(case, request) {
         return Ok(vec![in case.alloc; ValidAnswer::among(case.alloc, res, res)]?);
     }
@@ -115,11 +95,11 @@ pub(crate) fn answers_of(
             answers.push(error(Errno::ENFILE))?;
             continue;
         };
-        let may = slots.get(slot as usize).map_or(&[][..], |it| it.as_slice());
+        let may = contents.at(slot)?;
         let entries = may.iter().copied().flatten();
         if act.effect == Effect::Looks {
             for entry in entries {
-                answers.push(ValidAnswer::read(case, request, entry)?)?;
+                answers.push(read_answer(case, request, entry)?)?;
             }
         } else if entries.count() > 0 {
             answers.push(ValidAnswer::among(case.alloc, 0, 0))?;
@@ -136,19 +116,13 @@ pub(crate) fn answers_of(
 
 /// Returns the first 16 of some answers in words, after a place.
 pub(crate) fn answers_words(
-    case: &Case<'_>,
     front: String,
-    answers: &[ValidAnswer],
+    answers: &[ValidAnswer<'_>],
 ) -> Result<String, AllocError> {
     let mut words = front;
+    words.push_str(" with ")?;
     for (i, answer) in answers.iter().take(SHOWN).enumerate() {
-        let is_last = i.saturating_add(1) == answers.len();
-        words.push_str(match i {
-            0 => " with ",
-            _ if is_last => " or ",
-            _ => ", ",
-        })?;
-        answer.push(&mut words, case)?;
+        write!(words, "{}{answer}", sign_before(i, answers.len(), " or "))?;
     }
     if answers.len() > SHOWN {
         words.push_str(" or others")?;

@@ -6,12 +6,12 @@ use check_search::{Cell, Claim, Leaves, Resident, Strand, Wants};
 use fx_base::NoMemory;
 
 /// The files that stay at their slots. Each other one is closed.
-#[derive(Clone, Copy, PartialEq, Eq)]
+#[derive(Drop)]
 pub(crate) enum Stays {
     /// Those without a `closed` line.
     AsTold,
-    /// The file of this number among the report's, or none if there is no such file.
-    Only(usize),
+    /// Those of these numbers among the report's.
+    Only(Vec<usize>),
     /// None, and each slot is emptied once more, at any time, by nobody in particular. Each other choice has no more orders.
     Swept,
 }
@@ -79,9 +79,9 @@ impl ClaimsView<'_> {
     // Returns a file of the report, by its number, as a search has it.
     fn resident(&self, number: usize) -> Option<Resident> {
         let it = self.report.files.get(number)?;
-        let leaves = match self.stays {
+        let leaves = match &self.stays {
             Stays::AsTold => it.closed.is_some(),
-            Stays::Only(other) => other != number,
+            Stays::Only(those) => !those.contains(&number),
             Stays::Swept => true,
         };
         Some(Resident {
@@ -158,7 +158,7 @@ impl ClaimsView<'_> {
                 in_range,
                 file,
             })?;
-            if self.stays == Stays::Swept {
+            if matches!(self.stays, Stays::Swept) {
                 let claims = vec![in self.case.alloc;
                     Claim::At(slot, Wants::Anything, Leaves::Empty),
                 ]?;

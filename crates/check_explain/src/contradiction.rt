@@ -20,6 +20,9 @@ const BYTES: usize = 67_108_864;
 // More lines than this help nobody.
 const MOST_LINES: usize = 16;
 
+/// The largest number of choices of the files that stay at several slots.
+const MOST_CHOICES: usize = 64;
+
 /// A search for lines that have no order together.
 #[derive(Drop)]
 struct Contradiction<'a> {
@@ -51,28 +54,60 @@ impl Contradiction<'_> {
         })
     }
 
-    // Checks whether the lines that aren't left out have no order, whichever file of one slot stays. Returns `None` if that isn't seen.
+    // Returns for each slot the numbers of its files, or none if it isn't looked at.
+    fn files_at_slots(&self) -> Result<Vec<Vec<usize>>, NoMemory> {
+        let ClaimsView { case, report, .. } = &self.view;
+        let mut slots: Vec<Vec<usize>> = Vec::new(case.alloc);
+        for _ in 0..case.size() {
+            slots.push(Vec::new(case.alloc))?;
+        }
+        for (number, it) in report.files.iter().enumerate() {
+            match slots.get_mut(it.slot as usize) {
+                Some(files) if self.view.has_slot(it.slot) => files.push(number)?,
+                _ => {}
+            }
+        }
+        Ok(slots)
+    }
+
+    // Checks whether the lines that aren't left out have no order, whichever file of each slot stays. Returns `None` if that isn't seen.
+    fn has_no_order_at_all(&mut self) -> Result<Option<bool>, NoMemory> {
+        if self.search(Stays::Swept)? == Some(true) {
+            return Ok(Some(true));
+        }
+        let slots = self.files_at_slots()?;
+        let mut choices = 1usize;
+        for files in &slots {
+            choices = choices.saturating_mul(files.len() + 1);
+        }
+        let are_many = self.view.slots.iter().filter(|has| **has).count() > 1;
+        if are_many && choices > MOST_CHOICES {
+            return Ok(None);
+        }
+        for choice in 0..choices {
+            let (mut rest, mut those) = (choice, Vec::new(self.view.case.alloc));
+            for files in &slots {
+                let count = files.len() + 1;
+                if let Some(number) = files.get(rest % count) {
+                    those.push(*number)?;
+                }
+                rest /= count;
+            }
+            let seen = self.search(Stays::Only(those))?;
+            if seen != Some(true) {
+                return Ok(seen);
+            }
+        }
+        Ok(Some(true))
+    }
+
+    // Checks whether the lines that aren't left out have no order. Returns `None` if that isn't seen.
     fn has_no_order(&mut self) -> Result<Option<bool>, NoMemory> {
         let as_told = self.search(Stays::AsTold)?;
         if as_told == Some(false) || self.rests_on_closes {
             return Ok(as_told);
         }
-        if self.search(Stays::Swept)? == Some(true) {
-            return Ok(Some(true));
-        }
-        if self.view.slots.iter().filter(|has| **has).count() > 1 {
-            return Ok(None);
-        }
-        let files = self.view.report.files.as_slice();
-        for (i, it) in files.iter().enumerate() {
-            if self.view.has_slot(it.slot) {
-                let seen = self.search(Stays::Only(i))?;
-                if seen != Some(true) {
-                    return Ok(seen);
-                }
-            }
-        }
-        self.search(Stays::Only(files.len()))
+        self.has_no_order_at_all()
     }
 
     // Looks at some slots. Returns whether the lines are seen to have no order there, whichever files are closed, or else by the text.
@@ -80,13 +115,12 @@ impl Contradiction<'_> {
         for (slot, has) in self.view.slots.iter_mut().enumerate() {
             *has = slots.contains(&slot);
         }
-        for rests_on_closes in [false, true] {
-            self.rests_on_closes = rests_on_closes;
-            if self.has_no_order()? == Some(true) {
-                return Ok(true);
-            }
+        self.rests_on_closes = true;
+        if self.search(Stays::AsTold)? != Some(true) {
+            return Ok(false);
         }
-        Ok(false)
+        self.rests_on_closes = self.has_no_order_at_all()? != Some(true);
+        Ok(true)
     }
 
     // Looks at the first slots that chains join and at which the lines have no order. Returns whether there are such slots.

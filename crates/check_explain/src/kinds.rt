@@ -18,6 +18,17 @@ pub(crate) enum Effect {
     Installs(u8),
 }
 
+impl Effect {
+    /// Returns what it leaves at the slot, a file of a catalogue entry or none, or `None` if it leaves what is there.
+    pub(crate) fn left(self) -> Option<Option<u8>> {
+        match self {
+            Effect::Looks => None,
+            Effect::Takes | Effect::Clears => Some(None),
+            Effect::Installs(entry) => Some(Some(entry)),
+        }
+    }
+}
+
 /// An access that a request makes unless it is refused or canceled, and the facts that the request's line shows of it.
 #[derive(Clone, Copy)]
 pub(crate) struct Act {
@@ -130,7 +141,7 @@ pub(crate) fn why_refused(
     }
 }
 
-/// Returns the places of the accesses that the requests of a submission make at a table of `size` slots, in order of place, if no
+/// Returns for each chain of a submission the places of the accesses that its requests make at a table of `size` slots, in order, if no
 /// request is canceled and no allocation fails.
 ///
 /// # Errors
@@ -140,8 +151,8 @@ pub fn access_places(
     catalogue: &Catalogue,
     size: u32,
     requests: &[Request],
-) -> Result<Vec<AccessPlace>, AllocError> {
-    let mut places = Vec::new(alloc);
+) -> Result<Vec<Vec<AccessPlace>>, AllocError> {
+    let mut chains: Vec<Vec<AccessPlace>> = Vec::new(alloc);
     let mut at = Place {
         submission: 0,
         chain: 1,
@@ -149,7 +160,10 @@ pub fn access_places(
     };
     for request in requests {
         let Place { chain, member, .. } = at;
-        if refusal_of(catalogue, size, request).is_none() {
+        if member == 1 {
+            chains.push(Vec::new(alloc))?;
+        }
+        if let (None, Some(places)) = (refusal_of(catalogue, size, request), chains.last_mut()) {
             for Act { entry, .. } in acts_of(alloc, catalogue, request)? {
                 places.push(AccessPlace {
                     chain,
@@ -160,5 +174,5 @@ pub fn access_places(
         }
         at = next_place(at, request);
     }
-    Ok(places)
+    Ok(chains)
 }

@@ -6,6 +6,7 @@ mod answers;
 mod case;
 mod claims;
 mod complaint;
+mod contents;
 mod contradiction;
 mod history;
 mod history_line;
@@ -28,4 +29,4 @@ pub use lines::{
     shown_line,
 };
 pub use report::KnownReport;
-pub use words::{MarkWords, PlaceWords};
+pub use words::{GotWords, MarkWords, PlaceWords, sign_before};

@@ -46,6 +46,29 @@ impl Display for ByteWords<'_> {
     }
 }
 
+/// The bytes of a read after a space, in hexadecimal, or nothing if there are none.
+#[derive(Drop)]
+pub struct GotWords<'a>(pub &'a [u8]);
+
+impl Display for GotWords<'_> {
+    fn fmt<W: fmt::Write>(&self, f: &mut fmt::Formatter<W>) -> fmt::Result {
+        for (i, byte) in self.0.iter().enumerate() {
+            f.write_str(if i == 0 { " " } else { "" })?;
+            write!(f, "{byte:02x}")?;
+        }
+        Ok(())
+    }
+}
+
+/// Returns the sign before a word of a list: before the second and each later one, and before the last one if that isn't the first.
+pub fn sign_before(i: usize, count: usize, last: &'static str) -> &'static str {
+    match i {
+        0 => "",
+        _ if i.saturating_add(1) == count => last,
+        _ => ", ",
+    }
+}
+
 /// Returns the name of a catalogue entry, or no bytes if there is no such entry.
 pub(crate) fn name_of(catalogue: &Catalogue, entry: u8) -> &str {
     if u32::from(entry) < catalogue.len() {

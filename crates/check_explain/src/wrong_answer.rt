@@ -1,7 +1,8 @@
 //! Completions that no request there may have, or that contradict their chain.
-use crate::answers::{ValidAnswer, answers_of, answers_words, may_be_at};
+use crate::answers::{ValidAnswer, answers_of, answers_words};
 use crate::case::{Case, next_place};
 use crate::complaint::{Checked, Complaint};
+use crate::contents::Contents;
 use crate::kinds::{Effect, acts_of, bytes_of, fixed_result, why_refused};
 use crate::words::{PlaceWords, name_of};
 use bitflags::Flags;
@@ -16,7 +17,7 @@ struct Member {
     severed: Option<(usize, Place)>,
 }
 
-// Returns the reason why a read can't have its bytes: the file that has them is never at the slot, or no file has them.
+// Returns the reason why a read can't have its bytes: the file that has them can't be at the slot, or no file has them.
 fn why_not_read(
     case: &Case<'_>,
     request: &Request,
@@ -32,7 +33,7 @@ fn why_not_read(
         if bytes_of(case, request, entry)?.as_slice() == it.got.as_slice() {
             let name = name_of(case.catalogue, entry);
             return Ok(format!(in alloc;
-                "these are the bytes of {name}, which is never at slot {slot}"
+                "these are the bytes of {name}, which can't be at slot {slot} then"
             )?);
         }
     }
@@ -60,10 +61,10 @@ fn why_not(case: &Case<'_>, request: &Request, it: &Completion) -> Result<String
         None if case.slots.range.1 == 0 => format!(in alloc; "the range has no slot")?,
         Some(slot) if is_read && res >= 0 => why_not_read(case, request, slot, it)?,
         Some(slot) if act.effect == Effect::Takes && res == 0 => {
-            format!(in alloc; "slot {slot} never has a file")?
+            format!(in alloc; "slot {slot} can't have a file then")?
         }
         Some(slot) if fixed_result(case, request).is_none() && res == -Errno::EBADF.code() => {
-            format!(in alloc; "slot {slot} is never empty")?
+            format!(in alloc; "slot {slot} can't be empty then")?
         }
         _ => String::new(alloc),
     })
@@ -99,7 +100,7 @@ fn not_canceled(case: &Case<'_>, by: (usize, Place), at: (usize, &Completion)) -
 // Returns the complaint about the completion of a request, if there is one.
 fn complaint_of(
     case: &Case<'_>,
-    slots: &[Vec<Option<u8>>],
+    contents: &Contents<'_>,
     member: Member,
     at: usize,
     request: &Request,
@@ -112,7 +113,7 @@ fn complaint_of(
             if member.first < at && it.is_refusal(it.place, Errno::ECANCELED) {
                 return not_severed(case, member.first, at);
             }
-            let answers = answers_of(case, slots, request)?;
+            let answers = answers_of(case, contents, request)?;
             if answers.iter().any(|answer| answer.fits(it)) {
                 return Ok(None);
             }
@@ -122,25 +123,26 @@ fn complaint_of(
     let canceled = -Errno::ECANCELED.code();
     let answers = match member.severed {
         Some(_) => vec![in case.alloc; ValidAnswer::among(case.alloc, canceled, canceled)]?,
-        None => answers_of(case, slots, request)?,
+        None => answers_of(case, contents, request)?,
     };
     let place = format!(in case.alloc; "{}", PlaceWords(member.place))?;
-    Ok(Some(Complaint::Line(at, answers_words(case, place, &answers)?, why)))
+    Ok(Some(Complaint::Line(at, answers_words(place, &answers)?, why)))
 }
 
 /// Returns a complaint about the first completion that its request can't have, or that contradicts an earlier one of its chain.
 pub(crate) fn wrong_answer(case: &Case<'_>, completions: &[Completion]) -> Checked {
-    let slots = may_be_at(case)?;
+    let mut contents = Contents::new(case)?;
     let mut member = Member {
         place: case.first_place(),
         first: 0,
         severed: None,
     };
     for (at, request) in case.requests.iter().enumerate() {
-        let complaint = complaint_of(case, &slots, member, at, request, completions)?;
+        let complaint = complaint_of(case, &contents, member, at, request, completions)?;
         if complaint.is_some() {
             return Ok(complaint);
         }
+        contents.pass(request)?;
         member.place = next_place(member.place, request);
         if !request.links() {
             member.first = at.saturating_add(1);

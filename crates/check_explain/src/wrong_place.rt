@@ -8,7 +8,7 @@ use std::alloc::AllocError;
 // Returns the reason why the line of a request doesn't begin with the request's place and a space: another line does, or no line does.
 fn why_of(case: &Case<'_>, at: usize, front: &str) -> Result<String, AllocError> {
     let mut rest = case.text;
-    for other in 0..=case.requests.len() {
+    for other in 0..case.text.len() {
         let line = line_at(rest, 0);
         if line.starts_with(front.as_bytes()) {
             let number = case.line.saturating_add(other);

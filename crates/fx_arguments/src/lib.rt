@@ -1,11 +1,8 @@
-//! The command line of the program `fixfiles`: its options, its help, and its exit statuses.
-//!
-//! Others call [`asked_settings`], which returns the settings or the reason why no script is played. Begin reading at
-//! `settings.rt`.
+//! The command lines of the programs `fixfiles` and `fixcheck`: their options, their help, and the words that are refused.
 #![tactic(auto)]
 
+pub mod fixcheck;
+pub mod fixfiles;
 mod refusal;
-mod settings;
 
-pub use refusal::Refusal;
-pub use settings::{Settings, Table, asked_settings, settings_in};
+pub use refusal::{Refusal, words};

@@ -1,7 +1,7 @@
 //! The program `fixfiles`: reads a script from standard input and plays it.
 #![tactic(auto)]
 
-use fx_arguments::{Settings, Table, asked_settings};
+use fx_arguments::fixfiles::{Settings, Table, asked_settings};
 use fx_baton::BatonTable;
 use fx_chain::OpenGate;
 use fx_counted::CountedTable;
@@ -24,7 +24,7 @@ fn main(rt: HostRuntime) -> ExitCode {
         Ok(settings) => settings,
         Err(refusal) => {
             // Nothing can be done if this write fails.
-            let _ = refusal.tell(&rt);
+            let _ = refusal.tell(&rt, "fixfiles");
             return ExitCode::from(refusal.status());
         }
     };

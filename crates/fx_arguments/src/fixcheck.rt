@@ -1,11 +1,8 @@
-//! The settings that a command line gives.
-use crate::ending::NoVerdict;
-use clap::{Arg, ArgAction, ArgMatches, Command, Error, value_parser};
-use fx_script::PlayFault;
+//! The command line of `fixcheck`.
+use crate::refusal::Refusal;
+use clap::{Arg, ArgAction, ArgMatches, Command, value_parser};
 use std::alloc::{AllocError, Global};
 use std::convert::AsStr;
-use std::env;
-use std::io::ErrorKind;
 
 const ABOUT: &str =
     "Judges whether the rules of io_uring's fixed file table allow a text for a script, \
@@ -40,14 +37,25 @@ Exit status:
   5  an allocation failed
   6  the text is undecided, or there may be more answers or texts";
 
-// The default of `--states`.
+/// The default of `--states`.
 const STATES: u32 = 1_000_000;
 
-// The default of `--memory`.
+/// The default of `--memory`.
 const MEMORY: u32 = 1_024;
 
 /// The largest `--memory`: a TiB.
 const MOST_MEMORY: i64 = 1_048_576;
+
+/// The question that is asked about a script.
+#[derive(Clone, Copy)]
+pub enum Asked<'a> {
+    /// The verdict on the text at this path, or on standard input for `-`.
+    Verdict(&'a str),
+    /// The answers of the request at the place that this word names.
+    Answers(&'a str),
+    /// A list of at most this many texts.
+    Texts(u32),
+}
 
 /// The settings of a command line.
 #[derive(Clone, Copy)]
@@ -60,28 +68,10 @@ pub struct Settings<'a> {
     pub history: bool,
     /// True if the text is judged after its first break, too.
     pub keep_going: bool,
-    /// True if the answers of a request are listed.
-    pub may: bool,
-    /// The largest number of texts to list, or `None` if no list is requested.
-    pub all: Option<u32>,
     /// The script's path, or `-` for standard input.
     pub script: &'a str,
-    /// The text's path, or `-` for standard input. With `may` it is the place of a request, and with `all` it is empty.
-    pub text: &'a str,
-}
-
-/// Returns the words of the command line, the program's name first.
-///
-/// # Errors
-/// `Fault` if an allocation fails, `NoText` if an argument isn't UTF-8.
-pub fn words(rt: &HostRuntime) -> Result<Vec<String>, NoVerdict> {
-    match env::args(rt) {
-        Ok(args) => Ok(args.collect(rt.alloc())?),
-        Err(error) if error.kind() == ErrorKind::OutOfMemory => {
-            Err(NoVerdict::Fault(PlayFault::NoMemory))
-        }
-        Err(_) => Err(NoVerdict::NoText),
-    }
+    /// The question.
+    pub asked: Asked<'a>,
 }
 
 fn states_argument<'a>(alloc: Global) -> Arg<'a> {
@@ -168,54 +158,40 @@ fn command<'a>(alloc: Global) -> Result<Command<'a>, AllocError> {
         .arg(text_argument(alloc)?)
 }
 
-// Returns the number of states, which has a default.
-fn states_of(matches: &ArgMatches<'_>) -> u32 {
-    matches.get_one::<u32>("states").unwrap_or(STATES)
-}
-
-// Returns the number of MiB, which has a default.
-fn memory_of(matches: &ArgMatches<'_>) -> u32 {
-    matches.get_one::<u32>("memory").unwrap_or(MEMORY)
-}
-
-// Checks that the words after the options are those that the options take.
-fn check_words(
+// Returns the question, by the words after the options, which must be those that the options take.
+fn asked_in<'a>(
     alloc: Global,
-    matches: &ArgMatches<'_>,
-    script: &str,
-    text: Option<&str>,
-) -> Result<(), NoVerdict> {
-    if matches.contains_id("all") && text.is_some() {
-        return Err(NoVerdict::TextWithAll(format!(in alloc; "{script}")?));
+    matches: &ArgMatches<'a>,
+    script: &'a str,
+) -> Result<Asked<'a>, Refusal> {
+    match (matches.get_one::<u32>("all"), matches.get_str("text")) {
+        (Some(most), None) => Ok(Asked::Texts(most)),
+        (Some(_), Some(_)) if script.parse::<u32>().is_ok() => {
+            Err(Refusal::NumberWithAll(script.to_owned(alloc)?))
+        }
+        (Some(_), Some(_)) => Err(Refusal::TextWithAll),
+        (None, None) => Err(Refusal::NoPlaceGiven),
+        (None, Some(text)) if script == "-" && text == "-" => Err(Refusal::TwoInputs),
+        (None, Some(place)) if matches.get_flag("may") => Ok(Asked::Answers(place)),
+        (None, Some(text)) => Ok(Asked::Verdict(text)),
     }
-    if matches.get_flag("may") && text.is_none() {
-        return Err(NoVerdict::NoPlaceGiven);
-    }
-    if script == "-" && text == Some("-") {
-        return Err(NoVerdict::TwoInputs);
-    }
-    Ok(())
 }
 
 /// Returns what the words of a command line ask for.
 ///
 /// # Errors
 /// Those of clap: help or the version is requested, an argument is unknown, missing or invalid, or an allocation fails. Of this
-/// program's own: `TextWithAll` if a text follows the script of `--all`, `NoPlaceGiven` if no place follows that of `--may`, and
-/// `TwoInputs` if both the script and the text are `-`.
-pub fn settings_in<'a, S: AsStr>(alloc: Global, words: &'a [S]) -> Result<Settings<'a>, NoVerdict> {
+/// program's own: `TextWithAll` or `NumberWithAll` if a text follows the script of `--all`, `NoPlaceGiven` if no place follows that
+/// of `--may`, and `TwoInputs` if both the script and the text are `-`.
+pub fn settings_in<'a, S: AsStr>(alloc: Global, words: &'a [S]) -> Result<Settings<'a>, Refusal> {
     let matches = command(alloc)?.try_get_matches_from(words)?;
     let script = matches.get_str("script").unwrap_or("-");
-    let text = matches.get_str("text");
-    check_words(alloc, &matches, script, text)?;
     Ok(Settings {
-        states: states_of(&matches),
-        memory: memory_of(&matches),
+        states: matches.get_one("states").unwrap_or(STATES),
+        memory: matches.get_one("memory").unwrap_or(MEMORY),
         history: matches.get_flag("history"),
         keep_going: matches.get_flag("keep-going"),
-        may: matches.get_flag("may"),
-        all: matches.get_one::<u32>("all"),
         script,
-        text: text.unwrap_or(""),
+        asked: asked_in(alloc, &matches, script)?,
     })
 }

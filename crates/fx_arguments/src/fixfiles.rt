@@ -1,13 +1,11 @@
-//! Parsing the words of a command line.
+//! The command line of `fixfiles`.
 ghost use Rattle.std.specs.Prelude.{◌≤◌, IfOk};
 ghost use Rattle.fx_table.specs.declared.limits.TheConstants.{MAX_PASSES};
 
-use crate::refusal::Refusal;
+use crate::refusal::{Refusal, words};
 use clap::{Arg, ArgMatches, Command, Error, value_parser};
 use std::alloc::{AllocError, Global};
 use std::convert::AsStr;
-use std::env;
-use std::io::ErrorKind;
 use std::str::FromStr;
 
 const ABOUT: &str =
@@ -69,15 +67,6 @@ pub struct Settings {
     pub workers: u32,
     /// The table that they share.
     pub table: Table,
-}
-
-// Returns the words of the command line, the program's name first.
-fn words(rt: &HostRuntime) -> Result<Vec<String>, Refusal> {
-    match env::args(rt) {
-        Ok(args) => Ok(args.collect(rt.alloc())?),
-        Err(error) if error.kind() == ErrorKind::OutOfMemory => Err(Refusal::NoMemory),
-        Err(_) => Err(Refusal::NoText),
-    }
 }
 
 fn workers_argument<'a>(alloc: Global) -> Arg<'a> {
