@@ -1,4 +1,4 @@
-use Rattle.fx_lasting.proofs.Words.{◌≡◌, ℕ, ◌^◌, ◌∙◌, ap, sym, refl, subst, arith, bit_of, list_place, view_of, pass_of, as_listed, Runs, Change, []}
+use Rattle.fx_lasting.proofs.Words.{ℕ, ◌^◌, ◌∙◌, ap, sym, refl, subst, arith, bit_of, list_place, view_of, pass_of, as_listed, Runs, Change, []}
 use Rattle.fx_lasting.proofs.Calling.{list_inside}
 use Rattle.fx_lasting.proofs.Listing.{lists_keep}
 use Rattle.fx_lasting.proofs.Passing.{adds_listed, listed_seat, after_then}
