@@ -99,7 +99,7 @@ static void check_pass(const struct state *s, int who) {
     const struct pass *it = &s->pass[who];
     bool is_look = it->call == LOOK, is_put = it->call == PUT && it->step != SEEK;
     int words = (family->passes + PER_WORD - 1) / PER_WORD;
-    int most = is_look ? 8 + it->lists : it->call == RELEASE ? 3 : it->call == REMOVE ? 3 : is_put ? 3 : 2 * family->passes + words;
+    int most = is_look ? 8 : it->call == RELEASE ? 3 : it->call == REMOVE ? 3 : is_put ? 3 : 2 * family->passes + words;
     want(it->call == PUT_ANY || it->step == SEEK || it->steps + (is_look ? 1 : 0) < most || it->step == IDLE, "a call has too many steps");
     int hold = s->hold[who] & ~MARK;
     want(hold == 0 || (has_announced(it) && hold == it->node + 1) || (it->step == GUARDED && hold == it->holds),

@@ -88,24 +88,25 @@ static void rest(struct state *s, const struct pass *it) {
 static void glance(struct state *s, struct pass *it) {
     if (s->named[it->slot] == 0) {
         begin_call(it, 0, IDLE);
+    } else if (!it->is_listed && wrong != listed_after_the_second_look) {
+        it->step = LIST;
     } else if (s->hot[it->slot]) {
         it->node = s->named[it->slot] - 1;
-        it->step = wrong == announced_after_the_second_look ? CONFIRM
-            : it->is_listed || wrong == listed_after_the_second_look ? ANNOUNCE : LIST;
+        it->step = wrong == announced_after_the_second_look ? CONFIRM : ANNOUNCE;
     } else {
         it->step = TAKE;
     }
 }
 
-/* Sets the bit of the pass. */
+/* Sets the bit of the pass. Its first look-up takes what the slot names, hot or cold. */
 static void list(struct state *s, struct pass *it, int who) {
     uint8_t *word = &s->list[who / PER_WORD], bit = 1 << who % PER_WORD;
     *word = wrong == listed_by_a_store ? bit : *word | bit;
-    it->is_listed = it->lists = 1;
-    if (wrong == listed_after_the_second_look) {
+    it->is_listed = 1;
+    if (it->holds) {
         hold_until_release(it, GUARDED);
     } else {
-        it->step = ANNOUNCE;
+        it->step = TAKE;
     }
 }
 
@@ -137,7 +138,7 @@ static void confirm(struct state *s, struct pass *it, int who) {
             it->step = LIST;
         }
     } else {
-        it->step = it->is_listed ? ANNOUNCE : LIST;
+        it->step = ANNOUNCE;
     }
 }
 

@@ -44,8 +44,8 @@ struct pass {
     uint8_t step, call, slot, node, takes, next, marks;
     /* The words of the list that a round has loaded, and the last of them. */
     uint8_t words, last;
-    /* The pass is listed, and was listed in this call. */
-    uint8_t is_listed, lists;
+    /* The pass is listed. */
+    uint8_t is_listed;
     /* The place of a search in the pass's block, and the nodes that it found taken. */
     uint8_t nth, tried;
     /* The hot bit that a look at an empty slot found. */
@@ -60,7 +60,7 @@ struct state {
     /* Slot words: the node plus 1, or 0. */
     uint8_t named[MOST_SLOTS], takes[MOST_SLOTS], hot[MOST_SLOTS];
     uint8_t hold[MOST_PASSES];
-    /* The bits of the passes that ever announced a node. */
+    /* The bits of the passes that ever looked a file up. */
     uint8_t list[MOST_WORDS];
     uint8_t word[MOST_NODES], place[MOST_NODES], file[MOST_NODES];
     /* The control word: the full slots that are counted, as a signed byte. */

@@ -1,6 +1,6 @@
 //! The words of the lasting table, in plain, unproved Rust: the proved table is measured against it. A cold file is looked
-//! up by an addition to its slot's word, a hot one by its node in the pass's own hold word, once the pass is in the list of
-//! passes that ever announced a node.
+//! up by an addition to its slot's word, a hot one by its node in the pass's own hold word. The first look-up of a pass puts it into
+//! the list of passes that ever looked a file up.
 use crate::table::{read_entry, File, Shape, Table};
 use std::cell::UnsafeCell;
 use std::hint::black_box;
@@ -25,7 +25,7 @@ const BIAS: u64 = 65_536;
 #[repr(align(64))]
 struct Line(AtomicU64);
 
-/// The list of passes that ever announced a node: a bit for each, 64 in a word.
+/// The list of passes that ever looked a file up: a bit for each, 64 in a word.
 #[derive(Default)]
 #[repr(align(64))]
 struct List([AtomicU64; 16]);
@@ -100,20 +100,22 @@ impl LastingWords {
         })
     }
 
-    fn list(&self, pass: &mut Pass) {
-        if !pass.listed {
-            self.list.0[pass.number / 64].fetch_or(1 << (pass.number % 64), SeqCst);
-            pass.listed = true;
-        }
+    // Puts the pass into the list, and takes what the slot names.
+    fn look_first(&self, pass: &mut Pass, slot: usize) -> Option<Held> {
+        self.list.0[pass.number / 64].fetch_or(1 << (pass.number % 64), SeqCst);
+        pass.listed = true;
+        self.take_at(slot)
     }
 
     fn look_up(&self, pass: &mut Pass, slot: usize) -> Option<Held> {
         let word = self.slots[slot].0.load(SeqCst);
         let node = node_in(word)?;
+        if !pass.listed {
+            return self.look_first(pass, slot);
+        }
         if word & HOT == 0 {
             return self.take_at(slot);
         }
-        self.list(pass);
         self.holds[pass.number].0.store(node as u64 + 1, SeqCst);
         let again = self.slots[slot].0.load(SeqCst);
         if again >> 40 == word >> 40 && again & HOT != 0 {

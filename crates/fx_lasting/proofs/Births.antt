@@ -130,7 +130,7 @@ module _ (turn : Turn) where
         record {
           node = e.0;
           goes = record {
-            stepped = tells_less turn (read_before turn (Searching e.0) v.glance r.history x.front) carried carried refl e.1.0;
+            stepped = tells_less turn (read_before turn (Searching e.0) v.glance r.history x.front) refl carried carried refl e.1.0;
             carried = refl;
           };
           front = ap (λ (l : List Log). (first_log l).front) (sym one);
@@ -204,7 +204,7 @@ module _ (turn : Turn) where
       birth,
       record {
         goes = λ m works'. let same : n ≡ m = cc (sym works ∙ works') in rw (← same)
-            (tells turn born_after carried ((n, None) ∷ carried) [] (grows_none x.number r.history) r.legal refl its.0, refl);
+            (tells turn born_after refl carried ((n, None) ∷ carried) [] (grows_none x.number r.history) r.legal refl its.0, refl);
       },
     )
 
@@ -296,7 +296,7 @@ module _ (turn : Turn) where
       tt,
       rw has (resting d to.0 to.1 to.2),
       record {
-        stepped = tells turn (rest_after d to.0 to.1 to.2) carried (rest carried) [] (grows_none x.number r.history) r.legal refl
+        stepped = tells turn (rest_after d to.0 to.1 to.2) refl carried (rest carried) [] (grows_none x.number r.history) r.legal refl
             (knows d to.0 to.1 to.2).1;
         carried = refl;
       },

@@ -76,6 +76,7 @@ module _ (turn : Turn) (h' front : List Event) (words' : List ℕ) (d : Work) (g
         held = s.held;
         allowed = s.allowed;
         lists = s.lists;
+        over_on = λ i q l is. inl is;
         its_bit = s.its_bit;
         its = s.its;
         holds = s.holds;

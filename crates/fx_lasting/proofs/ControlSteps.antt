@@ -162,7 +162,7 @@ module _ (turn : Turn) where
   says_so is = let u = r.control.counts in let a = full_few at_now range.0 range.1 in full_all at_now range.0 range.1 (omega arith)
 
   goes_on : (y : ℕ) (c : Change) (carried : List (ℕ × Option Closed)) → Stepped (v, carried) [] v.work v.glance c (w turn (turn_after y c r.history), carried)
-  goes_on y c carried = tells turn (turn_after y c r.history) carried carried [] (grows_none x.number r.history) r.legal refl its_inside
+  goes_on y c carried = tells turn (turn_after y c r.history) refl carried carried [] (grows_none x.number r.history) r.legal refl its_inside
 
   lower : (slots : ℕ) (carried : List (ℕ × Option Closed)) → word < 18446744073709551616 → v.change ≡ Outside
       → Made turn carried control_place (λ word. (word + (2 ^ 64 - 1)) % 2 ^ 64) (Turns Inside (step slots control_place 1 0 none) (v, carried))
@@ -197,7 +197,7 @@ module _ (turn : Turn) where
         wrote word v.change h₁ q (same_counts h₁),
         record {
           full = λ _. record {
-            stepped = tells turn (turn_after word v.change h₁) carried carried ([] ▷ Full) q.grows q.legal (part_mine r.history refl) its_inside;
+            stepped = tells turn (turn_after word v.change h₁) refl carried carried ([] ▷ Full) q.grows q.legal (part_mine r.history refl) its_inside;
             carried = refl;
           };
           not_full = λ not_so. absurd (not_so is);

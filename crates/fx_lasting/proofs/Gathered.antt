@@ -1,5 +1,5 @@
 -- Passes as they are dealt out, and all of them in one seat again: what the one history says of each.
-use Rattle.fx_lasting.proofs.Words.{false, true}
+use Rattle.fx_lasting.proofs.Words.{pass_in}
 use Rattle.fx_lasting.proofs.Words.{◌≡◌, ◌≢◌, ℕ, ◌+◌, ◌≤◌, List, [], ◌∷◌, sym, refl, ap, ◌∙◌, subst, arith, Option, All, TableId}
 use Rattle.fx_lasting.proofs.Words.{take, drop, map, length, reverse, Closed, Sat, new_log, pass_of, view_of, IsPassOf, IsSeatOf, IsBetweenCalls}
 use Rattle.fx_lasting.proofs.Words.{LastingPass, Log, Start, View, IsNewPass, dealt, numbers_of_pass, block_start, slots_of, some, get_elem?}
@@ -80,7 +80,7 @@ module _ {id : TableId} (k : Start) {p : ℕ} (low : 1 ≤ p) (high : p ≤ k.pa
     change = ap (λ (m : Sat). m.0.change) me;
     block = subst (λ (z : ℕ × ℕ). IsInBlock k z.0 z.1) (λ i. (sym new.its_number i, (sym first ∙ sym new.its_node) i))
         (omega arith, omega (arith, low, high));
-    listed = λ l. let bad : false ≡ true = sym new.unlisted ∙ l in absurd (cc bad);
+    listed = new.unlisted ∙ sym (ap (λ (m : Sat). (pass_in m).listed) me);
   }
 
   pub is_new_pass : IsPassOf id k x × (shown x ≡ new_pass p)

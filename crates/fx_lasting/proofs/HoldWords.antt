@@ -38,7 +38,7 @@ module _ (turn : Turn) (carried : List (ℕ × Option Closed)) where
 
     goes_quiet : IsInside v.start d → Goes (v, carried) [] d v.glance (w turn (own_after turn new d r.history), carried)
     goes_quiet inside = record {
-      stepped = tells turn (own_after turn new d r.history) carried carried [] (grows_none x.number r.history) r.legal refl inside;
+      stepped = tells turn (own_after turn new d r.history) refl carried carried [] (grows_none x.number r.history) r.legal refl inside;
       carried = refl;
     }
 
@@ -127,7 +127,7 @@ module _ (turn : Turn) (carried : List (ℕ × Option Closed)) where
           own_kept turn 0 Idle own,
           record {
             clean = λ h k is' _. let same : f ≡ h = cc (sym is ∙ is') in rw (← same) record {
-              stepped = tells turn (own_after turn 0 Idle h₁) carried carried ([] ▷ Release f) own.grows own.legal (part_mine r.history refl) tt;
+              stepped = tells turn (own_after turn 0 Idle h₁) refl carried carried ([] ▷ Release f) own.grows own.legal (part_mine r.history refl) tt;
               carried = refl;
             };
             marked = λ h k is' not_so. absurd (not_so (clean ∙ (let at : n ≡ k = cc (sym is ∙ is') in ap announced at)));

@@ -173,6 +173,7 @@ module _ (turn : Turn) where
       pub its : Keeps id x.number a.work a.glance
       pub holds : (n : ℕ) → (state_after_all v.start a.h).holds n + held_of n v ≡ (state_after_all v.start r.history).holds n + held_of n w
       pub lists : (p : ℕ) → p ≤ 1024 → ListGoesOn x.number p (word_at st.words (list_place p)) (word_at a.words (list_place p))
+      pub over_on : (s q : ℕ) → s < slots_of v.start → a.over s q ≡ true → (r.over s q ≡ true) ⊎ ((q ≡ x.number) × (a.listed ≡ true))
       pub its_bit : a.listed ≡ true → (x.listed ≡ true) ⊎ IsListedIn (word_at a.words (list_place x.number)) x.number
       pub control : ControlCounts (state_after_all v.start a.h).at (range_at_start v.start) views' (word_at a.words control_place)
 
@@ -192,6 +193,8 @@ module _ (turn : Turn) where
             guarded = k.guarded;
             sees = k.sees;
             heats = k.heats;
+            takes_listed = λ i l is. ⊎_elim (λ before. o.takes_listed i l before)
+                (λ (own : (z.number ≡ x.number) × (a.listed ≡ true)). absurd (n own.0)) (s.over_on i z.number l is);
           }
 
       -- a seat without passes does nothing
@@ -215,6 +218,8 @@ module _ (turn : Turn) where
         guarded = s.its.guarded;
         sees = s.its.sees;
         heats = s.its.heats;
+        takes_listed = λ i l is. ⊎_elim (λ before. a.still_listed (its_log.takes_listed i l before))
+            (λ (own : (x.number ≡ x.number) × (a.listed ≡ true)). own.1) (s.over_on i x.number l is);
       }
 
       pub step_kept : Agrees v.start end
@@ -260,17 +265,17 @@ module _ (turn : Turn) where
       }
 
   -- the effect of the step on its pass
-  pub tells : (a : After) (carried homes : List (ℕ × Option Closed)) (actions : List Action) → Grows x.number r.history a.front
+  pub tells : (a : After) → a.listed ≡ x.listed → (carried homes : List (ℕ × Option Closed)) (actions : List Action) → Grows x.number r.history a.front
       → IsHistory v.start a.front → part_of_pass x.number a.front ≡ map (pass_event x) actions ++ part_of_pass x.number r.history
       → IsInside v.start a.work → Stepped (v, carried) actions a.work a.glance a.change (w a, homes)
-  tells a carried homes actions grows legal own inside = let o = its_log in rw one record {
+  tells a same_listed carried homes actions grows legal own inside = let o = its_log in rw one record {
     one = (logged x a.listed a.front, refl);
     number = refl;
     seen = grows.seen x.front o.seen;
     legal = legal;
     own = own ∙ ap (λ (l : List Event). map (pass_event x) actions ++ l) o.own;
     steps = refl;
-    listed = a.still_listed;
+    listed = same_listed;
     work = refl;
     inside = inside;
     glance = refl;
@@ -279,16 +284,16 @@ module _ (turn : Turn) where
   }
 
   -- the effect of a step after which the pass has seen what it had seen
-  pub tells_less : (a : After) (carried homes : List (ℕ × Option Closed)) → a.front ≡ x.front → IsInside v.start a.work
+  pub tells_less : (a : After) → a.listed ≡ x.listed → (carried homes : List (ℕ × Option Closed)) → a.front ≡ x.front → IsInside v.start a.work
       → Stepped (v, carried) [] a.work a.glance a.change (w a, homes)
-  tells_less a carried homes same inside = let o = its_log in rw one record {
+  tells_less a same_listed carried homes same inside = let o = its_log in rw one record {
     one = (logged x a.listed a.front, refl);
     number = refl;
     seen = ([], same);
     legal = rw same (legal_before v.start x.front o.seen.0 (subst (IsHistory v.start) o.seen.1 r.legal));
     own = ap (part_of_pass x.number) same;
     steps = refl;
-    listed = a.still_listed;
+    listed = same_listed;
     work = refl;
     inside = inside;
     glance = refl;

@@ -114,7 +114,7 @@ module _ {turn : Turn} {n : ℕ} {f : File} {h₁ : List Event} {debt' : ℕ →
     }
 
     pub goes_open : Goes (v, carried) xs Idle v.glance (w turn open_after, carried)
-    goes_open = record { stepped = tells turn open_after carried carried xs g.grows g.legal g.own tt; carried = refl }
+    goes_open = record { stepped = tells turn open_after refl carried carried xs g.grows g.legal g.own tt; carried = refl }
 
   -- The file is closed, and comes out
   abbrev pub h₂ : List Event
@@ -204,7 +204,7 @@ module _ {turn : Turn} {n : ℕ} {f : File} {h₁ : List Event} {debt' : ℕ →
 
     pub takes_out : TakesOut (v, carried) xs f n (w turn out_after, (n, Some f.identity) ∷ carried)
     takes_out = record {
-      stepped = tells turn out_after carried ((n, Some f.identity) ∷ carried) (xs ▷ Close f) grows₂ legal₂
+      stepped = tells turn out_after refl carried ((n, Some f.identity) ∷ carried) (xs ▷ Close f) grows₂ legal₂
           (part_mine h₁ refl ∙ ap (λ (l : List Event). pass_event x (Close f) ∷ l) g.own) g.its.0;
       carried = refl;
     }

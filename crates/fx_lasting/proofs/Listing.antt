@@ -3,7 +3,7 @@ use Rattle.fx_lasting.proofs.Words.{ℕ, ◌≤◌, ◌^◌, List, Option, Close
 use Rattle.fx_lasting.proofs.Words.{step, length-set, dite, ℕ_discrete, Work, IsAllowed, Lists, ListsKeep, [], Bool, Start}
 use Rattle.fx_lasting.proofs.Histories.{grows_none}
 use Rattle.fx_lasting.proofs.Frames.{guards_same, covers_same, sees_same, heats_same, control_same}
-use Rattle.fx_lasting.proofs.Keeping.{Turn, turn_of, After, word_at, Made, by_turn, its_log, its_work, in_range, tells, w, end}
+use Rattle.fx_lasting.proofs.Keeping.{Turn, turn_of, After, word_at, Made, by_turn, its_log, its_work, in_range, logged, w, end}
 use Rattle.fx_lasting.proofs.Calm.{calm_after, calm_kept}
 use Rattle.fx_lasting.proofs.Lists.{ListGoesOn, now_listed}
 use Rattle.fx_lasting.proofs.ControlSteps.{its_inside}
@@ -86,10 +86,22 @@ module _ (turn : Turn) where
     kept,
     record {
       goes = record {
-        stepped = tells turn listed_after carried carried [] (grows_none x.number r.history) r.legal refl (its_inside turn);
+        stepped = let o = its_log turn in let grows = grows_none x.number r.history in rw one record {
+          one = (logged x true r.history, refl);
+          number = refl;
+          seen = grows.seen x.front o.seen;
+          legal = r.legal;
+          own = o.own;
+          steps = refl;
+          listed = refl;
+          work = refl;
+          inside = its_inside turn;
+          glance = refl;
+          change = refl;
+          start = refl;
+        };
         carried = refl;
       };
-      listed = refl;
     },
   )
 

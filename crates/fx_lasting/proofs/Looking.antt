@@ -1,4 +1,5 @@
 -- A look-up loads the slot's word: at first, and again when it has announced a node.
+use Rattle.fx_lasting.proofs.Words.{IsOnList, Log, first_log}
 use Rattle.fx_lasting.proofs.Words.{◌≡◌, ◌≢◌, ℕ, ◌+◌, ◌-◌, ◌<◌, List, [], ◌∷◌, sym, refl, ap, ◌∙◌, subst, arith, Option, Some, None, none, keeps}
 use Rattle.fx_lasting.proofs.Words.{Closed, File, Event, Look, ◌▷◌, WorkAgrees, GuardAgrees, GlanceAgrees, Heats, NamesNode, Names, IsSeated}
 use Rattle.fx_lasting.proofs.Words.{state_after_all, slots_of, nodes_of, held_in, if_file, taking, pass_event, seated, file_in, Work, Glance, Idle}
@@ -54,6 +55,21 @@ module _ (turn : Turn) (s : ℕ) (inside : s < slots_of turn.v.start) where
       go false is = is
       go true is = absurd (⊎_elim cold (λ e. calm s e) ((its_log turn).heats s inside is))
 
+  -- a pass that isn't listed took nothing
+  not_over_yet : (x.listed ≡ true → ⊥) → r.over s x.number ≡ false
+  not_over_yet unlisted = go (r.over s x.number) refl
+    where
+      go : (b : Bool) → r.over s x.number ≡ b → r.over s x.number ≡ false
+      go false is = is
+      go true is = absurd (unlisted ((its_log turn).takes_listed s inside is))
+
+  listed_cases : (x.listed ≡ true → ⊥) ⊎ (x.listed ≡ true)
+  listed_cases = go x.listed refl
+    where
+      go : (b : Bool) → x.listed ≡ b → (x.listed ≡ true → ⊥) ⊎ (x.listed ≡ true)
+      go true is = inr is
+      go false is = inl (λ l. let bad : false ≡ true = sym is ∙ l in cc bad)
+
   hot_cases : (IsHot word → ⊥) ⊎ IsHot word
   hot_cases = dite (ℕ_discrete (hot_in word) 1) (λ h. inr h) (λ c. inl c)
 
@@ -93,7 +109,7 @@ module _ (turn : Turn) (s : ℕ) (inside : s < slots_of turn.v.start) where
 
     pub goes_quiet : (carried : List (ℕ × Option Closed)) → Goes (v, carried) [] d g (w turn quiet_after, carried)
     goes_quiet carried = record {
-      stepped = tells turn quiet_after carried carried [] (grows_none x.number r.history) r.legal refl knows;
+      stepped = tells turn quiet_after refl carried carried [] (grows_none x.number r.history) r.legal refl knows;
       carried = refl;
     }
 
@@ -135,7 +151,7 @@ module _ (turn : Turn) (s : ℕ) (inside : s < slots_of turn.v.start) where
         read_kept turn Idle Nothing (slot_place s) e,
         record {
           empty = λ _. rw (slot_back s) record {
-            stepped = tells turn (read_after turn Idle Nothing h₀) carried carried ([] ▷ Look s None) e.grows e.legal (part_mine r.history refl) tt;
+            stepped = tells turn (read_after turn Idle Nothing h₀) refl carried carried ([] ▷ Look s None) e.grows e.legal (part_mine r.history refl) tt;
             carried = refl;
           };
           cold = λ n is _. absurd (omega arith);
@@ -143,7 +159,8 @@ module _ (turn : Turn) (s : ℕ) (inside : s < slots_of turn.v.start) where
         },
       ))
       (λ (z : (n : ℕ) × (name_in word ≡ n + 1)). let o = named z.1 in ⊎_elim
-      (λ cold. let sees : GlanceAgrees v.start (slot_word st.words) (λ i. r.over i x.number) (Cold s) = (inside, not_over cold calm) in (
+      (λ (cold : (IsHot word × (x.listed ≡ true) → ⊥) × (r.over s x.number ≡ false)).
+      let sees : GlanceAgrees v.start (slot_word st.words) (λ i. r.over i x.number) (Cold s) = (inside, cold.1) in (
         w turn (quiet_after Idle (inr (works, refl)) (Cold s) calm sees tt),
         keeps,
         tt,
@@ -151,22 +168,37 @@ module _ (turn : Turn) (s : ℕ) (inside : s < slots_of turn.v.start) where
         record {
           empty = λ is. absurd (let a = z.1 in omega arith);
           cold = λ n is _. rw (slot_back s) (goes_quiet Idle (inr (works, refl)) (Cold s) calm sees tt carried);
-          hot = λ n is hot. absurd (cold hot);
+          hot = λ n is hot has. absurd (cold.0 (hot, mine has));
         },
       ))
-      (λ hot. let sees : GlanceAgrees v.start (slot_word st.words) (λ i. r.over i x.number) (Hot s z.0) = (inside, o.3, inl (z.1, hot)) in (
+      (λ (hot : IsHot word × (x.listed ≡ true)).
+      let sees : GlanceAgrees v.start (slot_word st.words) (λ i. r.over i x.number) (Hot s z.0) = (inside, o.3, inl (z.1, hot.0)) in (
         w turn (quiet_after Idle (inr (works, refl)) (Hot s z.0) calm sees tt),
         keeps,
         tt,
         read_kept turn Idle (Hot s z.0) (slot_place s) (quiet Idle (inr (works, refl)) (Hot s z.0) calm sees tt),
         record {
           empty = λ is. absurd (let a = z.1 in omega arith);
-          cold = λ n is cold. absurd (cold hot);
-          hot = λ n is _. let same : z.0 ≡ n = (let a = z.1 in omega arith) in
+          cold = λ n is cold. absurd (cold (hot.0, theirs hot.1));
+          hot = λ n is _ _. let same : z.0 ≡ n = (let a = z.1 in omega arith) in
               rw (← same, slot_back s) (goes_quiet Idle (inr (works, refl)) (Hot s z.0) calm sees tt carried, o.3);
         },
-      )) hot_cases)
+      )) way)
       name_cases
+    where
+      mine : IsOnList (v, carried) → x.listed ≡ true
+      mine has = sym (ap (λ (l : List Log). (first_log l).listed) one) ∙ has
+
+      theirs : x.listed ≡ true → IsOnList (v, carried)
+      theirs has = ap (λ (l : List Log). (first_log l).listed) one ∙ has
+
+      calm_now : (t : ℕ) → v.glance ≢ Heating t
+      calm_now t e = cc (sym nothing ∙ e)
+
+      -- the pass is to take what the slot names, or to announce the node
+      way : ((IsHot word × (x.listed ≡ true) → ⊥) × (r.over s x.number ≡ false)) ⊎ (IsHot word × (x.listed ≡ true))
+      way = ⊎_elim (λ cold. inl (λ z. cold z.0, not_over cold calm_now))
+          (λ hot. ⊎_elim (λ none. inl (λ z. none z.1, not_over_yet none)) (λ has. inr (hot, has)) listed_cases) hot_cases
 
   -- a file that is there still, and hot
   module _ (n : ℕ) (works : v.work ≡ Announced n) (saw : v.glance ≡ Hot s n) where
@@ -217,7 +249,7 @@ module _ (turn : Turn) (s : ℕ) (inside : s < slots_of turn.v.start) where
                   o.0,
                   o.2,
                   record {
-                    stepped = tells turn (read_after turn (Guarded o.0 n) Nothing (h₁ o.0 o.1 o.3 o.4 so.1)) carried carried
+                    stepped = tells turn (read_after turn (Guarded o.0 n) Nothing (h₁ o.0 o.1 o.3 o.4 so.1)) refl carried carried
                         ([] ▷ Look s (Some o.0)) e.grows e.legal (part_mine r.history refl) o.3;
                     carried = refl;
                   },

@@ -148,6 +148,7 @@ module _ (turn : Turn) (q : ℕ) (its : q < nodes_of turn.v.start) (ph : Phase) 
       held = s.held;
       allowed = s.allowed;
       lists = λ p few. inl (s.lists p few);
+      over_on = λ i p l is. inl is;
       its_bit = λ l. inl l;
       its = s.its_own;
       holds = s.holds;

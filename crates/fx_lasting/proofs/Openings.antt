@@ -122,6 +122,7 @@ module _ (k : Start) (words : List ℕ) (homes : List (Option Closed)) (o : Open
     guarded = tt;
     sees = tt;
     heats = λ i l is. absurd (cc is);
+    takes_listed = λ i l is. absurd (cc is);
   }
 
   -- the numbers of new passes

@@ -1,4 +1,5 @@
 -- A pass between two calls, and what a call adds to it.
+use Rattle.fx_lasting.proofs.Words.{as_listed}
 use Rattle.fx_lasting.proofs.Words.{◌≡◌, ℕ, ◌+◌, ◌-◌, ◌≤◌, ◌<◌, ◌^◌, ◌⊎◌, List, [], sym, refl, ap, ◌∙◌, subst, arith, Bool, true, false, Option, Some, None}
 use Rattle.fx_lasting.proofs.Words.{Start, Sat, Work, Glance, Change, Nothing, Outside, Runs, Stepped, IsAtWork, IsInBlock}
 use Rattle.fx_lasting.proofs.Words.{part_of_pass, TableId, Idle, Counted, Guarded, Retiring, LastingPass, LastingTable, IsSeatOf, IsPassOf, IsPassOfTable, IsBetweenCalls}
@@ -19,8 +20,24 @@ use Rattle.fx_table.specs.declared.values.Hold.{Hold}
 use Rattle.fx_table.specs.declared.values.LookFault.{LookFault}
 use Rattle.fx_table.specs.declared.values.LookFault.TheVariants.{Spent, Empty as EmptySlot}
 use Rattle.fx_table.specs.declared.values.Retired.{Retired}
-use Rattle.fx_lasting.proofs.Running.{runs_one, runs_then, turns_then, does_then, still_at_work, number_is}
+use Rattle.fx_lasting.proofs.Running.{runs_one, runs_then, turns_then, does_then, still_at_work, number_is, at_listed}
 use Rattle.fx_lasting.proofs.Words.{dite, dec_le, lt-ltb, IsIdleSeatOf, HasNoFile, Searching, is_in, account, uncounted, ⊎_elim}
+
+-- the changes that a seat's steps make to its view
+pub adds_run : (m : Sat) {k : Start} → m.0.start ≡ k → {m' : Sat} {xs : List Action} {w : Work} {g : Glance} {c : Change} {n : ℕ} → Runs m xs w g c n m'
+    → (used : Use) → Adds (opening_of k) (pass_of m.0) xs (doing_in w) used (pass_of m'.0)
+adds_run m {k} started {m'} r used = record {
+  seen = r.seen;
+  front = record { legal = subst (λ (z : Start). IsHistory z (pass_in m').front) started r.legal; mine = refl };
+  own = ap (λ (n : ℕ). part_of_pass n (pass_in m').front) r.number ∙ r.own;
+  now = ap doing_in r.work;
+  number = r.number;
+  chain = refl;
+  drawn = refl;
+  no_chains_left = refl;
+  numbers_left = λ i. numbers_of_pass (r.start i).installing (r.number i);
+  looks_left = refl;
+}
 
 module _ {id : TableId} {k : Start} {p : LastingPass} (seated : IsSeatOf id k p) where
   started : p.seat.me.0.start ≡ k
@@ -29,18 +46,7 @@ module _ {id : TableId} {k : Start} {p : LastingPass} (seated : IsSeatOf id k p)
   -- the changes that a pass's steps make to its view
   pub adds_so : {m' : Sat} {xs : List Action} {w : Work} {g : Glance} {c : Change} {n : ℕ} → Runs p.seat.me xs w g c n m' → (used : Use)
       → Adds (opening_of k) (view_of p) xs (doing_in w) used (pass_of m'.0)
-  adds_so {m'} r used = record {
-    seen = r.seen;
-    front = record { legal = subst (λ (z : Start). IsHistory z (pass_in m').front) started r.legal; mine = refl };
-    own = ap (λ (n : ℕ). part_of_pass n (pass_in m').front) r.number ∙ r.own;
-    now = ap doing_in r.work;
-    number = r.number;
-    chain = refl;
-    drawn = refl;
-    no_chains_left = refl;
-    numbers_left = λ i. numbers_of_pass (r.start i).installing (r.number i);
-    looks_left = refl;
-  }
+  adds_so = adds_run p.seat.me started
 
   -- a pass whose seat has made some steps, and whose fields fit its work
   pub still_seat : (q : LastingPass) {xs : List Action} {w : Work} {g : Glance} {n : ℕ} → Runs p.seat.me xs w g Outside n q.seat.me
@@ -52,7 +58,7 @@ module _ {id : TableId} {k : Start} {p : LastingPass} (seated : IsSeatOf id k p)
     at = subst (λ (n : ℕ). IsAtWork k n q.seat.me) (sym same.0) (still_at_work seated.at r);
     change = r.change;
     block = block;
-    listed = λ l. r.listed (seated.listed (sym same.1 ∙ l));
+    listed = same.1 ∙ (seated.listed ∙ sym r.listed);
   }
 
   pub still_pass : (q : LastingPass) {xs : List Action} {w : Work} {n : ℕ} → Runs p.seat.me xs w Nothing Outside n q.seat.me
@@ -65,11 +71,26 @@ module _ {id : TableId} {k : Start} {p : LastingPass} (seated : IsSeatOf id k p)
     front = (adds_so r no_use).front;
   }
 
--- a pass that was listed has added nothing
-pub adds_listed : {id : TableId} {k : Start} {p : LastingPass} (seated : IsSeatOf id k p) {m' : Sat} {g : Glance} {c : Change} {n : ℕ}
-    → p.seat.me.0.work ≡ Idle → Runs p.seat.me [] p.seat.me.0.work g c n m' → Adds (opening_of k) (view_of p) [] DoesNothing no_use (pass_of m'.0)
-adds_listed {k = k} {p = p} seated {m'} is r = subst (λ (d : Doing). Adds (opening_of k) (view_of p) [] d no_use (pass_of m'.0)) (ap doing_in is)
-    (adds_so seated r no_use)
+-- a pass that was listed
+module _ {id : TableId} {k : Start} {p : LastingPass} (seated : IsSeatOf id k p) where
+  -- it has added nothing
+  pub adds_listed : {m' : Sat} {g : Glance} {c : Change} {n : ℕ} → p.seat.me.0.work ≡ Idle → Runs (as_listed p.seat.me) [] p.seat.me.0.work g c n m'
+      → Adds (opening_of k) (view_of p) [] DoesNothing no_use (pass_of m'.0)
+  adds_listed {m'} is r = subst (λ (d : Doing). Adds (opening_of k) (view_of p) [] d no_use (pass_of m'.0)) (ap doing_in is)
+      (adds_run (as_listed p.seat.me) seated.at.pass.0 r no_use)
+
+  -- its seat goes on
+  pub listed_seat : (q : LastingPass) {w : Work} {g : Glance} {n : ℕ} → Runs (as_listed p.seat.me) [] w g Outside n q.seat.me
+      → (q.number ≡ p.number) × (q.listed ≡ true) → q.seat.table_id ≡ p.seat.table_id → q.seat.me.1 ≡ [] → IsInBlock k q.number q.next_node
+      → IsSeatOf id k q
+  listed_seat q r same table places block = record {
+    table = table ∙ seated.table;
+    places = places;
+    at = subst (λ (n : ℕ). IsAtWork k n q.seat.me) (sym same.0) (still_at_work (at_listed seated.at) r);
+    change = r.change;
+    block = block;
+    listed = same.1 ∙ sym r.listed;
+  }
 
 -- a pass that has no file does nothing for its caller
 pub does_nothing : {w : Work} → HasNoFile w → DoesNothing ≡ doing_in w

@@ -1,4 +1,5 @@
 -- Some steps in a row, and the seat after them.
+use Rattle.fx_lasting.proofs.Words.{as_listed, true}
 use Rattle.fx_lasting.proofs.Words.{◌≡◌, ◌≤◌, ℕ, ◌+◌, List, [], ◌++◌, map, sym, refl, ap, ◌∙◌, subst, arith, ◌▷▷◌, Action, Event, Sat, Stepped, Goes, Runs, Change}
 use Rattle.fx_lasting.proofs.Words.{IsAtWork, Log, first_log, ◌∷◌, ◌-◌, ◌<◌, ⊎_elim, inl, dite, ℕ_discrete, eq-eqb, ne_eqb, Option, Some, None, Closed, File}
 use Rattle.fx_lasting.proofs.Words.{◌▷◌, Release, Close, Look, Idle, Owing, Yielding, Counted, Cold, TakesOut, LettingGo, Takes, glance_after}
@@ -26,7 +27,7 @@ runs_then {m} {m'} {m''} {xs} {ys} {w' = w'} {n = n} {n' = n'} a b = record {
       ∙ (sym (append_assoc (map (pass_event (pass_in m)) ys) (map (pass_event (pass_in m)) xs) (part_of_pass (pass_in m).number (pass_in m).front))
       ∙ ap (λ (l : List Event). l ++ part_of_pass (pass_in m).number (pass_in m).front) (sym (map-append (pass_event (pass_in m)) ys xs))))));
   steps = let p = a.steps in let q = b.steps in omega arith;
-  listed = λ l. b.listed (a.listed l);
+  listed = b.listed ∙ a.listed;
   work = b.work;
   inside = subst (λ (k : Start). IsInside k w') a.start b.inside;
   glance = b.glance;
@@ -60,7 +61,7 @@ module _ {k : Start} {p : ℕ} {m : Sat} (at : IsAtWork k p m) where
     legal = subst (λ (z : Start × Log). IsHistory z.0 z.1.front) (λ i. (sym at.pass.0 i, sym (ap first_log at.pass.1) i)) at.legal;
     own = refl;
     steps = omega arith;
-    listed = λ l. l;
+    listed = refl;
     work = refl;
     inside = subst (λ (z : Start). IsInside z m.0.work) (sym at.pass.0) at.inside;
     glance = refl;
@@ -86,6 +87,18 @@ module _ {k : Start} {p : ℕ} {m : Sat} (at : IsAtWork k p m) where
   -- what it works with is the table's
   pub its_inside : {w : Work} → m.0.work ≡ w → IsInside k w
   its_inside is = subst (IsInside k) is at.inside
+
+-- the seat of a pass that was listed
+pub at_listed : {k : Start} {p : ℕ} {m : Sat} → IsAtWork k p m → IsAtWork k p (as_listed m)
+at_listed {k} {m = m} at = record {
+  log = record (pass_in m) { listed = true };
+  pass = (at.pass.0, refl);
+  its_number = number_is at;
+  low = at.low;
+  high = at.high;
+  legal = subst (λ (l : Log). IsHistory k l.front) (sym (ap first_log at.pass.1)) at.legal;
+  inside = at.inside;
+}
 
 -- a pass in the same change looks on
 pub looks_then : {m m' m'' : Sat} {xs ys : List Action} {w w' : Work} {g g' : Glance} {c : Change} {n n' : ℕ} → Runs m xs w g c n m'

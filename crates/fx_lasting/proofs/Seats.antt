@@ -92,6 +92,7 @@ module _ (k : Start) (s : Shared) (r : Agrees k s) (id : ℕ) (v : View) (here :
     guarded = tt;
     sees = o.sees;
     heats = o.heats;
+    takes_listed = o.takes_listed;
   }
 
   forgotten : Agrees k record { words = s.words; homes = s.homes; views = views' }

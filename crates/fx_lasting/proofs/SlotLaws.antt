@@ -111,7 +111,7 @@ module _ (act : ℕ → Option File → Action) (does : IsRemoval act) (turn : T
     record {
       file = old;
       names = found_so turn s inside old refl;
-      stepped = rw (slot_back s) (tells turn removal carried carried ([] ▷ act s old) (grows_one x.number r.history _ refl) e.0 (part_mine r.history refl)
+      stepped = rw (slot_back s) (tells turn removal refl carried carried ([] ▷ act s old) (grows_one x.number r.history _ refl) e.0 (part_mine r.history refl)
           (knows old refl));
       carried = refl;
     },
@@ -266,7 +266,7 @@ module _ (turn : Turn) (s : ℕ) (inside : s < slots_of turn.v.start) (old : Opt
 
     pub installation_tells : (carried homes : List (ℕ × Option Closed))
         → Stepped (v, carried) ([] ▷ a) (retiring_work v.start (found turn s inside) old) v.glance c₂ (w turn installed, homes)
-    installation_tells carried homes = tells turn installed carried homes ([] ▷ a) (grows_one x.number r.history _ refl) does.legal
+    installation_tells carried homes = tells turn installed refl carried homes ([] ▷ a) (grows_one x.number r.history _ refl) does.legal
         (part_mine r.history refl) (knows old refl)
       where
         knows : (o : Option File) → old ≡ o → IsInside v.start (retiring_work v.start (found turn s inside) old)

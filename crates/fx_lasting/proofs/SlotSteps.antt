@@ -1,5 +1,5 @@
 -- A step on the word of a slot, whose file stays there.
-use Rattle.fx_lasting.proofs.Words.{inl}
+use Rattle.fx_lasting.proofs.Words.{inl, true}
 use Rattle.fx_lasting.proofs.Words.{◌≡◌, ◌≢◌, ℕ, ◌+◌, ◌<◌, ◌≤◌, List, [], set, sym, refl, ap, ◌∙◌, subst, arith, Option, Some, None, Bool, held_by, File}
 use Rattle.fx_lasting.proofs.Words.{Event, NodeAgrees, IsAllowed, SlotAgrees, Names, Agrees, slots_of, nodes_of, IsHistory, state_after_all}
 use Rattle.fx_lasting.proofs.Words.{held_in, held_of, taken_of, taking, Phase, free, placed, seated, leaving, retired, emptied, Work, Glance, ⊎_elim}
@@ -50,6 +50,7 @@ module _ (turn : Turn) (s : ℕ) (inside : s < slots_of turn.v.start) (new : ℕ
     pub takes : count_in new ≤ cold_takes v.start.passes + tally (over' s) v.start.passes
     pub over_else : (i q : ℕ) → i ≢ s → over' i q ≡ r.over i q
     pub over_other : (q : ℕ) → q ≢ x.number → over' s q ≡ r.over s q
+    pub over_own : over' s x.number ≡ true → (r.over s x.number ≡ true) ⊎ (x.listed ≡ true)
     -- the takes of the file's node, and those of others
     pub counts : (n : ℕ) (f : File) → n < nodes_of v.start → r.phase n ≡ seated s f
         → word_at st.words (word_of v.start n) + count_in new ≡ birth_word + sum_by (taken_of n) (set st.views id (w turn slot_after))
@@ -167,6 +168,11 @@ module _ (turn : Turn) (s : ℕ) (inside : s < slots_of turn.v.start) (new : ℕ
       held = p.held;
       allowed = p.allowed;
       lists = λ i few. inl (slot_list turn s inside new i few);
+      over_on = λ i q l is. dite (ℕ_discrete i s)
+          (λ same. let here : over' s q ≡ true = ap (λ (j : ℕ). over' j q) (sym same) ∙ is in dite (ℕ_discrete q x.number)
+          (λ own. ⊎_elim (λ before. inl ((λ k. r.over (same k) (own k)) ∙ before)) (λ has. inr (own, has)) (p.over_own (ap (over' s) (sym own) ∙ here)))
+          (λ other. inl (ap (λ (j : ℕ). r.over j q) same ∙ (sym (p.over_other q other) ∙ here))))
+          (λ ne. inl (sym (p.over_else i q ne) ∙ is));
       its_bit = λ l. inl l;
       its = p.its;
       holds = p.holds;

@@ -1,5 +1,5 @@
 -- A swap of a slot's word: a file leaves the slot, if there was one, and the slot gets another or none.
-use Rattle.fx_lasting.proofs.Words.{IsToVisit, new_round, inl}
+use Rattle.fx_lasting.proofs.Words.{IsToVisit, new_round, inl, true}
 use Rattle.fx_lasting.proofs.Words.{◌≡◌, ◌≢◌, ℕ, suc, ◌-◌, ◌^◌, ◌<◌, ◌≤◌, List, [], set, length, sym, refl, ap, ◌∙◌, subst, arith, Option, Some, None}
 use Rattle.fx_lasting.proofs.Words.{get_elem?, Bool, true, false, inl, inr, ⊎_elim, ◌⊎◌, dite, ℕ_discrete, dec_le, eq-eqb, ne_eqb, File, Event}
 use Rattle.fx_lasting.proofs.Words.{State, held_by, with_removed, changed_at, changed_here, changed_else, Agrees, NodeAgrees, OwnerAgrees, WorkAgrees}
@@ -290,6 +290,7 @@ module _ (turn : Turn) (s : ℕ) (inside : s < slots_of turn.v.start) where
           held = p.held ∙ (o.held ∙ (hands.0 ∙ by_retiring (λ q. None ≡ held_in q) refl (λ f is. refl)));
           allowed = by_retiring (IsAllowed v.start x.number x.listed) tt (λ f is. tt);
           lists = λ i few. inl (slot_list turn s inside new_word i few);
+          over_on = λ i q l is. ⊎_elim (λ new. let bad : false ≡ true = sym new ∙ is in absurd (cc bad)) (λ same. inl (sym same.0 ∙ is)) (slots_on q i);
           its_bit = λ l. inl l;
           its = record {
             hold = rw (slot_hold turn s inside new_word x.number (in_range turn).0)

@@ -1,4 +1,5 @@
 -- A take of what a slot names, and the heat of a slot that had its takes.
+use Rattle.fx_lasting.proofs.Words.{◌⊎◌}
 use Rattle.fx_lasting.proofs.Words.{◌≡◌, ◌≢◌, ℕ, ◌+◌, ◌%◌, ◌/◌, ◌^◌, ◌<◌, ◌≤◌, List, [], ◌∷◌, sym, refl, ap, ◌∙◌, arith, Option, Some, None, none}
 use Rattle.fx_lasting.proofs.Words.{keeps, Closed, File, Event, Look, ◌▷◌, WorkAgrees, GlanceAgrees, Heats, state_after_all, slots_of, nodes_of}
 use Rattle.fx_lasting.proofs.Words.{held_in, if_file, taken_of, taking, pass_event, seated, file_in, Work, Glance, Idle, Counted, Cold, Heating}
@@ -42,7 +43,7 @@ module _ (turn : Turn) (s : ℕ) (inside : s < slots_of turn.v.start) where
   room : count_in found + 1 < 2147483648
   room = let a = (r.each_slot s inside).takes in let b = tally_few (r.over s) v.start.passes in let c = r.shape.passes in omega (arith, few_cold v.start.passes)
 
-  module _ (works : v.work ≡ Idle) (saw : v.glance ≡ Cold s) (fits : found < 18446744073709551616) where
+  module _ (has : x.listed ≡ true) (works : v.work ≡ Idle) (saw : v.glance ≡ Cold s) (fits : found < 18446744073709551616) where
     abbrev new : ℕ
     new = (found + 1) % 2 ^ 64
 
@@ -70,6 +71,7 @@ module _ (turn : Turn) (s : ℕ) (inside : s < slots_of turn.v.start) where
       pub takes : count_in new ≤ cold_takes v.start.passes + tally (over' s) v.start.passes
       pub over_else : (i q : ℕ) → i ≢ s → over' i q ≡ r.over i q
       pub over_other : (q : ℕ) → q ≢ x.number → over' s q ≡ r.over s q
+      pub over_own : over' s x.number ≡ true → (r.over s x.number ≡ true) ⊎ (x.listed ≡ true)
       pub sees : GlanceAgrees v.start (slot_word (slot_words turn s inside new)) (λ i. over' i x.number) g
       pub heats : Heats v.start (slot_word (slot_words turn s inside new)) (λ i. over' i x.number) g
       pub is : g ≡ glance_after v.start.passes s found
@@ -84,6 +86,7 @@ module _ (turn : Turn) (s : ℕ) (inside : s < slots_of turn.v.start) where
       takes = let a = one_more in omega arith;
       over_else = λ i q other. refl;
       over_other = λ q other. refl;
+      over_own = λ is. inl is;
       sees = tt;
       heats = λ i l is. dite (ℕ_discrete i s)
           (λ same. let bad : false ≡ true = sym not_over ∙ (ap (λ (j : ℕ). r.over j x.number) (sym same) ∙ is) in cc bad)
@@ -108,6 +111,7 @@ module _ (turn : Turn) (s : ℕ) (inside : s < slots_of turn.v.start) where
           let d = ap one_if not_over in let e = ap one_if (over_here x.number ∙ changed_here (r.over s) x.number true x.number refl) in omega arith;
       over_else = over_there;
       over_other = λ q other. over_here q ∙ changed_else (r.over s) x.number true q other;
+      over_own = λ is. inr has;
       sees = inside;
       heats = λ i l is. dite (ℕ_discrete i s) (λ same. inr (ap Heating (sym same)))
           (λ other. inl (heat_else i other l (sym (over_there i x.number other) ∙ is)));
@@ -136,6 +140,7 @@ module _ (turn : Turn) (s : ℕ) (inside : s < slots_of turn.v.start) where
         takes = so.takes;
         over_else = so.over_else;
         over_other = so.over_other;
+        over_own = so.over_own;
         counts = λ n f l at. let e = (in_phase turn l at).there in let bad : None ≡ Some f = sym is ∙ e in absurd (cc bad);
         taken = λ n l else. sym (ap (taking n) works);
         owners = inl (sym works);
@@ -176,6 +181,7 @@ module _ (turn : Turn) (s : ℕ) (inside : s < slots_of turn.v.start) where
           takes = so.takes;
           over_else = so.over_else;
           over_other = so.over_other;
+          over_own = so.over_own;
           counts = λ m h l' at'. let same = one_seat m h l' at' in let c = (in_phase turn l' at').counts in let a = one_more in
               let t = sum_set (taken_of m) st.views id v (w turn after₁) here in let b = ap (taking m) works in
               let e : taking m (Counted f n) ≡ 1 = bit_here m n (sym same) in omega arith;
@@ -204,7 +210,7 @@ module _ (turn : Turn) (s : ℕ) (inside : s < slots_of turn.v.start) where
             slot_kept turn s inside new h₀ Idle g over' e,
             record {
               empty = λ i saw' _. let same : s ≡ i = cc (sym saw ∙ saw') in rw (← same, ← so.is) record {
-                stepped = tells turn after₀ carried carried ([] ▷ Look s None) e.grows e.legal (part_mine r.history refl) tt;
+                stepped = tells turn after₀ refl carried carried ([] ▷ Look s None) e.grows e.legal (part_mine r.history refl) tt;
                 carried = refl;
               };
               holds = λ i n saw' is. absurd (omega arith);
@@ -222,7 +228,7 @@ module _ (turn : Turn) (s : ℕ) (inside : s < slots_of turn.v.start) where
                     o.0,
                     o.2,
                     record {
-                      stepped = tells turn (after₁ z.0 o.0 o.1 o.3 o.4) carried carried ([] ▷ Look s (Some o.0)) e.grows e.legal
+                      stepped = tells turn (after₁ z.0 o.0 o.1 o.3 o.4) refl carried carried ([] ▷ Look s (Some o.0)) e.grows e.legal
                           (part_mine r.history refl) o.3;
                       carried = refl;
                     },
@@ -260,6 +266,7 @@ module _ (turn : Turn) (s : ℕ) (inside : s < slots_of turn.v.start) where
           takes = let a = (r.each_slot s inside).takes in let b = z.3 in omega arith;
           over_else = λ i q other. refl;
           over_other = λ q other. refl;
+          over_own = λ is. inl is;
           counts = λ n f l at. let c = (in_phase turn l at).counts in let a = z.3 in
               let t = sum_set (taken_of n) st.views id v (w turn hot_after) here in omega arith;
           taken = λ n l else. refl;
@@ -302,17 +309,17 @@ module _ (turn : Turn) (s : ℕ) (inside : s < slots_of turn.v.start) where
       slot_kept turn s inside hot_word r.history v.work Nothing r.over heats_it,
       record {
         goes = record {
-          stepped = tells turn hot_after carried carried [] (grows_none x.number r.history) r.legal refl knows_its;
+          stepped = tells turn hot_after refl carried carried [] (grows_none x.number r.history) r.legal refl knows_its;
           carried = refl;
         };
       },
     )
 
 pub takes_once_keep : TakesOnceKeep Takes
-takes_once_keep k slots id i s m x has works saw place = by_turn slots (λ _. Unit {0}) (λ _. slot_place s) (λ word. (word + 1) % 2 ^ 64)
+takes_once_keep k slots id i s m x has listed works saw place = by_turn slots (λ _. Unit {0}) (λ _. slot_place s) (λ word. (word + 1) % 2 ^ 64)
     (λ i. Takes (step slots i 1 0 none) m) has tt place
     (λ st r here _ fits. let turn = turn_of m x has.1 id st r here in let o = rw saw at (its_log turn).sees in
-    takes_once turn s o.0 works saw fits slots m.1)
+    takes_once turn s o.0 listed works saw fits slots m.1)
 
 pub heats_keep : HeatsKeep HeatTells
 heats_keep k slots id i s m x has saw place = by_turn slots (λ _. Unit {0}) (λ _. slot_place s) (λ word. bit_or word hot_bit)

@@ -92,7 +92,7 @@ module _ (turn : Turn) (f : File) (n t : ℕ) (nx : Round) (m : ℕ) (works : tu
         }
 
     pub goes : (carried : List (ℕ × Option Closed)) → Goes (v, carried) [] (Retiring f n t nx' m') v.glance (w turn seen_after, carried)
-    goes carried = record { stepped = tells turn seen_after carried carried [] (grows_none x.number r.history) r.legal refl its.0; carried = refl }
+    goes carried = record { stepped = tells turn seen_after refl carried carried [] (grows_none x.number r.history) r.legal refl its.0; carried = refl }
 
   -- a hold word that names nothing new
   module _ (pass : ℕ) (low : nx.next ≤ pass) (high : pass ≤ v.start.passes) (other : pass ≢ x.number)

@@ -26,10 +26,10 @@ pub use Rattle.fx_lasting.specs.Passes.{state_after_all, IsHistory, new_log, fir
 pub use Rattle.fx_lasting.specs.Phases.{Phase, owner, file_in, file_if_numbered, removed_in, free, placed, seated, leaving, retired, emptied}
 pub use Rattle.fx_lasting.specs.Runs.{Runs}
 pub use Rattle.fx_lasting.specs.Tables.{hold_at, retired_at, doing_in, numbers_of_pass, pass_of, opening_of, view_of, steps_taken, IsBetweenCalls, IsSeatOf, IsPassOf}
-pub use Rattle.fx_lasting.specs.Tables.{opening_of_table, IsPassOfTable, IsSeatOfTable, listing_step}
+pub use Rattle.fx_lasting.specs.Tables.{opening_of_table, IsPassOfTable, IsSeatOfTable}
 pub use Rattle.fx_lasting.specs.declared.pass.LastingPass.{LastingPass}
 pub use Rattle.fx_lasting.specs.declared.table.LastingTable.{LastingTable}
-pub use Rattle.fx_lasting.specs.Tells.{LetsGo, At, rested, Lists, Skims, IsOnList, round_at, round_from, new_round}
+pub use Rattle.fx_lasting.specs.Tells.{LetsGo, At, rested, Lists, Skims, IsOnList, as_listed, round_at, round_from, new_round}
 pub use Rattle.fx_lasting.specs.Visits.{Visited, HasVisited, HasMarked, round_to}
 pub use Rattle.fx_lasting.specs.Searches.{next_of}
 pub use Rattle.fx_lasting.specs.Tells.{Announces, Shows, Confirms, Withdraws, glance_after, Takes, HeatTells, StepsDown, TakesOut, slot_of, pass_at}

@@ -219,6 +219,8 @@ pub record LogAgrees (k : Start) (h : List Event) (words : List ℕ) (phase : �
       (debt x.number) work
   pub sees : GlanceAgrees k (λ s. slice_index words (slot_place s)) (λ s. over s x.number) glance
   pub heats : Heats k (λ s. slice_index words (slot_place s)) (λ s. over s x.number) glance
+  -- who took is listed
+  pub takes_listed : (slot : ℕ) → slot < slots_of k → over slot x.number ≡ true → x.listed ≡ true
 
 -- one seat, and its view
 pub record ViewAgrees (k : Start) (h : List Event) (words : List ℕ) (phase : ℕ → Phase)

@@ -77,10 +77,10 @@ WithdrawsKeep tells = (k : Start) (slots id i node : ℕ) (m : Sat) (x : Log) �
     → m.0.work ≡ Announced node → i ≡ hold_word_of k x.number
     → Allows (Agrees k) slots id m i (λ _. 0) (tells (step slots i 0 0 none) m)
 
--- a pass adds a take to the word of a slot
+-- a listed pass adds a take to the word of a slot
 abbrev pub TakesOnceKeep : Kind → Type 0
 TakesOnceKeep tells = (k : Start) (slots id i slot : ℕ) (m : Sat) (x : Log) → HasPass k m x
-    → m.0.work ≡ Idle → m.0.glance ≡ Cold slot → i ≡ slot_place slot
+    → x.listed ≡ true → m.0.work ≡ Idle → m.0.glance ≡ Cold slot → i ≡ slot_place slot
     → Allows (Agrees k) slots id m i (λ word. (word + 1) % 2 ^ 64) (tells (step slots i 1 0 none) m)
 
 -- a pass makes a slot hot that had its takes

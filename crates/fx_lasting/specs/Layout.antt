@@ -3,7 +3,7 @@ use Rattle.std.specs.Prelude.{◌≡◌, ◌≢◌, ℕ, ◌+◌, ◌-◌, ◌*�
 use Rattle.fx_lasting.specs.Parts.{bit_of}
 
 -- The control word, each slot and each pass have a cache line of their own. The list of passes
--- that ever announced a node has a bit for each of 1,024 passes, 64 in a word.
+-- that ever looked a file up has a bit for each of 1,024 passes, 64 in a word.
 
 -- the control word
 abbrev pub control_place : ℕ

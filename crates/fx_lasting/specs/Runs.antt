@@ -3,7 +3,7 @@ use Rattle.std.specs.Prelude.{◌≡◌, ℕ, ◌+◌, ◌≤◌, List, [], ◌�
 use Rattle.fx_plain.specs.History.{IsSeenBy, part_of_pass}
 use Rattle.fx_plain.specs.declared.event.Action.{Action}
 use Rattle.fx_lasting.specs.Passes.{Sat, IsHistory}
-use Rattle.fx_lasting.specs.Tells.{IsInside, pass_event, pass_in, IsOnList}
+use Rattle.fx_lasting.specs.Tells.{IsInside, pass_event, pass_in}
 use Rattle.fx_lasting.specs.declared.view.Change.{Change}
 use Rattle.fx_lasting.specs.declared.view.Glance.{Glance}
 use Rattle.fx_lasting.specs.declared.view.Log.{Log}
@@ -20,7 +20,7 @@ pub record Runs (m : Sat) (actions : List Action) (w : Work) (g : Glance) (c : C
   pub own : part_of_pass (pass_in m).number (pass_in m').front
       ≡ map (pass_event (pass_in m)) actions ++ part_of_pass (pass_in m).number (pass_in m).front
   pub steps : (pass_in m').steps ≤ (pass_in m).steps + most
-  pub listed : IsOnList m → IsOnList m'
+  pub listed : (pass_in m').listed ≡ (pass_in m).listed
   pub work : m'.0.work ≡ w
   pub inside : IsInside m.0.start w
   pub glance : m'.0.glance ≡ g

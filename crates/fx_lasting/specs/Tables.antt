@@ -14,7 +14,7 @@ use Rattle.fx_table.specs.declared.values.Hold.{Hold}
 use Rattle.fx_table.specs.declared.values.Retired.{Retired}
 use Rattle.fx_lasting.specs.AtWork.{IsAtWork}
 use Rattle.fx_lasting.specs.Passes.{first_log, IsInBlock}
-use Rattle.fx_lasting.specs.Tells.{IsOnList, new_round}
+use Rattle.fx_lasting.specs.Tells.{pass_in, new_round}
 use Rattle.fx_lasting.specs.declared.view.Change.TheVariants.{Outside}
 use Rattle.fx_lasting.specs.declared.view.Glance.TheVariants.{None as Nothing}
 use Rattle.fx_lasting.specs.declared.view.Start.{Start}
@@ -76,10 +76,6 @@ view_of p = pass_of p.seat.me.0
 abbrev pub steps_taken : LastingPass → ℕ
 steps_taken p = (first_log p.seat.me.0.logs).steps
 
--- 1 for a pass that isn't listed yet, and else 0
-abbrev pub listing_step : LastingPass → ℕ
-listing_step p = if p.listed then 0 else 1
-
 -- between two calls a pass is idle, has chosen the node of its next file, holds a file by a take or
 -- by its hold word, or has one to retire and has visited no hold word yet; its fields say which
 abbrev pub IsBetweenCalls : ℕ → Bool → Bool → ℕ → ℕ → Work → Type 0
@@ -100,7 +96,7 @@ pub record IsSeatOf (id : TableId) (k : Start) (p : LastingPass) : Type 0 where
   pub at : IsAtWork k p.number p.seat.me
   pub change : p.seat.me.0.change ≡ Outside
   pub block : IsInBlock k p.number p.next_node
-  pub listed : p.listed ≡ true → IsOnList p.seat.me
+  pub listed : p.listed ≡ (pass_in p.seat.me).listed
 
 -- a pass of a table with this start
 pub record IsPassOf (id : TableId) (k : Start) (p : LastingPass) : Type 0 where

@@ -69,6 +69,10 @@ IsInside k (Emptying node) = node < nodes_of k
 abbrev pub IsOnList : Sat → Type 0
 IsOnList m = (pass_in m).listed ≡ true
 
+-- a seat whose pass is listed
+abbrev pub as_listed : Sat → Sat
+as_listed m = (record m.0 { logs = record (pass_in m) { listed = true } ∷ [] }, m.1)
+
 -- One step of a seat with one pass: it saw more of the history and took these actions, and now it
 -- does this work
 pub record Stepped (m : Sat) (actions : List Action) (w : Work) (g : Glance) (c : Change)
@@ -80,7 +84,7 @@ pub record Stepped (m : Sat) (actions : List Action) (w : Work) (g : Glance) (c 
   pub own : part_of_pass (pass_in m).number (pass_in m').front
       ≡ map (pass_event (pass_in m)) actions ++ part_of_pass (pass_in m).number (pass_in m).front
   pub steps : (pass_in m').steps ≡ (pass_in m).steps + 1
-  pub listed : IsOnList m → IsOnList m'
+  pub listed : (pass_in m').listed ≡ (pass_in m).listed
   pub work : m'.0.work ≡ w
   pub inside : IsInside m.0.start w
   pub glance : m'.0.glance ≡ g
@@ -92,19 +96,18 @@ pub record Goes (m : Sat) (actions : List Action) (w : Work) (g : Glance) (m' : 
   pub stepped : Stepped m actions w g m.0.change m'
   pub carried : m'.1 ≡ m.1
 
--- Glance: an empty slot is looked up at once. A cold one is to be taken, and of a hot one the node
--- is to be announced
+-- Glance: an empty slot is looked up at once. Of a hot one a listed pass is to announce the node;
+-- what another one names is to be taken
 pub record Glances (st : At) (m : Sat) (found : ℕ) (m' : Sat) : Type 0 where
   pub empty : name_in found ≡ 0 → Goes m ([] ▷ Look (slot_of st.word) None) Idle Nothing m'
-  pub cold : (node : ℕ) → name_in found ≡ node + 1 → (IsHot found → ⊥)
+  pub cold : (node : ℕ) → name_in found ≡ node + 1 → (IsHot found × IsOnList m → ⊥)
       → Goes m [] Idle (Cold (slot_of st.word)) m'
-  pub hot : (node : ℕ) → name_in found ≡ node + 1 → IsHot found
+  pub hot : (node : ℕ) → name_in found ≡ node + 1 → IsHot found → IsOnList m
       → Goes m [] Idle (Hot (slot_of st.word) node) m' × (node < nodes_of m.0.start)
 
 -- List: the list has the pass's bit
 pub record Lists (st : At) (m : Sat) (found : ℕ) (m' : Sat) : Type 0 where
-  pub goes : Goes m [] m.0.work m.0.glance m'
-  pub listed : IsOnList m'
+  pub goes : Goes (as_listed m) [] m.0.work m.0.glance m'
 
 -- Announce: the hold word names the node
 pub record Announces (st : At) (m : Sat) (found : ℕ) (m' : Sat) : Type 0 where

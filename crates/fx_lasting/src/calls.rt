@@ -1,5 +1,6 @@
 //! The calls of a pass that never wait, allocate or retry: each makes at most as many atomic steps as its clause says.
-//! They are inlined into their caller, except for a withdrawal, for the visits of a retirement and for taking a file out.
+//! They are inlined into their caller, except for a pass's first look-up, for a withdrawal, for the visits of a retirement and
+//! for taking a file out.
 //! These hints change no proof.
 ghost use Rattle.std.specs.Prelude.{◌≡◌, ◌≢◌, ◌+◌, ◌*◌, ◌-◌, ◌/◌, ◌<◌, ◌≤◌, Option, option_map, Err};
 ghost use Rattle.fx_plain.specs.declared.event.File.{File};
@@ -11,14 +12,14 @@ ghost use Rattle.fx_words.specs.Words.{name_in};
 ghost use Rattle.fx_lasting.specs.Choices.{UsesChoice};
 ghost use Rattle.fx_lasting.specs.Layout.{block_for};
 ghost use Rattle.fx_lasting.specs.Parts.{count_in};
-ghost use Rattle.fx_lasting.specs.Tables.{view_of, steps_taken, listing_step, retired_at, opening_of_table, IsPassOfTable, IsSeatOfTable};
-ghost use Rattle.fx_lasting.specs.Tells.{Found, first_visit};
+ghost use Rattle.fx_lasting.specs.Tables.{view_of, steps_taken, retired_at, opening_of_table, IsPassOfTable, IsSeatOfTable};
+ghost use Rattle.fx_lasting.specs.Tells.{Found, first_visit, IsOnList};
 ghost use Rattle.fx_lasting.specs.declared.view.Glance.TheVariants.{Hot, Cold};
 ghost use Rattle.fx_lasting.specs.declared.view.Work.TheVariants.{Idle};
 
-use crate::kinds::{Clearing, Glancing, Installing, Retire, TakingOut};
-use crate::layout::{node_place, slot_place};
-use crate::parts::{count_of, is_hot, retire_amount};
+use crate::kinds::{Clearing, Glancing, Installing, Listing, Retire, TakingOut};
+use crate::layout::{list_place, node_place, slot_place};
+use crate::parts::{count_of, is_hot, list_bit, retire_amount};
 use crate::pass::LastingPass;
 use crate::table::LastingTable;
 use fx_base::OpenFile;
@@ -26,8 +27,8 @@ use fx_table::{Empty, Hold, LookFault, LookUp, Retired};
 use fx_words::{entry_of, node_of, slot_word};
 
 impl LastingTable {
-    /// Looks up a slot below `size`, for an idle pass (`is_idle`), in at most eight atomic steps, and once in the pass's life in
-    /// nine. The file there has one more hold until the pass releases it (io_uring_enter(2), "IOSQE_FIXED_FILE"). The file that the look-up first saw
+    /// Looks up a slot below `size`, for an idle pass (`is_idle`), in at most eight atomic steps. The file there has one
+    /// more hold until the pass releases it (io_uring_enter(2), "IOSQE_FIXED_FILE"). The file that the look-up first saw
     /// may be removed before it is held. The look-up then looks again, and returns the removed file as `freed`, to be
     /// closed, if it was its last user.
     ///
@@ -42,7 +43,7 @@ impl LastingTable {
         ensures looked { LookedUp (opening_of_table self.now) (view_of pass.old) slot result.found
             result.freed (view_of pass.new) }
         ensures never_spent { result.found ≢ Err Spent }
-        ensures steps { steps_taken pass.new ≤ steps_taken pass.old + (8 + listing_step pass.old) }
+        ensures steps { steps_taken pass.new ≤ steps_taken pass.old + 8 }
     {
         let shared = &self.table.shared;
         let word = shared.load::<Glancing>(&mut pass.seat, slot_place(slot));
@@ -52,6 +53,9 @@ impl LastingTable {
                 freed: None,
             };
         };
+        if !pass.listed {
+            return self.look_first(pass, slot);
+        }
         if is_hot(word) {
             return self.look_hot(pass, slot, node);
         }
@@ -59,20 +63,41 @@ impl LastingTable {
         LookUp { found, freed: None }
     }
 
-    // Looks up a slot that named the node and was hot, in at most seven steps, and one more that lists the pass.
+    // Looks up a slot for a pass that isn't listed: lists the pass and takes what the slot names, in at most three steps.
+    #[inline(never)]
+    fn look_first(&self, pass: &mut LastingPass, slot: u32) -> LookUp
+        requires seated { IsSeatOfTable self.now pass.old }
+        requires idle { pass.old.seat.me.0.work ≡ Idle }
+        requires cold { pass.old.seat.me.0.glance ≡ Cold slot }
+        requires slot { slot < self.now.size }
+        ensures fits { IsPassOfTable self.now pass.new }
+        ensures looked { LookedUp (opening_of_table self.now) (view_of pass.old) slot result.found
+            result.freed (view_of pass.new) }
+        ensures never_spent { result.found ≢ Err Spent }
+        ensures steps { steps_taken pass.new ≤ steps_taken pass.old + 3 }
+    {
+        let shared = &self.table.shared;
+        let place = list_place(pass.number);
+        shared.fetch_or::<Listing>(&mut pass.seat, place, list_bit(pass.number));
+        pass.listed = true;
+        let found = self.look_cold(pass, slot);
+        LookUp { found, freed: None }
+    }
+
+    // Looks up a slot that named the node and was hot, for a listed pass, in at most seven steps.
     #[inline(always)]
     fn look_hot(&self, pass: &mut LastingPass, slot: u32, node: u32) -> LookUp
         requires seated { IsSeatOfTable self.now pass.old }
         requires idle { pass.old.seat.me.0.work ≡ Idle }
+        requires listed { IsOnList pass.old.seat.me }
         requires hot { pass.old.seat.me.0.glance ≡ Hot slot node }
         requires slot { slot < self.now.size }
         ensures fits { IsPassOfTable self.now pass.new }
         ensures looked { LookedUp (opening_of_table self.now) (view_of pass.old) slot result.found
             result.freed (view_of pass.new) }
         ensures never_spent { result.found ≢ Err Spent }
-        ensures steps { steps_taken pass.new ≤ steps_taken pass.old + (7 + listing_step pass.old) }
+        ensures steps { steps_taken pass.new ≤ steps_taken pass.old + 7 }
     {
-        self.list(pass);
         match self.guard(&mut pass.seat, pass.number, slot, node) {
             Some(entry) => {
                 pass.idle = false;
@@ -90,11 +115,12 @@ impl LastingTable {
         }
     }
 
-    // Takes what the slot names, in at most two steps.
+    // Takes what the slot names, for a listed pass, in at most two steps.
     #[inline(always)]
     fn look_cold(&self, pass: &mut LastingPass, slot: u32) -> Result<Hold, LookFault>
         requires seated { IsSeatOfTable self.now pass.old }
         requires idle { pass.old.seat.me.0.work ≡ Idle }
+        requires listed { IsOnList pass.old.seat.me }
         requires cold { pass.old.seat.me.0.glance ≡ Cold slot }
         requires slot { slot < self.now.size }
         ensures fits { IsPassOfTable self.now pass.new }

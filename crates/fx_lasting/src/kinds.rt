@@ -46,7 +46,7 @@ impl Play<Option<OpenFile>, View> for Glancing {
     ghost then = { Glances };
 }
 
-/// List: the list of passes that ever announced a node has the pass's bit.
+/// List: the list of passes that ever looked a file up has the pass's bit.
 pub struct Listing;
 
 impl Play<Option<OpenFile>, View> for Listing {

@@ -55,7 +55,7 @@ pub fn withdraw_keeps_rule()
     ensures { WithdrawsKeep ⟦<Withdrawing as Play<Option<OpenFile>, View>>⟧.then }
 {}
 
-/// A pass that adds 1 to a slot's word keeps the rule, and holds the file that the word names.
+/// A listed pass that adds 1 to a slot's word keeps the rule, and holds the file that the word names.
 pub fn take_keeps_rule()
     ensures { TakesOnceKeep ⟦<Taking as Play<Option<OpenFile>, View>>⟧.then }
 {}

@@ -1,18 +1,15 @@
-//! The steps of a look-up: a cold file is counted at its slot, a hot one is announced in the pass's hold word, once the pass is
-//! listed.
+//! The steps of a look-up: a cold file is counted at its slot, a hot one is announced in the pass's hold word.
 ghost use Rattle.std.specs.Prelude.{◌≡◌, ℕ, ◌<◌, []};
 ghost use Rattle.fx_lasting.specs.AtWork.{IsAtWork};
 ghost use Rattle.fx_lasting.specs.Ends.{Guards, LooksByTake};
 ghost use Rattle.fx_lasting.specs.Runs.{Runs};
-ghost use Rattle.fx_lasting.specs.Tables.{IsSeatOfTable, listing_step};
 ghost use Rattle.fx_lasting.specs.Tells.{glance_after, IsOnList};
 ghost use Rattle.fx_lasting.specs.declared.view.Glance.TheVariants.{None as Nothing, Hot, Cold};
 ghost use Rattle.fx_lasting.specs.declared.view.Work.TheVariants.{Idle};
 
-use crate::kinds::{Announcing, Confirming, HeatingUp, Listing, Taking};
-use crate::layout::{hold_place, list_place, slot_place};
-use crate::parts::{HOT, announced, cold_takes, count_of, is_hot_at, list_bit};
-use crate::pass::LastingPass;
+use crate::kinds::{Announcing, Confirming, HeatingUp, Taking};
+use crate::layout::{hold_place, slot_place};
+use crate::parts::{HOT, announced, cold_takes, count_of, is_hot_at};
 use crate::table::LastingTable;
 use crate::view::View;
 use atomic_table::Seat;
@@ -21,25 +18,6 @@ use fx_table::{Hold, LookFault};
 use fx_words::{entry_of, node_of};
 
 impl LastingTable {
-    // Lists the pass, in one step, unless it is listed.
-    #[inline(always)]
-    pub(crate) fn list(&self, pass: &mut LastingPass)
-        requires seated { IsSeatOfTable self.now pass.old }
-        ensures seated { IsSeatOfTable self.now pass.new }
-        ensures listed { IsOnList pass.new.seat.me }
-        ensures table { pass.new.seat.table_id ≡ pass.old.seat.table_id }
-        ensures number { pass.new.number ≡ pass.old.number }
-        ensures runs { Runs pass.old.seat.me [] pass.old.seat.me.0.work pass.old.seat.me.0.glance
-            pass.old.seat.me.0.change (listing_step pass.old) pass.new.seat.me }
-    {
-        if !pass.listed {
-            let shared = &self.table.shared;
-            let place = list_place(pass.number);
-            shared.fetch_or::<Listing>(&mut pass.seat, place, list_bit(pass.number));
-            pass.listed = true;
-        }
-    }
-
     // Announces the node of a hot slot and looks at the slot again, in two steps. Returns the file's entry if the slot
     // still has the file; the pass holds it then. Otherwise the announcement is to be withdrawn.
     #[inline(always)]
@@ -81,6 +59,7 @@ impl LastingTable {
     ) -> Result<Hold, LookFault>
         requires table { seat.old.table_id ≡ self.now.table.shared.table_id }
         requires at { (number : ℕ) × IsAtWork self.now.table.shared.key number seat.old.me }
+        requires listed { IsOnList seat.old.me }
         requires idle { seat.old.me.0.work ≡ Idle }
         requires cold { seat.old.me.0.glance ≡ Cold slot }
         requires slot { slot < self.now.size }

@@ -1,3 +1,4 @@
+use Rattle.fx_lasting.proofs.Words.{IsOnList, TableId, Start, LastingPass, IsPassOf}
 use Rattle.fx_lasting.proofs.Words.{◌≡◌, ℕ, ◌<◌, refl, ap, ◌∙◌, subst, arith, sym, true, false, IsHot, Look, ◌▷◌, [], None, Hot, Cold, slot_of, opening_of, view_of, pass_of}
 use Rattle.fx_table.specs.Calls.{Adds, no_use, one_look}
 use Rattle.fx_table.specs.declared.values.Doing.TheVariants.{Idle as DoesNothing}
@@ -36,15 +37,49 @@ returns-in_default c =
       steps = let few = run.steps in omega arith;
     }
 
-pub look_hot-requires : goal.look_hot-requires
-look_hot-requires c =
+-- a pass whose field says so is listed
+listed_so : {id : TableId} {k : Start} {p : LastingPass} → IsPassOf id k p → p.listed ≡ true → IsOnList p.seat.me
+listed_so fits is = sym fits.seated.listed ∙ is
+
+pub look_first-requires : goal.look_first-requires
+look_first-requires c =
     let s = c.requires.fits.seated in
-    let goes = (c.load-word.ensures.2.hot c.in-Some.node (its_name c.load-word.result c.in-Some.node c.in-Some.ensures)
-    (c.is_hot.ensures.0 c.if-is_hot.true)).0 in
+    let cold : IsHot c.load-word.result × IsOnList c.args.pass.now.seat.me → ⊥ = λ h. let bad : true ≡ false = sym h.1 ∙ (sym s.listed ∙ c.if-not-pass.true) in cc bad in
+    let goes = c.load-word.ensures.2.cold c.in-Some.node (its_name c.load-word.result c.in-Some.node c.in-Some.ensures) cold in
     let here : slot_of c.slot_place.result ≡ c.args.slot = ap slot_of c.slot_place.ensures ∙ slot_back c.args.slot in
     record {
       seated = still_seat s _ (at_ease s (runs_goes goes)) (refl, refl) c.load-word.ensures.0 (goes.carried ∙ s.places) s.block;
       idle = goes.stepped.work;
+      cold = goes.stepped.glance ∙ ap (λ (z : ℕ). Cold z) here;
+      slot = omega (arith, c.requires.slot, c.args.self.now.same_size);
+    }
+
+pub returns-then-not-pass : goal.returns-then-not-pass
+returns-then-not-pass c =
+    let k = c.args.self.now.table.shared.key in
+    let s = c.requires.fits.seated in
+    let cold : IsHot c.load-word.result × IsOnList c.args.pass.now.seat.me → ⊥ = λ h. let bad : true ≡ false = sym h.1 ∙ (sym s.listed ∙ c.if-not-pass.true) in cc bad in
+    let goes = c.load-word.ensures.2.cold c.in-Some.node (its_name c.load-word.result c.in-Some.node c.in-Some.ensures) cold in
+    let run = runs_goes goes in
+    let first = c.look_first.ensures in
+    record {
+      fits = first.fits;
+      looked = up_then k (view_of c.args.pass.now) (pass_of c.load-word.new.seat.me.0) (view_of c.look_first.new.pass) c.args.slot c.look_first.result.found
+          c.look_first.result.freed first.never_spent (adds_so s run no_use) first.looked;
+      never_spent = first.never_spent;
+      steps = let a = run.steps in let b = first.steps in omega arith;
+    }
+
+pub look_hot-requires : goal.look_hot-requires
+look_hot-requires c =
+    let s = c.requires.fits.seated in
+    let goes = (c.load-word.ensures.2.hot c.in-Some.node (its_name c.load-word.result c.in-Some.node c.in-Some.ensures)
+    (c.is_hot.ensures.0 c.if-is_hot.true) (listed_so c.requires.fits c.if-not-pass.false)).0 in
+    let here : slot_of c.slot_place.result ≡ c.args.slot = ap slot_of c.slot_place.ensures ∙ slot_back c.args.slot in
+    record {
+      seated = still_seat s _ (at_ease s (runs_goes goes)) (refl, refl) c.load-word.ensures.0 (goes.carried ∙ s.places) s.block;
+      idle = goes.stepped.work;
+      listed = goes.stepped.listed ∙ listed_so c.requires.fits c.if-not-pass.false;
       hot = goes.stepped.glance ∙ ap (λ (z : ℕ). Hot z c.in-Some.node) here;
       slot = omega (arith, c.requires.slot, c.args.self.now.same_size);
     }
@@ -54,7 +89,7 @@ returns-then-is_hot c =
     let k = c.args.self.now.table.shared.key in
     let s = c.requires.fits.seated in
     let goes = (c.load-word.ensures.2.hot c.in-Some.node (its_name c.load-word.result c.in-Some.node c.in-Some.ensures)
-    (c.is_hot.ensures.0 c.if-is_hot.true)).0 in
+    (c.is_hot.ensures.0 c.if-is_hot.true) (listed_so c.requires.fits c.if-not-pass.false)).0 in
     let run = runs_goes goes in
     let hot = c.look_hot.ensures in
     record {
@@ -68,12 +103,13 @@ returns-then-is_hot c =
 pub look_cold-found-requires : goal.look_cold-found-requires
 look_cold-found-requires c =
     let s = c.requires.fits.seated in
-    let cold : IsHot c.load-word.result → ⊥ = λ h. let bad : true ≡ false = sym (c.is_hot.ensures.1 h) ∙ c.if-is_hot.false in cc bad in
+    let cold : IsHot c.load-word.result × IsOnList c.args.pass.now.seat.me → ⊥ = λ h. let bad : true ≡ false = sym (c.is_hot.ensures.1 h.0) ∙ c.if-is_hot.false in cc bad in
     let goes = c.load-word.ensures.2.cold c.in-Some.node (its_name c.load-word.result c.in-Some.node c.in-Some.ensures) cold in
     let here : slot_of c.slot_place.result ≡ c.args.slot = ap slot_of c.slot_place.ensures ∙ slot_back c.args.slot in
     record {
       seated = still_seat s _ (at_ease s (runs_goes goes)) (refl, refl) c.load-word.ensures.0 (goes.carried ∙ s.places) s.block;
       idle = goes.stepped.work;
+      listed = goes.stepped.listed ∙ listed_so c.requires.fits c.if-not-pass.false;
       cold = goes.stepped.glance ∙ ap (λ (z : ℕ). Cold z) here;
       slot = omega (arith, c.requires.slot, c.args.self.now.same_size);
     }
@@ -82,7 +118,7 @@ pub returns : goal.returns
 returns c =
     let k = c.args.self.now.table.shared.key in
     let s = c.requires.fits.seated in
-    let cold : IsHot c.load-word.result → ⊥ = λ h. let bad : true ≡ false = sym (c.is_hot.ensures.1 h) ∙ c.if-is_hot.false in cc bad in
+    let cold : IsHot c.load-word.result × IsOnList c.args.pass.now.seat.me → ⊥ = λ h. let bad : true ≡ false = sym (c.is_hot.ensures.1 h.0) ∙ c.if-is_hot.false in cc bad in
     let goes = c.load-word.ensures.2.cold c.in-Some.node (its_name c.load-word.result c.in-Some.node c.in-Some.ensures) cold in
     let run = runs_goes goes in
     let took = c.look_cold-found.ensures in
