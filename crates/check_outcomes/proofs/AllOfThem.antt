@@ -3,7 +3,7 @@ use Rattle.fx_order.proofs.Words.{◌≡◌, refl, ℕ, ◌+◌, ◌-◌, ◌<�
 use Rattle.fx_order.proofs.Words.{IsTrue, Completed, length-map, Asked, runs_of, first_member, table_of_slots, All-contains}
 use Rattle.fx_order.proofs.Words.{AllByRecursion, true, false, false≢true, Chain, members_of, ⊎_elim}
 use Rattle.check_outcomes.proofs.Words.{Slots, contains_map, Rest, settled_at, Parts, StaysIn, AreAtStart, AreAllBy, IsAtStartBy}
-use Rattle.check_outcomes.proofs.Words.{IsStateExploredBy, said_by, states_of, told_by, told_states, AreToldAtStart, AreToldClosed, is_state_idle, parts_by_numbers}
+use Rattle.check_outcomes.proofs.Words.{IsStateExploredBy, said_by, states_of, told_by, told_states, settled_in, AreToldClosed, is_state_idle, parts_by_numbers}
 use Rattle.check_outcomes.proofs.Words.{rules_in, runs_in, view_in, Claimed, PlayState, has_none, is_idle_at, PlayedSubmission, cases_Bool, AreParts, AreClosed}
 use Rattle.check_outcomes.proofs.Words.{ArePartsIn, HasReadsAloneIn, IsTurnOfPart, IsTurnOfReader}
 use Rattle.check_outcomes.specs.declared.parts.PartNumbers.{PartNumbers}
@@ -36,7 +36,7 @@ idle_by claimed = is_state_idle claimed.submission.now
 module _ {claimed : Claimed} (many : length (runs_in claimed.submission.now) ≡ length claimed.submission.now.chains.now)
     (each : All (IsStateExploredBy claimed) claimed.found.now.states.items) where
   -- each state of the list is explored, so the list is closed
-  closed_all : AreClosed claimed.submission.now.setting.catalogue.now claimed.submission.now.setting.size (idle_by claimed) (parts_by claimed)
+  closed_all : AreClosed claimed.submission.now.catalogue.now claimed.submission.now.size (idle_by claimed) (parts_by claimed)
       (said_by claimed) (length (runs_in claimed.submission.now)) (states_of claimed)
   closed_all state there chain low high =
       let (here, inside, is) = contains_map (view_in claimed.submission.now) claimed.found.now.states.items state there in
@@ -45,7 +45,7 @@ module _ {claimed : Claimed} (many : length (runs_in claimed.submission.now) ≡
       rw (is, number) (λ turn awake a next may. (explored turn awake a next may).is)
 
   -- and with what is told
-  told_closed : IsTrue claimed.submission.now.tells → AreToldClosed claimed.submission.now.setting.catalogue.now claimed.submission.now.setting.size
+  told_closed : IsTrue claimed.submission.now.tells → AreToldClosed claimed.submission.now.catalogue.now claimed.submission.now.size
       (parts_by claimed) (length (runs_in claimed.submission.now)) (told_states claimed)
   told_closed tells state there chain low high =
       let sub = claimed.submission.now in
@@ -77,9 +77,23 @@ parts_in claimed slots many are = each_run
 abbrev settled_by : Claimed → ℕ → List Asked → List Completed × Rest
 settled_by claimed chain run = settled_at (rules_in claimed.submission.now) (first_member claimed.submission.now.number chain) run
 
+-- the chains are at their start
+starts : (claimed : Claimed) (first : PlayState) (Begins : ℕ → List Completed → Type 0)
+    → length (runs_in claimed.submission.now) ≡ length claimed.submission.now.chains.now
+    → ((i : ℕ) → i < length claimed.submission.now.chains.now → IsAtStartBy claimed first i)
+    → ((i : ℕ) → IsAtStartBy claimed first i → Begins (i + 1) (settled_in claimed i).0)
+    → AreAtStart (rules_in claimed.submission.now) Begins claimed.submission.now.number 1 (runs_in claimed.submission.now)
+    (view_in claimed.submission.now first).rests
+starts claimed first Begins many start begins =
+    let rests = (view_in claimed.submission.now first).rests in
+    each_run (λ chain run. Begins chain (settled_by claimed chain run).0 × (rests chain ≡ (settled_by claimed chain run).1))
+    (λ chain runs. AreAtStart (rules_in claimed.submission.now) Begins claimed.submission.now.number chain runs rests) (λ _. tt)
+    (λ _ _ _ one others. (one.0, one.1, others)) 1 (runs_in claimed.submission.now)
+    (λ k few. let at = start k (omega arith) in (begins k at, rw (less_one k) at.rest))
+
 pub all_by : {claimed : Claimed} {slots : Slots} {first : PlayState} → length (runs_in claimed.submission.now) ≡ length claimed.submission.now.chains.now
     → 0 < length claimed.found.now.states.items → first ≡ slice_index_or claimed.found.now.states.items 0 first
-    → table_of_slots first.slots ≡ table_of_slots slots → claimed.submission.now.setting.size ≡ length slots.at.items
+    → table_of_slots first.slots ≡ table_of_slots slots → claimed.submission.now.size ≡ length slots.at.items
     → (IsTrue claimed.submission.now.tells → first.telling.removed.items ≡ [])
     → ArePartsIn claimed.submission.now slots claimed.found.now.numbers
     → ((i : ℕ) → i < length claimed.submission.now.chains.now → IsAtStartBy claimed first i)
@@ -94,12 +108,7 @@ all_by {claimed} {slots} {first} many some is table size none in_parts start eac
         first = view_in sub first;
         begins = record {
           table = table;
-          chains = rw (← size, ← number) (each_run
-              (λ chain run. AllByRecursion (said_by claimed) (settled_by claimed chain run).0
-              × ((view_in sub first).rests chain ≡ (settled_by claimed chain run).1))
-              (λ chain runs. AreAtStart (rules_in sub) (said_by claimed) sub.number chain runs (view_in sub first)) (λ _. tt)
-              (λ _ _ _ one others. (one.0, one.1, others)) 1 (runs_in sub)
-              (λ k few. let at = start k (omega arith) in (at.said, rw (less_one k) at.rest)));
+          chains = rw (← size, ← number) (starts claimed first (λ _ told. AllByRecursion (said_by claimed) told) many start (λ i at. at.said));
         };
         inside = inside_at (view_in sub) claimed.found.now.states.items some is refl;
         closed = rw (← size) (closed_all many each);
@@ -111,12 +120,8 @@ all_by {claimed} {slots} {first} many some is table size none in_parts start eac
         begins = record {
           table = table;
           removed = none tells;
-          chains = rw (← size, ← number) (each_run
-              (λ chain run. ((told_by claimed first).told chain ≡ (settled_by claimed chain run).0)
-              × ((view_in sub first).rests chain ≡ (settled_by claimed chain run).1))
-              (λ chain runs. AreToldAtStart (rules_in sub) sub.number chain runs (told_by claimed first)) (λ _. tt)
-              (λ _ _ _ one others. (one.0, one.1, others)) 1 (runs_in sub)
-              (λ k few. let at = start k (omega arith) in (rw (less_one k) (at.told tells), rw (less_one k) at.rest)));
+          chains = rw (← size, ← number) (starts claimed first (λ chain told. (told_by claimed first).told chain ≡ told) many start
+              (λ i at. rw (less_one i) (at.told tells)));
         };
         inside = inside_at (told_by claimed) claimed.found.now.states.items some is refl;
         closed = rw (← size) (told_closed many each tells);

@@ -5,7 +5,7 @@ use Rattle.fx_order.proofs.Words.{length-map, ring_of, ring_of_slots, All-contai
 use Rattle.check_outcomes.proofs.Words.{Slots, each_history_is_an_order, contains_map, told_from, IsConfirmedPlay, IsPossibleIn, IsToldAt, told_by}
 use Rattle.check_outcomes.proofs.Words.{told_states}
 use Rattle.check_outcomes.proofs.Words.{ToldState, told_state_of, PlayState, PlayedSubmission, all_told, answers_of, runs_in, view_in, Claimed, PossibleReport}
-use Rattle.check_outcomes.proofs.Words.{AreAllReportsBy, HasEachReport, IsPossible, IsOverIn, HasReport, IsToldOf, TellsOf}
+use Rattle.check_outcomes.proofs.Words.{AreAllBy, OfEach, HasEachReport, IsPossible, IsOverIn, HasReport, IsToldOf, TellsOf}
 use Rattle.check_outcomes.proofs.Words.{Rest, IsOver, has_none}
 use Rattle.fx_base.specs.CloseListView.{CloseListView}
 use Rattle.fx_ring.specs.Submission.{reported}
@@ -48,8 +48,9 @@ tells_of : {sub : PlayedSubmission} {old : RingState} {submissions : ℕ} (here 
     → sub.number ≡ submissions + 1 → old.submissions ≡ submissions → length (runs_in sub) ≡ length sub.chains.now
     → (one : IsOneOrder old (all_asked sub.requests.now) report left) (states : List ToldState)
     → (has : HasReport old (all_asked sub.requests.now) states report left) → has.here ≡ told_state_of sub.number (runs_in sub) here
-    → IsToldOf sub here possible → IsPossible old (all_asked sub.requests.now) possible → TellsOf old report left possible
-tells_of {sub} {old} here report left {possible} number counted many one states has is told its =
+    → IsTrue sub.tells → IsToldOf sub here possible → IsPossible old (all_asked sub.requests.now) possible → TellsOf old report left possible
+tells_of {sub} {old} here report left {possible} number counted many one states has is tells leaves its =
+    let told = leaves.told tells in
     let answers = here.telling.answers.items in
     let same_many = length-map answers (λ (v : Vec Completion). all_completed v.items) in
     let all = told_all (told_state_of sub.number (runs_in sub) here).told 1 (runs_in sub) (answers_of answers) (omega (arith, told.chains))
@@ -59,31 +60,28 @@ tells_of {sub} {old} here report left {possible} number counted many one states 
       completions = has.completions ∙ (ap (λ (h : ToldState). told_from h.told 1 (runs_in sub)) is ∙ (all ∙ sym told.completions));
       closes = rw (told.closes) (rw is at has.closes);
       leaves = has.leaves ∙ ring_same old possible.slots possible.order.items has.here.state its.by.leaves
-          (ap (λ (h : ToldState). h.state.table) is ∙ sym told.table);
+          (ap (λ (h : ToldState). h.state.table) is ∙ sym leaves.table);
     }
 
-pub reports_by : {claimed : Claimed} {slots : Slots} {reports given : List PossibleReport} {submissions : ℕ} (registrations : ℕ)
-    → claimed.submission.now.number ≡ submissions + 1 → given ≡ reports → IsTrue claimed.submission.now.tells
-    → AreAllReportsBy claimed slots given → All (IsPossibleIn claimed.submission.now slots) reports
-    → HasEachReport (ring_of_slots claimed.submission.now.setting.catalogue.now slots submissions registrations)
-    (all_asked claimed.submission.now.requests.now) reports
-reports_by {claimed} {slots} {reports} {submissions} registrations number are tells whole each ring left report same may =
+pub reports_by : {claimed : Claimed} {slots : Slots} (reports : List PossibleReport) → AreAllBy claimed slots
+    → All (IsToldAt claimed.submission.now reports) claimed.found.now.states.items → All (IsPossibleIn claimed.submission.now slots) reports
+    → IsTrue claimed.submission.now.tells → OfEach claimed.submission.now slots (λ old requests. HasEachReport old requests reports)
+reports_by {claimed} {slots} reports all told each tells submissions registrations number ring left report same may =
     let sub = claimed.submission.now in
-    let old = ring_of_slots sub.setting.catalogue.now slots submissions registrations in
+    let old = ring_of_slots sub.catalogue.now slots submissions registrations in
     let requests = all_asked sub.requests.now in
     let one = subst (λ (r : RingState). IsOneOrder r requests report (ring_of left)) same
     (each_history_is_an_order ring left requests report may.history) in
-    let has = each_report_is_listed old requests (told_states claimed) (whole.all.told tells submissions registrations number) report (ring_of left)
+    let has = each_report_is_listed old requests (told_states claimed) (all.told tells submissions registrations number) report (ring_of left)
     may.memory one in
-    let at = contains_map (told_by claimed) claimed.found.now.states.items has.here has.inside in
-    let over : IsOverIn sub at.0 = λ chain low high.
-    let rest : Rest = (view_in sub at.0).rests chain in
-    over_idle sub rest (none_for rest (subst (λ (h : ToldState). IsOver has_none (length (runs_in sub)) h.state) at.2 has.over chain low high)) in
-    let listed = subst (λ (l : List PossibleReport). All (IsToldAt sub l) claimed.found.now.states.items) are whole.told in
-    let telling = All-contains (IsToldAt sub reports) claimed.found.now.states.items at.0 listed at.1 over in
+    let (here, inside, is) = contains_map (told_by claimed) claimed.found.now.states.items has.here has.inside in
+    let over : IsOverIn sub here = λ chain low high.
+    let rest : Rest = (view_in sub here).rests chain in
+    over_idle sub rest (none_for rest (subst (λ (h : ToldState). IsOver has_none (length (runs_in sub)) h.state) is has.over chain low high)) in
+    let telling = All-contains (IsToldAt sub reports) claimed.found.now.states.items here told inside over in
     let its = All-contains (IsPossibleIn sub slots) reports telling.0 each telling.1 submissions registrations number in (
       telling.0,
       telling.1,
-      tells_of at.0 report (ring_of left) number (λ _. submissions) (as_many requests sub.chains.now sub.runs)
-          one (told_states claimed) has at.2 telling.2 its,
+      tells_of here report (ring_of left) number (λ _. submissions) (as_many requests sub.chains.now sub.runs)
+          one (told_states claimed) has is tells telling.2 its,
     )

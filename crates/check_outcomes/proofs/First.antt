@@ -42,27 +42,25 @@ module _ (catalogue : List FileEntry) (size submission : ℕ) (order : List Chai
     pub whole : completions ≡ told_from finals chain runs
     pub each : (q : ℕ) → chain ≤ q → q < chain + length runs → Own q (finals q)
 
-  module _ (AreAt : ℕ → List (List Asked) → Type 0) (one_at : (chain : ℕ) (run : List Asked) (runs : List (List Asked)) → AreAt chain (run ∷ runs)
-      → Begins chain (settled chain run).0 × (rests chain ≡ (settled chain run).1) × AreAt (chain + 1) runs) where
-    pub find : (chain : ℕ) (runs : List (List Asked)) (completions : List Completed) → AllByRecursion HasMemory completions
-        → AreChainsDone catalogue size submission chain runs order completions → AreAt chain runs → Found chain runs completions
-    find chain [] completions memory done start =
-        record { finals = λ q. []; whole = done; each = λ q low high. absurd (omega arith) }
-    find chain (run ∷ runs) completions memory (own, others, whole, made, done) start =
-        let mem = both_parts HasMemory own others (rw whole at memory) in
-        let (begins, rest_is, start_on) = one_at chain run runs start in
-        let f = find (chain + 1) runs others mem.1 done start_on in
-        let goes = settles catalogue size (rules_of catalogue size) (are_right catalogue size) (first_member submission chain) run mem.0 made in
-        let all = put chain own f.finals in
-        let same = told_same f.finals all (chain + 1) runs (λ q low high. rw (ne_eqb q chain (λ at. omega arith))) in
-        record {
-          finals = all;
-          whole = rw (at_itself chain own (f.finals chain), ← same, ← f.whole) whole;
-          each = λ q low high. ⊎_elim
-              (λ at. rw (eq-eqb q chain at, at, rest_is) ((settled chain run).0, begins, goes))
-              (λ other. rw (ne_eqb q chain other) (f.each q (omega arith) (omega arith)))
-              (cases_eq q chain);
-        }
+  pub find : (chain : ℕ) (runs : List (List Asked)) (completions : List Completed) → AllByRecursion HasMemory completions
+      → AreChainsDone catalogue size submission chain runs order completions → AreAtStart (rules_of catalogue size) Begins submission chain runs rests
+      → Found chain runs completions
+  find chain [] completions memory done start =
+      record { finals = λ q. []; whole = done; each = λ q low high. absurd (omega arith) }
+  find chain (run ∷ runs) completions memory (own, others, whole, made, done) (begins, rest_is, start) =
+      let mem = both_parts HasMemory own others (rw whole at memory) in
+      let f = find (chain + 1) runs others mem.1 done start in
+      let goes = settles catalogue size (rules_of catalogue size) (are_right catalogue size) (first_member submission chain) run mem.0 made in
+      let all = put chain own f.finals in
+      let same = told_same f.finals all (chain + 1) runs (λ q low high. rw (ne_eqb q chain (λ at. omega arith))) in
+      record {
+        finals = all;
+        whole = rw (at_itself chain own (f.finals chain), ← same, ← f.whole) whole;
+        each = λ q low high. ⊎_elim
+            (λ at. rw (eq-eqb q chain at, at, rest_is) ((settled chain run).0, begins, goes))
+            (λ other. rw (ne_eqb q chain other) (f.each q (omega arith) (omega arith)))
+            (cases_eq q chain);
+      }
 
 -- whatever is to be said of the answers
 pub all_said : (idle : Rest → Bool) (says : Completed → Type 0) (old : RingState) (requests : List Asked) (states : List StateView)
@@ -71,9 +69,7 @@ pub all_said : (idle : Rest → Bool) (says : Completed → Type 0) (old : RingS
 all_said idle says old requests states all report left memory any =
     let runs = runs_of requests in
     let one = order_in_turn all.parts old requests report left all.apart any in
-    let f = find old.catalogue old.size report.submission one.order all.first.rests (λ q told. AllByRecursion says told)
-    (λ chain left. AreAtStart (rules_of old.catalogue old.size) says report.submission chain left all.first) (λ chain run left start. start)
-    1 runs report.completions memory one.is.done (rw one.is.submission all.begins.chains) in
+    let f = find old.catalogue old.size report.submission one.order all.first.rests (λ _ told. AllByRecursion says told) 1 runs report.completions memory one.is.done (rw one.is.submission all.begins.chains) in
     let comes : Comes old.catalogue old.size says idle all.idling (length runs) f.finals all.first one.order = record {
       permitted = rw all.begins.table one.is.permitted;
       within = one.is.chains;

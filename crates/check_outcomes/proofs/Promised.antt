@@ -1,11 +1,12 @@
 -- What an order and a whole list of states show of a ring's histories.
-use Rattle.fx_order.proofs.Words.{Bool, ◌≡◌, ℕ, ◌+◌, ◌≤◌, List, length, refl, sym, ap, subst, ◌∙◌, Contains, All, Some, Completed, Asked, Place}
-use Rattle.fx_order.proofs.Words.{table_of_slots, completed_of, ring_of_slots, all_asked, All-map, IsOneOrder, RingState, ring_of, Reported, runs_of}
-use Rattle.fx_order.proofs.Words.{All-contains, recursion_from_All, AllByRecursion, All-weaker, IsAccepted, IsOrderOf, RingContents, ring_left}
-use Rattle.check_outcomes.proofs.Words.{ChainAccess, Slots, each_history_is_an_order, contains_map, HasMemory, Rest, AreAllStates, IsOver, StateView}
-use Rattle.check_outcomes.proofs.Words.{IsReportBy, MayReport, AreAllBy, IsEndIn, IsConfirmedPlay, says, is_state_idle, view_in, Claimed, PossibleEnd}
-use Rattle.check_outcomes.proofs.Words.{PossibleAnswer, contains_mapped, HasEnd, ring_at, all_said, IsAnswer, HasEachAnswer, HasEachEnd, IsEnd, ring_behind}
-use Rattle.check_outcomes.proofs.Words.{AreAllEndsBy, tables_behind}
+use Rattle.fx_order.proofs.Words.{Bool, ◌≡◌, ◌+◌, ◌≤◌, List, refl, sym, ap, subst, ◌∙◌, Contains, All, Some, Completed, Completion, Asked, Place}
+use Rattle.fx_order.proofs.Words.{table_of_slots, all_completed, completed_of, ring_of_slots, IsOneOrder, RingState, ring_of, Reported}
+use Rattle.fx_order.proofs.Words.{All-contains, recursion_from_All, AllByRecursion, IsAccepted, IsOrderOf, RingContents, ring_left}
+use Rattle.fx_ring.specs.Submission.{reported}
+use Rattle.check_outcomes.proofs.Words.{ChainAccess, Slots, each_history_is_an_order, contains_map, HasMemory, Rest, AreAllStates, StateView}
+use Rattle.check_outcomes.proofs.Words.{IsReportBy, MayReport, AreAllBy, IsPossibleIn, IsPossible, IsToldAt, OfEach, said_by, says, view_in, Claimed}
+use Rattle.check_outcomes.proofs.Words.{PossibleAnswer, PossibleReport, contains_mapped, HasEnd, ring_at, all_said, IsAnswer, HasEachAnswer, HasEachEnd}
+use Rattle.check_outcomes.proofs.Words.{ring_behind}
 use Rattle.fx_order.proofs.Histories.{each_order_is_a_history}
 use Rattle.fx_plain.specs.declared.table.TheConstants.{MOST_SLOTS}
 use Rattle.std.proofs.lemmas.List.Elements.{All-from_recursion}
@@ -41,58 +42,37 @@ pub ring_same : (old : RingState) (slots : Slots) (order : List ChainAccess) (st
 ring_same old slots order state leaves is =
     λ i. record old { size = (sym leaves i).size; range = (sym leaves i).range; at = (is i).at; submissions = old.submissions + 1 }
 
--- all states show all ends
-each_end : {idle : Rest → Bool} {P : Completed → Type 0} {old : RingState} {asked : List Asked} (ends : List PossibleEnd) {states : List StateView}
-    → AreAllStates idle P old asked states → All (λ v. IsOver idle (length (runs_of asked)) v → Contains (tables_behind ends) v.table) states
-    → All (IsEnd old asked) ends → HasEachEnd old asked ends
-each_end {idle} {P} {old} {asked} ends all listed each ring left same may =
-    let end = (shown P all same may.may).1 in
-    let at = All-contains (λ (v : StateView). IsOver idle (length (runs_of asked)) v → Contains (tables_behind ends) v.table) _ end.state listed
-    end.inside end.over in
-    let (found, inside, is) = contains_map (λ (e : PossibleEnd). table_of_slots e.slots) ends end.state.table at in
-    let its = All-contains (IsEnd old asked) ends found each inside in
-    rw (end.leaves ∙ ring_same old found.slots found.order.items end.state its.by.leaves is)
-    (contains_mapped (λ (e : PossibleEnd). ring_behind old e.slots) ends found inside)
-
--- a play gives an answer, and an end
-pub is_answer : {old : RingState} {asked : List Asked} {place : Place} {report : Reported} {answer : PossibleAnswer}
-    → IsConfirmedPlay old asked answer.order.items report answer.slots → Contains report.completions (completed_of answer.completion)
-    → answer.completion.place ≡ place → IsAnswer old asked place answer
-is_answer {report} play inside there = record {
-  report = report;
-  by = play.by;
+-- a report has an answer
+pub is_answer : {old : RingState} {asked : List Asked} {place : Place} {possible : PossibleReport} {completion : Completion} → IsPossible old asked possible
+    → Contains (all_completed possible.report.completions.items) (completed_of completion) → completion.place ≡ place
+    → IsAnswer old asked place (record { completion = completion; order = possible.order; slots = possible.slots })
+is_answer {possible} is inside there = record {
+  report = reported possible.report;
+  by = is.by;
   inside = inside;
   there = there;
-  may = λ ring same. let (left, is, may) = play.may ring same in (left, is, record { report = report; may = may; inside = inside });
-}
-
-pub is_end : {old : RingState} {asked : List Asked} {report : Reported} {end : PossibleEnd} → IsConfirmedPlay old asked end.order.items report end.slots
-    → IsEnd old asked end
-is_end {report} play = record {
-  report = report;
-  by = play.by;
-  may = λ ring same. let (left, is, may) = play.may ring same in (left, is, record { report = report; may = may });
+  may = λ ring same. let (left, behind, may) = is.may ring same in
+      (left, behind, record { report = reported possible.report; may = may; inside = inside });
 }
 
 -- what was looked through shows all answers
-pub answers_by : {claimed : Claimed} {slots : Slots} {place : Place} {answers : List PossibleAnswer} {submissions : ℕ} (registrations : ℕ)
-    → claimed.submission.now.number ≡ submissions + 1 → claimed.submission.now.asked ≡ Some place → claimed.answers.now ≡ answers
-    → AreAllBy claimed slots → HasEachAnswer (ring_of_slots claimed.submission.now.setting.catalogue.now slots submissions registrations)
-    (all_asked claimed.submission.now.requests.now) place answers
-answers_by {answers} {submissions} registrations number asked are all =
+pub answers_by : {claimed : Claimed} {slots : Slots} {place : Place} {answers : List PossibleAnswer} → claimed.submission.now.asked ≡ Some place
+    → claimed.answers.now ≡ answers → AreAllBy claimed slots
+    → OfEach claimed.submission.now slots (λ old requests. HasEachAnswer old requests place answers)
+answers_by {answers} asked are all submissions registrations number =
     each_answer answers (rw (asked, are) at (all.are submissions registrations number))
 
--- and all ends
-pub ends_by : {claimed : Claimed} {slots : Slots} {ends given : List PossibleEnd} {submissions : ℕ} (registrations : ℕ)
-    → claimed.submission.now.number ≡ submissions + 1 → given ≡ ends → AreAllEndsBy claimed slots given
-    → All (IsEndIn claimed.submission.now slots) ends
-    → HasEachEnd (ring_of_slots claimed.submission.now.setting.catalogue.now slots submissions registrations)
-    (all_asked claimed.submission.now.requests.now) ends
-ends_by {claimed} {slots} {ends} {submissions} registrations number are whole each =
+-- and all rings that are left
+pub ends_by : {claimed : Claimed} {slots : Slots} (reports : List PossibleReport) → AreAllBy claimed slots
+    → All (IsToldAt claimed.submission.now reports) claimed.found.now.states.items → All (IsPossibleIn claimed.submission.now slots) reports
+    → OfEach claimed.submission.now slots (λ old requests. HasEachEnd old requests reports)
+ends_by {claimed} {slots} reports all told each submissions registrations number ring left report same may =
     let sub = claimed.submission.now in
-    let old = ring_of_slots sub.setting.catalogue.now slots submissions registrations in
-    let requests = all_asked sub.requests.now in
-    each_end ends (whole.all.are submissions registrations number)
-    (All-map (λ (v : StateView). IsOver (is_state_idle sub) (length (runs_of requests)) v → Contains (tables_behind ends) v.table) (view_in sub)
-    claimed.found.now.states.items (rw are at whole.listed))
-    (All-weaker (IsEndIn sub slots) (IsEnd old requests) (λ end is. is submissions registrations number) ends each)
+    let old = ring_of_slots sub.catalogue.now slots submissions registrations in
+    let end = (shown (said_by claimed) (all.are submissions registrations number) same may).1 in
+    let (here, inside, is) = contains_map (view_in sub) claimed.found.now.states.items end.state end.inside in
+    let telling = All-contains (IsToldAt sub reports) claimed.found.now.states.items here told inside (rw is at end.over) in
+    let its = All-contains (IsPossibleIn sub slots) reports telling.0 each telling.1 submissions registrations number in
+    rw (end.leaves ∙ ring_same old telling.0.slots telling.0.order.items end.state its.by.leaves
+    (ap (λ (v : StateView). v.table) is ∙ sym telling.2.table))
+    (contains_mapped (λ (p : PossibleReport). ring_behind old p.slots) reports telling.0 telling.1)

@@ -1,7 +1,7 @@
 -- An order of a submission begins at the first of its states, and ends at one that tells of its report.
 use Rattle.fx_order.proofs.Words.{◌≡◌, ◌+◌, length, sym, ap, ◌∙◌, arith, runs_of, Table, accesses_of, table_after}
 use Rattle.fx_order.proofs.Words.{recursion_from_All}
-use Rattle.check_outcomes.proofs.Words.{HasMemory, rules_of, AreToldAtStart, find, told_same, EachReportIsListed}
+use Rattle.check_outcomes.proofs.Words.{HasMemory, find, told_same, EachReportIsListed}
 use Rattle.check_outcomes.proofs.TurnByTurn.{order_in_turn}
 use Rattle.check_outcomes.proofs.ToldStates.{Comes, runs_on}
 
@@ -9,9 +9,7 @@ pub each_report_is_listed : EachReportIsListed
 each_report_is_listed old requests states all report left memory any =
     let runs = runs_of requests in
     let one = order_in_turn all.parts old requests report left all.apart any in
-    let f = find old.catalogue old.size report.submission one.order all.first.state.rests (λ q told. all.first.told q ≡ told)
-    (λ chain left. AreToldAtStart (rules_of old.catalogue old.size) report.submission chain left all.first) (λ chain run left start. start)
-    1 runs report.completions (recursion_from_All HasMemory report.completions memory) one.is.done (rw one.is.submission all.begins.chains) in
+    let f = find old.catalogue old.size report.submission one.order all.first.state.rests (λ q told. all.first.told q ≡ told) 1 runs report.completions (recursion_from_All HasMemory report.completions memory) one.is.done (rw one.is.submission all.begins.chains) in
     let comes : Comes old.catalogue old.size (length runs) f.finals report.closes.files all.first one.order = record {
       goes = record {
         permitted = rw all.begins.table one.is.permitted;

@@ -76,22 +76,22 @@ AreClosed catalogue size idle parts says chains states =
     → HasTurn idle parts chains state chain → idle (state.rests chain) ≡ false
     → IsChainExplored catalogue size says states state chain
 
--- each chain from this one on is at its first request that comes to the table, and what was
--- answered up to there is said
-abbrev pub AreAtStart : Rules → (Completed → Type 0) → ℕ → ℕ → List (List Asked) → StateView
-    → Type 0
-AreAtStart rules says submission chain [] state = Unit {0}
-AreAtStart rules says submission chain (run ∷ runs) state =
-    AllByRecursion says (settled_at rules (first_member submission chain) run).0
-    × (state.rests chain ≡ (settled_at rules (first_member submission chain) run).1)
-    × AreAtStart rules says submission (chain + 1) runs state
+-- each chain from this one on is at its first request that comes to the table, and `Begins` has
+-- what was answered up to there
+abbrev pub AreAtStart : Rules → (ℕ → List Completed → Type 0) → ℕ → ℕ → List (List Asked)
+    → (ℕ → Rest) → Type 0
+AreAtStart rules Begins submission chain [] rests = Unit {0}
+AreAtStart rules Begins submission chain (run ∷ runs) rests =
+    Begins chain (settled_at rules (first_member submission chain) run).0
+    × (rests chain ≡ (settled_at rules (first_member submission chain) run).1)
+    × AreAtStart rules Begins submission (chain + 1) runs rests
 
 -- the first state of a submission
 pub record IsFirst (says : Completed → Type 0) (old : RingState) (requests : List Asked)
     (state : StateView) : Type 0 where
   pub table : state.table ≡ table_of old
-  pub chains : AreAtStart (rules_of old.catalogue old.size) says (old.submissions + 1) 1
-      (runs_of requests) state
+  pub chains : AreAtStart (rules_of old.catalogue old.size) (λ _ told. AllByRecursion says told)
+      (old.submissions + 1) 1 (runs_of requests) state.rests
 
 -- the list has the first state, and each one that is reached from it turn by turn, and what is
 -- answered on the way is said

@@ -10,7 +10,6 @@ use Rattle.fx_order.specs.declared.slots.Slots.{Slots}
 use Rattle.fx_ring.specs.Ring.{RingContents, RingState, ring_of}
 use Rattle.fx_ring.specs.Submission.{IsOneHistory, Reported, reported}
 use Rattle.check_outcomes.specs.Rests.{HasMemory}
-use Rattle.check_outcomes.specs.declared.end.PossibleEnd.{PossibleEnd}
 use Rattle.check_outcomes.specs.declared.outcome.PossibleAnswer.{PossibleAnswer}
 use Rattle.check_outcomes.specs.declared.possible_report.PossibleReport.{PossibleReport}
 
@@ -27,12 +26,6 @@ pub record MayAnswer (ring : RingContents) (requests : List Asked) (c : Complete
   pub report : Reported
   pub may : MayReport ring requests report left
   pub inside : Contains report.completions c
-
--- the submission may leave this ring
-pub record MayLeave (ring : RingContents) (requests : List Asked) (left : RingContents)
-    : Type 0 where
-  pub report : Reported
-  pub may : MayReport ring requests report left
 
 -- the ring behind a submission that leaves these slots
 abbrev pub ring_behind : RingState → Slots → RingState
@@ -68,23 +61,15 @@ HasEachAnswer old requests place answers =
     (ring left : RingContents) (c : Completed) → ring_of ring ≡ old
     → MayAnswer ring requests c left → c.place ≡ place → Contains (answered answers) c
 
--- an end that each ring with this state comes to, by the order that stands with it
-pub record IsEnd (old : RingState) (requests : List Asked) (end : PossibleEnd) : Type 0 where
-  pub report : Reported
-  pub by : IsReportBy old requests end.order.items report end.slots
-  pub may : (ring : RingContents) → ring_of ring ≡ old
-      → (left : RingContents) × (ring_of left ≡ ring_behind old end.slots)
-      × MayLeave ring requests left
+-- the rings that these reports leave
+abbrev pub rings_behind : RingState → List PossibleReport → List RingState
+rings_behind old reports = map (λ possible. ring_behind old possible.slots) reports
 
--- the rings that these ends are
-abbrev pub rings_behind : RingState → List PossibleEnd → List RingState
-rings_behind old ends = map (λ end. ring_behind old end.slots) ends
-
--- the state of whatever ring the submission may leave is that of one of these ends
-abbrev pub HasEachEnd : RingState → List Asked → List PossibleEnd → Type 0
-HasEachEnd old requests ends =
-    (ring left : RingContents) → ring_of ring ≡ old → MayLeave ring requests left
-    → Contains (rings_behind old ends) (ring_of left)
+-- the state of whatever ring the submission may leave is that of one of these reports
+abbrev pub HasEachEnd : RingState → List Asked → List PossibleReport → Type 0
+HasEachEnd old requests reports =
+    (ring left : RingContents) (report : Reported) → ring_of ring ≡ old
+    → MayReport ring requests report left → Contains (rings_behind old reports) (ring_of left)
 
 -- a report that comes of each ring with this state, by the order that stands with it
 pub record IsPossible (old : RingState) (requests : List Asked) (possible : PossibleReport)

@@ -1,11 +1,10 @@
 -- The states of a submission with what was told on the way to them, so that their ends are reports.
-use Rattle.std.specs.Prelude.{◌≡◌, ℕ, ◌+◌, ◌≤◌, List, [], ◌∷◌, ◌++◌, length, All, Contains}
+use Rattle.std.specs.Prelude.{◌≡◌, ℕ, ◌+◌, ◌≤◌, List, [], ◌++◌, length, All, Contains}
 use Rattle.std.specs.Prelude.{IsPermutation}
 use Rattle.std.specs.Option.{option_to_list}
 use Rattle.fx_base.specs.Catalogue.{FileEntry}
 use Rattle.fx_base.specs.declared.open_file.Closed.{Closed}
 use Rattle.fx_chain.specs.Completed.{Completed}
-use Rattle.fx_chain.specs.Explains.{first_member}
 use Rattle.fx_chain.specs.Operation.{Asked}
 use Rattle.fx_chain.specs.Runs.{runs_of}
 use Rattle.fx_ring.specs.Ring.{RingState}
@@ -13,11 +12,11 @@ use Rattle.fx_ring.specs.Submission.{Reported}
 use Rattle.fx_order.specs.Access.{Permits, file_removed_by}
 use Rattle.fx_order.specs.declared.access.Access.{Access}
 use Rattle.fx_order.specs.Order.{IsOneOrder, table_of}
-use Rattle.check_outcomes.specs.Rests.{HasMemory, IsNext, Rules, rules_of, settled_at, step}
+use Rattle.check_outcomes.specs.Rests.{HasMemory, IsNext, Rules, rules_of, step}
 use Rattle.check_outcomes.specs.Idle.{has_none}
 use Rattle.check_outcomes.specs.Parts.{AreParts, Parts}
-use Rattle.check_outcomes.specs.Nodes.{HasTurn, IsOver, LeadsByAccess, StateView, ring_at}
-use Rattle.check_outcomes.specs.Nodes.{told_from}
+use Rattle.check_outcomes.specs.Nodes.{AreAtStart, HasTurn, IsOver, LeadsByAccess, StateView}
+use Rattle.check_outcomes.specs.Nodes.{ring_at, told_from}
 
 -- a state, with what was answered and which files were taken from their slots on the way to it
 pub record ToldState : Type 0 where
@@ -44,22 +43,13 @@ AreToldClosed catalogue size parts chains states =
     → (next : ToldState) × Contains states next
     × LeadsOn (rules_of catalogue size) here chain a next
 
--- each chain from this one on is at its first request that comes to the table, and was told what
--- was answered up to there
-abbrev pub AreToldAtStart : Rules → ℕ → ℕ → List (List Asked) → ToldState → Type 0
-AreToldAtStart rules submission chain [] here = Unit {0}
-AreToldAtStart rules submission chain (run ∷ runs) here =
-    (here.told chain ≡ (settled_at rules (first_member submission chain) run).0)
-    × (here.state.rests chain ≡ (settled_at rules (first_member submission chain) run).1)
-    × AreToldAtStart rules submission (chain + 1) runs here
-
 -- the first one of a submission
 pub record IsToldFirst (old : RingState) (requests : List Asked) (here : ToldState)
     : Type 0 where
   pub table : here.state.table ≡ table_of old
   pub removed : here.removed ≡ []
-  pub chains : AreToldAtStart (rules_of old.catalogue old.size) (old.submissions + 1) 1
-      (runs_of requests) here
+  pub chains : AreAtStart (rules_of old.catalogue old.size) (λ chain told. here.told chain ≡ told)
+      (old.submissions + 1) 1 (runs_of requests) here.state.rests
 
 -- the list has the first one, and each one that is reached from it turn by turn
 pub record AreAllTold (old : RingState) (requests : List Asked) (states : List ToldState)

@@ -1,8 +1,11 @@
--- What was told on the way to the states of the program.
+-- What was told on the way to the states of the program, and the numbers of a state's files.
 use Rattle.std.specs.Prelude.{◌≡◌, ℕ, ◌<◌, List, [], ◌∷◌, ◌++◌, length, map, slice_index_or}
-use Rattle.std.specs.Prelude.{slice_set, IsPermutation}
+use Rattle.std.specs.Prelude.{slice_set, IsPermutation, Option, None, Some}
 use Rattle.std.specs.Option.{option_to_list}
 use Rattle.std.specs.Global.{Vec}
+use Rattle.fx_base.specs.declared.mark.Mark.{Mark}
+use Rattle.fx_base.specs.declared.mark.Mark.TheVariants.{Registered, Submitted}
+use Rattle.fx_base.specs.declared.open_file.Closed.{Closed}
 use Rattle.fx_chain.specs.Completed.{Completed, all_completed}
 use Rattle.fx_chain.specs.declared.completion.Completion.{Completion}
 use Rattle.fx_order.specs.Access.{file_removed_by}
@@ -26,3 +29,14 @@ pub record IsToldOn (before : WayReport) (i : ℕ) (a : Access) (own : List Comp
       (slice_index_or (answers_of before.answers.items) i [] ++ own)
   pub removed : IsPermutation (before.removed.items ++ option_to_list (file_removed_by a))
       after.removed.items
+
+-- the numbers of a file's mark, which no other mark has
+abbrev pub mark_numbers : Mark → List ℕ
+mark_numbers (Registered k i) = 1 ∷ k ∷ i ∷ []
+mark_numbers (Submitted submission chain member entry) =
+    2 ∷ submission ∷ chain ∷ member ∷ entry ∷ []
+
+-- those of what is at a slot
+abbrev pub file_numbers : Option Closed → List ℕ
+file_numbers None = 0 ∷ []
+file_numbers (Some file) = mark_numbers file.mark

@@ -1,13 +1,15 @@
 -- What the states of the program say of a submission.
 use Rattle.std.specs.Prelude.{◌≡◌, ℕ, ◌+◌, ◌-◌, ◌<◌, ◌==◌, ◌&&◌, not, Bool, true, false, List, []}
-use Rattle.std.specs.Prelude.{length, map, slice_index_or, All, IfSome, if◌then◌else◌}
+use Rattle.std.specs.Prelude.{length, slice_index_or, All, Contains, IfSome, if◌then◌else◌}
+use Rattle.std.specs.Global.{Vec}
 use Rattle.fx_chain.specs.Completed.{Completed}
 use Rattle.fx_chain.specs.Explains.{first_member}
 use Rattle.fx_chain.specs.Operation.{Asked, all_asked}
 use Rattle.fx_chain.specs.Runs.{runs_of}
 use Rattle.fx_order.specs.Slots.{table_of_slots}
 use Rattle.fx_order.specs.declared.access.Access.{Access}
-use Rattle.check_outcomes.specs.Rests.{Rest, Rules, rules_of, step}
+use Rattle.fx_order.specs.Access.{Permits}
+use Rattle.check_outcomes.specs.Rests.{IsNext, Rest, Rules, rules_of, step}
 use Rattle.fx_order.specs.declared.slots.Slots.{Slots}
 use Rattle.check_outcomes.specs.Parts.{Parts, StaysIn}
 use Rattle.check_outcomes.specs.Idle.{are_reads}
@@ -49,11 +51,8 @@ runs_in submission = runs_of (all_asked submission.requests.now)
 abbrev pub view_in : PlayedSubmission → PlayState → StateView
 view_in submission state = view_of_state submission.number (runs_in submission) state
 
-abbrev pub views_in : PlayedSubmission → List PlayState → List StateView
-views_in submission states = map (view_in submission) states
-
 abbrev pub rules_in : PlayedSubmission → Rules
-rules_in submission = rules_of submission.setting.catalogue.now submission.setting.size
+rules_in submission = rules_of submission.catalogue.now submission.size
 
 -- an access of a chain leads to the next state, and this is answered on the way
 pub record IsStepTo (submission : PlayedSubmission) (state : PlayState) (i : ℕ) (a : Access)
@@ -61,6 +60,17 @@ pub record IsStepTo (submission : PlayedSubmission) (state : PlayState) (i : ℕ
   pub told : answers ≡ (step (rules_in submission) ((view_in submission state).rests (i + 1)) a).0
   pub leads : LeadsByAccess (rules_in submission) (view_in submission state) (i + 1) a
       (view_in submission next)
+
+-- an access that a chain may make next, by its number from 0
+abbrev pub IsNextIn : PlayedSubmission → PlayState → ℕ → Access → Type 0
+IsNextIn submission state i a =
+    IsNext submission.catalogue.now submission.size ((view_in submission state).rests (i + 1)) a
+
+-- the list has each access that the chain may make next and the table permits
+abbrev pub HasEachNextIn : PlayedSubmission → PlayState → ℕ → Vec Access → Type 0
+HasEachNextIn submission state i accesses =
+    (a : Access) → IsNextIn submission state i a → Permits (table_of_slots state.slots) a
+    → Contains accesses.items a
 
 -- the parts that the numbers tell of
 abbrev pub parts_by_numbers : PartNumbers → Parts

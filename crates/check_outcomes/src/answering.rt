@@ -1,4 +1,4 @@
-//! What each kind of request does at the table if no allocation fails: its accesses, its answer, and the slots that it may access.
+//! The accesses of each kind of request at the table, its answer, and the slots that it may access, if no allocation fails.
 ghost use Rattle.std.specs.Prelude.{◌≡◌, ◌+◌, ◌<◌, ◌≤◌, ◌^◌, ℕ, IfOk, Some, false, int_le, length, negsuc};
 ghost use Rattle.std.specs.List.{list_any};
 ghost use Rattle.fx_base.specs.Catalogue.{IsCatalogue};
@@ -211,19 +211,23 @@ pub(crate) fn slots_of(slots: &Slots, op: &Op) -> (usize, usize)
         → (result.0 ≤ slot) × (slot < result.1) }
 {
     match op {
-        Op::Open { name: _, target } => match target {
-            Target::Slot(slot) => (*slot as usize, *slot as usize + 1),
-            Target::Any => {
-                let (first, len) = slots.range;
-                (first as usize, first as usize + len as usize)
-            }
-        },
-        Op::Read {
+        Op::Open {
+            name: _,
+            target: Target::Any,
+        } => {
+            let (first, len) = slots.range;
+            (first as usize, first as usize + len as usize)
+        }
+        Op::Open {
+            name: _,
+            target: Target::Slot(slot),
+        }
+        | Op::Read {
             slot,
             off: _,
             len: _,
-        } => (*slot as usize, *slot as usize + 1),
-        Op::Close { slot } => (*slot as usize, *slot as usize + 1),
+        }
+        | Op::Close { slot } => (*slot as usize, *slot as usize + 1),
         Op::Update { off, list } => (*off as usize, *off as usize + list.len()),
     }
 }

@@ -1,20 +1,20 @@
 //! Where a chain is between two of its accesses, and where its next one leads it.
-ghost use Rattle.std.specs.Prelude.{◌≡◌, ℕ, ◌+◌, ◌-◌, ◌<◌, ◌≤◌, ◌^◌, ◌++◌};
+ghost use Rattle.std.specs.Prelude.{◌≡◌, ℕ, ◌+◌, ◌-◌, ◌<◌, ◌^◌, ◌++◌};
 ghost use Rattle.std.specs.Prelude.{All, IfOk, Some, drop, length};
-ghost use Rattle.fx_base.specs.Catalogue.{IsCatalogue};
 ghost use Rattle.fx_base.specs.declared.open_file.Closed.{Closed as File};
 ghost use Rattle.fx_chain.specs.Accepted.{IsWithinLimits};
 ghost use Rattle.fx_chain.specs.Completed.{all_completed, next_member};
 ghost use Rattle.fx_chain.specs.Explains.{canceled};
 ghost use Rattle.fx_chain.specs.Operation.{all_asked, asked_of};
 ghost use Rattle.fx_order.specs.declared.access.Access.TheVariants.{Allocates};
-ghost use Rattle.check_outcomes.specs.Rests.{rules_of, settled_at};
+ghost use Rattle.check_outcomes.specs.Rests.{settled_at};
 ghost use Rattle.check_outcomes.specs.Stands.{HasEachNext, Settles, StepsChain, gone_on, moved, rest_in};
+ghost use Rattle.check_outcomes.specs.Views.{rules_in};
 ghost use Rattle.fx_order.specs.Slots.{table_of_slots};
 
 use crate::answering::{answer, count};
 use crate::choice::next_accesses;
-use crate::setting::SearchSetting;
+use crate::submission::PlayedSubmission;
 use fx_base::{Errno, NoMemory};
 use fx_chain::{Completion, Place, Request};
 use fx_order::{Access, Slots};
@@ -40,7 +40,7 @@ pub(crate) fn moved(place: Place, members: u32) -> Place
     }
 }
 
-// Tells that the members from this place on were canceled.
+// Appends the completions of the members from this place on, which were canceled.
 fn cancel(
     alloc: Global,
     place: Place,
@@ -58,11 +58,11 @@ fn cancel(
     cancel(alloc, moved(place, 1), requests, told)
 }
 
-/// Answers the requests of a chain from this place on that don't come to the table, up to the first one that does. How many
-/// members are done then.
+/// Answers the requests of a chain from this place on that don't use the table, up to the first one that does. Returns the number
+/// of members that are done then.
 #[cycle(settling)]
 pub(crate) fn settle(
-    setting: &SearchSetting<'_>,
+    submission: &PlayedSubmission<'_>,
     place: Place,
     requests: &[Request],
     told: &mut Vec<Completion>,
@@ -70,23 +70,23 @@ pub(crate) fn settle(
     requires limits { All (λ r. IsWithinLimits (asked_of r)) requests.now }
     requires members { place.member + length requests.now < 2 ^ 32 }
     ensures { IfOk result (Settles
-        (settled_at (rules_of setting.now.catalogue.now setting.now.size) place
+        (settled_at (rules_in submission.now) place
         (all_asked requests.now)) place (all_asked requests.now)
         (all_completed told.old.items) (all_completed told.new.items)) }
 {
     let [request, behind @ ..] = requests else {
         return Ok(0);
     };
-    if count(setting.catalogue, setting.size, request) != 0 {
+    if count(submission.catalogue, submission.size, request) != 0 {
         return Ok(0);
     }
-    Ok(1 + go_on(setting, place, request, behind, None, told)?)
+    Ok(1 + go_on(submission, place, request, behind, None, told)?)
 }
 
 // Answers a request by the last of its accesses, and settles those after it. Returns the number of these that are done then.
 #[cycle(settling)]
 fn go_on(
-    setting: &SearchSetting<'_>,
+    submission: &PlayedSubmission<'_>,
     place: Place,
     request: &Request,
     behind: &[Request],
@@ -98,12 +98,12 @@ fn go_on(
     requires members { place.member + 1 + length behind.now < 2 ^ 32 }
     requires slot { (slot : ℕ) (file : File) → last ≡ Some (Allocates slot file) → slot < 2 ^ 31 }
     ensures { IfOk result (Settles
-        (gone_on (rules_of setting.now.catalogue.now setting.now.size) place (asked_of request.now)
+        (gone_on (rules_in submission.now) place (asked_of request.now)
         (all_asked behind.now) last) (next_member place) (all_asked behind.now)
         (all_completed told.old.items) (all_completed told.new.items)) }
 {
-    let (alloc, catalogue) = (setting.alloc, setting.catalogue);
-    let c = answer(alloc, catalogue, setting.size, place, request, last)?;
+    let (alloc, catalogue) = (submission.alloc, submission.catalogue);
+    let c = answer(alloc, catalogue, submission.size, place, request, last)?;
     let severs = request.severs(&c);
     told.push(c)?;
     let next = moved(place, 1);
@@ -111,10 +111,10 @@ fn go_on(
         cancel(alloc, next, behind, told)?;
         return Ok(behind.len());
     }
-    settle(setting, next, behind, told)
+    settle(submission, next, behind, told)
 }
 
-/// Returns the members of a chain behind so many.
+/// Returns the members of a chain after its first `done` members.
 pub(crate) fn left(members: &[Request], done: usize) -> &[Request]
     requires { All (λ r. IsWithinLimits (asked_of r)) members.now }
     ensures left { all_asked result.now ≡ drop done (all_asked members.now) }
@@ -129,7 +129,7 @@ pub(crate) fn left(members: &[Request], done: usize) -> &[Request]
 
 /// Returns where an access leads a chain that has its first member at this place, and what is answered on the way.
 pub(crate) fn step(
-    setting: &SearchSetting<'_>,
+    submission: &PlayedSubmission<'_>,
     place: Place,
     members: &[Request],
     progress: Progress,
@@ -140,7 +140,7 @@ pub(crate) fn step(
     requires members { place.member + length members.now < 2 ^ 32 }
     requires slot { (slot : ℕ) (file : File) → access ≡ Allocates slot file → slot < 2 ^ 31 }
     requires made { progress.made < 2 ^ 32 }
-    ensures { IfOk result (StepsChain (rules_of setting.now.catalogue.now setting.now.size) place
+    ensures { IfOk result (StepsChain (rules_in submission.now) place
         (all_asked members.now) progress access
         (all_completed told.old.items) (all_completed told.new.items)) }
 {
@@ -148,14 +148,14 @@ pub(crate) fn step(
     let [request, behind @ ..] = left(members, done) else {
         return Ok(progress);
     };
-    if count(setting.catalogue, setting.size, request) != made + 1 {
+    if count(submission.catalogue, submission.size, request) != made + 1 {
         return Ok(Progress {
             done,
             made: made + 1,
         });
     }
     let here = moved(place, done as u32);
-    let passed = go_on(setting, here, request, behind, Some(access), told)?;
+    let passed = go_on(submission, here, request, behind, Some(access), told)?;
     Ok(Progress {
         done: done + 1 + passed,
         made: 0,
@@ -164,23 +164,22 @@ pub(crate) fn step(
 
 /// Returns what a chain may do next that has its first member at this place, and perhaps more.
 pub(crate) fn chain_accesses(
-    setting: &SearchSetting<'_>,
+    submission: &PlayedSubmission<'_>,
     slots: &Slots,
     place: Place,
     members: &[Request],
     progress: Progress,
 ) -> Result<Vec<Access>, NoMemory>
-    requires catalogue { IsCatalogue setting.now.catalogue.now }
     requires slots { length slots.now.at.items < 2 ^ 32 }
     requires limits { All (λ r. IsWithinLimits (asked_of r)) members.now }
     requires members { place.member + length members.now < 2 ^ 32 }
-    ensures { IfOk result (λ choices. HasEachNext setting.now.catalogue.now
+    ensures { IfOk result (λ choices. HasEachNext submission.now.catalogue.now
         (table_of_slots slots.now) (rest_in place (all_asked members.now) progress) choices.items) }
 {
     let Some(request) = left(members, progress.done).first() else {
-        return Ok(Vec::new(setting.alloc));
+        return Ok(Vec::new(submission.alloc));
     };
     let here = moved(place, progress.done as u32);
-    let (alloc, catalogue) = (setting.alloc, setting.catalogue);
+    let (alloc, catalogue) = (submission.alloc, submission.catalogue);
     next_accesses(alloc, catalogue, slots, here, request, progress.made)
 }

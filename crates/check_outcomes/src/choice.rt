@@ -32,10 +32,7 @@ pub enum Intent {
 fn found_at(slots: &Slots, slot: u32) -> Option<Closed>
     ensures { result ≡ (table_of_slots slots.now).at slot }
 {
-    match slots.at.get(slot as usize) {
-        Some(file) => *file,
-        None => None,
-    }
+    slots.at.get(slot as usize).copied().unwrap_or(None)
 }
 
 // Returns a single choice.

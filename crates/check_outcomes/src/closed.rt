@@ -1,4 +1,4 @@
-//! Whether the states that a search met are all of them.
+//! The check that a search met all states of a submission.
 ghost use Rattle.std.specs.Prelude.{◌≡◌, ◌<◌, [], IfOk, IfSome, IsTrue, All, Contains};
 ghost use Rattle.std.specs.Prelude.{length, slice_index_or};
 ghost use Rattle.fx_chain.specs.Completed.{all_completed, completed_of};
@@ -6,26 +6,21 @@ ghost use Rattle.fx_order.specs.Access.{Permits};
 ghost use Rattle.fx_order.specs.Slots.{table_of_slots};
 ghost use Rattle.check_outcomes.specs.Outcomes.{answered};
 ghost use Rattle.check_outcomes.specs.Listed.{AreAllBy, AreAtStartBy, IsAtStartBy, says};
-ghost use Rattle.check_outcomes.specs.Listed.{IsChainExploredBy, IsExploredBy, IsExploredInTurn, IsStateExploredBy};
+ghost use Rattle.check_outcomes.specs.Listed.{IsExploredBy, IsExploredInTurn, IsStateExploredBy};
 ghost use Rattle.check_outcomes.specs.Tellings.{answers_of};
 ghost use Rattle.check_outcomes.specs.Views.{IsTurnAt};
 
-use crate::chain::{Progress, chain_accesses, settle};
+use crate::chain::settle;
 use crate::found::FoundStates;
 use crate::outcome::PossibleAnswer;
 use crate::parts::are_parts;
-use crate::state::{PlayState, next_state};
+use crate::state::{PlayState, accesses_of, next_state};
 use crate::submission::PlayedSubmission;
 use crate::telling::are_same as are_same_answers;
 use crate::turns::{ChainTurn, turn_at, waits};
 use fx_base::NoMemory;
 use fx_chain::{Completion, Place};
 use fx_order::{Access, Slots};
-
-/// Checks whether a completion is among these.
-pub(crate) fn is_among(completions: &[Completion], c: &Completion) -> bool {
-    completions.contains(c)
-}
 
 // Checks whether a completion is one of these answers.
 fn is_answered(answers: &[PossibleAnswer], c: &Completion) -> bool
@@ -43,15 +38,11 @@ fn is_answered(answers: &[PossibleAnswer], c: &Completion) -> bool
 fn are_listed(place: Option<Place>, answers: &[PossibleAnswer], told: &[Completion]) -> bool
     ensures { IsTrue result → All (λ c. says place answers.now (completed_of c)) told.now }
 {
-    for c in told {
-        if place == Some(c.place) && !is_answered(answers, c) {
-            return false;
-        }
-    }
-    true
+    told.iter()
+        .all(|c| place != Some(c.place) || is_answered(answers, c))
 }
 
-/// What is looked through: states, and what is answered at the place that is asked for, if there is one.
+/// The states of a search, and the answers at the place that is asked for, if there is one.
 #[derive(Drop)]
 pub(crate) struct Claimed<'a> {
     pub(crate) submission: &'a PlayedSubmission<'a>,
@@ -73,7 +64,7 @@ fn is_explored(
     if !state.slots.permits(access) {
         return Ok(true);
     }
-    let mut told = Vec::new(claimed.submission.setting.alloc);
+    let mut told = Vec::new(claimed.submission.alloc);
     let Some(next) = next_state(claimed.submission, state, i, access, &mut told)? else {
         return Ok(false);
     };
@@ -102,25 +93,6 @@ fn are_explored(
     Ok(true)
 }
 
-// Checks whether each access that a chain may make next is explored.
-fn is_chain_explored(claimed: &Claimed<'_>, state: &PlayState, i: usize) -> Result<bool, NoMemory>
-    requires { i < length claimed.now.submission.now.chains.now }
-    ensures { IfOk result (λ yes. IsTrue yes → IsChainExploredBy claimed.now state.now i) }
-{
-    let submission = claimed.submission;
-    let setting = &submission.setting;
-    if state.slots.at.len() != setting.size as usize {
-        return Ok(false);
-    }
-    let Some(progress) = state.chains.get(i) else {
-        return Ok(false);
-    };
-    let own = submission.members(i);
-    let first = submission.first(i);
-    let accesses = chain_accesses(setting, &state.slots, first, own, *progress)?;
-    are_explored(claimed, state, i, &accesses)
-}
-
 // Checks whether each access that a chain may make next is explored, unless it is idle or has to wait for its turn.
 fn is_explored_in_turn(
     claimed: &Claimed<'_>,
@@ -136,7 +108,10 @@ fn is_explored_in_turn(
     if waits(&claimed.found.numbers, turn, i) || state.is_idle(claimed.submission, i) {
         return Ok(true);
     }
-    is_chain_explored(claimed, state, i)
+    let Some(accesses) = accesses_of(claimed.submission, state, i)? else {
+        return Ok(false);
+    };
+    are_explored(claimed, state, i, &accesses)
 }
 
 // Checks whether each access is explored that a chain whose turn it is may make in a state.
@@ -152,7 +127,7 @@ fn is_state_explored(claimed: &Claimed<'_>, state: &PlayState) -> Result<bool, N
     Ok(true)
 }
 
-// Checks whether this is what a chain was told on the way to a state, where the submission keeps it.
+// Checks whether these are the answers of a chain on the way to a state, if the submission keeps them.
 fn has_told(
     submission: &PlayedSubmission<'_>,
     state: &PlayState,
@@ -172,7 +147,7 @@ fn has_told(
     }
 }
 
-// Checks whether no file was removed on the way to a state, where the submission keeps it.
+// Checks whether no file was removed on the way to a state, if the submission keeps these files.
 fn has_removed_none(submission: &PlayedSubmission<'_>, state: &PlayState) -> bool
     ensures { IsTrue result → IsTrue submission.now.tells → state.now.telling.removed.items ≡ [] }
 {
@@ -186,13 +161,10 @@ fn is_at_start(claimed: &Claimed<'_>, state: &PlayState, i: usize) -> Result<boo
 {
     let submission = claimed.submission;
     let here = state.progress(i);
-    let mut told = Vec::new(submission.setting.alloc);
+    let mut told = Vec::new(submission.alloc);
     let own = submission.members(i);
-    let done = settle(&submission.setting, submission.first(i), own, &mut told)?;
-    if here.done != done || here.made != 0 {
-        return Ok(false);
-    }
-    if !has_told(submission, state, i, &told) {
+    let done = settle(submission, submission.first(i), own, &mut told)?;
+    if here.done != done || here.made != 0 || !has_told(submission, state, i, &told) {
         return Ok(false);
     }
     Ok(are_listed(claimed.submission.asked, claimed.answers, &told))
@@ -228,22 +200,16 @@ fn are_states_explored(claimed: &Claimed<'_>) -> Result<bool, NoMemory>
 pub(crate) fn are_all_states(claimed: &Claimed<'_>, slots: &Slots) -> Result<bool, NoMemory>
     ensures { IfOk result (λ yes. IsTrue yes → AreAllBy claimed.now slots.now) }
 {
-    if !claimed.found.is_whole {
-        return Ok(false);
-    }
     let Some(first) = claimed.found.states.get(0) else {
         return Ok(false);
     };
-    if slots.at.len() != claimed.submission.setting.size as usize || !first.slots.is_same(slots) {
-        return Ok(false);
-    }
-    if !has_removed_none(claimed.submission, first) {
-        return Ok(false);
-    }
-    if !are_parts(claimed.submission, slots, &claimed.found.numbers) {
-        return Ok(false);
-    }
-    if !are_at_start(claimed, first)? {
+    if !claimed.found.is_whole
+        || slots.at.len() != claimed.submission.size as usize
+        || !first.slots.is_same(slots)
+        || !has_removed_none(claimed.submission, first)
+        || !are_parts(claimed.submission, slots, &claimed.found.numbers)
+        || !are_at_start(claimed, first)?
+    {
         return Ok(false);
     }
     are_states_explored(claimed)

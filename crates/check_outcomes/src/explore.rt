@@ -1,20 +1,17 @@
 //! A search for all states of a submission. Nothing is proved of what it meets: the states are looked through
 //! (`crate::closed`), and what was found is confirmed by an order (`crate::confirm`).
 
-use crate::chain::{Progress, chain_accesses, settle};
-use crate::closed::is_among;
+use crate::chain::{Progress, settle};
 use crate::found::{FoundStates, FoundStep, key_of};
 use crate::parts::part_numbers;
-use crate::state::{PlayState, next_state};
+use crate::state::{PlayState, accesses_of, next_state};
 use crate::submission::PlayedSubmission;
 use crate::telling::{WayReport, push_copies};
-use crate::turns::{ChainTurn, turn_at, waits};
+use crate::turns::{turn_at, waits};
 use check_search::Limits;
 use fx_base::NoMemory;
 use fx_chain::{Completion, Op, Place, Request};
-use fx_order::{Access, Slots};
-use indexmap::IndexSet;
-use std::alloc::Global;
+use fx_order::Slots;
 
 /// Returns the first state of a submission at these slots. Appends what each chain answers there.
 pub(crate) fn start(
@@ -22,13 +19,13 @@ pub(crate) fn start(
     slots: &Slots,
     told: &mut Vec<Vec<Completion>>,
 ) -> Result<PlayState, NoMemory> {
-    let alloc = submission.setting.alloc;
+    let alloc = submission.alloc;
     let mut chains = Vec::new(alloc);
     let mut telling = WayReport::none(alloc);
     for i in 0..submission.chains.len() {
         let own = submission.members(i);
         let mut answers = Vec::new(alloc);
-        let done = settle(&submission.setting, submission.first(i), own, &mut answers)?;
+        let done = settle(submission, submission.first(i), own, &mut answers)?;
         chains.push(Progress { done, made: 0 })?;
         if submission.tells {
             let mut copy = Vec::new(alloc);
@@ -44,24 +41,7 @@ pub(crate) fn start(
     })
 }
 
-/// Returns the accesses that a chain may make next in a state, by the chain's number from 0.
-pub(crate) fn accesses_of(
-    submission: &PlayedSubmission<'_>,
-    state: &PlayState,
-    i: usize,
-) -> Result<Vec<Access>, NoMemory> {
-    let setting = &submission.setting;
-    if state.slots.at.len() > setting.size as usize || i >= submission.chains.len() {
-        return Ok(Vec::new(setting.alloc));
-    }
-    let Some(progress) = state.chains.get(i) else {
-        return Ok(Vec::new(setting.alloc));
-    };
-    let own = submission.members(i);
-    chain_accesses(setting, &state.slots, submission.first(i), own, *progress)
-}
-
-// Returns what a state keeps of a request: its answer, the bytes of a read, and the files that it removed, each with its numbers in the
+// Returns the bytes that a state keeps of a request: its answer, the bytes of a read, and the files that it removed, each with its numbers in the
 // key.
 fn weight_of(request: &Request) -> usize {
     let (removed, got): (usize, usize) = match &request.op {
@@ -75,7 +55,7 @@ fn weight_of(request: &Request) -> usize {
         .saturating_add(48)
 }
 
-// Returns what a state keeps of what was told on the way to it.
+// Returns the bytes that a state keeps of the answers and removed files on the way to it.
 fn weight_told(submission: &PlayedSubmission<'_>) -> usize {
     let mut weight: usize = 0;
     if !submission.tells {
@@ -91,7 +71,7 @@ fn weight_told(submission: &PlayedSubmission<'_>) -> usize {
 // key up to 48; a chain takes 16 and 16; and beside them a state has its lists, a step and a place in the hash table, whose
 // blocks may just have been doubled.
 fn room_for(submission: &PlayedSubmission<'_>, limits: Limits) -> usize {
-    let slots = (submission.setting.size as usize).saturating_mul(88);
+    let slots = (submission.size as usize).saturating_mul(88);
     let chains = submission.chains.len().saturating_mul(32);
     let weight = slots.saturating_add(chains).saturating_add(768);
     let weight = weight.saturating_add(weight_told(submission));
@@ -135,7 +115,7 @@ impl Search {
     ) -> Result<(), NoMemory> {
         let found = &mut self.found;
         for c in told {
-            if place == Some(c.place) && !is_among(&found.answers, &c) {
+            if place == Some(c.place) && !found.answers.contains(&c) {
                 found.answers.push(c)?;
                 found.by.push(by)?;
             }
@@ -153,12 +133,14 @@ impl Search {
         let Some(here) = self.found.states.get(state) else {
             return Ok(true);
         };
-        let accesses = accesses_of(submission, here, chain)?;
+        let Some(accesses) = accesses_of(submission, here, chain)? else {
+            return Ok(true);
+        };
         for access in accesses {
             let Some(here) = self.found.states.get(state) else {
                 return Ok(true);
             };
-            let mut told = Vec::new(submission.setting.alloc);
+            let mut told = Vec::new(submission.alloc);
             let Some(next) = next_state(submission, here, chain, &access, &mut told)? else {
                 continue;
             };
@@ -175,22 +157,6 @@ impl Search {
         Ok(true)
     }
 
-    // Checks whether a chain is idle in a state, or has to wait for its turn.
-    fn is_left_alone(
-        &self,
-        submission: &PlayedSubmission<'_>,
-        turn: Option<ChainTurn>,
-        state: usize,
-        chain: usize,
-    ) -> bool {
-        let Some(here) = self.found.states.get(state) else {
-            return true;
-        };
-        waits(&self.found.numbers, turn, chain)
-            || chain >= submission.chains.len()
-            || here.is_idle(submission, chain)
-    }
-
     // Follows each chain whose turn it is in a state. Returns whether there was room for the states.
     fn follow_turn(
         &mut self,
@@ -202,9 +168,12 @@ impl Search {
         };
         let turn = turn_at(submission, &self.found.numbers, here);
         for chain in 0..submission.chains.len() {
-            if !self.is_left_alone(submission, turn, state, chain)
-                && !self.follow(submission, state, chain)?
-            {
+            let Some(here) = self.found.states.get(state) else {
+                return Ok(true);
+            };
+            let is_left = waits(&self.found.numbers, turn, chain)
+                || here.is_idle(submission, chain);
+            if !is_left && !self.follow(submission, state, chain)? {
                 return Ok(false);
             }
         }
@@ -232,7 +201,7 @@ pub(crate) fn explore(
     slots: &Slots,
     limits: Limits,
 ) -> Result<FoundStates, NoMemory> {
-    let alloc = submission.setting.alloc;
+    let alloc = submission.alloc;
     let mut search = Search {
         found: FoundStates::new(alloc, part_numbers(submission, slots)?),
         open: Vec::new(alloc),
@@ -244,11 +213,6 @@ pub(crate) fn explore(
         search.note(submission.asked, own, None)?;
     }
     let is_whole = search.add(first, None)? && search.run(submission)?;
-    let Search {
-        mut found,
-        open: _,
-        most: _,
-    } = search;
-    found.is_whole = is_whole;
-    Ok(found)
+    search.found.is_whole = is_whole;
+    Ok(search.found)
 }

@@ -1,6 +1,7 @@
 //! The states that a search met.
-ghost use Rattle.std.specs.Prelude.{ℕ, IfOk, IsTrue, Contains, List, map};
+ghost use Rattle.std.specs.Prelude.{◌≡◌, ◌++◌, ℕ, IfOk, IsTrue, OnOk, Contains, List, map};
 ghost use Rattle.fx_chain.specs.Operation.{Asked};
+ghost use Rattle.check_outcomes.specs.Tellings.{file_numbers};
 ghost use Rattle.check_outcomes.specs.Views.{told_state_of, view_of_state};
 
 use crate::parts::PartNumbers;
@@ -12,6 +13,7 @@ use fx_chain::Completion;
 use fx_order::Access;
 use indexmap::IndexSet;
 use std::alloc::Global;
+use std::hash::{FoldHasher, Hasher};
 
 /// An access of a chain, by the chain's number from 0, in a state, by the state's number.
 #[derive(Clone, Copy, Debug)]
@@ -28,7 +30,7 @@ pub struct FoundStep {
 /// asked for. Each is a hint, and nothing is proved of it.
 #[derive(Debug, Drop)]
 pub struct FoundStates {
-    /// What memory is from.
+    /// The allocator.
     pub alloc: Global,
     /// The parts of the submission.
     pub numbers: PartNumbers,
@@ -42,15 +44,17 @@ pub struct FoundStates {
     pub answers: Vec<Completion>,
     /// The step that gave each answer; `None` where no access did.
     pub by: Vec<Option<FoundStep>>,
-    /// Whether all were met, each access of each state followed.
+    /// True if all were met, each access of each state followed.
     pub is_whole: bool,
 }
 
-/// Appends the numbers of the file at a slot, or 0 for none. Nothing is promised of it.
+/// Appends the numbers of the file at a slot, or 0 for none: each new file has other ones.
 ///
 /// # Errors
 /// `NoMemory` if an allocation fails.
-pub fn push_file(key: &mut Vec<u32>, file: &Option<Closed>) -> Result<(), NoMemory> {
+pub fn push_file(key: &mut Vec<u32>, file: &Option<Closed>) -> Result<(), NoMemory>
+    ensures { OnOk result (key.new.items ≡ key.old.items ++ file_numbers file.now) }
+{
     let Some(file) = file else {
         key.push(0)?;
         return Ok(());
@@ -72,32 +76,19 @@ fn number_of(n: usize) -> u32 {
     n.min(u32::MAX as usize) as u32
 }
 
-// Returns a number and one more as one number. Which number it is is the FNV-1a hash's choice.
-fn mixed(hash: u64, n: u64) -> u64 {
-    (hash ^ n).wrapping_mul(0x100_0000_01b3)
-}
-
-// Returns some answers as one number.
-fn hash_of(hash: u64, answers: &[Completion]) -> u64 {
-    let mut hash = mixed(hash, answers.len() as u64);
-    for c in answers {
-        hash = mixed(hash, u64::from(c.res < 0));
-        hash = mixed(hash, u64::from(c.res.unsigned_abs()));
-        hash = mixed(hash, c.got.len() as u64);
-        for byte in &c.got {
-            hash = mixed(hash, *byte as u64);
+// Appends the answers as two numbers, and the removed files. If the two numbers of different answers are the same by chance, one
+// of two states is left out, and then it is seen that the list isn't whole.
+fn push_telling(key: &mut Vec<u32>, telling: &WayReport) -> Result<(), NoMemory> {
+    let mut hasher = FoldHasher::default();
+    for own in &telling.answers {
+        hasher.write_usize(own.len());
+        for c in own {
+            hasher.write_i32(c.res);
+            hasher.write_usize(c.got.len());
+            hasher.write(&c.got);
         }
     }
-    hash
-}
-
-// Adds what was told at the end, the answers as two numbers: states that only their answers tell apart are taken for one where
-// these agree by chance, and then it is seen that the list isn't whole.
-fn push_telling(key: &mut Vec<u32>, telling: &WayReport) -> Result<(), NoMemory> {
-    let mut hash = 0xcbf2_9ce4_8422_2325;
-    for own in &telling.answers {
-        hash = hash_of(hash, own);
-    }
+    let hash = hasher.finish();
     key.push((hash >> 32) as u32)?;
     key.push((hash % (1 << 32)) as u32)?;
     for file in &telling.removed {

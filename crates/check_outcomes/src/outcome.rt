@@ -1,21 +1,19 @@
 //! The answers that a request of a submission can give, each with an order.
 ghost use Rattle.std.specs.Prelude.{◌≡◌, ◌+◌, ◌<◌, ◌≤◌, ◌^◌, ℕ};
-ghost use Rattle.std.specs.Prelude.{All, Contains, IfOk, IfSome, IsTrue, length};
+ghost use Rattle.std.specs.Prelude.{All, Contains, IfOk, IfSome, IsTrue, Some, length};
 ghost use Rattle.fx_base.specs.Catalogue.{IsCatalogue};
 ghost use Rattle.fx_chain.specs.Accepted.{IsAccepted};
 ghost use Rattle.fx_chain.specs.Completed.{all_completed, completed_of};
 ghost use Rattle.fx_chain.specs.Operation.{all_asked};
 ghost use Rattle.fx_order.specs.Slots.{ring_of_slots};
 ghost use Rattle.fx_plain.specs.declared.table.TheConstants.{MOST_SLOTS};
-ghost use Rattle.check_outcomes.specs.Listed.{IsAnswerIn};
+ghost use Rattle.check_outcomes.specs.Listed.{IsAnswerIn, OfEach};
 ghost use Rattle.check_outcomes.specs.Outcomes.{HasEachAnswer, IsAnswer};
 
 use crate::closed::{Claimed, are_all_states};
-use crate::confirm::{answer_at, confirm};
 use crate::explore::explore;
 use crate::found::{FoundStates, FoundStep};
-use crate::player::play_to;
-use crate::setting::SearchSetting;
+use crate::possible_report::confirmed;
 use crate::submission::PlayedSubmission;
 use check_search::Limits;
 use fx_base::{Catalogue, NoMemory};
@@ -23,7 +21,7 @@ use fx_chain::{Completion, Place, Request, cut};
 use fx_order::{ChainAccess, Slots};
 use std::alloc::Global;
 
-/// An answer of a request, an order of the submission's accesses that gives it, and the slots that this order leaves.
+/// An answer of a request, an order of the submission's accesses that yields it, and the slots that this order leaves.
 #[derive(Debug, Drop)]
 pub struct PossibleAnswer {
     /// The answer.
@@ -43,36 +41,22 @@ pub struct PossibleAnswers {
     pub are_all: bool,
 }
 
-/// A question: which answers a request of a submission can give.
-#[derive(Drop)]
-pub struct RequestQuestion<'a> {
-    /// The submission's requests.
-    pub requests: &'a [Request],
-    /// The place of the request.
-    pub place: Place,
-    /// The limits of the search. A state is the files at the slots and the progress of each chain.
-    pub limits: Limits,
-}
-
-// Returns what is answered at a place, once more.
-fn answer_of(
-    alloc: Global,
-    completions: &[Completion],
-    place: Place,
-) -> Result<Option<Completion>, NoMemory>
-    ensures inside { IfOk result (λ c. IfSome c (λ c.
-        Contains (all_completed completions.now) (completed_of c))) }
-    ensures there { IfOk result (λ c. IfSome c (λ c. c.place ≡ place)) }
+// Returns what is answered at a place.
+fn answer_at(completions: &[Completion], place: Place) -> Option<&Completion>
+    ensures inside { IfSome result (λ c.
+        Contains (all_completed completions.now) (completed_of c.now)) }
+    ensures there { IfSome result (λ c. c.now.place ≡ place) }
 {
-    let Some(c) = answer_at(completions, place) else {
-        return Ok(None);
-    };
-    let copy = c.copy(alloc)?;
-    Ok(Some(copy))
+    for c in completions {
+        if c.place == place {
+            return Some(c);
+        }
+    }
+    None
 }
 
-// Returns what is answered at a place by an order that begins with the steps up to this one, if that is confirmed.
-fn confirmed(
+// Returns the answer at a place by an order that begins with the steps up to this one, if it is confirmed.
+fn confirmed_answer(
     submission: &PlayedSubmission<'_>,
     slots: &Slots,
     found: &FoundStates,
@@ -82,17 +66,17 @@ fn confirmed(
     ensures { IfOk result (λ answer.
         IfSome answer (IsAnswerIn submission.now slots.now place)) }
 {
-    let play = play_to(submission, slots, found, by)?;
-    let Some(left) = confirm(submission, slots, &play)? else {
+    let Some(possible) = confirmed(submission, slots, found, by)? else {
         return Ok(None);
     };
-    let Some(completion) = answer_of(submission.setting.alloc, &play.completions, place)? else {
+    let Some(c) = answer_at(&possible.report.completions, place) else {
         return Ok(None);
     };
+    let completion = c.copy(submission.alloc)?;
     Ok(Some(PossibleAnswer {
         completion,
-        order: play.order,
-        slots: left,
+        order: possible.order,
+        slots: possible.slots,
     }))
 }
 
@@ -106,13 +90,37 @@ fn all_confirmed(
     ensures { IfOk result (λ answers.
         All (IsAnswerIn submission.now slots.now place) answers.items) }
 {
-    let mut answers = Vec::new(submission.setting.alloc);
+    let mut answers = Vec::new(submission.alloc);
     for by in &found.by {
-        if let Some(answer) = confirmed(submission, slots, found, place, *by)? {
+        if let Some(answer) = confirmed_answer(submission, slots, found, place, *by)? {
             answers.push(answer)?;
         }
     }
     Ok(answers)
+}
+
+// Returns the answers at the place that the submission asks for.
+fn answers_of(
+    submission: &PlayedSubmission<'_>,
+    slots: &Slots,
+    place: Place,
+    limits: Limits,
+) -> Result<PossibleAnswers, NoMemory>
+    requires { submission.now.asked ≡ Some place }
+    ensures each { IfOk result (λ found.
+        All (IsAnswerIn submission.now slots.now place) found.answers.items) }
+    ensures all { IfOk result (λ found. IsTrue found.are_all → OfEach submission.now slots.now
+        (λ old requests. HasEachAnswer old requests place found.answers.items)) }
+{
+    let found = explore(submission, slots, limits)?;
+    let answers = all_confirmed(submission, slots, &found, place)?;
+    let claimed = Claimed {
+        submission,
+        found: &found,
+        answers: &answers,
+    };
+    let are_all = are_all_states(&claimed, slots)?;
+    Ok(PossibleAnswers { answers, are_all })
 }
 
 /// Returns answers that the request at a place of the submission can give if no allocation fails, starting from `slots` after
@@ -127,40 +135,31 @@ pub fn may_answer(
     catalogue: &Catalogue,
     slots: &Slots,
     submissions: u32,
-    question: &RequestQuestion<'_>,
+    requests: &[Request],
+    place: Place,
+    limits: Limits,
 ) -> Result<PossibleAnswers, NoMemory>
     requires catalogue { IsCatalogue catalogue.now }
-    requires accepted { IsAccepted (all_asked question.now.requests.now) }
+    requires accepted { IsAccepted (all_asked requests.now) }
     requires few_slots { length slots.now.at.items ≤ MOST_SLOTS }
     requires few { submissions + 1 < 2 ^ 32 }
     ensures each { IfOk result (λ found. (registrations : ℕ) → All (IsAnswer
         (ring_of_slots catalogue.now slots.now submissions registrations)
-        (all_asked question.now.requests.now) question.now.place) found.answers.items) }
+        (all_asked requests.now) place) found.answers.items) }
     ensures all { IfOk result (λ found. IsTrue found.are_all → (registrations : ℕ) → HasEachAnswer
         (ring_of_slots catalogue.now slots.now submissions registrations)
-        (all_asked question.now.requests.now) question.now.place found.answers.items) }
+        (all_asked requests.now) place found.answers.items) }
 {
-    let chains = cut(alloc, question.requests)?;
-    let place = question.place;
+    let chains = cut(alloc, requests)?;
     let submission = PlayedSubmission {
-        setting: SearchSetting {
-            alloc,
-            catalogue,
-            size: slots.at.len() as u32,
-        },
+        alloc,
+        catalogue,
+        size: slots.at.len() as u32,
         number: submissions + 1,
-        requests: question.requests,
+        requests,
         chains: &chains,
         tells: false,
         asked: Some(place),
     };
-    let found = explore(&submission, slots, question.limits)?;
-    let answers = all_confirmed(&submission, slots, &found, place)?;
-    let claimed = Claimed {
-        submission: &submission,
-        found: &found,
-        answers: &answers,
-    };
-    let are_all = are_all_states(&claimed, slots)?;
-    Ok(PossibleAnswers { answers, are_all })
+    answers_of(&submission, slots, place, limits)
 }

@@ -1,4 +1,4 @@
-//! The parts of a submission: chains that may come to one slot are in one part. The parts are played one after another, so that
+//! The parts of a submission: chains that may access one slot are in one part. The parts are played one after another, so that
 //! the states of one aren't met again beside each state of another.
 ghost use Rattle.std.specs.Prelude.{◌≡◌, ◌<◌, ◌≤◌, ℕ, All, IsTrue, length, slice_index_or};
 ghost use Rattle.fx_chain.specs.Operation.{asked_of};
@@ -51,12 +51,9 @@ fn stay_in(numbers: &PartNumbers, slots: &Slots, part: usize, requests: &[Reques
     ensures { IsTrue result → All (λ r. StaysIn (table_of_slots slots.now)
         (parts_by_numbers numbers.now).of_slot part (asked_of r).operation) requests.now }
 {
-    for request in requests {
-        if !stays_in(numbers, slots, part, request) {
-            return false;
-        }
-    }
-    true
+    requests
+        .iter()
+        .all(|request| stays_in(numbers, slots, part, request))
 }
 
 // Checks whether a chain of a submission stays in its part.
@@ -70,10 +67,7 @@ fn is_in_part(
     requires many { length slots.now.at.items ≤ length numbers.now.of_slot.items }
     ensures { IsTrue result → IsInPart submission.now slots.now numbers.now i }
 {
-    match numbers.of_chain.get(i) {
-        Some(part) => stay_in(numbers, slots, *part, submission.members(i)),
-        None => false,
-    }
+    stay_in(numbers, slots, numbers.part_of(i), submission.members(i))
 }
 
 /// Checks whether each chain of a submission at these slots stays in its part.
@@ -95,7 +89,7 @@ pub(crate) fn are_parts(
     true
 }
 
-// The part of a slot that no request was seen to come to.
+// The part of a slot that no request was seen to access.
 const NO_PART: usize = usize::MAX;
 
 impl PartNumbers {
@@ -103,10 +97,7 @@ impl PartNumbers {
     pub(crate) fn part_of(&self, i: usize) -> usize
         ensures { result ≡ slice_index_or self.now.of_chain.items i 0 }
     {
-        match self.of_chain.get(i) {
-            Some(part) => *part,
-            None => 0,
-        }
+        self.of_chain.get(i).copied().unwrap_or(0)
     }
 
     // Makes one part of two.
@@ -123,7 +114,7 @@ impl PartNumbers {
         }
     }
 
-    // Notes that a chain may come to a slot.
+    // Notes that a chain may access a slot.
     fn add(&mut self, i: usize, slot: usize) {
         let (Some(own), Some(other)) = (self.of_chain.get(i), self.of_slot.get(slot)) else {
             return;
@@ -142,7 +133,7 @@ pub(crate) fn part_numbers(
     submission: &PlayedSubmission<'_>,
     slots: &Slots,
 ) -> Result<PartNumbers, NoMemory> {
-    let alloc = submission.setting.alloc;
+    let alloc = submission.alloc;
     let mut numbers = PartNumbers {
         of_chain: (0..submission.chains.len()).collect(alloc)?,
         of_slot: vec![in alloc; NO_PART; slots.at.len()]?,

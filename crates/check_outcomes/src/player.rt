@@ -1,8 +1,8 @@
-//! A play of a submission, access by access. Nothing is proved of it: what it comes to is confirmed (`crate::confirm`).
+//! A play of a submission, access by access. Nothing is proved of it: its results are confirmed (`crate::confirm`).
 
-use crate::explore::{accesses_of, start};
+use crate::explore::start;
 use crate::found::{FoundStates, FoundStep};
-use crate::state::{PlayState, next_state};
+use crate::state::{PlayState, accesses_of, next_state};
 use crate::submission::PlayedSubmission;
 use fx_base::{Closed, NoMemory};
 use fx_chain::Completion;
@@ -11,12 +11,12 @@ use fx_order::{Access, ChainAccess, Slots};
 // More accesses than a chain may make.
 const MOST_ACCESSES: usize = 1 << 16;
 
-/// What an order of a submission comes to.
+/// An order of a submission, and its results.
 #[derive(Debug, Drop)]
 pub(crate) struct OrderPlay {
     /// The order.
     pub(crate) order: Vec<ChainAccess>,
-    /// What the requests answer, in order of place.
+    /// The completions of the requests, in order of place.
     pub(crate) completions: Vec<Completion>,
     /// The files that are closed, in order of mark.
     pub(crate) closes: Vec<Closed>,
@@ -28,7 +28,7 @@ fn steps_to(
     found: &FoundStates,
     last: FoundStep,
 ) -> Result<Vec<FoundStep>, NoMemory> {
-    let mut steps = Vec::new(submission.setting.alloc);
+    let mut steps = Vec::new(submission.alloc);
     let mut step = last;
     for _ in 0..found.states.len() {
         steps.push(step)?;
@@ -58,7 +58,7 @@ impl Player {
         chain: usize,
         access: Access,
     ) -> Result<bool, NoMemory> {
-        let mut told = Vec::new(submission.setting.alloc);
+        let mut told = Vec::new(submission.alloc);
         let Some(next) = next_state(submission, &self.state, chain, &access, &mut told)? else {
             return Ok(false);
         };
@@ -82,26 +82,16 @@ impl Player {
         submission: &PlayedSubmission<'_>,
         chain: usize,
     ) -> Result<bool, NoMemory> {
-        for access in accesses_of(submission, &self.state, chain)? {
+        let Some(accesses) = accesses_of(submission, &self.state, chain)? else {
+            return Ok(false);
+        };
+        for access in accesses {
             if self.play(submission, chain, access)? {
                 return Ok(true);
             }
         }
         Ok(false)
     }
-}
-
-// Returns the play of a submission at its start.
-fn begin(submission: &PlayedSubmission<'_>, slots: &Slots) -> Result<Player, NoMemory> {
-    let alloc = submission.setting.alloc;
-    let mut told = Vec::new(alloc);
-    let state = start(submission, slots, &mut told)?;
-    Ok(Player {
-        state,
-        order: Vec::new(alloc),
-        told,
-        closes: Vec::new(alloc),
-    })
 }
 
 /// Returns a play of a submission at these slots that begins with the steps up to this one, and goes on to the end of each chain, one
@@ -112,8 +102,15 @@ pub(crate) fn play_to(
     found: &FoundStates,
     last: Option<FoundStep>,
 ) -> Result<OrderPlay, NoMemory> {
-    let alloc = submission.setting.alloc;
-    let mut player = begin(submission, slots)?;
+    let alloc = submission.alloc;
+    let mut told = Vec::new(alloc);
+    let state = start(submission, slots, &mut told)?;
+    let mut player = Player {
+        state,
+        order: Vec::new(alloc),
+        told,
+        closes: Vec::new(alloc),
+    };
     if let Some(last) = last {
         for step in steps_to(submission, found, last)? {
             player.play(submission, step.chain, step.access)?;
@@ -126,20 +123,14 @@ pub(crate) fn play_to(
             }
         }
     }
-    let Player {
-        state: _,
-        order,
-        told,
-        mut closes,
-    } = player;
-    closes.sort_unstable_by_key(|file| file.mark);
+    player.closes.sort_unstable_by_key(|file| file.mark);
     let mut completions = Vec::new(alloc);
-    for mut own in told {
+    for mut own in player.told {
         completions.append(&mut own)?;
     }
     Ok(OrderPlay {
-        order,
+        order: player.order,
         completions,
-        closes,
+        closes: player.closes,
     })
 }

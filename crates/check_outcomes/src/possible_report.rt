@@ -7,8 +7,8 @@ ghost use Rattle.fx_chain.specs.Completed.{all_completed};
 ghost use Rattle.fx_chain.specs.Operation.{all_asked};
 ghost use Rattle.fx_order.specs.Slots.{ring_of_slots};
 ghost use Rattle.fx_plain.specs.declared.table.TheConstants.{MOST_SLOTS};
-ghost use Rattle.check_outcomes.specs.Listed.{AreAllReportsBy, IsPossibleIn, IsToldAt, IsToldOf};
-ghost use Rattle.check_outcomes.specs.Outcomes.{HasEachReport, IsPossible};
+ghost use Rattle.check_outcomes.specs.Listed.{IsPossibleIn, IsReportOf, IsToldAt, IsToldOf, OfEach};
+ghost use Rattle.check_outcomes.specs.Outcomes.{HasEachEnd, HasEachReport, IsPossible};
 ghost use Rattle.check_outcomes.specs.Tellings.{all_told, answers_of};
 
 use crate::closed::{Claimed, are_all_states};
@@ -16,7 +16,6 @@ use crate::confirm::confirm;
 use crate::explore::explore;
 use crate::found::{FoundStates, FoundStep};
 use crate::player::play_to;
-use crate::setting::SearchSetting;
 use crate::state::PlayState;
 use crate::submission::PlayedSubmission;
 use crate::telling::are_same as are_same_answers;
@@ -27,7 +26,7 @@ use fx_order::{ChainAccess, Slots};
 use fx_ring::Report;
 use std::alloc::Global;
 
-/// A report that a submission can produce, an order of its accesses that gives it, and the slots that this order leaves.
+/// A report that a submission can produce, an order of its accesses that yields it, and the slots that this order leaves.
 #[derive(Debug, Drop)]
 pub struct PossibleReport {
     /// The report.
@@ -73,8 +72,8 @@ fn closes_of(
     Ok(Some(list))
 }
 
-// Returns the report of an order that begins with the steps up to this one, if it is confirmed.
-fn confirmed(
+/// Returns the report of an order that begins with the steps up to this one, if it is confirmed.
+pub(crate) fn confirmed(
     submission: &PlayedSubmission<'_>,
     slots: &Slots,
     found: &FoundStates,
@@ -82,12 +81,11 @@ fn confirmed(
 ) -> Result<Option<PossibleReport>, NoMemory>
     ensures { IfOk result (λ possible. IfSome possible (IsPossibleIn submission.now slots.now)) }
 {
-    let setting = &submission.setting;
     let play = play_to(submission, slots, found, by)?;
     let Some(left) = confirm(submission, slots, &play)? else {
         return Ok(None);
     };
-    let Some(closes) = closes_of(setting.alloc, setting.catalogue, &play.closes)? else {
+    let Some(closes) = closes_of(submission.alloc, submission.catalogue, &play.closes)? else {
         return Ok(None);
     };
     Ok(Some(PossibleReport {
@@ -109,7 +107,7 @@ fn all_confirmed(
 ) -> Result<Vec<PossibleReport>, NoMemory>
     ensures { IfOk result (λ reports. All (IsPossibleIn submission.now slots.now) reports.items) }
 {
-    let mut reports = Vec::new(submission.setting.alloc);
+    let mut reports = Vec::new(submission.alloc);
     let steps = found.last_steps(submission)?;
     for by in &steps {
         if let Some(report) = confirmed(submission, slots, found, *by)? {
@@ -119,7 +117,7 @@ fn all_confirmed(
     Ok(reports)
 }
 
-// Checks whether these are the answers of the chains, one chain behind another.
+// Checks whether these are the answers of the chains, one chain after another.
 fn are_told(completions: &[Completion], answers: &[Vec<Completion>]) -> bool
     ensures { IsTrue result → all_completed completions.now ≡ all_told (answers_of answers.now) }
 {
@@ -132,23 +130,29 @@ fn are_told(completions: &[Completion], answers: &[Vec<Completion>]) -> bool
     are_same_answers(&completions[..own.len()], own) && are_told(&completions[own.len()..], others)
 }
 
-// Checks whether a report tells of what was told on the way to a state, and leaves its ring.
-fn tells_of(submission: &PlayedSubmission<'_>, state: &PlayState, possible: &PossibleReport) -> bool
-    ensures { IsTrue result → IsToldOf submission.now state.now possible.now }
+// Checks whether a report has the answers and removed files on the way to a state.
+fn is_report_of(submission: &PlayedSubmission<'_>, state: &PlayState, report: &Report) -> bool
+    ensures { IsTrue result → IsReportOf submission.now state.now report.now }
 {
     let telling = &state.telling;
-    let report = &possible.report;
-    if report.submission != submission.number {
-        return false;
-    }
-    if telling.answers.len() != submission.chains.len() || !possible.slots.is_same(&state.slots) {
+    if report.submission != submission.number || telling.answers.len() != submission.chains.len() {
         return false;
     }
     are_told(&report.completions, &telling.answers)
         && report.closes.files() == telling.removed.as_slice()
 }
 
-// Checks whether the report with this number tells of a state, if no chain has an access left there.
+// Checks whether a report leaves the ring of a state, and has its answers and removed files, if the submission keeps these.
+fn tells_of(submission: &PlayedSubmission<'_>, state: &PlayState, possible: &PossibleReport) -> bool
+    ensures { IsTrue result → IsToldOf submission.now state.now possible.now }
+{
+    if !possible.slots.is_same(&state.slots) {
+        return false;
+    }
+    !submission.tells || is_report_of(submission, state, &possible.report)
+}
+
+// Checks whether the report with this number is that of a state, if no chain has an access left there.
 fn is_told(
     submission: &PlayedSubmission<'_>,
     state: &PlayState,
@@ -184,24 +188,42 @@ fn are_all_told(
     true
 }
 
-// Checks whether the states that a search met are all of the submission, and the reports are those of them.
-fn are_all_reports(
-    claimed: &Claimed<'_>,
+// Returns the reports of a submission at these slots.
+fn reports_of(
+    submission: &PlayedSubmission<'_>,
     slots: &Slots,
-    reports: &[PossibleReport],
-) -> Result<bool, NoMemory>
-    ensures { IfOk result (λ yes. IsTrue yes
-        → AreAllReportsBy claimed.now slots.now reports.now) }
+    limits: Limits,
+) -> Result<PossibleReports, NoMemory>
+    ensures each { IfOk result (λ found.
+        All (IsPossibleIn submission.now slots.now) found.reports.items) }
+    ensures ends { IfOk result (λ found. IsTrue found.are_all → OfEach submission.now slots.now
+        (λ old requests. HasEachEnd old requests found.reports.items)) }
+    ensures all { IfOk result (λ found. IsTrue found.are_all → IsTrue submission.now.tells
+        → OfEach submission.now slots.now
+        (λ old requests. HasEachReport old requests found.reports.items)) }
 {
-    if !are_all_told(claimed.submission, &claimed.found.states, reports) {
-        return Ok(false);
-    }
-    are_all_states(claimed, slots)
+    let found = explore(submission, slots, limits)?;
+    let reports = all_confirmed(submission, slots, &found)?;
+    let claimed = Claimed {
+        submission,
+        found: &found,
+        answers: &[],
+    };
+    let are_told = are_all_told(submission, &found.states, &reports);
+    let are_all = are_told && are_all_states(&claimed, slots)?;
+    let states = found.states.len();
+    Ok(PossibleReports {
+        reports,
+        are_all,
+        states,
+    })
 }
 
 /// Returns reports that the submission can produce if no allocation fails, starting from `slots` after `submissions` accepted
-/// submissions. Each has an order of accesses that yields it. If `are_all` is true, the submission can produce no other report.
-/// If it is false, that was not shown within the limits. No request may have a fault ([`fx_chain::check`]).
+/// submissions. Each has an order of accesses that yields it. If `are_all` is true, the submission can leave no other slots than
+/// those of the reports. If `tells` is true as well, it can produce no other report; else reports that leave the same slots
+/// count as one. If `are_all` is false, that was not shown within the limits. No request may have a fault
+/// ([`fx_chain::check`]).
 ///
 /// # Errors
 /// `NoMemory` if an allocation fails.
@@ -211,6 +233,7 @@ pub fn may_report(
     slots: &Slots,
     submissions: u32,
     requests: &[Request],
+    tells: bool,
     limits: Limits,
 ) -> Result<PossibleReports, NoMemory>
     requires catalogue { IsCatalogue catalogue.now }
@@ -220,35 +243,24 @@ pub fn may_report(
     ensures each { IfOk result (λ found. (registrations : ℕ) → All (IsPossible
         (ring_of_slots catalogue.now slots.now submissions registrations)
         (all_asked requests.now)) found.reports.items) }
-    ensures all { IfOk result (λ found. IsTrue found.are_all → (registrations : ℕ) → HasEachReport
+    ensures ends { IfOk result (λ found. IsTrue found.are_all → (registrations : ℕ) → HasEachEnd
+        (ring_of_slots catalogue.now slots.now submissions registrations)
+        (all_asked requests.now) found.reports.items) }
+    ensures all { IfOk result (λ found. IsTrue found.are_all → IsTrue tells
+        → (registrations : ℕ) → HasEachReport
         (ring_of_slots catalogue.now slots.now submissions registrations)
         (all_asked requests.now) found.reports.items) }
 {
     let chains = cut(alloc, requests)?;
     let submission = PlayedSubmission {
-        setting: SearchSetting {
-            alloc,
-            catalogue,
-            size: slots.at.len() as u32,
-        },
+        alloc,
+        catalogue,
+        size: slots.at.len() as u32,
         number: submissions + 1,
         requests,
         chains: &chains,
-        tells: true,
+        tells,
         asked: None,
     };
-    let found = explore(&submission, slots, limits)?;
-    let reports = all_confirmed(&submission, slots, &found)?;
-    let claimed = Claimed {
-        submission: &submission,
-        found: &found,
-        answers: &[],
-    };
-    let are_all = are_all_reports(&claimed, slots, &reports)?;
-    let states = found.states.len();
-    Ok(PossibleReports {
-        reports,
-        are_all,
-        states,
-    })
+    reports_of(&submission, slots, limits)
 }

@@ -1,22 +1,20 @@
 //! A state of a submission that is played by an order, and where an access leads from it.
 ghost use Rattle.std.specs.Prelude.{◌≡◌, ◌<◌, []};
-ghost use Rattle.std.specs.Prelude.{IfOk, IfSome, IsTrue, length, slice_index_or, slice_set};
+ghost use Rattle.std.specs.Prelude.{IfOk, IfSome, IsTrue, length, slice_index_or};
 ghost use Rattle.fx_chain.specs.Completed.{all_completed};
 ghost use Rattle.fx_chain.specs.Operation.{asked_of};
 ghost use Rattle.std.specs.List.{list_all};
-ghost use Rattle.fx_order.specs.Access.{Permits, table_with};
 ghost use Rattle.fx_order.specs.Slots.{table_of_slots};
 ghost use Rattle.check_outcomes.specs.Idle.{is_read};
 ghost use Rattle.check_outcomes.specs.Tellings.{IsToldOn, answers_of};
-ghost use Rattle.check_outcomes.specs.Views.{IsOverIn, IsStepTo, has_reads_at, is_idle_at, not_begun};
+ghost use Rattle.check_outcomes.specs.Views.{HasEachNextIn, IsOverIn, IsStepTo, has_reads_at, is_idle_at, not_begun};
 
-use crate::chain::{Progress, left, step};
+use crate::chain::{Progress, chain_accesses, left, step};
 use crate::submission::PlayedSubmission;
 use crate::telling::{WayReport, are_all_same};
 use fx_base::NoMemory;
 use fx_chain::{Completion, Op, Request};
 use fx_order::{Access, Slots};
-use std::alloc::Global;
 
 /// The files at the slots, and how far each chain has come, the first one first.
 #[derive(Debug, Drop)]
@@ -25,7 +23,7 @@ pub struct PlayState {
     pub slots: Slots,
     /// The chains.
     pub chains: Vec<Progress>,
-    /// What was told on the way, where the submission keeps it.
+    /// The answers and removed files on the way, if the submission keeps them.
     pub telling: WayReport,
 }
 
@@ -33,12 +31,9 @@ pub struct PlayState {
 fn are_reads(requests: &[Request]) -> bool
     ensures { result ≡ list_all (λ request. is_read (asked_of request).operation) requests.now }
 {
-    for request in requests {
-        if !matches!(request.op, Op::Read { .. }) {
-            return false;
-        }
-    }
-    true
+    requests
+        .iter()
+        .all(|request| matches!(request.op, Op::Read { .. }))
 }
 
 impl PlayState {
@@ -63,10 +58,8 @@ impl PlayState {
     pub(crate) fn progress(&self, i: usize) -> Progress
         ensures { result ≡ slice_index_or self.now.chains.items i not_begun }
     {
-        match self.chains.get(i) {
-            Some(progress) => *progress,
-            None => Progress { done: 0, made: 0 },
-        }
+        let not_begun = Progress { done: 0, made: 0 };
+        self.chains.get(i).copied().unwrap_or(not_begun)
     }
 
     /// Checks whether a chain is idle, by its number from 0: no request of it is left, or nothing but reads, and nobody asks what these
@@ -107,34 +100,8 @@ impl PlayState {
     }
 }
 
-// Returns the table behind an access.
-fn slots_with(alloc: Global, slots: &Slots, access: &Access) -> Result<Slots, NoMemory>
-    requires { Permits (table_of_slots slots.now) access.now }
-    ensures { IfOk result (λ after.
-        table_of_slots after ≡ table_with (table_of_slots slots.now) access.now) }
-{
-    let mut after = slots.copy(alloc)?;
-    after.make(access);
-    Ok(after)
-}
-
-// Returns how far the chains have come, where one of them has come further.
-fn chains_with(
-    alloc: Global,
-    chains: &[Progress],
-    i: usize,
-    after: Progress,
-) -> Result<Vec<Progress>, NoMemory>
-    requires { i < length chains.now }
-    ensures { IfOk result (λ all. all.items ≡ slice_set chains.now i after) }
-{
-    let mut all = Vec::from_slice(alloc, chains)?;
-    all[i] = after;
-    Ok(all)
-}
-
-// Returns what was told behind an access of a chain, by the chain's number from 0, that answers this: nothing, where the submission
-// doesn't keep it.
+// Returns the answers and removed files after an access of a chain, by the chain's number from 0, that answers this: none, if the
+// submission doesn't keep them.
 fn telling_after(
     submission: &PlayedSubmission<'_>,
     telling: &WayReport,
@@ -145,7 +112,7 @@ fn telling_after(
     ensures { IfOk result (λ after. IfSome after (λ after. IsTrue submission.now.tells
         → IsToldOn telling.now i access.now (all_completed own.now) after)) }
 {
-    let alloc = submission.setting.alloc;
+    let alloc = submission.alloc;
     if !submission.tells {
         return Ok(Some(WayReport::none(alloc)));
     }
@@ -171,8 +138,8 @@ pub(crate) fn next_state(
     ensures told { IfOk result (λ next. IfSome next (λ next. IsTrue submission.now.tells
         → IsToldOn state.now.telling i access.now (all_completed told.new.items) next.telling)) }
 {
-    let alloc = submission.setting.alloc;
-    if state.slots.at.len() != submission.setting.size as usize || !state.slots.permits(access) {
+    let alloc = submission.alloc;
+    if state.slots.at.len() != submission.size as usize || !state.slots.permits(access) {
         return Ok(None);
     }
     let Some(progress) = state.chains.get(i) else {
@@ -183,9 +150,11 @@ pub(crate) fn next_state(
     }
     let own = submission.members(i);
     let place = submission.first(i);
-    let after = step(&submission.setting, place, own, *progress, *access, told)?;
-    let chains = chains_with(alloc, &state.chains, i, after)?;
-    let slots = slots_with(alloc, &state.slots, access)?;
+    let after = step(submission, place, own, *progress, *access, told)?;
+    let mut chains = Vec::from_slice(alloc, &state.chains)?;
+    chains[i] = after;
+    let mut slots = state.slots.copy(alloc)?;
+    slots.make(access);
     let Some(telling) = telling_after(submission, &state.telling, i, told, access)? else {
         return Ok(None);
     };
@@ -194,4 +163,21 @@ pub(crate) fn next_state(
         chains,
         telling,
     }))
+}
+
+/// Returns each access that a chain may make next in a state and the table permits, by the chain's number from 0, and perhaps
+/// others; `None` where the state isn't one of the submission.
+pub(crate) fn accesses_of(
+    submission: &PlayedSubmission<'_>,
+    state: &PlayState,
+    i: usize,
+) -> Result<Option<Vec<Access>>, NoMemory>
+    ensures { IfOk result (λ accesses. IfSome accesses (HasEachNextIn submission.now state.now i)) }
+{
+    if state.slots.at.len() != submission.size as usize || i >= submission.chains.len() {
+        return Ok(None);
+    }
+    let (first, own) = (submission.first(i), submission.members(i));
+    let accesses = chain_accesses(submission, &state.slots, first, own, state.progress(i))?;
+    Ok(Some(accesses))
 }

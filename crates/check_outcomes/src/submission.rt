@@ -9,27 +9,31 @@ ghost use Rattle.fx_plain.specs.declared.table.TheConstants.{MOST_SLOTS};
 ghost use Rattle.check_outcomes.specs.Stands.{asks_from, moved};
 ghost use Rattle.fx_table.specs.declared.limits.TheConstants.{MAX_CHAINS};
 
-use crate::setting::SearchSetting;
+use fx_base::Catalogue;
 use fx_chain::{Chain, MOST_MEMBERS, Place, Request};
 use fx_order::members;
+use std::alloc::Global;
 
-/// A submission that is played: its number, its requests, the chains into which they were cut, whether its states keep what
-/// was told on the way to them, and the place of the request whose answers are asked for, if there is one.
+/// A submission that is played: its number, its requests, the chains into which they were cut, whether its states keep
+/// the answers and removed files on the way to them, and the place of the request whose answers are asked for, if there is one.
 #[derive(Drop)]
 pub(crate) struct PlayedSubmission<'a> {
-    pub(crate) setting: SearchSetting<'a>,
+    pub(crate) alloc: Global,
+    pub(crate) catalogue: &'a Catalogue,
+    /// The number of slots of the table.
+    pub(crate) size: u32,
     pub(crate) number: u32,
     pub(crate) requests: &'a [Request],
     pub(crate) chains: &'a [Chain],
     pub(crate) tells: bool,
     pub(crate) asked: Option<Place>,
-    pub ghost catalogued: { IsCatalogue setting.catalogue.now },
+    pub ghost catalogued: { IsCatalogue catalogue.now },
     pub ghost accepted: { IsAccepted (all_asked requests.now) },
     pub ghost runs: { map (members_of (all_asked requests.now)) chains.now
         ≡ runs_of (all_asked requests.now) },
     pub ghost within: { All (IsChain (all_asked requests.now)) chains.now },
     pub ghost few_chains: { length chains.now ≤ MAX_CHAINS },
-    pub ghost few_slots: { setting.size ≤ MOST_SLOTS },
+    pub ghost few_slots: { size ≤ MOST_SLOTS },
 }
 
 impl PlayedSubmission<'_> {
@@ -45,7 +49,7 @@ impl PlayedSubmission<'_> {
         }
     }
 
-    /// Checks whether the request that is asked for is one of a chain, by the chain's number from 0, behind so many of its members.
+    /// Checks whether the request that is asked for is one of a chain, by the chain's number from 0, after its first `done` members.
     pub(crate) fn asks_behind(&self, i: usize, done: usize) -> bool
         requires { i < length self.now.chains.now }
         ensures { result

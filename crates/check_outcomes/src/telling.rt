@@ -1,4 +1,4 @@
-//! What was told on the way to a state of a submission.
+//! The answers and removed files on the way to a state of a submission.
 ghost use Rattle.std.specs.Prelude.{◌≡◌, ◌++◌, ◌<◌, IfOk, IsPermutation, IsTrue, length};
 ghost use Rattle.std.specs.Option.{option_to_list};
 ghost use Rattle.fx_chain.specs.Completed.{all_completed};
@@ -67,7 +67,7 @@ fn push_lists(
     push_lists(alloc, all, more)
 }
 
-// Returns the files that were taken behind an access, in order of mark.
+// Returns the files that were taken after an access, in order of mark.
 fn removed_after(
     alloc: Global,
     removed: &[Closed],
@@ -93,7 +93,7 @@ impl WayReport {
         }
     }
 
-    /// Returns what was told behind an access of a chain, by the chain's number from 0, that answers this.
+    /// Returns the same after an access of a chain, by the chain's number from 0, that answers this.
     pub(crate) fn after(
         &self,
         alloc: Global,

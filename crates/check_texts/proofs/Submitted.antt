@@ -1,10 +1,10 @@
 -- What an accepted submission may come to at a ring that is kept as slots.
-use Rattle.check_texts.proofs.Words.{HasEachEnd, HasEachReport, IsAnswer, IsEnd, IsPossible, ring_behind, PossibleEnd, PossibleAnswer, PossibleReport, FileEntry}
+use Rattle.check_texts.proofs.Words.{HasEachEnd, HasEachReport, IsAnswer, IsPossible, IsTrue, ring_behind, PossibleAnswer, PossibleReport, FileEntry}
 use Rattle.check_texts.proofs.Words.{Closed}
 use Rattle.check_texts.proofs.Words.{completed_of, fault_of, Asked, Place, Instruction, SubmitsAll, MOST_SLOTS, closes_text, IsRing}
 use Rattle.check_texts.proofs.Words.{RingContents, RingState, ring_of, Reported, reported, MOST_SUBMISSIONS, Prints, PrintsReport, contains_map}
-use Rattle.check_texts.proofs.Words.{contains_mapped, HasEachNextStage, LeadsRing, MayEnd, MayLeadTo, MaySay, Stage, count_behind, stage_left, stage_reported}
-use Rattle.check_texts.proofs.Words.{IsReportFound, Bool, List, None, Some, [], ap, arith, false, length, map, refl, slice_get}
+use Rattle.check_texts.proofs.Words.{contains_mapped, HasEachNextStage, LeadsRing, MayEnd, MayLeadTo, MaySay, Stage, count_behind, stage_reported}
+use Rattle.check_texts.proofs.Words.{IsReportFound, Bool, List, None, Some, ap, arith, false, length, true, map, refl, slice_get}
 use Rattle.check_texts.proofs.Words.{sym, ℕ, ◌++◌, ◌+◌, ◌<◌, ◌∙◌, ◌≡◌, ◌≤◌, lt-leb, IsPermutation-refl, All, Contains}
 use Rattle.fx_order.specs.declared.access.ChainAccess.{ChainAccess}
 use Rattle.fx_order.specs.declared.slots.Slots.{Slots}
@@ -38,12 +38,6 @@ report_leads {report = report} faultless few may =
     (Some report, prints_report faultless few (report, may.history, refl), record { may = may; printed = refl })
 
 module _ (keeps : Bool) (old : Stage) (asked : List Asked) (faultless : fault_of asked ≡ None) (few : old.ring.submissions < MOST_SUBMISSIONS) where
-  pub end_may_lead : {end : PossibleEnd} → keeps ≡ false → IsEnd old.ring asked end
-      → MayLeadTo keeps old (SubmitsAll asked) (stage_left keeps old end.slots [])
-  end_may_lead silent is = λ ring same.
-      let (left, behind, may) = is.may ring same in
-      (left, report_text ring.catalogue may.report, report_leads faultless (rw (sym same) at few) may.may, rw (silent, behind))
-
   pub possible_may_lead : {possible : PossibleReport} → IsPossible old.ring asked possible
       → MayLeadTo keeps old (SubmitsAll asked) (stage_reported keeps old possible)
   possible_may_lead {possible} is = λ ring same.
@@ -82,17 +76,6 @@ pub no_report : {ring next : RingContents} {asked : List Asked} {line : List ℕ
 no_report {ring} {next} {asked} {line} found prints stays =
     omega (arith, submission_counts ring next asked line prints, history_counts found.may.history, stays)
 
--- where it isn't kept what is printed, each stage that the submission leads to is that of an end
-pub ends_are_all : {keeps : Bool} (old : Stage) {asked : List Asked} (ends : List PossibleEnd) (stages : List Stage) → keeps ≡ false
-    → ((s : Stage) → Contains (map (λ end. stage_left keeps old end.slots []) ends) s → Contains stages s)
-    → count_behind old.ring.submissions (fault_of asked) ≡ old.ring.submissions + 1 → HasEachEnd old.ring asked ends
-    → HasEachNextStage keeps old (SubmitsAll asked) stages
-ends_are_all {keeps} old {asked} ends stages silent inside counted all ring next line same leads =
-    let (report, found) = has_report ring next asked line same counted leads in
-    let (end, there, is) = contains_map (λ (e : PossibleEnd). ring_behind old.ring e.slots) ends (ring_of next)
-    (all ring next same (record { report = report; may = found.may })) in
-    rw (silent, is) (rw silent at (inside _ (contains_mapped (λ (e : PossibleEnd). stage_left keeps old e.slots []) ends end there)))
-
 -- where a report tells of another one, both print the same
 module _ (old : RingState) (asked : List Asked) (is_ring : IsRing old) (accepted : IsAccepted asked) (ring next : RingContents)
     (same : ring_of ring ≡ old) (report : Reported) (may : MayReport ring asked report next)
@@ -120,18 +103,23 @@ module _ (old : RingState) (asked : List Asked) (is_ring : IsRing old) (accepted
   pub texts_same : report_text ring.catalogue report ≡ report_text old.catalogue told
   texts_same = λ i. completion_lines (tells.completions i) ++ closes_text (same i).catalogue (sym closes_same i)
 
--- where it is kept, each stage that the submission leads to is that of a report
+-- each stage that the submission leads to is that of a report; where it isn't kept what is printed, the rings are enough
 pub reports_are_all : (keeps : Bool) (old : Stage) {asked : List Asked} (reports : List PossibleReport) (stages : List Stage) → IsRing old.ring
     → IsAccepted asked → All (IsPossible old.ring asked) reports
     → ((s : Stage) → Contains (map (stage_reported keeps old) reports) s → Contains stages s)
-    → count_behind old.ring.submissions (fault_of asked) ≡ old.ring.submissions + 1 → HasEachReport old.ring asked reports
-    → HasEachNextStage keeps old (SubmitsAll asked) stages
-reports_are_all keeps old {asked} reports stages is_ring accepted each inside counted all ring next line same leads =
+    → count_behind old.ring.submissions (fault_of asked) ≡ old.ring.submissions + 1 → HasEachEnd old.ring asked reports
+    → (IsTrue keeps → HasEachReport old.ring asked reports) → HasEachNextStage keeps old (SubmitsAll asked) stages
+reports_are_all true old {asked} reports stages is_ring accepted each inside counted ends all ring next line same leads =
     let (report, found) = has_report ring next asked line same counted leads in
-    let (possible, there, tells) = all ring next report same found.may in
+    let (possible, there, tells) = all refl ring next report same found.may in
     let is = All-contains (IsPossible old.ring asked) reports possible each there in
     rw (found.printed, texts_same old.ring asked is_ring accepted ring next same report found.may possible is tells, tells.leaves)
-    (inside _ (contains_mapped (stage_reported keeps old) reports possible there))
+    (inside _ (contains_mapped (stage_reported true old) reports possible there))
+reports_are_all false old {asked} reports stages is_ring accepted each inside counted ends all ring next line same leads =
+    let (report, found) = has_report ring next asked line same counted leads in
+    let (possible, there, is) = contains_map (λ (p : PossibleReport). ring_behind old.ring p.slots) reports (ring_of next)
+    (ends ring next report same found.may) in
+    rw is (inside _ (contains_mapped (stage_reported false old) reports possible there))
 
 -- a ring whose slots were copied
 abbrev ring_of_table : List FileEntry → ℕ → ℕ → Table → RingState

@@ -1,6 +1,5 @@
 -- The names that most proofs of this crate use.
-pub use Rattle.check_outcomes.specs.Outcomes.{HasEachEnd, HasEachReport, IsAnswer, IsEnd, IsPossible, ring_behind}
-pub use Rattle.check_outcomes.specs.declared.end.PossibleEnd.{PossibleEnd}
+pub use Rattle.check_outcomes.specs.Outcomes.{HasEachEnd, HasEachReport, IsAnswer, IsPossible, ring_behind}
 pub use Rattle.check_outcomes.specs.declared.outcome.PossibleAnswer.{PossibleAnswer}
 pub use Rattle.check_outcomes.specs.declared.possible_report.PossibleReport.{PossibleReport}
 pub use Rattle.fx_base.specs.Catalogue.{FileEntry}
@@ -32,7 +31,7 @@ pub use Rattle.fx_script.specs.Play.{Prints, PrintsReport}
 pub use Rattle.fx_table.proofs.Members.{contains_map, contains_mapped, contains_none}
 pub use Rattle.check_texts.specs.Rings.{AreStagesFrom, Grows, HasEachFrom, HasEachLast, HasEachNextStage, HasEachSaidFrom, LeadsRing}
 pub use Rattle.check_texts.specs.Rings.{LeadsAll, MayEnd, MayLeadAllTo, MayLeadTo, MaySay, Stage, count_after, count_after_all}
-pub use Rattle.check_texts.specs.Rings.{kept_text, said_in, stage, stage_left, stage_of, stage_reported, stages_of, AreSaidFrom}
+pub use Rattle.check_texts.specs.Rings.{kept_text, said_in, stage, stage_of, stage_reported, stages_of, AreSaidFrom}
 pub use Rattle.check_texts.specs.Rings.{IsAskedIn}
 pub use Rattle.check_texts.specs.Texts.{FoundMemory, IsReportFound, IsTextFound, MayAnswerIn, PrintsAllFound}
 pub use Rattle.check_texts.specs.declared.reached.Reached.{Reached}

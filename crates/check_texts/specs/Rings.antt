@@ -6,7 +6,6 @@ use Rattle.fx_chain.specs.Completed.{Completed, completed_of}
 use Rattle.fx_chain.specs.Faults.{fault_of}
 use Rattle.fx_chain.specs.Operation.{Asked, all_asked}
 use Rattle.fx_chain.specs.declared.completion.Place.{Place}
-use Rattle.fx_order.specs.declared.slots.Slots.{Slots}
 use Rattle.check_outcomes.specs.Outcomes.{ring_behind}
 use Rattle.check_outcomes.specs.declared.possible_report.PossibleReport.{PossibleReport}
 use Rattle.fx_ring.specs.Ring.{IsRing, RingContents, RingState, ring_of}
@@ -118,18 +117,13 @@ stage_of catalogue reached = record {
 abbrev pub stages_of : List FileEntry → List Reached → List Stage
 stages_of catalogue rings = map (stage_of catalogue) rings
 
--- where an order leads that leaves these slots, and whose submission prints this
-abbrev pub stage_left : Bool → Stage → Slots → List ℕ → Stage
-stage_left keeps old slots line = record {
-  ring = ring_behind old.ring slots;
-  printed = kept_text keeps (old.printed ++ line);
-}
-
 -- where a report leads
 abbrev pub stage_reported : Bool → Stage → PossibleReport → Stage
-stage_reported keeps old possible =
-    stage_left keeps old possible.slots
-    (report_text old.ring.catalogue (reported possible.report))
+stage_reported keeps old possible = record {
+  ring = ring_behind old.ring possible.slots;
+  printed = kept_text keeps
+      (old.printed ++ report_text old.ring.catalogue (reported possible.report));
+}
 
 -- a play that has come so far, to the end of its script, has this text
 abbrev pub EndsAs : Stage → List ℕ → Type 0

@@ -7,7 +7,7 @@ ghost use Rattle.fx_chain.specs.Operation.{all_asked};
 use fx_chain::{Place, Request};
 use fx_language::Command;
 
-/// The submission of the request that is asked for, and the commands before and behind it.
+/// The submission of the request that is asked for, and the commands before and after it.
 #[derive(Drop)]
 pub(crate) struct Inquiry<'a> {
     pub(crate) place: Place,

@@ -1,4 +1,4 @@
-//! Lists of rings, each of which stands there once.
+//! Lists of rings, each once.
 ghost use Rattle.std.specs.Prelude.{◌≡◌, IsTrue, List, OnOk, Contains};
 ghost use Rattle.fx_base.specs.Catalogue.{FileEntry};
 ghost use Rattle.fx_order.specs.Slots.{ring_with_slots};
@@ -6,6 +6,7 @@ ghost use Rattle.check_texts.specs.Rings.{Grows, stage_of, stages_of};
 
 use crate::reached::Reached;
 use crate::setting::WalkSetting;
+use crate::spent::Spent;
 use fx_base::NoMemory;
 use fx_order::RingSlots;
 
@@ -20,7 +21,7 @@ pub(crate) fn are_same(one: &RingSlots, other: &RingSlots) -> bool
     one.slots.is_same(&other.slots)
 }
 
-// Checks whether both are the same ring, behind the same text.
+// Checks whether both are the same ring, after the same text.
 fn are_alike(one: &Reached, other: &Reached) -> bool
     ensures { IsTrue result → (catalogue : List FileEntry)
         → stage_of catalogue one.now ≡ stage_of catalogue other.now }
@@ -31,7 +32,7 @@ fn are_alike(one: &Reached, other: &Reached) -> bool
     false
 }
 
-// Checks whether a ring is in a list, behind the same text.
+// Checks whether a ring is in a list, after the same text.
 fn has_ring(rings: &[Reached], one: &Reached) -> bool
     ensures { IsTrue result → (catalogue : List FileEntry)
         → Contains (stages_of catalogue rings.now) (stage_of catalogue one.now) }
@@ -48,9 +49,10 @@ fn has_ring(rings: &[Reached], one: &Reached) -> bool
 /// same led to one ring.
 ///
 /// # Errors
-/// `NoMemory` where the memory of the list is refused.
+/// `NoMemory` if an allocation fails.
 pub(crate) fn push_new(
     setting: &WalkSetting<'_>,
+    spent: &mut Spent,
     rings: &mut Vec<Reached>,
     reached: Reached,
 ) -> Result<(), NoMemory>
@@ -63,6 +65,7 @@ pub(crate) fn push_new(
     if !setting.keeps && has_ring(rings, &reached) {
         return Ok(());
     }
+    spent.count_ring(&reached);
     rings.push(reached)?;
     Ok(())
 }

@@ -7,12 +7,12 @@ ghost use Rattle.check_texts.specs.Layers.{AreExits, IsLayer, commands_in};
 ghost use Rattle.check_texts.specs.Ways.{AreBare, IsBare, IsBareOf};
 
 use crate::next::push_next;
-use crate::reached::{Past, Reached};
-use crate::ring_key::key_of;
-use crate::rings::{count_new, start};
+use crate::reached::Reached;
+use crate::rings::start;
 use crate::setting::WalkSetting;
 use crate::spent::Spent;
 use check_lines::copy_of;
+use check_outcomes::push_file;
 use fx_base::NoMemory;
 use fx_language::Command;
 use fx_order::RingSlots;
@@ -53,6 +53,19 @@ struct Bare {
     keys: IndexSet<Vec<u32>>,
 }
 
+// Returns the numbers of a ring, for looking it up. Nothing is proved of them: each ring that is found is compared.
+fn key_of(alloc: Global, ring: &RingSlots) -> Result<Vec<u32>, NoMemory> {
+    let mut key = Vec::new(alloc);
+    let (first, len) = ring.slots.range;
+    for number in [ring.submissions, ring.registrations, first, len] {
+        key.push(number)?;
+    }
+    for file in &ring.slots.at {
+        push_file(&mut key, file)?;
+    }
+    Ok(key)
+}
+
 // Puts the ring of an exit among others, unless it is there. Returns its number, of which nothing is proved.
 fn number_of(alloc: Global, bare: &mut Bare, exit: &Reached) -> Result<usize, NoMemory>
     ensures { OnOk result ((catalogue : List FileEntry)
@@ -91,7 +104,6 @@ fn numbers_of(alloc: Global, bare: &mut Bare, exits: &[Reached]) -> Result<Vec<u
 fn exits_at(
     setting: &WalkSetting<'_>,
     spent: &mut Spent,
-    pasts: &mut Vec<Past>,
     from: &Reached,
     command: &Command,
 ) -> Result<Exits, NoMemory>
@@ -103,10 +115,7 @@ fn exits_at(
 {
     let alloc = setting.alloc;
     let mut to = Vec::new(alloc);
-    let old_pasts = pasts.len();
-    let are_all = push_next(setting, spent, pasts, &mut to, from, command)?;
-    let new_pasts = pasts.as_slice().get(old_pasts..).unwrap_or(&[]);
-    count_new(spent, &to, new_pasts);
+    let are_all = push_next(setting, spent, &mut to, from, command)?;
     let ring = copy_of(alloc, &from.ring)?;
     Ok(Exits {
         ring,
@@ -120,7 +129,6 @@ fn exits_at(
 fn exits_of(
     setting: &WalkSetting<'_>,
     spent: &mut Spent,
-    pasts: &mut Vec<Past>,
     bare: &mut Bare,
     rings: &[Reached],
     command: &Command,
@@ -135,7 +143,7 @@ fn exits_of(
 {
     let mut all = Vec::new(setting.alloc);
     for from in rings {
-        let mut exits = exits_at(setting, spent, pasts, from, command)?;
+        let mut exits = exits_at(setting, spent, from, command)?;
         exits.numbers = numbers_of(setting.alloc, bare, &exits.to)?;
         all.push(exits)?;
     }
@@ -149,7 +157,6 @@ fn exits_of(
 pub(crate) fn layers_of<'a>(
     setting: &WalkSetting<'_>,
     spent: &mut Spent,
-    pasts: &mut Vec<Past>,
     commands: &'a [Command],
 ) -> Result<Layers<'a>, NoMemory>
     requires told { setting.now.keeps ≡ true }
@@ -169,7 +176,7 @@ pub(crate) fn layers_of<'a>(
             rings: Vec::new(alloc),
             keys: IndexSet::new(alloc),
         };
-        let exits = exits_of(setting, spent, pasts, &mut bare, &rings, command)?;
+        let exits = exits_of(setting, spent, &mut bare, &rings, command)?;
         let Bare {
             rings: next,
             keys: _,

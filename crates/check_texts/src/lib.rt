@@ -3,7 +3,6 @@
 
 mod asking;
 mod distinct;
-mod going_on;
 mod laws;
 mod layers;
 mod next;
@@ -11,7 +10,6 @@ mod place;
 mod reached;
 mod request_answers;
 mod rests;
-mod ring_key;
 mod rings;
 mod saying;
 mod setting;

@@ -1,7 +1,6 @@
 //! The rings that one command may lead to.
 ghost use Rattle.std.specs.Prelude.{◌≡◌, ◌++◌, ◌<◌, ◌≤◌, All, IfOk, IsTrue};
-ghost use Rattle.std.specs.Prelude.{Contains, List, None, OnOk, false, length, string_bytes};
-ghost use Rattle.fx_base.specs.Catalogue.{FileEntry};
+ghost use Rattle.std.specs.Prelude.{Contains, None, OnOk, length, string_bytes};
 ghost use Rattle.fx_chain.specs.Accepted.{IsAccepted};
 ghost use Rattle.fx_chain.specs.Faults.{fault_of};
 ghost use Rattle.fx_chain.specs.Operation.{all_asked};
@@ -12,18 +11,17 @@ ghost use Rattle.fx_ring.specs.Ring.{IsRing};
 ghost use Rattle.fx_ring.specs.declared.ring.TheConstants.{MOST_SUBMISSIONS};
 ghost use Rattle.check_lines.specs.Calls.{IsCall};
 ghost use Rattle.check_texts.specs.Rings.{Grows, HasEachNextStage, MayLeadTo, kept_text};
-ghost use Rattle.check_texts.specs.Rings.{stage_left, stage_of, stage_reported, stages_of};
+ghost use Rattle.check_texts.specs.Rings.{stage_of, stage_reported, stages_of};
 
 use crate::distinct::push_new;
-use crate::reached::{Past, Reached};
+use crate::reached::Reached;
 use crate::setting::WalkSetting;
 use crate::spent::Spent;
 use check_lines::{accepted_in, call};
-use check_outcomes::{PossibleReport, may_leave, may_report};
+use check_outcomes::{PossibleReport, may_report};
 use fx_base::NoMemory;
 use fx_chain::Request;
 use fx_language::Command;
-use fx_order::{ChainAccess, Slots};
 use fx_script::report_text;
 
 /// Checks whether two things hold.
@@ -36,7 +34,7 @@ pub(crate) fn both(one: bool, other: bool) -> bool
 /// Returns a text with a line appended if the setting keeps texts, and else an empty text.
 ///
 /// # Errors
-/// `NoMemory` where the memory of the text is refused.
+/// `NoMemory` if an allocation fails.
 pub(crate) fn printed_behind(
     setting: &WalkSetting<'_>,
     before: &str,
@@ -55,93 +53,10 @@ pub(crate) fn printed_behind(
     Ok(text)
 }
 
-// Where an order of a submission has come to.
-#[derive(Clone, Copy)]
-struct OrderEnd<'a> {
-    order: &'a [ChainAccess],
-    slots: &'a Slots,
-    // What the submission prints.
-    line: &'a str,
-}
-
-// Appends the ring that an order leaves.
-fn push_end(
-    setting: &WalkSetting<'_>,
-    pasts: &mut Vec<Past>,
-    rings: &mut Vec<Reached>,
-    from: &Reached,
-    end: OrderEnd<'_>,
-) -> Result<(), NoMemory>
-    requires few { from.now.ring.submissions < MOST_SUBMISSIONS }
-    requires room { length end.slots.now.at.items ≤ MOST_SLOTS }
-    ensures grows { OnOk result ((catalogue : List FileEntry)
-        → Grows (λ s. s ≡ stage_left setting.now.keeps (stage_of catalogue from.now)
-        end.entry.slots.now end.entry.line.now) (stages_of catalogue rings.old.items)
-        (stages_of catalogue rings.new.items)) }
-    ensures there { OnOk result ((catalogue : List FileEntry)
-        → Contains (stages_of catalogue rings.new.items)
-        (stage_left setting.now.keeps (stage_of catalogue from.now) end.entry.slots.now
-        end.entry.line.now)) }
-{
-    let printed = printed_behind(setting, from.printed.as_str(), end.line)?;
-    let ring = from.ring_after(setting.alloc, end.slots)?;
-    let past = from.push_past(setting.alloc, pasts, end.order)?;
-    push_new(
-        setting,
-        rings,
-        Reached {
-            ring,
-            printed,
-            past: Some(past),
-        },
-    )?;
-    Ok(())
-}
-
-// Appends the rings that an accepted submission may leave, if no text is kept. Returns whether these are all.
-fn push_ends(
-    setting: &WalkSetting<'_>,
-    pasts: &mut Vec<Past>,
-    rings: &mut Vec<Reached>,
-    from: &Reached,
-    requests: &[Request],
-) -> Result<bool, NoMemory>
-    requires accepted { IsAccepted (all_asked requests.now) }
-    requires faultless { fault_of (all_asked requests.now) ≡ None }
-    requires few { from.now.ring.submissions < MOST_SUBMISSIONS }
-    requires silent { setting.now.keeps ≡ false }
-    ensures grows { IfOk result (λ _. Grows
-        (MayLeadTo setting.now.keeps (stage_of setting.now.catalogue.now from.now)
-        (SubmitsAll (all_asked requests.now)))
-        (stages_of setting.now.catalogue.now rings.old.items)
-        (stages_of setting.now.catalogue.now rings.new.items)) }
-    ensures all { IfOk result (λ all. IsTrue all → HasEachNextStage setting.now.keeps
-        (stage_of setting.now.catalogue.now from.now) (SubmitsAll (all_asked requests.now))
-        (stages_of setting.now.catalogue.now rings.new.items)) }
-{
-    let found = may_leave(
-        setting.alloc,
-        setting.catalogue,
-        &from.ring.slots,
-        from.ring.submissions,
-        requests,
-        setting.limits,
-    )?;
-    for end in &found.ends {
-        let silent = OrderEnd {
-            order: &end.order,
-            slots: &end.slots,
-            line: "",
-        };
-        push_end(setting, pasts, rings, from, silent)?;
-    }
-    Ok(found.are_all)
-}
-
 // Appends the ring that a report leaves, with its lines.
 fn push_report(
     setting: &WalkSetting<'_>,
-    pasts: &mut Vec<Past>,
+    spent: &mut Spent,
     rings: &mut Vec<Reached>,
     from: &Reached,
     possible: &PossibleReport,
@@ -159,12 +74,19 @@ fn push_report(
         possible.now)) }
 {
     let line = report_text(setting.alloc, &possible.report, setting.catalogue)?;
-    let end = OrderEnd {
-        order: &possible.order,
-        slots: &possible.slots,
-        line: line.as_str(),
-    };
-    push_end(setting, pasts, rings, from, end)?;
+    let printed = printed_behind(setting, from.printed.as_str(), line.as_str())?;
+    let ring = from.ring_after(setting.alloc, &possible.slots)?;
+    let past = spent.keep_order(setting.alloc, from, &possible.order)?;
+    push_new(
+        setting,
+        spent,
+        rings,
+        Reached {
+            ring,
+            printed,
+            past: Some(past),
+        },
+    )?;
     Ok(())
 }
 
@@ -172,7 +94,6 @@ fn push_report(
 fn push_reports(
     setting: &WalkSetting<'_>,
     spent: &mut Spent,
-    pasts: &mut Vec<Past>,
     rings: &mut Vec<Reached>,
     from: &Reached,
     requests: &[Request],
@@ -196,11 +117,12 @@ fn push_reports(
         &from.ring.slots,
         from.ring.submissions,
         requests,
-        spent.left_of(setting.limits),
+        setting.keeps,
+        spent.left_of(setting),
     )?;
     spent.count_states(found.states);
     for possible in &found.reports {
-        push_report(setting, pasts, rings, from, possible)?;
+        push_report(setting, spent, rings, from, possible)?;
     }
     Ok(found.are_all)
 }
@@ -208,6 +130,7 @@ fn push_reports(
 // Appends the ring that a call between submissions leaves, or a refused submission.
 fn push_call(
     setting: &WalkSetting<'_>,
+    spent: &mut Spent,
     rings: &mut Vec<Reached>,
     from: &Reached,
     command: &Command,
@@ -226,6 +149,7 @@ fn push_call(
     let printed = printed_behind(setting, from.printed.as_str(), called.line.as_str())?;
     push_new(
         setting,
+        spent,
         rings,
         Reached {
             ring: called.ring,
@@ -244,7 +168,6 @@ fn push_call(
 pub(crate) fn push_next(
     setting: &WalkSetting<'_>,
     spent: &mut Spent,
-    pasts: &mut Vec<Past>,
     rings: &mut Vec<Reached>,
     from: &Reached,
     command: &Command,
@@ -262,11 +185,8 @@ pub(crate) fn push_next(
         return Ok(false);
     }
     if let Some(requests) = accepted_in(command, from.ring.submissions) {
-        if setting.keeps {
-            return push_reports(setting, spent, pasts, rings, from, requests);
-        }
-        return push_ends(setting, pasts, rings, from, requests);
+        return push_reports(setting, spent, rings, from, requests);
     }
-    push_call(setting, rings, from, command)?;
+    push_call(setting, spent, rings, from, command)?;
     Ok(true)
 }

@@ -1,4 +1,4 @@
-//! Where the request that is asked for stands.
+//! The search for the submission of the request that is asked for.
 ghost use Rattle.std.specs.Prelude.{◌≡◌, ◌⊎◌, ◌<◌, IfNone, IfSome};
 ghost use Rattle.fx_language.specs.Instruction.{instructions_of};
 ghost use Rattle.check_texts.specs.Rings.{IsAskedIn, count_after_all};
@@ -8,7 +8,7 @@ use check_lines::accepted_in;
 use fx_chain::Place;
 use fx_language::Command;
 
-/// Returns where the submission of a place stands among commands, if they have so many that are accepted.
+/// Returns the submission of a place and the commands around it, if the commands have that number of accepted submissions.
 pub(crate) fn asking_at(commands: &[Command], place: Place) -> Option<Inquiry<'_>>
     ensures some { IfSome result (IsAskedIn (instructions_of commands.now) place) }
     ensures none { IfNone result ((place.submission ≡ 0)

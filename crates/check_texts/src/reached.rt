@@ -26,7 +26,7 @@ pub struct Past {
 #[derive(Debug, Drop)]
 pub(crate) struct Reached {
     pub(crate) ring: RingSlots,
-    /// What was printed on the way if the setting keeps it; else empty.
+    /// The text that was printed on the way if the setting keeps it; else empty.
     pub(crate) printed: String,
     /// The index of the order of the last accepted submission on the way, if there is one.
     pub(crate) past: Option<usize>,
@@ -52,28 +52,5 @@ impl Reached {
             submissions: self.ring.submissions + 1,
             registrations: self.ring.registrations,
         })
-    }
-
-    /// Appends an order of the next accepted submission. Returns its index.
-    ///
-    /// # Errors
-    /// `NoMemory` if an allocation fails.
-    pub(crate) fn push_past(
-        &self,
-        alloc: Global,
-        pasts: &mut Vec<Past>,
-        order: &[ChainAccess],
-    ) -> Result<usize, NoMemory>
-        requires { self.now.ring.submissions < MOST_SUBMISSIONS }
-    {
-        let index = pasts.len();
-        let order = Vec::from_slice(alloc, order)?;
-        pasts.push(Past {
-            submission: self.ring.submissions + 1,
-            size: self.ring.slots.at.len(),
-            order,
-            before: self.past,
-        })?;
-        Ok(index)
     }
 }

@@ -10,6 +10,7 @@ use crate::reached::Past;
 use crate::rings::after_all;
 use crate::saying::{Said, answers_at};
 use crate::setting::WalkSetting;
+use crate::spent::Spent;
 use check_search::Limits;
 use fx_base::NoMemory;
 use fx_chain::Place;
@@ -27,7 +28,7 @@ pub struct RequestAnswers {
     pub are_all: bool,
 }
 
-/// Returns the answers that the request at `place` gives in the plays of the whole script in which no allocation fails, as the
+/// Returns the answers that the request at `place` has in the plays of the whole script in which no allocation fails, as the
 /// definitions have them. Where `are_all` is true there is no other; else that was not shown within `limits`, which apply to the
 /// states of each submission at one ring, and to the rings after each command. The orders are those by which the answers were
 /// found, and no contract says anything of them.
@@ -52,19 +53,19 @@ pub fn may(
         keeps: false,
         most: 0,
     };
-    let mut orders = Vec::new(alloc);
+    let mut spent = Spent::nothing(alloc);
     let Some(asking) = asking_at(script.commands(), place) else {
         return Ok(RequestAnswers {
             answers: Vec::new(alloc),
-            orders,
+            orders: Vec::new(alloc),
             are_all: true,
         });
     };
-    let rings = after_all(&setting, &mut orders, asking.front)?;
-    let found = answers_at(&setting, &mut orders, &rings.rings, &asking)?;
+    let rings = after_all(&setting, &mut spent, asking.front)?;
+    let found = answers_at(&setting, &mut spent, &rings.rings, &asking)?;
     Ok(RequestAnswers {
         answers: found.answers,
-        orders,
+        orders: spent.orders,
         are_all: both(rings.are_all, found.are_all),
     })
 }

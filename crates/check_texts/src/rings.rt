@@ -8,7 +8,7 @@ ghost use Rattle.check_texts.specs.Rings.{AreStagesFrom, AreRings, HasEachFrom, 
 ghost use Rattle.check_texts.specs.Rings.{Stage, stages_of};
 
 use crate::next::{both, push_next};
-use crate::reached::{Past, Reached};
+use crate::reached::Reached;
 use crate::setting::WalkSetting;
 use crate::spent::Spent;
 use fx_base::NoMemory;
@@ -20,7 +20,7 @@ use std::alloc::Global;
 #[derive(Debug, Drop)]
 pub(crate) struct Rings {
     pub(crate) rings: Vec<Reached>,
-    /// Whether these are all of them.
+    /// True if these are all of them.
     pub(crate) are_all: bool,
 }
 
@@ -58,24 +58,13 @@ pub(crate) fn start(alloc: Global) -> Result<Vec<Reached>, NoMemory>
     Ok(rings)
 }
 
-/// Counts the bytes of the rings and orders that are new.
-pub(crate) fn count_new(spent: &mut Spent, rings: &[Reached], pasts: &[Past]) {
-    for reached in rings {
-        spent.count_ring(reached);
-    }
-    for past in pasts {
-        spent.count_order(past.order.len());
-    }
-}
-
 /// Returns the rings that a command may lead to from some.
 ///
 /// # Errors
-/// `NoMemory` where memory is refused.
+/// `NoMemory` if an allocation fails.
 pub(crate) fn after(
     setting: &WalkSetting<'_>,
     spent: &mut Spent,
-    pasts: &mut Vec<Past>,
     rings: &[Reached],
     command: &Command,
 ) -> Result<Rings, NoMemory>
@@ -91,11 +80,7 @@ pub(crate) fn after(
     let mut are_all = true;
     spent.begin_command();
     for reached in rings {
-        let (old_rings, old_pasts) = (next.len(), pasts.len());
-        let all = push_next(setting, spent, pasts, &mut next, reached, command)?;
-        let new_rings = next.as_slice().get(old_rings..).unwrap_or(&[]);
-        let new_pasts = pasts.as_slice().get(old_pasts..).unwrap_or(&[]);
-        count_new(spent, new_rings, new_pasts);
+        let all = push_next(setting, spent, &mut next, reached, command)?;
         are_all = both(are_all, all);
     }
     Ok(Rings {
@@ -107,10 +92,10 @@ pub(crate) fn after(
 /// Returns the rings that commands may lead to, one after another, from a ring without a table.
 ///
 /// # Errors
-/// `NoMemory` where memory is refused.
+/// `NoMemory` if an allocation fails.
 pub(crate) fn after_all(
     setting: &WalkSetting<'_>,
-    pasts: &mut Vec<Past>,
+    spent: &mut Spent,
     commands: &[Command],
 ) -> Result<Rings, NoMemory>
     ensures each { IfOk result (λ last. (s : Stage)
@@ -125,9 +110,8 @@ pub(crate) fn after_all(
 {
     let mut rings = start(setting.alloc)?;
     let mut are_all = true;
-    let mut spent = Spent::nothing();
     for command in commands {
-        let next = after(setting, &mut spent, pasts, &rings, command)?;
+        let next = after(setting, spent, &rings, command)?;
         rings = next.rings;
         are_all = both(are_all, next.are_all);
     }

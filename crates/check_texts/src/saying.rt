@@ -1,22 +1,22 @@
 //! The answers that a request can give at some rings, each in a play to the end of the script.
-ghost use Rattle.std.specs.Prelude.{◌≡◌, ◌+◌, ◌<◌, ◌≤◌, IfOk, IsTrue, Contains, length};
+ghost use Rattle.std.specs.Prelude.{◌≡◌, ◌+◌, ◌<◌, ◌≤◌, IfOk, IfSome, IsTrue, Contains, length};
 ghost use Rattle.fx_chain.specs.Completed.{completed_of};
 ghost use Rattle.fx_chain.specs.Operation.{all_asked};
-ghost use Rattle.fx_language.specs.Instruction.{instructions_of};
+ghost use Rattle.fx_language.specs.Instruction.{instruction_of, instructions_of};
 ghost use Rattle.fx_order.specs.Slots.{ring_of_slots, ring_with_slots};
 ghost use Rattle.fx_plain.specs.declared.table.TheConstants.{MOST_SLOTS};
 ghost use Rattle.fx_ring.specs.declared.ring.TheConstants.{MOST_SUBMISSIONS};
 ghost use Rattle.fx_ring.specs.Ring.{IsRing};
 ghost use Rattle.check_texts.specs.Rings.{AreRings, AreSaidFrom, Grows, HasEachSaid, HasEachSaidFrom};
-ghost use Rattle.check_texts.specs.Rings.{MayEnd, MaySay, said_in, stages_of};
+ghost use Rattle.check_texts.specs.Rings.{MayEnd, MayLeadTo, MaySay, said_in, stage_of, stages_of};
 
 use crate::asking::Inquiry;
-use crate::going_on::goes_on;
-use crate::next::both;
-use crate::reached::{Past, Reached};
+use crate::next::{both, push_next};
+use crate::reached::Reached;
 use crate::setting::WalkSetting;
+use crate::spent::Spent;
 use check_lines::is_accepted;
-use check_outcomes::{PossibleAnswer, RequestQuestion, may_answer};
+use check_outcomes::{PossibleAnswer, may_answer};
 use fx_base::NoMemory;
 use fx_chain::Completion;
 use fx_language::Command;
@@ -30,11 +30,11 @@ pub struct Said {
     pub past: usize,
 }
 
-/// What a request may answer.
+/// The answers of a request.
 #[derive(Debug, Drop)]
 pub(crate) struct Sayings {
     pub(crate) answers: Vec<Said>,
-    /// Whether these are all.
+    /// True if these are all.
     pub(crate) are_all: bool,
 }
 
@@ -50,11 +50,44 @@ fn has_answer(answers: &[Said], c: &Completion) -> bool
     false
 }
 
+// Returns one ring that a command may lead to, if one is found.
+fn one_next(
+    setting: &WalkSetting<'_>,
+    from: &Reached,
+    command: &Command,
+) -> Result<Option<Reached>, NoMemory>
+    requires { IsRing (ring_with_slots setting.now.catalogue.now from.now.ring) }
+    ensures { IfOk result (λ next. IfSome next (λ reached. MayLeadTo setting.now.keeps
+        (stage_of setting.now.catalogue.now from.now) (instruction_of command.now)
+        (stage_of setting.now.catalogue.now reached))) }
+{
+    let mut spent = Spent::nothing(setting.alloc);
+    let mut rings = Vec::new(setting.alloc);
+    let _all = push_next(setting, &mut spent, &mut rings, from, command)?;
+    Ok(rings.pop())
+}
+
+// Checks whether it was seen that commands and the end of the script lead on from a ring.
+fn goes_on(setting: &WalkSetting<'_>, from: Reached, commands: &[Command]) -> Result<bool, NoMemory>
+    requires { IsRing (ring_with_slots setting.now.catalogue.now from.ring) }
+    ensures { IfOk result (λ yes. IsTrue yes → MayEnd
+        (ring_with_slots setting.now.catalogue.now from.ring) (instructions_of commands.now)) }
+{
+    let mut reached = from;
+    for command in commands {
+        match one_next(setting, &reached, command)? {
+            Some(next) => reached = next,
+            None => return Ok(false),
+        }
+    }
+    Ok(true)
+}
+
 // Appends an answer that a ring can give, unless the list has it, if it was shown that the script goes on from there to its end.
 // Returns whether the list then has it.
 fn push_answer(
     setting: &WalkSetting<'_>,
-    pasts: &mut Vec<Past>,
+    spent: &mut Spent,
     answers: &mut Vec<Said>,
     from: &Reached,
     answer: &PossibleAnswer,
@@ -84,7 +117,7 @@ fn push_answer(
         return Ok(false);
     }
     let completion = answer.completion.copy(setting.alloc)?;
-    let past = from.push_past(setting.alloc, pasts, &answer.order)?;
+    let past = spent.keep_order(setting.alloc, from, &answer.order)?;
     answers.push(Said { completion, past })?;
     Ok(true)
 }
@@ -92,7 +125,7 @@ fn push_answer(
 // Appends the answers that a ring can give. Returns whether the list then has all of them.
 fn push_answers(
     setting: &WalkSetting<'_>,
-    pasts: &mut Vec<Past>,
+    spent: &mut Spent,
     answers: &mut Vec<Said>,
     from: &Reached,
     asking: &Inquiry<'_>,
@@ -107,34 +140,31 @@ fn push_answers(
         (ring_with_slots setting.now.catalogue.now from.now.ring)
         (all_asked asking.now.requests.now) asking.now.place (said_in answers.new.items)) }
 {
-    let question = RequestQuestion {
-        requests: asking.requests,
-        place: asking.place,
-        limits: setting.limits,
-    };
     let found = may_answer(
         setting.alloc,
         setting.catalogue,
         &from.ring.slots,
         from.ring.submissions,
-        &question,
+        asking.requests,
+        asking.place,
+        setting.limits,
     )?;
     let mut are_there = true;
     for answer in &found.answers {
-        let is_there = push_answer(setting, pasts, answers, from, answer, asking.behind)?;
+        let is_there = push_answer(setting, spent, answers, from, answer, asking.behind)?;
         are_there = both(are_there, is_there);
     }
     let all = both(found.are_all, are_there);
     Ok(all)
 }
 
-/// Returns what the request may answer at some rings.
+/// Returns the answers of the request at some rings.
 ///
 /// # Errors
-/// `NoMemory` where memory is refused.
+/// `NoMemory` if an allocation fails.
 pub(crate) fn answers_at(
     setting: &WalkSetting<'_>,
-    pasts: &mut Vec<Past>,
+    spent: &mut Spent,
     rings: &[Reached],
     asking: &Inquiry<'_>,
 ) -> Result<Sayings, NoMemory>
@@ -152,7 +182,7 @@ pub(crate) fn answers_at(
         if !is_accepted(asking.requests, from.ring.submissions) {
             continue;
         }
-        let all = push_answers(setting, pasts, &mut answers, from, asking)?;
+        let all = push_answers(setting, spent, &mut answers, from, asking)?;
         are_all = both(are_all, all);
     }
     Ok(Sayings { answers, are_all })

@@ -1,33 +1,52 @@
-//! How much of its limits the walk through a script has used. Nothing is proved of these numbers: they only bound the walk.
+//! The orders that a walk through a script keeps, and how much of its limits it has used. Nothing is proved of them: the numbers only
+//! bound the walk.
 
-use crate::reached::Reached;
+ghost use Rattle.std.specs.Prelude.{◌<◌};
+ghost use Rattle.fx_ring.specs.declared.ring.TheConstants.{MOST_SUBMISSIONS};
+
+use crate::reached::{Past, Reached};
+use crate::setting::WalkSetting;
 use check_search::Limits;
+use fx_base::NoMemory;
+use fx_order::ChainAccess;
+use std::alloc::Global;
 
-// What a ring that is kept takes beside its slots and its text: its place in two lists and among the texts.
+// The bytes of a ring that is kept, beside its slots and its text: its place in two lists and among the texts.
 const RING_BYTES: usize = 400;
 
-// What one of its slots takes, in both lists.
+// The bytes of one of its slots, in both lists.
 const SLOT_BYTES: usize = 80;
 
-// What an order takes, and each of its accesses.
+// The bytes of an order, and of each of its accesses.
 const ORDER_BYTES: usize = 128;
 
 const ACCESS_BYTES: usize = 112;
 
-// How many states the search at the first ring may meet after each command, and how many bytes they may take, when the limits
-// have been reached: so that some texts are completed.
+// The largest number of states of the search at the first ring after each command, and of their bytes, once the limits have been
+// reached: so that some texts are completed.
 const LAST_STATES: usize = 4_096;
 
 const LAST_BYTES: usize = 16 * 1_048_576;
 
-// What a text takes beside its bytes, and each of its orders.
+// The bytes of a text beside those printed, and of each of its orders.
 const TEXT_BYTES: usize = 80;
 
 const PLACE_BYTES: usize = 8;
 
-/// The states that the searches of a script have met, and the bytes that are kept.
-#[derive(Clone, Copy, Debug)]
+// Returns the sum of some numbers, or the largest number.
+fn total(numbers: &[usize]) -> usize {
+    let mut sum: usize = 0;
+    for number in numbers {
+        sum = sum.saturating_add(*number);
+    }
+    sum
+}
+
+/// The orders that are kept, the number of states that the searches of a script have met, and that of the bytes that are kept.
+#[derive(Debug, Drop)]
 pub(crate) struct Spent {
+    /// The orders of the submissions.
+    pub(crate) orders: Vec<Past>,
     /// The states that the searches met.
     states: usize,
     /// The bytes that are kept to the end.
@@ -44,8 +63,9 @@ pub(crate) struct Spent {
 
 impl Spent {
     /// Returns that nothing has been met or kept.
-    pub(crate) fn nothing() -> Spent {
+    pub(crate) fn nothing(alloc: Global) -> Spent {
         Spent {
+            orders: Vec::new(alloc),
             states: 0,
             kept: 0,
             before: 0,
@@ -80,36 +100,44 @@ impl Spent {
     pub(crate) fn count_ring(&mut self, reached: &Reached) {
         let slots = reached.ring.slots.at.len().saturating_mul(SLOT_BYTES);
         self.rings = self.rings.saturating_add(1);
-        self.after = self
-            .after
-            .saturating_add(slots)
-            .saturating_add(reached.printed.len())
-            .saturating_add(RING_BYTES);
+        self.after = total(&[self.after, slots, reached.printed.len(), RING_BYTES]);
     }
 
-    /// Counts the bytes of an order with `accesses` accesses.
-    pub(crate) fn count_order(&mut self, accesses: usize) {
-        self.kept = self
-            .kept
-            .saturating_add(accesses.saturating_mul(ACCESS_BYTES))
-            .saturating_add(ORDER_BYTES);
+    /// Keeps an order of the next accepted submission at a ring, and counts its bytes. Returns its index.
+    ///
+    /// # Errors
+    /// `NoMemory` if an allocation fails.
+    pub(crate) fn keep_order(
+        &mut self,
+        alloc: Global,
+        from: &Reached,
+        order: &[ChainAccess],
+    ) -> Result<usize, NoMemory>
+        requires { from.now.ring.submissions < MOST_SUBMISSIONS }
+    {
+        let index = self.orders.len();
+        let accesses = order.len().saturating_mul(ACCESS_BYTES);
+        self.kept = total(&[self.kept, accesses, ORDER_BYTES]);
+        let order = Vec::from_slice(alloc, order)?;
+        self.orders.push(Past {
+            submission: from.ring.submissions + 1,
+            size: from.ring.slots.at.len(),
+            order,
+            before: from.past,
+        })?;
+        Ok(index)
     }
 
     /// Counts a text of `bytes` bytes with `orders` orders.
     pub(crate) fn count_text(&mut self, bytes: usize, orders: usize) {
         self.texts = self.texts.saturating_add(1);
-        self.after = self
-            .after
-            .saturating_add(bytes)
-            .saturating_add(orders.saturating_mul(PLACE_BYTES))
-            .saturating_add(TEXT_BYTES);
+        let places = orders.saturating_mul(PLACE_BYTES);
+        self.after = total(&[self.after, bytes, places, TEXT_BYTES]);
     }
 
     // Returns the bytes that are kept.
     fn bytes(&self) -> usize {
-        self.kept
-            .saturating_add(self.before)
-            .saturating_add(self.after)
+        total(&[self.kept, self.before, self.after])
     }
 
     /// Checks whether one more text may be kept after a command: the first one of all rings, and others in half of the bytes, since
@@ -124,9 +152,13 @@ impl Spent {
         self.rings == 0 || (self.rings < limits.states && self.bytes() < limits.bytes)
     }
 
-    /// Returns what the next search of a submission may use: what is left of the limits, and at the first ring after a command
-    /// at least a little.
-    pub(crate) fn left_of(&self, limits: Limits) -> Limits {
+    /// Returns what the next search of a submission may use: if texts are kept, what is left of the limits, and at the first ring
+    /// after a command at least a little; else the limits.
+    pub(crate) fn left_of(&self, setting: &WalkSetting<'_>) -> Limits {
+        let limits = setting.limits;
+        if !setting.keeps {
+            return limits;
+        }
         let states = limits.states.saturating_sub(self.states);
         let bytes = limits.bytes.saturating_sub(self.bytes());
         if self.rings != 0 {

@@ -133,12 +133,11 @@ pub fn texts_of(
         keeps: true,
         most,
     };
-    let mut spent = Spent::nothing();
-    let mut orders = Vec::new(alloc);
-    let layers = layers_of(&setting, &mut spent, &mut orders, script.commands())?;
+    let mut spent = Spent::nothing(alloc);
+    let layers = layers_of(&setting, &mut spent, script.commands())?;
     let rests = rests_of(&setting, &mut spent, layers)?;
     let Some(rest) = rest_at(&rests, 0, &start_ring(alloc)) else {
-        return Ok(AllTexts::nothing(alloc, orders));
+        return Ok(AllTexts::nothing(alloc, spent.orders));
     };
     let found = each_text(alloc, &rest.endings)?;
     let are_all = both(rest.are_all, rest.is_whole);
@@ -146,7 +145,7 @@ pub fn texts_of(
     Ok(AllTexts {
         texts: found.texts,
         by: found.by,
-        orders,
+        orders: spent.orders,
         are_all,
         ways: rest.ways,
         are_counted,

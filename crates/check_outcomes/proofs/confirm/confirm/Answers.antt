@@ -16,9 +16,9 @@ pub returns : goal.returns
 returns c = of_both c.slots_left.result _ _ _ c.slots_left.ensures.order c.slots_left.ensures.left (λ left is leaves submissions registrations number.
     let sub = c.args.submission.now in
     let slots = c.args.slots.now in
-    let size : sub.setting.size ≡ length slots.at.items = omega (arith, c.args.slots.now.at.ok.0) in
+    let size : sub.size ≡ length slots.at.items = omega (arith, c.args.slots.now.at.ok.0) in
     let before : sub.number - 1 ≡ submissions = omega arith in
-    let by : IsReportBy (ring_of_slots sub.setting.catalogue.now slots submissions registrations) (all_asked sub.requests.now)
+    let by : IsReportBy (ring_of_slots sub.catalogue.now slots submissions registrations) (all_asked sub.requests.now)
     c.args.play.now.order.items (report_of_play sub c.args.play.now) left = record {
       is = rw (c.deref-2.ensures.value, c.deref-3.ensures.value, c.deref-4.ensures.value, before, sym number) at (is registrations 0);
       memory = All-map HasMemory completed_of _ (rw c.deref.ensures.value at (c.have_memory.ensures c.if-not-have_memory.false));

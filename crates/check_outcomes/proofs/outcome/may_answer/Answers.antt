@@ -1,6 +1,6 @@
-use Rattle.fx_order.proofs.Words.{refl}
-use Rattle.check_outcomes.proofs.Promised.{answers_by}
+use Rattle.fx_order.proofs.Words.{IfOk-weaker, refl}
 use Rattle.check_outcomes.proofs.outcome.may_answer.Goals as goal
 
 pub returns-clause-all : goal.returns-clause-all
-returns-clause-all c = λ yes registrations. answers_by registrations refl refl c.deref-2.ensures.value (c.in_ok-are_all.ensures yes)
+returns-clause-all c = IfOk-weaker c.answers_of.result _ _ (λ found all yes registrations. all yes c.args.submissions registrations refl)
+    c.answers_of.ensures.all

@@ -1,7 +1,14 @@
-use Rattle.fx_order.proofs.Words.{refl}
-use Rattle.check_outcomes.proofs.EachReport.{reports_by}
+use Rattle.fx_order.proofs.Words.{IfOk-weaker, refl}
 use Rattle.check_outcomes.proofs.possible_report.may_report.Goals as goal
 
+pub returns-clause-each : goal.returns-clause-each
+returns-clause-each c = IfOk-weaker c.reports_of.result _ _
+    (λ found each registrations k d lt. each k d lt c.args.submissions registrations refl) c.reports_of.ensures.each
+
+pub returns-clause-ends : goal.returns-clause-ends
+returns-clause-ends c = IfOk-weaker c.reports_of.result _ _ (λ found ends yes registrations. ends yes c.args.submissions registrations refl)
+    c.reports_of.ensures.ends
+
 pub returns-clause-all : goal.returns-clause-all
-returns-clause-all c = λ yes registrations. reports_by registrations refl c.deref-2.ensures.value refl
-    (c.in_ok-are_all.ensures yes) c.in_ok-reports.ensures
+returns-clause-all c = IfOk-weaker c.reports_of.result _ _ (λ found all yes tells registrations. all yes tells c.args.submissions registrations refl)
+    c.reports_of.ensures.all

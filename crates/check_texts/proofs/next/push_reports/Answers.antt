@@ -32,9 +32,11 @@ loop-possible-preserved c =
 pub returns-clause-all : goal.returns-clause-all
 returns-clause-all c = λ all.
     let old = stage_of c.args.setting.now.catalogue.now c.args.from.now in
+    let number = c.args.from.now.ring.registrations in
     reports_are_all c.args.setting.now.keeps old c.deref-possible-items.result.now
     (stages_of c.args.setting.now.catalogue.now c.loop-possible.rings.items) c.requires.ring c.requires.accepted
-    (rw c.deref-possible-items.ensures.value (c.in_ok-found.ensures.each c.args.from.now.ring.registrations))
+    (rw c.deref-possible-items.ensures.value (c.in_ok-found.ensures.each number))
     (rw (take_all c.loop-possible.possible-index c.deref-possible-items.result.now c.loop-possible-test.false) at c.loop-possible.invariant.there)
     (counted_one (all_asked c.args.requests.now) c.requires.faultless c.requires.few)
-    (rw c.deref-possible-items.ensures.value (c.in_ok-found.ensures.all all c.args.from.now.ring.registrations))
+    (rw c.deref-possible-items.ensures.value (c.in_ok-found.ensures.ends all number))
+    (λ keeps. rw c.deref-possible-items.ensures.value (c.in_ok-found.ensures.all all keeps number))

@@ -2,7 +2,7 @@ use Rattle.check_texts.proofs.Words.{from_here, instruction_of, instructions_of,
 use Rattle.std.proofs.Math.ListN.{drop_of_length-le}
 use Rattle.check_texts.proofs.LedRings.{next_ring}
 use Rattle.check_texts.proofs.Whole.{may_end, may_end_behind}
-use Rattle.check_texts.proofs.going_on.goes_on.Goals as goal
+use Rattle.check_texts.proofs.saying.goes_on.Goals as goal
 
 pub loop-command-preserved : goal.loop-command-preserved
 loop-command-preserved c =

@@ -1,6 +1,6 @@
 use Rattle.check_texts.proofs.Words.{stage_of}
 use Rattle.check_texts.proofs.Growth.{popped}
-use Rattle.check_texts.proofs.going_on.one_next.Goals as goal
+use Rattle.check_texts.proofs.saying.one_next.Goals as goal
 
 pub returns : goal.returns
 returns c =

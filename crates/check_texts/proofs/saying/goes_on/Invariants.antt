@@ -1,5 +1,5 @@
 use Rattle.check_texts.proofs.Words.{instructions_of, ring_with_slots, IsRing, MayEnd, drop}
-use Rattle.check_texts.proofs.going_on.goes_on.Given as goal
+use Rattle.check_texts.proofs.saying.goes_on.Given as goal
 
 -- an end of the ring that is reached is one of the first ring
 abbrev pub invariant-loop-command : goal.invariant-loop-command
