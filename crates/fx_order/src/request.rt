@@ -1,6 +1,6 @@
 //! Checking a request's accesses and completion, by the cases of its operation.
 ghost use Rattle.std.specs.Prelude.{◌≡◌, ◌≢◌, ◌<◌, ◌+◌, ◌^◌, ◌↔◌, IfNone, IfOk, IfSome, IsTrue, List, Option, [], ◌∷◌, length, ℕ};
-ghost use Rattle.std.specs.Prelude.{Some, false, filter, int_le, negsuc, take};
+ghost use Rattle.std.specs.Prelude.{Some, filter, int_le, negsuc, take};
 ghost use Rattle.fx_base.specs.Catalogue.{name_at};
 ghost use Rattle.fx_base.specs.declared.open_file.Closed.{Closed as File};
 ghost use Rattle.fx_chain.specs.Answers.{installed};
@@ -303,13 +303,14 @@ pub fn positions_made(
 
 /// Checks whether an operation may install a file at a position in its list, from 0; an open has position 0 alone.
 pub fn installs_at(op: &Op, entry: u32) -> bool
-    ensures { result ≡ false → InstallsAt (operation_of op.now) entry → ⊥ }
+    ensures { IsTrue result ↔ InstallsAt (operation_of op.now) entry }
 {
     match op {
         Op::Open { name: _, target: _ } => entry == 0,
-        Op::Update { off: _, list } => {
-            matches!(list.as_slice().get(entry as usize), Some(number) if *number >= 0)
-        }
+        Op::Update { off: _, list } => match list.as_slice().get(entry as usize) {
+            Some(number) => *number >= 0,
+            None => false,
+        },
         _ => false,
     }
 }
