@@ -45,7 +45,7 @@ def kinds(fixcheck):
     yield "verdicts", 7, verdicts()
     yield "names in verdicts", 9, names_told()
     yield "lines that have no order", 84, unordered(fixcheck)
-    yield "lines beside which no other file is closed", 6, beside_closes(fixcheck)
+    yield "lines beside which no other file is closed", 4, beside_closes(fixcheck)
 
 
 def examples():
