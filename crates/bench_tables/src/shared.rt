@@ -166,6 +166,7 @@ impl<T: Opened> Subject for Shared<T> {
         table.close(passes)
     }
 
+    #[inline(always)]
     fn look_up<R: Wait>(&self, rt: &R, pass: &mut T::Pass, slot: u32) -> Option<(Hold, u8)> {
         if slot >= self.table.size() {
             return None;
@@ -181,6 +182,7 @@ impl<T: Opened> Subject for Shared<T> {
         }
     }
 
+    #[inline(always)]
     fn release<R: Wait>(&self, rt: &R, pass: &mut T::Pass, hold: Hold) {
         discard(self.table.release(rt, pass, hold));
     }

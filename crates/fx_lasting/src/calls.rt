@@ -1,6 +1,5 @@
 //! The calls of a pass that never wait, allocate or retry: each makes at most as many atomic steps as its clause says.
-//! They are inlined into their caller, except for a pass's first look-up, for a withdrawal, for the visits of a retirement and
-//! for taking a file out.
+//! They are inlined into their caller, except for a withdrawal, for the visits of a retirement and for taking a file out.
 //! These hints change no proof.
 ghost use Rattle.std.specs.Prelude.{◌≡◌, ◌≢◌, ◌+◌, ◌*◌, ◌-◌, ◌/◌, ◌<◌, ◌≤◌, Option, option_map, Err};
 ghost use Rattle.fx_plain.specs.declared.event.File.{File};
@@ -64,7 +63,7 @@ impl LastingTable {
     }
 
     // Looks up a slot for a pass that isn't listed: lists the pass and takes what the slot names, in at most three steps.
-    #[inline(never)]
+    #[inline(always)]
     fn look_first(&self, pass: &mut LastingPass, slot: u32) -> LookUp
         requires seated { IsSeatOfTable self.now pass.old }
         requires idle { pass.old.seat.me.0.work ≡ Idle }
