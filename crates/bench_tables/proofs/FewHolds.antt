@@ -1,11 +1,16 @@
--- A look-up adds at most one hold, and no other call adds any.
-use Rattle.std.proofs.Common.{◌≡◌, ℕ, ◌+◌, ◌-◌, ◌≤◌, [], Option, Some, None, subst, sym, arith}
-use Rattle.fx_plain.specs.State.{State}
+-- Tables that nobody uses, and the holds that a call adds.
+use Rattle.std.proofs.Common.{◌≡◌, ℕ, refl, subst, sym, ◌+◌, ◌-◌, ◌≤◌, [], Option, Some, None, arith}
+use Rattle.fx_plain.specs.State.{State, IsSettled, vacant}
 use Rattle.fx_plain.specs.Step.{Steps, changed_at}
 use Rattle.fx_plain.specs.History.{◌▷◌, ◌▷▷◌, Leads, close_of}
 use Rattle.fx_plain.specs.declared.event.File.{File}
 use Rattle.fx_plain.specs.declared.event.Action.TheVariants.{Look, Release}
 use Rattle.bench_tables.specs.Holds.{HasHoldsUpTo}
+
+pub vacant_settled : (size : ℕ) {st : State} → st ≡ vacant size → IsSettled st
+vacant_settled size is = subst IsSettled (sym is) (record { unheld = λ _. refl; closed = λ _. refl })
+
+-- A look-up adds at most one hold, and no other call adds any.
 
 pub still_few : {most : ℕ} {old new : State} → new ≡ old → HasHoldsUpTo most old → HasHoldsUpTo most new
 still_few {most} is few n = subst (λ (s : State). s.holds n ≤ most) (sym is) (few n)

@@ -1,2 +1,1 @@
-mod FewHolds
-mod Vacant
+pub mod FewHolds

@@ -1,18 +1,19 @@
--- The lines of an accepted submission's report have numbers that their types have.
-use Rattle.check_judge.proofs.Words.{◌≡◌, inl, inr, ℕ, zero, suc, ◌+◌, ◌<◌, ◌≤◌, ◌^◌, pos, List, [], ◌∷◌, length, take, drop, All, refl, subst}
-use Rattle.check_judge.proofs.Words.{arith, Option, Some, None, slice_get, get_or_from_slice_get, slice_get_within, All-append, All-cons, All-get_or}
-use Rattle.check_judge.proofs.Words.{All-head, All-nil, All-tail, FileEntry, Errno, ENOENT, Completed, completed}
-use Rattle.check_judge.proofs.Words.{next_member}
-use Rattle.check_judge.proofs.Words.{canceled, first_member, severs, Asked, Operation, Place}
-use Rattle.check_judge.proofs.Words.{accesses_of, accesses_of_chain, Access, ChainAccess, IsRequestDone, IsChainDone, AreChainsDone}
-use Rattle.check_judge.proofs.Words.{either_way, AreFiles, length-drop, get_or-drop, get_or-take, get_or_past, length-take}
-use Rattle.check_judge.proofs.Words.{IsCompletionInRange, IsPlaceInRange, cases_lt, refusal, bytes_at, part_of, LONGEST_ENTRY}
-use Rattle.check_judge.proofs.Words.{Allocates, ECANCELED, both_parts}
-use Rattle.std.specs.List.{AllByRecursion}
+-- The lines of a report have numbers that their types have.
+use Rattle.check_judge.proofs.Words.{◌≡◌, inl, inr, ℕ, zero, suc, ◌+◌, ◌<◌, ◌≤◌, ◌^◌, pos, List, [], ◌∷◌, length, take, drop, All, refl, subst, arith}
+use Rattle.check_judge.proofs.Words.{Option, Some, None, slice_get, get_or_from_slice_get, slice_get_within, All-append, All-cons, All-get_or}
+use Rattle.check_judge.proofs.Words.{All-head, All-nil, All-tail, FileEntry, Errno, ENOENT, Completed, completed, next_member, canceled, first_member}
+use Rattle.check_judge.proofs.Words.{severs, Asked, Operation, Place, accesses_of, accesses_of_chain, Access, ChainAccess, IsRequestDone, IsChainDone}
+use Rattle.check_judge.proofs.Words.{AreChainsDone, either_way, AreFiles, length-drop, get_or-drop, get_or-take, get_or_past, length-take}
+use Rattle.check_judge.proofs.Words.{IsCompletionInRange, IsPlaceInRange, cases_lt, refusal, bytes_at, part_of, LONGEST_ENTRY, Allocates, ECANCELED}
+use Rattle.check_judge.proofs.Words.{both_parts, ◌==◌, not, filter, map, sym, ap, slice_get-get_or, slice_index_or, option_map, All-map}
+use Rattle.check_judge.proofs.Words.{tag_completion, tags_of, Closed, TagCompletion, IsFileInRange, runs_of, each_all, RingState, Reported}
+use Rattle.check_judge.proofs.Words.{IsOneOrder, table_of, lines_of, named_close, RingSlots, MayBeClosed, ring_with_slots, name_of, IsTrue, unwrap_or}
+use Rattle.check_judge.proofs.Words.{AreLinesInRange, IsCloseInRange, is_without, All-filter, AllByRecursion, completion_so, name_without_end}
 use Rattle.hex.specs.Hex.{IsBytes}
-use Rattle.check_judge.proofs.OfChain.{possible_of_chain}
+use Rattle.check_judge.proofs.StrandClaims.{possible_of_chain}
 use Rattle.check_judge.specs.Claims.{IsAllocationInRange}
-use Rattle.fx_order.proofs.RequestCases.{completion_so}
+use Rattle.check_judge.proofs.Refuting.{possible_all}
+use Rattle.check_judge.proofs.OrderFiles.{IsCounted, closed_in_range, may_close_all, short_runs}
 
 -- an element of a list of which each is so
 all_got : {A : Type 0} (P : A → Type 0) (xs : List A) (i : ℕ) {x : A} → All P xs → slice_get xs i ≡ Some x → P x
@@ -102,3 +103,46 @@ module _ (catalogue : List FileEntry) (are : AreFiles catalogue) (size : ℕ) (s
       (chain_so (first_member submission first) run (accesses_of_chain first order) x.0
       (record { submission = low; chain = omega arith; member = omega arith }) (omega arith) (possible_of_chain size range first order inside) x.3)
       (chains_so (first + 1) runs order x.1 low (omega arith) (All-tail (λ (r : List Asked). length r ≤ 16) run runs short) inside x.4))
+
+-- The lines of an accepted submission's report have numbers that their types have, and names without a line end.
+
+abbrev no_entry : FileEntry
+no_entry = record { name = []; bytes = [] }
+
+-- the name of an entry has no line end
+name_fits : {catalogue : List FileEntry} {entry : ℕ} → AreFiles catalogue → entry < length catalogue → IsTrue (is_without 10 (name_of catalogue entry))
+name_fits {catalogue} {entry} are inside =
+    let name = (slice_index_or catalogue entry no_entry).name in
+    let is : name ≡ name_of catalogue entry =
+    sym (ap (λ x. unwrap_or (option_map (λ file. file.name) x) []) (slice_get-get_or catalogue entry no_entry inside)) in
+    subst (λ (l : List ℕ). IsTrue (is_without 10 l)) is (name_without_end name (are.catalogue.named entry no_entry inside))
+
+abbrev IsSmall : ℕ → Type 0
+IsSmall tag = tag < 2 ^ 64
+
+tags_fit : (files : List Closed) → All (λ file. IsSmall file.tag) files → All IsSmall (map (λ completion. completion.user_data) (tags_of files))
+tags_fit files small =
+    All-map IsSmall (λ (completion : TagCompletion). completion.user_data) (tags_of files)
+    (All-map (λ (completion : TagCompletion). IsSmall completion.user_data) (λ (file : Closed). tag_completion file.tag)
+    (filter (λ file. not (file.tag == 0)) files) (All-filter (λ (file : Closed). not (file.tag == 0)) (λ file. IsSmall file.tag) files small))
+
+module _ {catalogue : List FileEntry} {old : RingSlots} {asked : List Asked} (s : IsCounted catalogue old asked) {report : Reported}
+    {left : RingState} (one : IsOneOrder (ring_with_slots catalogue old) asked report left) where
+  ranges : All IsFileInRange report.closes.files
+  ranges = each_all IsFileInRange report.closes.files (closed_in_range s one)
+
+  inside : All (MayBeClosed catalogue old.slots) report.closes.files
+  inside = (may_close_all s one).each
+
+  pub report_in_range : AreLinesInRange (lines_of catalogue report)
+  report_in_range =
+      let numbered = one.is.submission in
+      let slots = s.kept.few_slots in
+      record {
+        completions = chains_so catalogue s.kept.files (length old.slots.at.items) (omega arith) old.slots.range 1 (runs_of asked) one.order
+            report.completions (omega arith) (omega arith) (short_runs asked s.accepted)
+            (possible_all (table_of (ring_with_slots catalogue old)) _ _ (accesses_of one.order) refl refl one.is.permitted) one.is.done;
+        closed = All-map IsCloseInRange (named_close catalogue) report.closes.files
+            (λ k d low. record { mark = (ranges k d low).mark; name = name_fits s.kept.files (inside k d low).inside });
+        tags = tags_fit report.closes.files (λ k d low. (ranges k d low).tag);
+      }

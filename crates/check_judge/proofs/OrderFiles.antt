@@ -1,19 +1,78 @@
--- The files that an order closes, and those that it leaves.
-use Rattle.check_judge.proofs.Words.{◌≡◌, ◌^◌, inl, inr, ⊎_elim, ℕ, ◌<◌, ◌≤◌, List, length, All, Contains, sym, ap, subst, ◌∙◌, arith, All-map}
-use Rattle.check_judge.proofs.Words.{FileEntry, Submitted, Closed, AreInRange, IsFileInRange, IsAccepted, IsChain, members_of, Asked, runs_of, Chain}
-use Rattle.check_judge.proofs.Words.{each_all, RingState, Reported, accesses_of, Access, RingSlots, IsOneOrder, table_of, ring_with_slots, Has}
-use Rattle.check_judge.proofs.Words.{placed}
-use Rattle.check_judge.proofs.Words.{AreFrom, IsFileAtSlot, MayBeClosed, OneInstalled, ◌⊎◌, All-weaker, HasNone, MayCloseAll, left_from, removes_contained}
-use Rattle.check_judge.proofs.Words.{each_closed_file_is_known, in_limits, HasCounted, files_removed_in, fault_of, IsRingKept, MOST_SUBMISSIONS, None}
-use Rattle.std.proofs.lemmas.List.Sorted.{Contains-permutation, IsPermutation-sym}
+-- The files that an order installs, closes and leaves.
+use Rattle.check_judge.proofs.Words.{◌≡◌, inl, inr, ⊎_elim, ℕ, ◌+◌, ◌<◌, ◌≤◌, List, [], ◌∷◌, ◌++◌, length, arith, flat_map, FileEntry, Mark}
+use Rattle.check_judge.proofs.Words.{Submitted, Completed, next_member, first_member, severs, Asked, Place, accesses_of_chain, Access, ChainAccess}
+use Rattle.check_judge.proofs.Words.{IsRequestDone, IsChainDone, AreChainsDone, length-done, Has, placed, either_way, by_equality, Installed}
+use Rattle.check_judge.proofs.Words.{OneInstalled, has_either, placed-append, Closed, sym, ap, ◌∙◌, ◌^◌, All, Contains, subst, All-map, AreInRange}
+use Rattle.check_judge.proofs.Words.{IsFileInRange, IsAccepted, IsChain, members_of, runs_of, Chain, each_all, RingState, Reported, accesses_of}
+use Rattle.check_judge.proofs.Words.{RingSlots, IsOneOrder, table_of, ring_with_slots, AreFrom, IsFileAtSlot, MayBeClosed, ◌⊎◌, All-weaker, HasNone}
+use Rattle.check_judge.proofs.Words.{MayCloseAll, left_from, removes_contained, each_closed_file_is_known, in_limits, HasCounted, files_removed_in}
+use Rattle.check_judge.proofs.Words.{fault_of, IsRingKept, MOST_SUBMISSIONS, None, false, zero, suc, map, drop, refl, Some, slice_index_or}
+use Rattle.check_judge.proofs.Words.{length-map, slice_get-get_or, is_lt, name_at, all_completed, completed_of, all_asked, asked_of, Slots}
+use Rattle.check_judge.proofs.Words.{named_close_of, named_close, named_closes, ClosedLine, AreApart, name_of, drop_all, get_or-map, get_or_default}
+use Rattle.check_judge.proofs.Words.{HasDistinctMarks, each_placed, Contains-permutation, IsPermutation-sym, Completion, Request}
 use Rattle.fx_chain.specs.Chains.{chains_of}
-use Rattle.fx_chain.proofs.Chains.{accepted-chains, members-are-runs}
+use Rattle.fx_chain.proofs.Accepted.{accepted-chains, members-are-runs}
 use Rattle.fx_chain.proofs.Runs.{are_runs}
 use Rattle.fx_order.specs.Laws.{AreKnown, IsOfNext, IsThere}
 use Rattle.fx_order.proofs.Placed.{removed_from}
 use Rattle.fx_order.proofs.PlacedNew.{AnyPlace, InLimits, chain_places, has_in_chain}
 use Rattle.fx_table.specs.declared.limits.TheConstants.{MAX_CHAINS}
-use Rattle.check_judge.proofs.Installations.{chains_installed}
+use Rattle.check_lines.proofs.Cuts.{from_here}
+use Rattle.fx_base.proofs.Marks.{same_cmp as derived_cmp}
+use Rattle.fx_base.specs.CloseList.{IsInOrderOfMark}
+use Rattle.fx_base.specs.contracts.mark.MarkOrd.TheImpl.{ghosts}
+use Rattle.check_lines.proofs.Marks.{neither_below, same_cmp}
+
+module _ (s : ℕ) (f : Closed) where
+  abbrev Places : List Access → Type 0
+  Places accesses = Has (placed accesses) s f
+
+  none_placed : (accesses : List Access) → accesses ≡ [] → Places accesses → ⊥
+  none_placed accesses is has = rw is at has
+
+  request_installed : (catalogue : List FileEntry) (size : ℕ) (place : Place) (request : Asked) (accesses : List Access) (c : Completed)
+      → IsRequestDone catalogue size place request.operation accesses c → Places accesses → Installed request c f.mark
+  request_installed catalogue size place request accesses c x has =
+      let i = (each_placed catalogue size place request.operation accesses c x).0 s f has in
+      record { entry = i.at; is_mark = i.is.mark ∙ ap (λ (p : Place). Submitted p.submission p.chain p.member i.at) (sym i.here); listed = i.listed; res = i.res; accepted = i.accepted }
+
+  module _ (catalogue : List FileEntry) (size : ℕ) where
+    chain_installed : (place : Place) (requests : List Asked) (accesses : List Access) (cs : List Completed) → Places accesses
+        → IsChainDone catalogue size place requests accesses cs → OneInstalled requests cs f.mark
+    chain_installed place [] accesses cs has x = absurd (none_placed accesses x.0 has)
+    chain_installed place (r ∷ rs) accesses cs has x =
+        rw x.5 (⊎_elim
+        (λ here. inl (request_installed catalogue size place r x.0 x.2 x.6 here))
+        (λ later. inr (either_way {R = OneInstalled rs x.3 f.mark} (severs r x.2) (λ _ y. absurd (none_placed x.1 y.0 later))
+        (λ _ y. chain_installed (next_member place) rs x.1 x.3 later y) x.7))
+        (has_either (placed x.0) (placed x.1) s f (rw (x.4, placed-append x.0 x.1) at has)))
+
+front_installed : (requests more : List Asked) (cs others : List Completed) (mark : Mark) → OneInstalled requests cs mark
+    → OneInstalled (requests ++ more) (cs ++ others) mark
+front_installed (r ∷ rs) more (c ∷ cs) others mark one =
+    ⊎_elim (λ here. inl here) (λ later. inr (front_installed rs more cs others mark later)) one
+front_installed requests more cs others mark one = absurd one
+
+behind_installed : (requests more : List Asked) (cs others : List Completed) (mark : Mark) → length cs ≡ length requests
+    → OneInstalled more others mark → OneInstalled (requests ++ more) (cs ++ others) mark
+behind_installed [] more [] others mark same one = one
+behind_installed (r ∷ rs) more (c ∷ cs) others mark same one = inr (behind_installed rs more cs others mark (omega arith) one)
+behind_installed requests more cs others mark same one = absurd (omega arith)
+
+pub chains_installed : (s : ℕ) (f : Closed) (catalogue : List FileEntry) (size submission first : ℕ) (runs : List (List Asked)) (order : List ChainAccess)
+    (cs : List Completed) → AreChainsDone catalogue size submission first runs order cs → {c : ℕ} → first ≤ c → c < first + length runs
+    → Has (placed (accesses_of_chain c order)) s f → OneInstalled (flat_map (λ run. run) runs) cs f.mark
+chains_installed s f catalogue size submission first [] order cs x low high has = absurd (omega arith)
+chains_installed s f catalogue size submission first (run ∷ runs) order cs x {c} low high has =
+    rw x.2
+    (by_equality c first (λ _. OneInstalled (run ++ flat_map (λ r. r) runs) (x.0 ++ x.1) f.mark)
+    (λ same. front_installed run (flat_map (λ r. r) runs) x.0 x.1 f.mark
+    (chain_installed s f catalogue size (first_member submission first) run (accesses_of_chain first order) x.0 (rw same at has) x.3))
+    (λ other. behind_installed run (flat_map (λ r. r) runs) x.0 x.1 f.mark
+    (length-done catalogue size (first_member submission first) run (accesses_of_chain first order) x.0 x.3)
+    (chains_installed s f catalogue size submission (first + 1) runs order x.1 x.4 (omega arith) (omega arith) has)))
+
+-- The files that an order closes, and those that it leaves.
 
 -- the runs of an accepted submission are short
 pub short_runs : (asked : List Asked) → IsAccepted asked → All (λ run. length run ≤ 16) (runs_of asked)
@@ -109,3 +168,66 @@ module _ {catalogue : List FileEntry} {old : RingSlots} {asked : List Asked} (s 
   left_in_range slot file at =
       ⊎_elim (λ was. s.kept.in_range slot file was) (λ new. placed_in_range slot new)
       (left_from (table_of before) (accesses_of one.order) slot file (sym (ap (λ (r : RingState). r.at slot) one.after) ∙ at))
+
+-- Lines describe one list of files, or none.
+
+-- an entry of the catalogue has its name
+name_at_entry : (catalogue : List FileEntry) (entry : ℕ) → entry < length catalogue → name_at catalogue entry ≡ Some (name_of catalogue entry)
+name_at_entry [] entry inside = absurd (omega arith)
+name_at_entry (file ∷ catalogue) zero inside = refl
+name_at_entry (file ∷ catalogue) (suc entry) inside = name_at_entry catalogue entry (omega arith)
+
+module _ (catalogue : List FileEntry) (slots : Slots) (apart : AreApart catalogue slots) (file : Closed) (may : MayBeClosed catalogue slots file)
+    (mark : Mark) (name : List ℕ) (marks : file.mark ≡ mark) (names : name_of catalogue file.entry ≡ name) where
+  pub has_entry : name_at catalogue file.entry ≡ Some name
+  has_entry = name_at_entry catalogue file.entry may.inside ∙ ap (λ (n : List ℕ). Some n) names
+
+  pub same_entry : {entry : ℕ} → name_at catalogue entry ≡ Some name → entry ≡ file.entry
+  same_entry {entry} is = apart.names.distinct entry file.entry name is has_entry
+
+  -- where a file at a slot has the mark, it is that one
+  pub same_file : {other : Closed} → other.mark ≡ mark → IsFileAtSlot slots other → other ≡ file
+  same_file {other} is there = ⊎_elim (λ here. apart.marks other file there here (is ∙ sym marks))
+      (λ new. absurd (new.1 there.0 other there.1 (is ∙ sym marks))) may.from
+
+-- the line of one of several files
+pub close_at : (catalogue : List FileEntry) (files : List Closed) (lines : List ClosedLine) {i : ℕ} {line : ClosedLine} (d : Closed)
+    → named_closes catalogue files ≡ map named_close_of lines → i < length lines → line ≡ slice_index_or lines i line
+    → (i < length files) × (named_close catalogue (slice_index_or files i d) ≡ named_close_of line)
+close_at catalogue files lines {i} {line} d same inside is =
+    let many = sym (length-map files (named_close catalogue)) ∙ ap length same ∙ length-map lines named_close_of in (
+      omega arith,
+      sym (get_or-map (named_close catalogue) files i d (named_close_of line) (omega arith))
+          ∙ rw (same, get_or-map named_close_of lines i line (named_close_of line) inside, sym is),
+    )
+
+-- a file in order of mark isn't at or before the file before it
+pub not_in_turn : (files : List Closed) {i : ℕ} (j : ℕ) (d e : Closed) → j + 1 ≡ i → i < length files
+    → is_lt (ghosts.cmp (slice_index_or files j d).mark (slice_index_or files i e).mark) ≡ false → IsInOrderOfMark files → HasDistinctMarks files → ⊥
+not_in_turn files {i} j d e next inside is up distinct =
+    let x = slice_index_or files j d in
+    let y = slice_index_or files (j + 1) d in
+    let at : y ≡ slice_index_or files i e = ap (λ (n : ℕ). slice_index_or files n d) next ∙ get_or_default files i d e inside in
+    let marks : x.mark ≡ y.mark = neither_below x y
+    (ap is_lt (same_cmp x.mark y.mark ∙ sym (derived_cmp x.mark y.mark) ∙ ap (λ (file : Closed). ghosts.cmp x.mark file.mark) at) ∙ is)
+    (ap is_lt (same_cmp y.mark x.mark) ∙ up j d (omega arith) (omega arith)) in
+    let one : j ≡ j + 1 = distinct j (j + 1) x y (slice_get-get_or files j d (omega arith)) (slice_get-get_or files (j + 1) d (omega arith)) marks in
+    absurd (omega arith)
+
+-- one of the requests from a place on, where it isn't the one there
+pub next_installed : (requests : List Request) (completions : List Completion) {mark : Mark} {i : ℕ} {r : Request} {c : Completion}
+    → i < length requests → i < length completions → r ≡ slice_index_or requests i r → c ≡ slice_index_or completions i c
+    → (Installed (asked_of r) (completed_of c) mark → ⊥)
+    → OneInstalled (all_asked (drop i requests)) (all_completed (drop i completions)) mark
+    → OneInstalled (all_asked (drop (i + 1) requests)) (all_completed (drop (i + 1) completions)) mark
+next_installed requests completions {mark} {i} {r} {c} low few is are none one =
+    ⊎_elim (λ here. absurd (none here)) (λ later. later) (rw (from_here requests i r low is, from_here completions i c few are) at one)
+
+none_there : (requests : List Request) (mark : Mark) → OneInstalled (all_asked requests) [] mark → ⊥
+none_there [] mark one = one
+none_there (r ∷ requests) mark one = one
+
+-- past the completions there is none
+pub none_installed : (requests : List Request) (completions : List Completion) (mark : Mark) {i : ℕ} → length completions ≤ i
+    → OneInstalled (all_asked (drop i requests)) (all_completed (drop i completions)) mark → ⊥
+none_installed requests completions mark {i} past one = none_there (drop i requests) mark (rw (drop_all i completions past) at one)

@@ -1,17 +1,137 @@
 -- The plays of a script go along with the text, command by command.
-use Rattle.check_judge.proofs.Words.{◌≡◌, ℕ, suc, ◌+◌, ◌<◌, ◌≤◌, List, [], ◌∷◌, ◌++◌, length, take, drop, refl, sym, ap, subst, arith, slice_index_or}
-use Rattle.check_judge.proofs.Words.{Option, append-nil, append_assoc, length-drop, option_to_list, take-append-drop, take_all, RingContents}
-use Rattle.check_judge.proofs.Words.{RingState}
-use Rattle.check_judge.proofs.Words.{new_ring, ring_of, Instruction, instruction_of, instructions_of, Prints, PrintsEnd, RingSlots, MayPrintBy}
-use Rattle.check_judge.proofs.Words.{ContinuesText}
-use Rattle.check_judge.proofs.Words.{LeadsNowhere, LeadsTo, Fault, Order, add-zero, zero-add, add-one, drop-drop, HasNoCloses, PrintsAll}
-use Rattle.check_judge.proofs.Words.{take-add, Meaning, MayPrintAllBy, PrintsAllBy, mapped_at, None, FileEntry, get_or_past, ring_with_slots}
-use Rattle.fx_order.proofs.Shown.{ring_with_files, shows_ring}
+use Rattle.check_judge.proofs.Words.{◌≡◌, ◌≤◌, List, sym, subst, IsAccepted, Asked, RingState, IsRing, ring_of, Reported, submitted_rings, IsOneOrder}
+use Rattle.check_judge.proofs.Words.{each_order_is_a_history, NonePast, ring_with_files, shows_ring, ◌↔◌, ◌-◌, ℕ, ◌++◌, drop, length, length-append}
+use Rattle.check_judge.proofs.Words.{take, ap, ◌∙◌, arith, drop-append_seam, take-append_seam, length-take-le, take-append-drop, FileEntry}
+use Rattle.check_judge.proofs.Words.{RingContents, Instruction, Prints, RingSlots, BeginsWith, IsMet, ContinuesText, IsStep, Met, Here, Apart}
+use Rattle.check_judge.proofs.Words.{ring_with_slots, inl, inr, ⊎_elim, ◌⊎◌, Some, None, ENOMEM, MOST_SLOTS, LeadsNowhere, table_of_slots}
+use Rattle.check_judge.proofs.Words.{result_line, negated, AreInRange, IsRingKept, MOST_REGISTRATIONS, MOST_SUBMISSIONS, suc, ◌+◌, ◌<◌, [], ◌∷◌, refl}
+use Rattle.check_judge.proofs.Words.{slice_index_or, Option, append-nil, append_assoc, length-drop, option_to_list, take_all, new_ring}
+use Rattle.check_judge.proofs.Words.{instruction_of, instructions_of, PrintsEnd, MayPrintBy, LeadsTo, Fault, Order, add-zero, zero-add, add-one}
+use Rattle.check_judge.proofs.Words.{drop-drop, HasNoCloses, PrintsAll, take-add, Meaning, MayPrintAllBy, PrintsAllBy, mapped_at, get_or_past, shown}
+use Rattle.check_lines.specs.Calls.{IsCall, IsLineOf, after_call, memory_word}
+use Rattle.check_lines.proofs.Calls.{Answers, Fails, answers, may_fail, never_fails, not_failed, one_line_of, called_registrations, called_ring}
+use Rattle.check_lines.proofs.Calls.{called_submissions}
 use Rattle.fx_language.specs.declared.command.Command.{Command}
 use Rattle.check_lines.proofs.PlaysBegin.{command_begins, plays_begin}
 use Rattle.check_judge.specs.Judged.{IsBrokenFrom, IsJudged, IsJudgedFrom, MayPrintFront, PrintsBeginning}
 use Rattle.check_judge.specs.declared.judgement.Judgement.{Judgement}
 use Rattle.check_judge.specs.declared.judgement.Judgement.TheVariants.{Legal, NotLegal, Undecided}
+
+pub order_rings : {old left : RingState} {requests : List Asked} {report : Reported} → IsRing old → NonePast old.size old.at → old.size ≤ 256
+    → IsAccepted requests → IsOneOrder old requests report left → IsRing left
+order_rings {old} {left} {requests} {report} ring none few accepted one =
+    let is : ring_of (ring_with_files old) ≡ old = shows_ring old none in
+    let h = each_order_is_a_history (ring_with_files old) requests report left (subst (λ (r : RingState). r.size ≤ 256) (sym is) few) accepted
+    (subst (λ (r : RingState). IsOneOrder r requests report left) (sym is) one) in
+    subst IsRing h.1 (submitted_rings (ring_with_files old) h.0 requests report (subst IsRing (sym is) ring) h.2)
+
+-- A command that prints one line alone, of those that a text begins with: the text leads where that line leads.
+
+pub rest_behind : {text line others : List ℕ} {count : ℕ} → BeginsWith text count line → text ≡ line ++ others → others ≡ drop count text
+rest_behind {text} {line} {others} {count} found split =
+    let size : length line ≡ count = ap length (sym found.is_line) ∙ length-take-le count text found.inside in rw (sym size, split, drop-append_seam)
+
+pub whole_text : (text line : List ℕ) (count : ℕ) → BeginsWith text count line → line ++ drop count text ≡ text
+whole_text text line count found = ap (λ (l : List ℕ). l ++ drop count text) (sym found.is_line) ∙ take-append-drop count text
+
+-- this text is left after the line
+pub begins_with : {text line : List ℕ} (rest : List ℕ) → text ≡ line ++ rest → BeginsWith text (length text - length rest) line
+begins_with {text} {line} rest split =
+    let sizes = length-append line rest in
+    let all = ap length split in
+    let size : length text - length rest ≡ length line = omega arith in
+    record { inside = omega arith; is_line = ap (λ (n : ℕ). take n text) size ∙ ap (take (length line)) split ∙ take-append_seam line rest }
+
+module _ (before : RingState) (command : Instruction) (text : List ℕ) where
+  -- rings of this state may print the line, which leads to that ring, and no other line with which the text continues
+  pub record PrintsOne (left : RingState) (line : List ℕ) : Type 0 where
+    pub may : (ring next : RingContents) (printed : List ℕ) → ring_of ring ≡ before → ring_of next ≡ left → printed ≡ line
+        → Prints ring command next printed
+    pub only : (next : RingContents) (others : List ℕ) (g : ContinuesText before command text next others) → (ring_of next ≡ left) × (g.line ≡ line)
+
+  pub exactly : {left : RingState} {line : List ℕ} → ((ring next : RingContents) (printed : List ℕ) → ring_of ring ≡ before
+      → Prints ring command next printed ↔ ((ring_of next ≡ left) × (printed ≡ line))) → PrintsOne left line
+  exactly one = record {
+    may = λ ring next printed same leads is. (one ring next printed same).1 (leads, is);
+    only = λ next others g. (one g.ring next g.line g.same).0 g.prints;
+  }
+
+module _ (catalogue : List FileEntry) (old new : RingSlots) (command : Instruction) (text line : List ℕ)
+    (one : PrintsOne (ring_with_slots catalogue old) command text (ring_with_slots catalogue new) line) where
+  pub goes : (met : Met) → IsMet text line met → IsStep catalogue old command text met new
+  goes (Here count) found =
+      let next = shown catalogue new in (
+        found.inside,
+        (λ ring same. (next.0, next.1, one.may ring next.0 (take count text) same next.1 found.is_line)),
+        (λ after others g.
+            let is = one.only after others g in
+            (is.0, rest_behind found (g.split ∙ ap (λ (l : List ℕ). l ++ others) is.1))),
+      )
+  goes (Apart wanted) found = λ next others g. found others (g.split ∙ ap (λ (l : List ℕ). l ++ others) (one.only next others g).1)
+
+-- The calls between submissions, and submissions that are refused: where a text leads that goes on with what one prints, and what is kept
+-- of the ring.
+
+module _ (catalogue : List FileEntry) (old : RingSlots) (command : Instruction) (text : List ℕ) (kept : IsRingKept catalogue old)
+    (counts : IsCall old.submissions command) where
+  abbrev before : RingState
+  before = ring_with_slots catalogue old
+
+  answers_at : (ring next : RingContents) (printed : List ℕ) → ring_of ring ≡ before
+      → Prints ring command next printed ↔ (Answers before command (ring_of next) printed ⊎ Fails before command (ring_of next) printed)
+  answers_at ring next printed same =
+      subst (λ (r : RingState). Prints ring command next printed ↔ (Answers r command (ring_of next) printed ⊎ Fails r command (ring_of next) printed)) same
+      (answers ring next command printed (subst (λ (r : RingState). IsCall r.submissions command) (sym same) counts))
+
+  module _ (line : List ℕ) (told : IsLineOf before command line) where
+    -- the text continues with the call's text if no allocation fails
+    pub found : (new : RingSlots) {count : ℕ} → ring_with_slots catalogue new ≡ after_call before command → BeginsWith text count line
+        → IsStep catalogue old command text (Here count) new
+    found new {count} left begins = goes catalogue old new command text line (record {
+      may = λ ring next printed same leads so. (answers_at ring next printed same).1 (inl (leads ∙ left, subst (IsLineOf before command) (sym so) told));
+      only = λ next others g. ⊎_elim (λ a. (a.0 ∙ sym left, one_line_of command kept.is_ring a.1 told))
+          (λ f. absurd (not_failed before command line (drop count text) others kept.few_slots f.0 f.1.0 told
+          (whole_text text line count begins ∙ g.split ∙ ap (λ (l : List ℕ). l ++ others) f.1.2))) ((answers_at g.ring next g.line g.same).0 g.prints);
+    }) (Here count) begins
+
+    -- or it doesn't
+    module _ (apart : (others : List ℕ) → text ≡ line ++ others → ⊥) where
+      not_found : {next : RingContents} {others : List ℕ} (g : ContinuesText before command text next others)
+          → Answers before command (ring_of next) g.line → ⊥
+      not_found {next} {others} g a = apart others (g.split ∙ ap (λ (l : List ℕ). l ++ others) (one_line_of command kept.is_ring a.1 told))
+
+      pub fails : {word : List ℕ} → memory_word before command ≡ Some word → (met : Met) → IsMet text (result_line word (negated ENOMEM)) met
+          → IsStep catalogue old command text met old
+      fails {word} may met =
+          let (takes, none, is) = may_fail before command may in
+          let lines = ap (λ (w : List ℕ). result_line w (negated ENOMEM)) is in
+          goes catalogue old old command text (result_line word (negated ENOMEM)) (record {
+            may = λ ring next printed same leads so. (answers_at ring next printed same).1 (inr (takes, (none, leads, so ∙ lines)));
+            only = λ next others g. ⊎_elim (λ a. absurd (not_found g a)) (λ f. (f.1.1, f.1.2 ∙ sym lines))
+                ((answers_at g.ring next g.line g.same).0 g.prints);
+          }) met
+
+      pub never : memory_word before command ≡ None → LeadsNowhere before command text
+      never none next others g =
+          ⊎_elim (not_found g) (λ f. never_fails before command none f.0 f.1.0) ((answers_at g.ring next g.line g.same).0 g.prints)
+
+-- the properties of a ring that are kept hold after a call
+pub call_keeps : (catalogue : List FileEntry) (old new : RingSlots) (command : Instruction) → IsRingKept catalogue old
+    → ring_with_slots catalogue new ≡ after_call (ring_with_slots catalogue old) command → length new.slots.at.items ≤ MOST_SLOTS
+    → (AreInRange (table_of_slots old.slots).at → AreInRange (table_of_slots new.slots).at) → IsRingKept catalogue new
+call_keeps catalogue old new command kept left few fits =
+    let before = ring_with_slots catalogue old in record {
+      few_slots = few;
+      few_submissions = subst (λ (n : ℕ). n ≤ MOST_SUBMISSIONS)
+          (sym (ap (λ (r : RingState). r.submissions) left ∙ called_submissions before command)) kept.few_submissions;
+      few_registrations = subst (λ (r : RingState). r.registrations ≤ MOST_REGISTRATIONS) (sym left)
+          (called_registrations before command kept.few_registrations);
+      is_ring = subst IsRing (sym left) (called_ring command kept.is_ring);
+      files = kept.files;
+      in_range = fits kept.in_range;
+    }
+
+-- The plays of a script go along with the text, command by command.
 
 pub next_instruction : (commands : List Command) {all : List Instruction} {done : ℕ} {command : Command} → instructions_of commands ≡ all
     → done < length commands → command ≡ slice_index_or commands done command → drop done all ≡ instruction_of command ∷ drop (done + 1) all

@@ -1,17 +1,19 @@
--- An accepted submission whose lines a text goes on with.
+-- Accepted submissions, and the lines that a text goes on with.
 use Rattle.check_judge.proofs.Words.{◌≡◌, ℕ, ◌+◌, ◌≤◌, List, length, map, filter, not, ◌==◌, take, sym, ap, subst, ◌∙◌, arith, Some, refl, lt-leb}
 use Rattle.check_judge.proofs.Words.{FileEntry, tags_of, all_completed, Asked, runs_of, IsOneOrder, ChainAccess, MOST_SLOTS, RingState, IsRing}
-use Rattle.check_judge.proofs.Words.{ring_of}
-use Rattle.check_judge.proofs.Words.{Reported, MOST_SUBMISSIONS, SubmitsAll, report_text, Closed, named_close_of, lines_in, ReportLines, lines_of}
-use Rattle.check_judge.proofs.Words.{lines_text}
-use Rattle.check_judge.proofs.Words.{named_closes, CameBy, told_report, RingSlots, Told, IsRingKept, BeginsWith, MayPrintBy, AreAccessPlaces, AreChainsDone}
-use Rattle.check_judge.proofs.Words.{Order, Bool, MatchBool, MatchOption, Option, Prints, PrintsReport, RingContents, false, nat_le, refused_line}
-use Rattle.check_judge.proofs.Words.{too_many_line, ◌↔◌}
+use Rattle.check_judge.proofs.Words.{ring_of, Reported, MOST_SUBMISSIONS, SubmitsAll, report_text, Closed, named_close_of, lines_in, ReportLines}
+use Rattle.check_judge.proofs.Words.{lines_of, lines_text, named_closes, CameBy, told_report, RingSlots, Told, IsRingKept, BeginsWith, MayPrintBy}
+use Rattle.check_judge.proofs.Words.{AreAccessPlaces, AreChainsDone, Order, Bool, MatchBool, MatchOption, Option, Prints, PrintsReport, RingContents}
+use Rattle.check_judge.proofs.Words.{false, nat_le, refused_line, too_many_line, ◌↔◌, ring_with_slots, printed_lines, IsOrderOf, ring_left, HasLines}
+use Rattle.check_judge.proofs.Words.{◌++◌, None, Result, Ok, Err, Lines, ReadsReport, ContinuesText, LeadsNowhere, LeadsTo, AreApart, TellsKnown}
+use Rattle.check_judge.proofs.Words.{Fault, IsReportBefore, TellsCloses, each_report_leads_to_one_ring, one_at, IsRefuted, each_order_is_a_history}
 use Rattle.fx_chain.specs.declared.fault.CutFault.{CutFault}
-use Rattle.check_judge.proofs.Words.{ring_with_slots, printed_lines, IsOrderOf, ring_left, HasLines}
-use Rattle.fx_order.proofs.Histories.{each_order_is_a_history}
 use Rattle.std.proofs.lemmas.Simd.{map-map}
-use Rattle.check_judge.proofs.OrderFiles.{IsCounted, left_in_range}
+use Rattle.check_judge.proofs.OrderFiles.{IsCounted, left_in_range, are_from, may_close_all}
+use Rattle.fx_order.proofs.Ordered.{each_history_is_an_order}
+use Rattle.check_lines.proofs.CompletionTexts.{each_request}
+use Rattle.check_judge.proofs.Plays.{rest_behind}
+use Rattle.check_judge.proofs.InRange.{report_in_range}
 
 -- the lines of the completions and closes are those that were read
 pub told_lines : (catalogue : List FileEntry) (lines : ReportLines) (files : List Closed)
@@ -128,3 +130,82 @@ module _ {catalogue : List FileEntry} {old : RingSlots} {asked : List Asked} (s 
         files = s.kept.files;
         in_range = left_in_range s one;
       }
+
+-- An accepted submission: a text goes on with its lines in one way alone.
+
+module _ {catalogue : List FileEntry} {old : RingSlots} {asked : List Asked} (s : IsCounted catalogue old asked) (text : List ℕ) where
+  abbrev ring_before : RingState
+  ring_before = ring_with_slots catalogue old
+
+  -- the text continues with a report of one order, whose lines are read in one way
+  record Played (next : RingContents) (others : List ℕ) : Type 0 where
+    report : Reported
+    order : IsOneOrder ring_before asked report (ring_of next)
+    split : text ≡ lines_text (lines_of catalogue report) ++ others
+    fits : IsReportBefore (length asked) (lines_of catalogue report, others)
+
+  played : (next : RingContents) (others : List ℕ) → ContinuesText ring_before (SubmitsAll asked) text next others → Played next others
+  played next others g =
+      let (report, history, printed) =
+      (counted_prints s g.ring next g.line g.same).0 g.prints in
+      let order : IsOneOrder ring_before asked report (ring_of next) =
+      subst (λ (r : RingState). IsOneOrder r asked report (ring_of next)) g.same (each_history_is_an_order g.ring next asked report history) in
+      record {
+        report = report;
+        order = order;
+        split = g.split ∙ ap (λ (l : List ℕ). l ++ others) (printed ∙ ap (λ (r : RingState). report_text r.catalogue report) g.same
+            ∙ printed_lines catalogue report);
+        fits = record { each = each_request g.ring asked report next history; in_range = report_in_range s order; behind = g.behind };
+      }
+
+  -- a text of which no report is read
+  pub none_read : ReadsReport (length asked) text None → LeadsNowhere ring_before (SubmitsAll asked) text
+  none_read none next others g =
+      let p = played next others g in none (lines_of catalogue p.report, others) p.fits p.split
+
+  module _ (lines : ReportLines) (rest : List ℕ) (found : ReadsReport (length asked) text (Some (lines_in lines, rest))) where
+    same_front : (next : RingContents) (others : List ℕ) (p : Played next others)
+        → ◌≡◌ {A = Lines × List ℕ} (lines_of catalogue p.report, others) (lines_in lines, rest)
+    same_front next others p = found.only (lines_of catalogue p.report, others) p.fits p.split
+
+    told_files : (next : RingContents) (others : List ℕ) (p : Played next others) (told : Result Told Fault)
+        → (AreApart catalogue old.slots → TellsKnown catalogue old.slots asked lines told) → TellsCloses told p.report.closes.files
+    told_files next others p told tells = tells (record { names = s.kept.files.catalogue; marks = one_at ring_before s.kept.is_ring }) p.report
+        (may_close_all s p.order) (are_from s p.order) (ap (λ (front : Lines × List ℕ). front.0) (same_front next others p))
+
+    -- lines of no report
+    pub none_told : (fault : Fault) → (AreApart catalogue old.slots → TellsKnown catalogue old.slots asked lines (Err fault))
+        → LeadsNowhere ring_before (SubmitsAll asked) text
+    none_told fault tells next others g =
+        let p = played next others g in told_files next others p (Err fault) tells
+
+    module _ (told : Told) (has : HasLines catalogue lines told)
+        (tells : AreApart catalogue old.slots → TellsKnown catalogue old.slots asked lines (Ok told)) where
+      -- the report is the one that was read
+      same_report : (next : RingContents) (others : List ℕ) (p : Played next others) → p.report ≡ told_report ring_before told p.report.closes.room
+      same_report next others p =
+          let files : told.closes.items ≡ p.report.closes.files = told_files next others p (Ok told) tells in
+          let completions : all_completed told.completions.items ≡ p.report.completions =
+          ap (λ (l : Lines). l.completions) (has 0 0 ∙ sym (ap (λ (front : Lines × List ℕ). front.0) (same_front next others p))) in
+          λ i. record {
+            submission = p.order.is.submission i;
+            completions = sym completions i;
+            closes = record { files = sym files i; room = p.report.closes.room };
+          }
+
+      told_order : (next : RingContents) (others : List ℕ) (p : Played next others)
+          → IsOneOrder ring_before asked (told_report ring_before told p.report.closes.room) (ring_of next)
+      told_order next others p = subst (λ (r : Reported). IsOneOrder ring_before asked r (ring_of next)) (same_report next others p) p.order
+
+      pub none_ordered : IsRefuted ring_before asked told → LeadsNowhere ring_before (SubmitsAll asked) text
+      none_ordered refuted next others g =
+          let p = played next others g in refuted p.report.closes.room (ring_of next) (told_order next others p)
+
+      pub one_ordered : {new : RingState} {count : ℕ} → BeginsWith text count (lines_text (lines_in lines))
+          → ((room : ℕ) → IsOneOrder ring_before asked (told_report ring_before told room) new) → LeadsTo ring_before (SubmitsAll asked) text count new
+      one_ordered {new} {count} begins ordered next others g =
+          let p = played next others g in (
+            each_report_leads_to_one_ring ring_before asked (told_report ring_before told p.report.closes.room) (ring_of next) new
+                s.kept.files.catalogue s.kept.is_ring (told_order next others p) (ordered p.report.closes.room),
+            ap (λ (front : Lines × List ℕ). front.1) (same_front next others p) ∙ rest_behind begins found.printed,
+          )

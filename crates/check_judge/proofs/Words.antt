@@ -1,97 +1,136 @@
 -- The names that most proofs of this crate use.
-pub use Rattle.fx_base.specs.AddFault.{has_name}
 pub use Rattle.fx_base.specs.Catalogue.{FileEntry, name_at, bytes_at, part_of}
+pub use Rattle.fx_base.specs.declared.open_file.Closed.{Closed}
+pub use Rattle.fx_chain.proofs.EntryKinds.{minus_one, unsigned}
+pub use Rattle.fx_chain.specs.Accepted.{IsAccepted, members_of, IsChain}
+pub use Rattle.fx_chain.specs.Answers.{installed}
+pub use Rattle.fx_chain.specs.Completed.{Completed, all_completed, completed, completed_of, next_member, refusal, negated}
+pub use Rattle.fx_chain.specs.Explains.{canceled, first_member, severs}
+pub use Rattle.fx_chain.specs.Operation.{Asked, Opens, all_asked, asked_of, Closes, Operation, Reads, Updates}
+pub use Rattle.fx_chain.specs.declared.completion.Completion.{Completion}
+pub use Rattle.fx_chain.specs.declared.completion.Place.{Place}
+pub use Rattle.fx_chain.specs.declared.request.Request.{Request}
+pub use Rattle.fx_chain.specs.declared.request.Target.TheVariants.{Any, Slot}
+pub use Rattle.check_judge.specs.Chains.{AreDone, TellsChains, TellsMember}
+pub use Rattle.check_judge.specs.Claims.{AreClaims, Fits, LeavesSo, IsAllocationInRange, Possibly, Tells, Wanted, found_by, left_by, touched}
+pub use Rattle.check_search.specs.Machine.{Ends, HasNoEnd, IsEndOfClaims, Standing, allows, cell_at, cell_with, cells_after, is_same, is_staying}
+pub use Rattle.check_search.specs.Machine.{is_taken, may_leave, may_stay, next, suits}
+pub use Rattle.check_judge.specs.Played.{HasNoOrder, IsCell, IsOutcome, ShowsFile}
+pub use Rattle.check_search.specs.Starts.{starting}
+pub use Rattle.check_judge.specs.Strands.{AreStrands, seen, strand_for}
+pub use Rattle.check_search.specs.declared.cell.Cell.{Cell}
+pub use Rattle.check_judge.specs.declared.chain_claims.MemberClaims.{MemberClaims}
+pub use Rattle.check_search.specs.declared.claim.Claim.{Claim}
+pub use Rattle.check_search.specs.declared.claim.Claim.TheVariants.{At, Full}
+pub use Rattle.check_search.specs.declared.claim.Leaves.{Leaves}
+pub use Rattle.check_search.specs.declared.claim.Leaves.TheVariants.{Empty, File, Same}
+pub use Rattle.check_search.specs.declared.claim.Resident.{Resident}
+pub use Rattle.check_search.specs.declared.claim.Wants.{Wants}
+pub use Rattle.check_judge.specs.declared.stop.Stop.{Stop}
+pub use Rattle.check_judge.specs.declared.stop.Stop.TheVariants.{Refuted}
+pub use Rattle.check_search.specs.declared.strand.Strand.{Strand}
+pub use Rattle.fx_order.proofs.Histories.{each_order_is_a_history}
+pub use Rattle.fx_order.proofs.OneRing.{NonePast, ring_with_files, shows_ring, none_past, each_report_leads_to_one_ring, each_closed_file_is_known}
+pub use Rattle.fx_order.proofs.OneRing.{in_limits, no_file_that_stays_is_closed}
+pub use Rattle.fx_order.specs.Access.{Permits, PermitsAll, Table, accesses_of, accesses_of_chain, file_removed_by, files_removed_in, table_after}
+pub use Rattle.fx_order.specs.Access.{table_with}
+pub use Rattle.fx_order.specs.declared.access.Access.TheVariants.{Allocates, FindsFull, Looks, Puts, Takes}
+pub use Rattle.fx_order.specs.Order.{IsOneOrder, table_of, IsOrderOf, ring_left}
+pub use Rattle.fx_order.specs.Requests.{AreChainsDone, AreEntriesDone, IsChainDone, IsCloseDone, IsEntryDone, IsOpenDone, IsReadDone, IsRequestDone}
+pub use Rattle.fx_order.specs.Requests.{IsDoneAtTable, gives, positions_of}
+pub use Rattle.fx_order.specs.Slots.{ring_with_slots, table_of_slots}
+pub use Rattle.fx_order.specs.declared.access.Access.{Access}
+pub use Rattle.fx_order.specs.declared.access.ChainAccess.{ChainAccess}
+pub use Rattle.fx_plain.proofs.Cells.{by_equality, unchanged, each_set, read_default}
+pub use Rattle.fx_plain.specs.Step.{changed_at}
+pub use Rattle.fx_ring.proofs.SubmittedRing.{submitted_rings}
+pub use Rattle.fx_ring.specs.Ring.{IsRing, RingState, ring_of, RingContents, files_of_ring, new_ring, HasCounted}
+pub use Rattle.fx_ring.specs.Submission.{Reported}
+pub use Rattle.check_search.specs.AtSlots.{has_slot, keeps, slot_claimed}
+pub use Rattle.fx_table.proofs.SumLemmas.{contains_head, contains_tail, contains_cases, contains_none, each_all}
+pub use Rattle.std.proofs.Common.{All, Bool, Contains, Err, IsSome, List, None, Ok, Option, Result, Some, [], ap, append_assoc, arith, cond, drop}
+pub use Rattle.std.proofs.Common.{eq-eqb, false, filter, get_or, if◌then◌else◌, inl, inr, int_le, int_lt, is_some, length, map, nat_abs, negsuc, not}
+pub use Rattle.std.proofs.Common.{of_z, pos, refl, rules, slice_get, slice_index, slice_index_or, slice_set, subst, suc, sym, take, to_z, true, w32}
+pub use Rattle.std.proofs.Common.{zero, ℕ, ℤ, ◌++◌, ◌+◌, ◌<◌, ◌==◌, ◌||◌, ◌∙◌, ◌∷◌, ◌≡◌, ◌≢◌, ◌≤◌, ◌⊎◌, add_assoc, add-zero, add-one, ne_eqb}
+pub use Rattle.std.proofs.Common.{true≢false, length-drop, ⊎_elim, MatchBool, option_to_list, IfOk, IfSome, codes, length-append, nat_le, option_map}
+pub use Rattle.std.proofs.Common.{replicate, string_bytes, ◌-◌, ◌^◌, ◌↔◌, IfNone, IsTrue, unwrap_or, w64, zero-add, add_comm, Global, String}
+pub use Rattle.std.proofs.Common.{flat_map, MatchOption, is_lt}
+pub use Rattle.std.proofs.lemmas.Bool.{le-leb, le-ltb, lt-leb, lt-ltb, and_from, cases_Bool, cases_lt, ltb-false, or_parts, cond_both}
+pub use Rattle.std.proofs.lemmas.Int.{to_z-of_z}
+pub use Rattle.std.proofs.lemmas.List.{append-nil, get_or_default, length-map, length-set, drop_more, drop_all, length_push, nil_from_length}
+pub use Rattle.std.proofs.lemmas.List.{take_all, length-take-le, take-append-drop, take_more, get_or-drop, get_or-take, get_or_past, length-take}
+pub use Rattle.std.proofs.lemmas.List.{length-replicate, get_or_read_under, map_push, drop-drop, get_or-map, take_rest, map-append, drop-map}
+pub use Rattle.std.proofs.lemmas.List.Elements.{All-contains, All-head, All-map, All-tail, All-weaker, Contains-append_right, Contains-get_or}
+pub use Rattle.std.proofs.lemmas.List.Elements.{All-more, All-append, All-cons, All-get_or, All-nil, All-replicate, filter-append, All-filter}
+pub use Rattle.std.proofs.lemmas.Option.{slice_get_read, slice_get_within, same_Some, slice_get_cases, slice_get_past, none-some}
+pub use Rattle.std.proofs.lemmas.Option.{get_or_from_slice_get, slice_get-get_or}
+pub use Rattle.std.specs.Global.{Vec}
+pub use Rattle.std.specs.List.{AllByRecursion, AllZip, list_any}
+pub use Rattle.std.proofs.lemmas.Result.{IfOk-weaker, on_ok_weaker}
+pub use Rattle.check_search.proofs.Reaching.{mapped_at, no_any}
+pub use Rattle.fx_order.proofs.Placed.{same_size, Has, placed, has_either, placed-append, left_from, removes_contained, Removes, emptied}
+pub use Rattle.std.proofs.lemmas.List.Sums.{list_all-from_AllPass}
+pub use Rattle.std.proofs.lemmas.Slice.Zip.{AllZip-long}
+pub use Rattle.check_judge.specs.Known.{Brings, IsBrought, IsKnown}
+pub use Rattle.fx_order.proofs.Accesses.{of_chain, own_first, not_own}
+pub use Rattle.fx_order.specs.declared.slots.Slots.{Slots}
+pub use Rattle.fx_base.specs.AddFault.{has_name}
 pub use Rattle.fx_base.specs.Tags.{tag_completion, tags_of}
 pub use Rattle.fx_base.specs.declared.catalogue.TheConstants.{MOST_ENTRIES, LONGEST_ENTRY}
 pub use Rattle.fx_base.specs.declared.errno.Errno.{Errno}
 pub use Rattle.fx_base.specs.declared.errno.Errno.TheVariants.{EBADF, ENFILE, ENOENT, ENOMEM, ECANCELED}
 pub use Rattle.fx_base.specs.declared.mark.Mark.{Mark}
 pub use Rattle.fx_base.specs.declared.mark.Mark.TheVariants.{Registered, Submitted}
-pub use Rattle.fx_base.specs.declared.open_file.Closed.{Closed}
 pub use Rattle.fx_base.specs.declared.tag_completion.TagCompletion.{TagCompletion}
 pub use Rattle.check_lines.proofs.Entries.{all_closed, all_of_ring, few_of_ring, good_registered, AreOf, all_of_list, few_of_list, good_larger}
+pub use Rattle.check_lines.proofs.Entries.{one_at, end_printed, shown}
 pub use Rattle.check_lines.specs.InRange.{AreInRange, IsFileInRange}
 pub use Rattle.fx_chain.proofs.Cases.{either_way, either_case}
-pub use Rattle.fx_chain.specs.Accepted.{IsAccepted, IsChain, members_of}
-pub use Rattle.fx_chain.specs.Answers.{installed}
-pub use Rattle.fx_chain.specs.Completed.{Completed, all_completed, completed, completed_of, next_member, negated, refusal}
-pub use Rattle.fx_chain.specs.Explains.{canceled, first_member, severs}
 pub use Rattle.fx_chain.specs.Faults.{fault_of}
-pub use Rattle.fx_chain.specs.Operation.{Asked, Closes, Opens, Operation, Reads, Updates, all_asked, asked_of}
 pub use Rattle.fx_chain.specs.Runs.{runs_of}
 pub use Rattle.fx_chain.specs.declared.chain.Chain.{Chain}
-pub use Rattle.fx_chain.specs.declared.completion.Place.{Place}
 pub use Rattle.fx_chain.specs.declared.request.Target.{Target}
-pub use Rattle.fx_chain.specs.declared.request.Target.TheVariants.{Any, Slot}
-pub use Rattle.check_judge.specs.Kept.{IsRingKept, IsOfScript}
+pub use Rattle.check_judge.specs.Kept.{IsRingKept, IsOfScript, IsOfRing}
 pub use Rattle.check_judge.specs.Met.{BeginsWith, IsMet}
 pub use Rattle.check_judge.specs.Ordered.{MayPrintBy, IsTextBy, MayPrintAllBy, PrintsAllBy}
 pub use Rattle.check_judge.specs.PlaceLists.{AreListsOf, IsListFor}
 pub use Rattle.check_judge.specs.Places.{AreAccessPlaces, IsChainListed, place_at, places_of_chain, own_places, AreChainsListed}
 pub use Rattle.check_judge.specs.Step.{ContinuesText, IsStep, LeadsNowhere, LeadsTo}
-pub use Rattle.check_judge.specs.Told.{AreApart, AreFrom, HasLines, Installed, IsFileAtSlot, MayBeClosed, OneInstalled, TellsKnown, TellsCloses, HasNone}
-pub use Rattle.check_judge.specs.Told.{MayCloseAll}
-pub use Rattle.check_judge.specs.Told.{HasDistinctMarks}
+pub use Rattle.check_judge.specs.Told.{AreApart, AreFrom, HasLines, Installed, IsFileAtSlot, MayBeClosed, OneInstalled, TellsKnown, TellsCloses}
+pub use Rattle.check_judge.specs.Told.{HasNone, MayCloseAll, HasDistinctMarks}
 pub use Rattle.check_judge.specs.declared.judgement.Fault.{Fault}
 pub use Rattle.check_judge.specs.declared.met.Met.{Met}
 pub use Rattle.check_judge.specs.declared.met.Met.TheVariants.{Apart, Here}
-pub use Rattle.check_judge.specs.Verdict.{CameBy, told_report, IsRefuted}
+pub use Rattle.check_judge.specs.Verdict.{CameBy, told_report, IsRefuted, IsToldOutcome}
 pub use Rattle.check_judge.specs.declared.told.Told.{Told}
 pub use Rattle.fx_language.specs.Instruction.{Instruction, MakesSparse, RegistersList, SetsRange, SubmitsAll, Unregisters, UpdatesRing}
 pub use Rattle.fx_language.specs.Instruction.{instruction_of, instructions_of}
 pub use Rattle.fx_language.specs.Script.{AreFiles, Meaning}
-pub use Rattle.check_lines.proofs.ReportTexts.{printed_lines}
+pub use Rattle.check_lines.proofs.ReportTexts.{printed_lines, name_without_end}
 pub use Rattle.check_lines.specs.ClosedView.{named_close_of}
 pub use Rattle.check_lines.specs.Lines.{Lines, NamedClose, ReadsReport, lines_of, lines_text, named_close, named_closes, IsCompletionInRange}
 pub use Rattle.check_lines.specs.Lines.{IsPlaceInRange, IsReportBefore, HasNoCloses, AreLinesInRange, IsCloseInRange, is_without}
 pub use Rattle.check_lines.specs.LinesView.{lines_in}
 pub use Rattle.check_lines.specs.declared.closed_line.ClosedLine.{ClosedLine}
 pub use Rattle.check_lines.specs.declared.report_lines.ReportLines.{ReportLines}
-pub use Rattle.fx_order.proofs.ChainFront.{length-done, both_parts}
-pub use Rattle.fx_order.proofs.Placed.{Has, placed, has_either, placed-append, left_from, removes_contained}
-pub use Rattle.fx_order.specs.Access.{Table, accesses_of, accesses_of_chain, files_removed_in}
-pub use Rattle.fx_order.specs.declared.access.Access.TheVariants.{Allocates, Puts, Looks}
-pub use Rattle.fx_order.specs.Order.{IsOneOrder, table_of, IsOrderOf, ring_left}
-pub use Rattle.fx_order.specs.Requests.{AreChainsDone, IsChainDone, IsDoneAtTable, IsOpenDone, IsRequestDone, IsEntryDone, AreEntriesDone}
-pub use Rattle.fx_order.specs.Slots.{ring_with_slots, table_of_slots}
-pub use Rattle.fx_order.specs.declared.access.Access.{Access}
-pub use Rattle.fx_order.specs.declared.access.ChainAccess.{ChainAccess}
+pub use Rattle.fx_order.proofs.ChainsFront.{length-done, both_parts, parts_of, first_run, others_completed, own_completed, few_completions, first_is}
+pub use Rattle.fx_order.proofs.ChainsFront.{all_of_rest, too_few}
 pub use Rattle.fx_order.specs.declared.listed_order.AccessPlace.{AccessPlace}
 pub use Rattle.fx_order.specs.declared.listed_order.Order.{Order}
 pub use Rattle.fx_order.specs.declared.ring_slots.RingSlots.{RingSlots}
-pub use Rattle.fx_order.specs.declared.slots.Slots.{Slots}
-pub use Rattle.fx_plain.proofs.Cells.{by_equality, each_set}
 pub use Rattle.fx_plain.specs.declared.table.TheConstants.{MOST_SLOTS}
 pub use Rattle.fx_print.specs.Text.{closes_text, name_of, result_line, refused_line, too_many_line, teardown_text}
 pub use Rattle.fx_ring.specs.Registration.{files_after, registered, registered_sparse, removed_from, updated, range_refusal}
-pub use Rattle.fx_ring.specs.Ring.{IsRing, RingContents, RingState, files_of_ring, new_ring, ring_of, HasCounted}
-pub use Rattle.fx_ring.specs.Submission.{Reported}
 pub use Rattle.fx_ring.specs.Tags.{tags_for}
 pub use Rattle.fx_ring.specs.declared.ring.TheConstants.{MOST_SUBMISSIONS, MOST_REGISTRATIONS}
 pub use Rattle.fx_script.specs.Play.{IsCallRefused, Prints, PrintsClosed, PrintsEnd, PrintsReport, IsText, PrintsAll}
 pub use Rattle.fx_script.specs.Text.{report_text}
-pub use Rattle.fx_table.proofs.Members.{each_all}
-pub use Rattle.std.proofs.Common.{All, Bool, Contains, Err, IfOk, IfSome, List, None, Ok, Option, Result, Some, [], ap, append-nil, append_assoc}
-pub use Rattle.std.proofs.Common.{arith, codes, drop, false, filter, if◌then◌else◌, inl, inr, int_le, length, length-append, length-drop, map, nat_le}
-pub use Rattle.std.proofs.Common.{negsuc, not, of_z, option_map, pos, refl, replicate, rules, slice_get, slice_index_or, slice_set, string_bytes}
-pub use Rattle.std.proofs.Common.{subst, suc, sym, take, to_z, true, zero, ℕ, ℤ, ⊎_elim, ◌++◌, ◌+◌, ◌-◌, ◌<◌, ◌==◌, ◌^◌, ◌↔◌, ◌∙◌, ◌∷◌, ◌≡◌, ◌≢◌, ◌≤◌}
-pub use Rattle.std.proofs.Common.{IfNone, ◌⊎◌, IsTrue, unwrap_or, w32, w64, get_or, add-zero, zero-add, add-one, add_comm, eq-eqb, ne_eqb, Global}
-pub use Rattle.std.proofs.Common.{String, MatchBool, flat_map, option_to_list, MatchOption, is_lt}
 pub use Rattle.std.proofs.Math.Seq.{drop-append_seam, take-append_seam, take-length, take-add}
-pub use Rattle.std.proofs.lemmas.Bool.{lt-leb, cases_lt, ltb-false, or_parts, le-leb, true≢false, cases_Bool, cond_both}
 pub use Rattle.std.proofs.lemmas.Bool.Decides.{Decides-eqb}
-pub use Rattle.std.proofs.lemmas.List.{length-map, length-take-le, take-append-drop, take_all, take_more, get_or-drop, get_or-take, get_or_past}
-pub use Rattle.std.proofs.lemmas.List.{length-take, length-replicate, get_or_read_under, length_push, map_push, drop-drop, drop_all, get_or-map}
-pub use Rattle.std.proofs.lemmas.List.{get_or_default, length-set, take_rest}
-pub use Rattle.std.proofs.lemmas.List.Elements.{All-append, All-cons, All-get_or, All-head, All-map, All-nil, All-tail, All-replicate, filter-append}
-pub use Rattle.std.proofs.lemmas.List.Elements.{All-weaker, All-filter}
-pub use Rattle.std.proofs.lemmas.Option.{get_or_from_slice_get, slice_get-get_or, slice_get_within, same_Some, slice_get_read}
-pub use Rattle.std.proofs.lemmas.Result.{IfOk-weaker, on_ok_weaker}
-pub use Rattle.std.specs.Global.{Vec}
-pub use Rattle.fx_order.proofs.ChainsFront.{parts_of, first_run, others_completed, own_completed, few_completions}
-pub use Rattle.fx_order.proofs.OneRing.{each_report_leads_to_one_ring, each_closed_file_is_known, in_limits}
-pub use Rattle.check_lines.proofs.FilesThere.{one_at, end_printed}
 pub use Rattle.std.proofs.lemmas.Slice.Eq.{starts_is, slice_eq-Decides}
-pub use Rattle.fx_order.proofs.FirstAndRest.{first_is, all_of_rest}
 pub use Rattle.fx_ring.proofs.Origins.{registered_rings, updated_rings}
-pub use Rattle.check_search.proofs.Lists.{mapped_at}
+pub use Rattle.fx_order.proofs.RequestCases.{completion_so, each_placed, few_made}
+pub use Rattle.std.proofs.lemmas.List.Sorted.{Contains-permutation, IsPermutation-sym}
+pub use Rattle.check_judge.specs.Answer.{IsCommandVerdict}
+
+-- The names that most proofs of this crate use.

@@ -1,19 +1,102 @@
+-- The calls between submissions: the rings that they leave, and their lines.
+use Rattle.check_lines.proofs.Words.{List, None, Option, Some, [], ap, arith, refl, subst, sym, ℕ, ◌∙◌, ◌≡◌, ◌≤◌, FileEntry, Bool, MatchBool}
+use Rattle.check_lines.proofs.Words.{if◌then◌else◌, inl, inr, nat_le, true, ◌+◌, leb-false, Errno, registered_rings, updated_rings, counted_still}
+use Rattle.check_lines.proofs.Words.{none_rings, Table, ring_of_slots, ring_with_slots, table_of_slots, registered_sparse, range_refusal, IsRing}
+use Rattle.check_lines.proofs.Words.{RingState, without_table, HasClosed, RingContents, ring_of, tags_given, MOST_REGISTRATIONS, MOST_SUBMISSIONS}
+use Rattle.check_lines.proofs.Words.{AreInRange, ◌<◌, ◌^◌, pos, negsuc, ◌++◌, All, IfSome, unwrap_or, ⊎_elim, ◌↔◌, ◌⊎◌, append-nil, nil_from_length}
+use Rattle.check_lines.proofs.Words.{length_permutation, CloseListView, ENOMEM, Closed, negated, closes_text, result_line, refused_line}
+use Rattle.check_lines.proofs.Words.{too_many_line, MatchOption, fault_of, CutFault, MOST_SLOTS, CallAnswers, IsCallRefused, Prints, PrintsReport}
+use Rattle.fx_language.specs.Instruction.{Instruction, MakesSparse, RegistersList, SetsRange, SubmitsAll, Unregisters, UpdatesRing}
+use Rattle.fx_order.specs.declared.ring_slots.RingSlots.{RingSlots}
+use Rattle.fx_order.specs.declared.slots.Slots.{Slots}
+use Rattle.check_lines.specs.Calls.{after_call, call_of, unless_refused, IsCall, count_behind, word_unless, memory_word}
+use Rattle.check_lines.proofs.Entries.{none_holds, inside_of, IsAtOne, all_in_order, all_removed, closes_printed}
+use Rattle.std.proofs.Common.{append_assoc}
+pub use Rattle.check_lines.specs.Calls.{AnswersFound, Call, IsLineOf, IsNoSubmission, TellsCall as Tells, TellsClosed}
+use Rattle.check_lines.proofs.Decimals.{one_result}
+
+-- what holds of the ring of a call, whether or not it is refused
+unless_so : (P : RingState → Type 0) (x : Option Errno) {old left : RingState} → P old → (x ≡ None → P left) → P (unless_refused x old left)
+unless_so P (Some errno) so goes = so
+unless_so P None so goes = goes refl
+
+-- so it holds of it if it holds of the ring before the call, and of what the call leaves that isn't refused
+pub still : (P : RingState → Type 0) {ring : RingState} (command : Instruction) → P ring
+    → ((call_of ring command).refusal ≡ None → P (call_of ring command).left) → P (after_call ring command)
+still P (SubmitsAll asked) so goes = so
+still P {ring} command so goes = unless_so P (call_of ring command).refusal so goes
+
+abbrev AreSame : RingSlots → RingSlots → Type 0
+AreSame new old = (catalogue : List FileEntry) → ring_with_slots catalogue new ≡ ring_with_slots catalogue old
+
+-- a call that is refused leaves a copy
+pub refused_leaves : (catalogue : List FileEntry) (ring copy : RingSlots) (command : Instruction) {errno : Errno} → AreSame copy ring
+    → (call_of (ring_with_slots catalogue ring) command).refusal ≡ Some errno
+    → ring_with_slots catalogue copy ≡ after_call (ring_with_slots catalogue ring) command
+refused_leaves catalogue ring copy command same is =
+    let old = ring_with_slots catalogue ring in
+    subst (λ (x : Option Errno). ring_with_slots catalogue copy ≡ unless_refused x old (call_of old command).left) (sym is) (same catalogue)
+
+-- the slots of a copy with another range
+pub ranged_left : (catalogue : List FileEntry) (ring : RingSlots) (copy : Slots) (range : ℕ × ℕ) → table_of_slots copy ≡ table_of_slots ring.slots
+    → ring_of_slots catalogue (record copy { range = range }) ring.submissions ring.registrations ≡ record (ring_with_slots catalogue ring) { range = range }
+ranged_left catalogue ring copy range same =
+    ap (λ (t : Table). record (ring_with_slots catalogue ring) { size = t.size; range = range; at = t.at }) same
+
+-- the files of a copy, and of slots without files, are in range
+
+pub same_in_range : (copy old : Slots) → table_of_slots copy ≡ table_of_slots old → AreInRange (table_of_slots old).at
+    → AreInRange (table_of_slots copy).at
+same_in_range copy old same = subst (λ (t : Table). AreInRange t.at) (sym same)
+
+pub copy_in_range : (copy ring : RingSlots) → AreSame copy ring → AreInRange (table_of_slots ring.slots).at → AreInRange (table_of_slots copy.slots).at
+copy_in_range copy ring same = subst AreInRange (sym (ap (λ (r : RingState). r.at) (same [])))
+
+pub none_in_range : (slots : Slots) {n : ℕ} → table_of_slots slots ≡ record { size = n; range = (0, n); at = λ _. None }
+    → AreInRange (table_of_slots slots).at
+none_in_range slots none slot file is = let e : None ≡ Some file = sym (ap (λ (t : Table). t.at slot) none) ∙ is in cc
+
+-- what every ring has
+
+ranged : {ring : RingState} (range : ℕ × ℕ) → IsRing ring → IsRing (record ring { range = range })
+ranged {ring} range is = record {
+  entries = is.entries;
+  counted = λ slot file at. counted_still ring (record ring { range = range }) file.mark (omega arith) (omega arith) (is.counted slot file at);
+  distinct = is.distinct;
+}
+
+left_ring : {ring : RingState} (command : Instruction) → IsRing ring → (call_of ring command).refusal ≡ None → IsRing (call_of ring command).left
+left_ring {ring} (MakesSparse n) is none = none_rings (registered_sparse ring n) refl
+left_ring {ring} (RegistersList list tags) is none =
+    registered_rings ring list (tags_given list tags) (none_holds ring (RegistersList list tags) none).1.1.1.0
+left_ring {ring} Unregisters is none = none_rings (without_table ring) refl
+left_ring {ring} (SetsRange off len) is none = ranged (off, len) is
+left_ring {ring} (UpdatesRing off list tags) is none =
+    updated_rings ring off list (tags_given list tags) is (none_holds ring (UpdatesRing off list tags) none).1.1.0
+left_ring (SubmitsAll asked) is none = is
+
+pub called_ring : {ring : RingState} (command : Instruction) → IsRing ring → IsRing (after_call ring command)
+called_ring command is = still IsRing command is (left_ring command is)
+
+-- a call counts no submission, and is refused where no registration is counted any more
+pub called_submissions : (ring : RingState) (command : Instruction) → (after_call ring command).submissions ≡ ring.submissions
+called_submissions ring (SubmitsAll asked) = refl
+called_submissions ring command = still (λ (r : RingState). r.submissions ≡ ring.submissions) command refl (λ _. refl)
+
+left_registrations : (ring : RingState) (command : Instruction) → ring.registrations ≤ MOST_REGISTRATIONS → (call_of ring command).refusal ≡ None
+    → (call_of ring command).left.registrations ≤ MOST_REGISTRATIONS
+left_registrations ring (RegistersList list tags) few none =
+    let room = leb-false MOST_REGISTRATIONS ring.registrations (none_holds ring (RegistersList list tags) none).1.1.1.1.0 in omega arith
+left_registrations ring (UpdatesRing off list tags) few none =
+    let room = leb-false MOST_REGISTRATIONS ring.registrations (none_holds ring (UpdatesRing off list tags) none).1.1.1.0 in omega arith
+left_registrations ring _ few none = few
+
+pub called_registrations : (ring : RingState) (command : Instruction) → ring.registrations ≤ MOST_REGISTRATIONS
+    → (after_call ring command).registrations ≤ MOST_REGISTRATIONS
+called_registrations ring command few =
+    still (λ (r : RingState). r.registrations ≤ MOST_REGISTRATIONS) command few (left_registrations ring command few)
+
 -- The calls between submissions: their lines, and what a failed allocation leaves.
-use Rattle.std.proofs.Common.{◌≡◌, ◌<◌, ◌^◌, ℕ, pos, negsuc, List, [], ◌++◌, All, refl, sym, ap, subst, ◌∙◌, arith, Option, Some, None, IfSome}
-use Rattle.std.proofs.Common.{append_assoc, unwrap_or}
-use Rattle.std.proofs.lemmas.List.{append-nil, nil_from_length}
-use Rattle.std.proofs.lemmas.List.Sorted.{length_permutation}
-use Rattle.fx_base.specs.CloseListView.{CloseListView}
-use Rattle.fx_base.specs.declared.errno.Errno.{Errno}
-use Rattle.fx_base.specs.declared.errno.Errno.TheVariants.{ENOMEM}
-use Rattle.fx_base.specs.declared.open_file.Closed.{Closed}
-use Rattle.fx_chain.specs.Completed.{negated}
-use Rattle.fx_ring.specs.Ring.{HasClosed, IsRing, RingState}
-use Rattle.fx_language.specs.Instruction.{Instruction, SetsRange, SubmitsAll, Unregisters, UpdatesRing}
-pub use Rattle.check_lines.specs.Calls.{AnswersFound, Call, IsLineOf, IsNoSubmission, TellsCall as Tells, TellsClosed, call_of}
-use Rattle.check_lines.proofs.ResultLines.{one_result}
-use Rattle.check_lines.proofs.FilesThere.{IsAtOne, all_in_order, all_removed, closes_printed}
-use Rattle.fx_print.specs.Text.{closes_text, result_line}
 
 -- the calls that allocate: a range allocates nothing, and a submission isn't such a call
 abbrev pub TakesMemory : Instruction → Type 0
@@ -79,3 +162,122 @@ not_refused ring word n closed line behind more few tells same =
     let e : pos n ≡ negsuc 11 = (one_result word (pos n) (negated ENOMEM) (tail ++ behind) more few (omega arith)
     (sym (append_assoc (result_line word (pos n)) tail behind) ∙ ap (λ (l : List ℕ). l ++ behind) (sym is) ∙ same)).0 in
     cc
+
+-- A call between submissions, or a refused submission, leaves one ring and prints one line, or finds no memory.
+
+-- what it leaves and prints
+abbrev pub Answers : RingState → Instruction → RingState → List ℕ → Type 0
+Answers old command new line = (new ≡ after_call old command) × IsLineOf old command line
+
+-- where it finds no memory
+abbrev FailsAt : Option Errno → RingState → RingState → List ℕ → List ℕ → Type 0
+FailsAt x old new word line = (x ≡ None) × (new ≡ old) × (line ≡ result_line word (negated ENOMEM))
+
+abbrev pub Fails : RingState → Instruction → RingState → List ℕ → Type 0
+Fails old command new line =
+    TakesMemory command × FailsAt (call_of old command).refusal old new (call_of old command).word line
+
+both_parts : (x : Option Errno) (old new : RingState) (call : Call) (line : List ℕ)
+    → MatchOption x ((new ≡ call.left) × Tells old call line) (IsCallRefused old new call.word line)
+    ↔ ((new ≡ unless_refused x old call.left) × AnswersFound x call.word (Tells old call) line)
+both_parts (Some errno) old new call line = ((λ p. p), (λ p. p))
+both_parts None old new call line = ((λ p. p), (λ p. p))
+
+-- the same of a call that takes memory
+memory_parts : (x : Option Errno) (old new : RingState) (call : Call) (line : List ℕ)
+    → CallAnswers x ((new ≡ call.left) × Tells old call line) (IsCallRefused old new call.word line)
+    ↔ (((new ≡ unless_refused x old call.left) × AnswersFound x call.word (Tells old call) line)
+    ⊎ FailsAt x old new call.word line)
+memory_parts (Some errno) old new call line = (inl, ⊎_elim (λ p. p) (λ r. absurd (let e : Some errno ≡ None = r.0 in cc)))
+memory_parts None old new call line = (⊎_elim inl (λ r. inr (refl, r.0, r.1)), ⊎_elim inl (λ r. inr (r.1, r.2)))
+
+uncounted : (b : Bool) {count : ℕ} → (if b then count else count + 1) ≡ count → b ≡ true
+uncounted b is = grind arith
+
+-- and of a submission that isn't counted
+refused_parts : (x : Option CutFault) {count : ℕ} (same reports : Type 0) (line many : List ℕ) (text : CutFault → List ℕ)
+    → count_behind count x ≡ count
+    → MatchOption x (MatchBool (nat_le MOST_SUBMISSIONS count) (same × (line ≡ many)) reports) (λ fault. same × (line ≡ text fault))
+    ↔ (same × MatchOption x (line ≡ many) (λ fault. line ≡ text fault))
+refused_parts (Some fault) same reports line many text is = ((λ p. p), (λ p. p))
+refused_parts None {count} same reports line many text is = rw (uncounted (nat_le MOST_SUBMISSIONS count) is) ((λ p. p), (λ p. p))
+
+-- only calls that take memory fail
+found_alone : {P A F : Type 0} → P ↔ A → P ↔ (A ⊎ (⊥ × F))
+found_alone one = ((λ p. inl (one.0 p)), ⊎_elim one.1 (λ f. absurd f.0))
+
+found_or_not : {P A F : Type 0} → P ↔ (A ⊎ F) → P ↔ (A ⊎ (Unit {0} × F))
+found_or_not one = ((λ p. ⊎_elim inl (λ f. inr (tt, f)) (one.0 p)), (λ q. one.1 (⊎_elim inl (λ f. inr f.1) q)))
+
+pub answers : (old next : RingContents) (command : Instruction) (line : List ℕ) → IsCall old.submissions command
+    → Prints old command next line ↔ (Answers (ring_of old) command (ring_of next) line ⊎ Fails (ring_of old) command (ring_of next) line)
+answers old next (SetsRange off len) line counts =
+    found_alone (both_parts (range_refusal (ring_of old) off len) (ring_of old) (ring_of next) (call_of (ring_of old) (SetsRange off len)) line)
+answers old next (SubmitsAll asked) line counts =
+    found_alone (refused_parts (fault_of asked) (ring_of next ≡ ring_of old) (PrintsReport old asked next line) line too_many_line refused_line counts)
+answers old next command line counts =
+    let call = call_of (ring_of old) command in found_or_not (memory_parts call.refusal (ring_of old) (ring_of next) call line)
+
+-- no two lines are that of a call
+
+either_line : (x : Option Errno) (word : List ℕ) (prints : List ℕ → Type 0) {a b : List ℕ} → (prints a → prints b → a ≡ b)
+    → AnswersFound x word prints a → AnswersFound x word prints b → a ≡ b
+either_line (Some errno) word prints one first second = first ∙ sym second
+either_line None word prints one first second = one first second
+
+either_refusal : (x : Option CutFault) (many : List ℕ) (text : CutFault → List ℕ) {a b : List ℕ} → MatchOption x (a ≡ many) (λ fault. a ≡ text fault)
+    → MatchOption x (b ≡ many) (λ fault. b ≡ text fault) → a ≡ b
+either_refusal (Some fault) many text first second = first ∙ sym second
+either_refusal None many text first second = first ∙ sym second
+
+pub one_line_of : {ring : RingState} (command : Instruction) {a b : List ℕ} → IsRing ring → IsLineOf ring command a → IsLineOf ring command b → a ≡ b
+one_line_of (SubmitsAll asked) {a} {b} is_ring first second = either_refusal (fault_of asked) too_many_line refused_line first second
+one_line_of {ring} command {a} {b} is_ring first second =
+    let call = call_of ring command in either_line call.refusal call.word (Tells ring call) (one_line ring command a b is_ring) first second
+
+-- nor is the line of a call that finds memory that of one that finds none
+
+pub few_told : (ring : RingState) (command : Instruction) → ring.size ≤ MOST_SLOTS → (call_of ring command).refusal ≡ None
+    → (call_of ring command).res < 2 ^ 31
+few_told ring (UpdatesRing off list tags) few none =
+    let within = inside_of ring off list tags none in omega arith
+few_told ring _ few none = omega arith
+
+told_at : (x : Option Errno) (word : List ℕ) (prints : List ℕ → Type 0) (line : List ℕ) → x ≡ None → AnswersFound x word prints line → prints line
+told_at (Some errno) word prints line none told = absurd (let e : Some errno ≡ None = none in cc)
+told_at None word prints line none told = told
+
+told_of : (ring : RingState) (command : Instruction) (line : List ℕ) → TakesMemory command → (call_of ring command).refusal ≡ None
+    → IsLineOf ring command line → Tells ring (call_of ring command) line
+told_of ring (SetsRange off len) line takes none told = absurd takes
+told_of ring (SubmitsAll asked) line takes none told = absurd takes
+told_of ring command line takes none told =
+    let call = call_of ring command in told_at call.refusal call.word (Tells ring call) line none told
+
+pub not_failed : (ring : RingState) (command : Instruction) (line behind more : List ℕ) → ring.size ≤ MOST_SLOTS → TakesMemory command
+    → (call_of ring command).refusal ≡ None → IsLineOf ring command line
+    → line ++ behind ≡ result_line (call_of ring command).word (negated ENOMEM) ++ more → ⊥
+not_failed ring command line behind more few takes none told =
+    let call = call_of ring command in
+    not_refused ring call.word call.res call.closed line behind more (few_told ring command few none) (told_of ring command line takes none told)
+
+-- the word of a call that may fail
+word_at : (x : Option Errno) {own word : List ℕ} → word_unless x own ≡ Some word → (x ≡ None) × (word ≡ own)
+word_at (Some errno) {own} {word} is = absurd (let e : None ≡ Some word = is in cc)
+word_at None {own} {word} is = (refl, let e : Some own ≡ Some word = is in cc)
+
+pub may_fail : (ring : RingState) (command : Instruction) {word : List ℕ} → memory_word ring command ≡ Some word
+    → TakesMemory command × ((call_of ring command).refusal ≡ None) × (word ≡ (call_of ring command).word)
+may_fail ring (SetsRange off len) {word} is = absurd (let e : None ≡ Some word = is in cc)
+may_fail ring (SubmitsAll asked) {word} is = absurd (let e : None ≡ Some word = is in cc)
+may_fail ring command is = let (none, own) = word_at (call_of ring command).refusal is in (tt, none, own)
+
+unless_none : (x : Option Errno) (word : List ℕ) → word_unless x word ≡ None → x ≡ None → ⊥
+unless_none (Some errno) word is none = let e : Some errno ≡ None = none in cc
+unless_none None word is none = let e : Some word ≡ None = is in cc
+
+pub never_fails : (ring : RingState) (command : Instruction) → memory_word ring command ≡ None → TakesMemory command
+    → (call_of ring command).refusal ≡ None → ⊥
+never_fails ring (SetsRange off len) is takes none = takes
+never_fails ring (SubmitsAll asked) is takes none = takes
+never_fails ring command is takes none = let call = call_of ring command in unless_none call.refusal call.word is none

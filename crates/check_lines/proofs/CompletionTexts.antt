@@ -1,14 +1,84 @@
--- The lines of completions, part by part.
-use Rattle.check_lines.proofs.Words.{◌≡◌, ℕ, true, List, [], ◌∷◌, ◌++◌, refl, ap, ◌∙◌, inl, inr, ℤ, signed_decimal, append_assoc, Completed, Place}
-use Rattle.check_lines.proofs.Words.{IsCutPart, answer_text, completion_text, cut_text, place_digits, IsCompletionInRange, IsPlaceInRange}
-use Rattle.check_lines.proofs.Words.{IsResultInRange, is_without, IsPrintedFrom, completion_line}
-use Rattle.check_lines.proofs.AnswerTexts.{FitsAnswer, alone_or_cut}
-use Rattle.check_lines.proofs.Cuts.{without_between}
-use Rattle.check_lines.proofs.Hexes.{hex_without}
-use Rattle.check_lines.proofs.LinesInTurn.{IsOneLine}
+-- The lines of completions, part by part, and their number.
+use Rattle.check_lines.proofs.Words.{◌≡◌, ℕ, ◌<◌, List, [], ◌∷◌, ◌++◌, length, refl, sym, ap, ◌∙◌, inl, inr, arith, None, ℤ, signed_decimal}
+use Rattle.check_lines.proofs.Words.{append-nil, IsBytes, encode_lower, IsCutPart, answer_text, cut_text, IsResultInRange, is_without, IsPrintedFrom}
+use Rattle.check_lines.proofs.Words.{ReadsPrinted, true, append_assoc, Completed, Place, completion_text, place_digits, IsCompletionInRange}
+use Rattle.check_lines.proofs.Words.{IsPlaceInRange, completion_line, ◌+◌, length-append, FileEntry, state_of, Event, Asked, runs_of, are_runs}
+use Rattle.check_lines.proofs.Words.{ExplainsParts, ◌⊎◌, Option, Some, option_map, ReportsHaveEachRequest}
+use Rattle.std.specs.Prelude.{flat_map}
+use Rattle.check_lines.proofs.Cuts.{cut_has, without_between, AreGiven, some_got, hex_without, parts_are}
+use Rattle.check_lines.proofs.Decimals.{result_without}
+use Rattle.check_lines.proofs.ReportTexts.{IsOneLine}
 use Rattle.check_lines.proofs.Marks.{place_without}
-use Rattle.check_lines.proofs.Readings.{parts_are}
-use Rattle.check_lines.proofs.Results.{result_without}
+use Rattle.fx_chain.proofs.ChainGoesOn.{explained_count}
+
+abbrev pub FitsAnswer : ℤ × List ℕ → Type 0
+FitsAnswer found = IsResultInRange found.0 × IsBytes found.1
+
+-- an answer is its result alone, or has a space in it
+pub alone_or_cut : (got : List ℕ) (res : ℤ) {text : List ℕ} → text ≡ answer_text (res, got)
+    → ((got ≡ []) × (text ≡ signed_decimal res)) ⊎ ((0 < length got) × (text ≡ cut_text 32 (signed_decimal res, encode_lower got)))
+alone_or_cut [] res same = inl (refl, same ∙ append-nil (signed_decimal res))
+alone_or_cut (b ∷ got) res same = let some : 0 < length (b ∷ got) = omega arith in
+    inr (some, same ∙ ap (λ (t : List ℕ). signed_decimal res ++ t) (some_got (b ∷ got) some))
+
+-- the result alone
+alone_only : {text : List ℕ} → ReadsPrinted (cut_text 32) (IsCutPart 32) text None → (other : ℤ × List ℕ) → FitsAnswer other
+    → text ≡ answer_text other → (other.1 ≡ []) × (text ≡ signed_decimal other.0)
+alone_only {text} whole other fits same =
+    elim (alone_or_cut other.1 other.0 same) [
+      | inl alone ↦ alone
+      | inr both ↦ absurd (whole (signed_decimal other.0, encode_lower other.1) (result_without 32 other.0 refl refl fits.0) both.1)
+    ]
+
+no_bytes : IsBytes []
+no_bytes i = omega arith
+
+pub alone_reads : {text : List ℕ} → ReadsPrinted (cut_text 32) (IsCutPart 32) text None → (r : Option ℤ) → ReadsPrinted signed_decimal IsResultInRange text r
+    → ReadsPrinted answer_text FitsAnswer text (option_map (λ res. (res, [])) r)
+alone_reads whole None none = λ other fits same. none other.0 fits.0 (alone_only whole other fits same).1
+alone_reads whole (Some res) is = record {
+  fits_value = (is.fits_value, no_bytes);
+  printed = is.printed ∙ sym (append-nil (signed_decimal res));
+  only = λ other fits same. let alone = alone_only whole other fits same in λ i. (is.only other.0 fits.0 alone.1 i, alone.0 i);
+}
+
+-- no result has a space
+not_cut : (word hex : List ℕ) (res : ℤ) → IsResultInRange res → word ++ 32 ∷ hex ≡ signed_decimal res → ⊥
+not_cut word hex res fits same = cut_has 32 word hex (ap (is_without 32) same ∙ result_without 32 res refl refl fits)
+
+-- the result and the bytes
+both_only : {text word hex : List ℕ} → IsPrintedFrom (cut_text 32) (IsCutPart 32) text (word, hex) → (other : ℤ × List ℕ)
+    → FitsAnswer other → text ≡ answer_text other
+    → (0 < length other.1) × (word ≡ signed_decimal other.0) × (hex ≡ encode_lower other.1)
+both_only {text} {word} {hex} cuts other fits same =
+    elim (alone_or_cut other.1 other.0 same) [
+      | inl alone ↦ absurd (not_cut word hex other.0 fits.0 (sym cuts.printed ∙ alone.1))
+      | inr both ↦
+          let parts = parts_are 32 cuts (signed_decimal other.0) (encode_lower other.1) (result_without 32 other.0 refl refl fits.0) both.1 in
+          (both.0, parts.0, parts.1)
+    ]
+
+pub none_word : {text word hex : List ℕ} → IsPrintedFrom (cut_text 32) (IsCutPart 32) text (word, hex)
+    → ReadsPrinted signed_decimal IsResultInRange word None → ReadsPrinted answer_text FitsAnswer text None
+none_word {text} {word} {hex} cuts none other fits same = none other.0 fits.0 (both_only cuts other fits same).1
+
+pub none_bytes : {text word hex : List ℕ} → IsPrintedFrom (cut_text 32) (IsCutPart 32) text (word, hex)
+    → ReadsPrinted encode_lower AreGiven hex None → ReadsPrinted answer_text FitsAnswer text None
+none_bytes {text} {word} {hex} cuts none other fits same =
+    let parts = both_only cuts other fits same in none other.1 (parts.0, fits.1) parts.2
+
+pub one_both : {text word hex : List ℕ} {res : ℤ} {got : List ℕ} → IsPrintedFrom (cut_text 32) (IsCutPart 32) text (word, hex)
+    → IsPrintedFrom signed_decimal IsResultInRange word res → IsPrintedFrom encode_lower AreGiven hex got
+    → IsPrintedFrom answer_text FitsAnswer text (res, got)
+one_both {text} {word} {hex} {res} {got} cuts first last = record {
+  fits_value = (first.fits_value, last.fits_value.1);
+  printed = cuts.printed ∙ ap (λ (t : List ℕ). t ++ 32 ∷ hex) first.printed
+      ∙ ap (λ (t : List ℕ). signed_decimal res ++ t) (ap (λ (t : List ℕ). 32 ∷ t) last.printed ∙ sym (some_got got last.fits_value.0));
+  only = λ other fits same.
+      let parts = both_only cuts other fits same in λ i. (first.only other.0 fits.0 parts.1 i, last.only other.1 (parts.0, fits.1) parts.2 i);
+}
+
+-- The lines of completions, part by part.
 
 -- the place and the answer of a line that is a completion's
 pub parts_of_completion : {line word answer : List ℕ} → IsPrintedFrom (cut_text 32) (IsCutPart 32) line (word, answer)
@@ -45,3 +115,19 @@ completions_are_lines = record {
   no_end = λ c fits. without_between 10 32 (place_digits c.place) (answer_text (c.res, c.got))
       (place_without 10 c.place refl refl fits.place) refl (answer_without c.res c.got fits.res);
 }
+
+-- The number of completions of a submission.
+
+parts_count : (catalogue : List FileEntry) (size submission chain : ℕ) (runs : List (List Asked)) (history : List Event) (completions : List Completed)
+    → ExplainsParts catalogue size submission chain runs history completions → length completions ≡ length (flat_map (λ run. run) runs)
+parts_count catalogue size submission chain [] history completions are = ap length are
+parts_count catalogue size submission chain (run ∷ runs) history completions (own, others, whole, explained, more) =
+    let here : length own ≡ length run = explained_count catalogue size _ run _ own explained in
+    let there : length others ≡ length (flat_map (λ run. run) runs) = parts_count catalogue size submission (chain + 1) runs history others more in
+    let all = ap length whole in let both = length-append own others in
+    let apart = length-append run (flat_map (λ run. run) runs) in omega arith
+
+pub each_request : ReportsHaveEachRequest
+each_request old asked report new one =
+    parts_count old.catalogue (state_of old.table).size report.submission 1 (runs_of asked) one.history report.completions one.explained
+    ∙ ap length (are_runs asked).whole

@@ -1,11 +1,18 @@
--- A text without a byte, and a text that is cut at one.
-use Rattle.check_lines.proofs.Words.{◌≡◌, ℕ, ◌+◌, ◌<◌, ◌==◌, true, false, not, List, [], ◌∷◌, ◌++◌, length, get_or, take, drop, refl, sym, ap, ◌∙◌}
-use Rattle.check_lines.proofs.Words.{take-append-drop, Option, Some, None, arith, option_map, Bor, append_cancel_left, nat_tests, and_from, and_parts}
-use Rattle.check_lines.proofs.Words.{IsCutPart, cut_text, is_without, IsPrintedFrom, ReadsPrinted}
-use Rattle.std.proofs.Common.{◌≢◌}
+-- Texts that are cut at a byte, and the readings of their parts.
+use Rattle.check_lines.proofs.Words.{◌≡◌, ℕ, ◌+◌, ◌<◌, List, ◌∷◌, length, drop, sym, ap, ◌∙◌, slice_index_or, ◌≢◌, Ok, Err, drop_more, ◌==◌, true}
+use Rattle.check_lines.proofs.Words.{false, not, [], ◌++◌, get_or, take, refl, take-append-drop, Option, Some, None, arith, option_map, Bor}
+use Rattle.check_lines.proofs.Words.{append_cancel_left, nat_tests, and_from, and_parts, IsCutPart, cut_text, is_without, IsPrintedFrom, ReadsPrinted}
+use Rattle.check_lines.proofs.Words.{◌^◌, subst, number_text, zero, suc, ◌/◌, ◌%◌, Bool, slice_index, list_all, IsBytes, encode_lower, got_text}
+use Rattle.check_lines.proofs.Words.{list_all-append, ne_eqb}
 use Rattle.std.specs.Prelude.{MatchOption}
-use Rattle.std.proofs.lemmas.List.{drop_more}
-use Rattle.std.proofs.lemmas.List.Folds.{list_all-append}
+use Rattle.hex.specs.Hex.{decode_of, encode_with, lower_digits}
+use Rattle.hex.specs.declared.error.FromHexError.{FromHexError}
+use Rattle.hex.proofs.HexLemmas.{decode_of-encode_lower, decode_of-ok, length-encode_with}
+
+pub from_here : {X : Type 0} (xs : List X) (i : ℕ) (x : X) → i < length xs → x ≡ slice_index_or xs i x → drop i xs ≡ x ∷ drop (i + 1) xs
+from_here {X} xs i x inside is = drop_more xs i x inside ∙ ap (λ (y : X). y ∷ drop (i + 1) xs) (sym is)
+
+-- A text without a byte, and a text that is cut at one.
 
 -- a byte isn't another than itself
 not_self : (at x : ℕ) → at ≡ x → not (x == at) ≡ true → ⊥
@@ -74,3 +81,94 @@ pub without_between : (at b : ℕ) (front behind : List ℕ) → is_without at f
     → is_without at (front ++ b ∷ behind) ≡ true
 without_between at b front behind left other right =
     without_both at front (b ∷ behind) left (and_from (not (b == at)) (is_without at behind) (ap not other) right)
+
+-- The result of a reading, if it is known whether there is one.
+
+pub from_none : {A : Type 0} {print : A → List ℕ} {fits : A → Type 0} {text : List ℕ} {r : Option A} → r ≡ None
+    → ReadsPrinted print fits text None → ReadsPrinted print fits text r
+from_none {print} {fits} {text} is reads = subst (ReadsPrinted print fits text) (sym is) reads
+
+-- the parts of a text that is cut, where it is that of two parts and the byte isn't in the first of them
+pub parts_are : (at : ℕ) {text front rest : List ℕ} → IsPrintedFrom (cut_text at) (IsCutPart at) text (front, rest)
+    → (one two : List ℕ) → is_without at one ≡ true → text ≡ cut_text at (one, two) → (front ≡ one) × (rest ≡ two)
+parts_are at cuts one two none same = let parts = cuts.only (one, two) none same in (sym (ap (λ p. p.0) parts), sym (ap (λ p. p.1) parts))
+
+-- a number, and the reading after its full stop
+abbrev pub number_and : {B : Type 0} → (B → List ℕ) → ℕ × B → List ℕ
+number_and print x = number_text (x.0, print x.1)
+
+abbrev pub AreBoth : {B : Type 0} → (B → Type 0) → ℕ × B → Type 0
+AreBoth fits x = (x.0 < 2 ^ 32) × fits x.1
+
+pub no_number : {B : Type 0} (print : B → List ℕ) (fits : B → Type 0) {word : List ℕ} → ReadsPrinted number_text (λ front. front.0 < 2 ^ 32) word None
+    → ReadsPrinted (number_and print) (AreBoth fits) word None
+no_number print fits none other fit same = none (other.0, print other.1) fit.0 same
+
+pub number_then : {B : Type 0} (print : B → List ℕ) (fits : B → Type 0) {word rest : List ℕ} {n : ℕ}
+    → IsPrintedFrom number_text (λ front. front.0 < 2 ^ 32) word (n, rest) → (r : Option B) → ReadsPrinted print fits rest r
+    → ReadsPrinted (number_and print) (AreBoth fits) word (option_map (λ b. (n, b)) r)
+number_then print fits is None none = λ other fit same. none other.1 fit.1 (sym (ap (λ p. p.1) (is.only (other.0, print other.1) fit.0 same)))
+number_then print fits {n} is (Some b) behind = record {
+  fits_value = (is.fits_value, behind.fits_value);
+  printed = is.printed ∙ ap (λ (t : List ℕ). number_text (n, t)) behind.printed;
+  only = λ other fit same. let told = is.only (other.0, print other.1) fit.0 same in
+      let rest = behind.only other.1 fit.1 (sym (ap (λ p. p.1) told)) in λ i. ((told i).0, rest i);
+}
+
+-- The bytes of a read, as they are printed.
+
+-- the bytes of a read that got some
+abbrev pub AreGiven : List ℕ → Type 0
+AreGiven got = (0 < length got) × IsBytes got
+
+-- no bytes are printed as an empty word
+pub none_empty : {word : List ℕ} → length word ≡ 0 → ReadsPrinted encode_lower AreGiven word None
+none_empty empty other fits same =
+    let long = length-encode_with lower_digits other in let some : 0 < length other = fits.0 in
+    let equal = ap length same in absurd (omega arith)
+
+-- a word that doesn't decode is that of no bytes
+pub none_other : {word : List ℕ} {e : FromHexError} → decode_of word ≡ Err e → ReadsPrinted encode_lower AreGiven word None
+none_other fails other fits same = let good = decode_of-encode_lower other fits.1 in cc (ap decode_of same)
+
+same_bytes : {word bytes other : List ℕ} → decode_of word ≡ Ok bytes → IsBytes other → word ≡ encode_lower other → other ≡ bytes
+same_bytes {other} decodes fits same = let good = decode_of-encode_lower other fits in let here = ap decode_of same in cc
+
+-- a word that its bytes are printed as
+pub printed_again : {word bytes : List ℕ} → decode_of word ≡ Ok bytes → (length word ≡ 0 → ⊥) → word ≡ encode_lower bytes
+    → IsPrintedFrom encode_lower AreGiven word bytes
+printed_again {word} {bytes} decodes some same =
+    let (even, digits, long, fits) = decode_of-ok word bytes decodes in
+    record {
+      fits_value = (omega arith, fits);
+      printed = same;
+      only = λ other ok equal. same_bytes decodes ok.1 equal;
+    }
+
+-- a word that its bytes aren't printed as
+pub printed_otherwise : {word bytes : List ℕ} → decode_of word ≡ Ok bytes → (word ≡ encode_lower bytes → ⊥)
+    → ReadsPrinted encode_lower AreGiven word None
+printed_otherwise {word} {bytes} decodes differs other fits same = differs (same ∙ ap encode_lower (same_bytes decodes fits.1 same))
+
+-- an element of a list, or 0
+at_any : (p : ℕ → Bool) (xs : List ℕ) (i : ℕ) → list_all p xs ≡ true → p 0 ≡ true → p (slice_index xs i) ≡ true
+at_any p [] i all nought = nought
+at_any p (x ∷ xs) zero all nought = (and_parts (p x) (list_all p xs) all).0
+at_any p (x ∷ xs) (suc i) all nought = at_any p xs i (and_parts (p x) (list_all p xs) all).1 nought
+
+digits_without : (at : ℕ) (got : List ℕ) → list_all (λ b. not (b == at)) lower_digits ≡ true → not (0 == at) ≡ true
+    → is_without at (encode_lower got) ≡ true
+unfolding encode_with
+digits_without at [] none nought = refl
+digits_without at (b ∷ got) none nought =
+    and_from (not (slice_index lower_digits (b / 16) == at)) _ (at_any (λ d. not (d == at)) lower_digits (b / 16) none nought)
+    (and_from (not (slice_index lower_digits (b % 16) == at)) _ (at_any (λ d. not (d == at)) lower_digits (b % 16) none nought)
+    (digits_without at got none nought))
+
+-- hexadecimal digits have no line end
+pub hex_without : (got : List ℕ) → is_without 10 (encode_lower got) ≡ true
+hex_without got = digits_without 10 got refl refl
+
+-- the text of a read's bytes, where there are any
+pub some_got : (got : List ℕ) → 0 < length got → got_text got ≡ 32 ∷ encode_lower got
+some_got got some = rw (ne_eqb (length got) 0 (λ none. omega arith))

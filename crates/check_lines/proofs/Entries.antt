@@ -1,27 +1,80 @@
--- The files that are kept of a ring, and those that a list removes, are few and of the catalogue.
-use Rattle.std.proofs.Common.{◌≡◌, ℕ, zero, suc, ◌+◌, ◌<◌, ◌≤◌, ◌^◌, false, ℤ, pos, negsuc, List, [], ◌∷◌, length, All, refl, sym, ap, subst, arith}
-use Rattle.std.proofs.Common.{Option, None, Some, IfNone, length-append, unwrap_or}
-use Rattle.std.specs.List.{list_any}
-use Rattle.std.specs.Option.{option_to_list}
-use Rattle.std.proofs.lemmas.Bool.{leb-false, lt-leb, or_from, or_parts}
-use Rattle.std.proofs.lemmas.List.Sorted.{All-permutation}
-use Rattle.fx_base.specs.Catalogue.{FileEntry}
-use Rattle.fx_base.specs.CloseListView.{CloseListView}
-use Rattle.fx_base.specs.declared.catalogue.TheConstants.{MOST_ENTRIES}
-use Rattle.fx_base.specs.declared.errno.Errno.{Errno}
-use Rattle.fx_base.specs.declared.open_file.Closed.{Closed}
+-- Refusals between submissions, and the files that a list closes or keeps.
+use Rattle.check_lines.proofs.Words.{Bool, List, None, Option, Some, [], false, if◌then◌else◌, length, refl, sym, true, ℕ, ℤ, ◌≤◌, ◌+◌, ◌==◌, ◌∙◌}
+use Rattle.check_lines.proofs.Words.{◌∷◌, ◌≡◌, nat_le, nat_lt, ◌||◌, zero, suc, ◌<◌, ◌^◌, pos, negsuc, All, ap, subst, arith, IfNone, unwrap_or, ◌++◌}
+use Rattle.check_lines.proofs.Words.{slice_index_or, drop, ltb-false, or_parts, leb-false, lt-leb, or_from, AllByRecursion, list_any, Errno, EAGAIN}
+use Rattle.check_lines.proofs.Words.{EBADF, EBUSY, EINVAL, EMFILE, ENOMEM, ENXIO, MOST_SLOTS, is_bad_file, removed_from, removed_by_number}
+use Rattle.check_lines.proofs.Words.{file_after, RingState, HasClosed, IsRing, ring_files_in_order, files_of_ring, RingContents, ring_of}
+use Rattle.check_lines.proofs.Words.{are_bad_tags, tags_given, tag_at, MOST_REGISTRATIONS, option_to_list, All-permutation, FileEntry, CloseListView}
+use Rattle.check_lines.proofs.Words.{Closed, ring_with_slots, table_of_slots, good_files, files_upto, upto_here, upto_next, removed_next, few_removed}
+use Rattle.check_lines.proofs.Words.{removed_entries, IsEntry, entries_of, All-append, All-cons, All-nil, PrintsClosed, PrintsEnd, closes_text}
+use Rattle.check_lines.proofs.Words.{teardown_text, Registered, AreInRange, IsFileInRange, Table, with_file}
+use Rattle.std.proofs.Common.{length-append, append_assoc}
+use Rattle.fx_chain.proofs.Counted.{passed}
 use Rattle.fx_chain.specs.Answers.{is_bad_entry}
-use Rattle.fx_language.specs.Instruction.{Instruction, Unregisters, UpdatesRing}
-use Rattle.fx_order.specs.Slots.{ring_with_slots, table_of_slots}
-use Rattle.fx_plain.specs.declared.table.TheConstants.{MOST_SLOTS}
-use Rattle.fx_ring.specs.Registration.{is_bad_file, removed_from}
-use Rattle.fx_ring.specs.Ring.{HasClosed, IsRing, ring_files_in_order}
-use Rattle.fx_ring.proofs.Numbers.{good_files}
-use Rattle.fx_ring.proofs.Origins.{few_removed, removed_entries}
-use Rattle.fx_ring.proofs.Rings.{IsEntry, entries_of}
-use Rattle.fx_order.specs.declared.ring_slots.RingSlots.{RingSlots}
+use Rattle.fx_language.specs.Instruction.{Instruction, MakesSparse, RegistersList, SetsRange, SubmitsAll, Unregisters, UpdatesRing}
 use Rattle.check_lines.specs.Calls.{call_of}
-use Rattle.check_lines.proofs.Refusals.{inside_of}
+use Rattle.fx_base.specs.declared.catalogue.TheConstants.{MOST_ENTRIES}
+use Rattle.fx_order.specs.declared.ring_slots.RingSlots.{RingSlots}
+use Rattle.check_lines.proofs.Marks.{one_close_list}
+use Rattle.fx_plain.proofs.Cells.{by_equality}
+use Rattle.fx_order.proofs.OneRing.{none_past, ring_with_files, shows_ring}
+
+abbrev pub reasons_of : RingState → Instruction → List (Bool × Errno)
+reasons_of ring (MakesSparse n) = (nat_lt 0 ring.size, EBUSY) ∷ (n == 0, EINVAL) ∷ (nat_lt MOST_SLOTS n, EMFILE) ∷ []
+reasons_of ring (RegistersList list tags) =
+    (nat_lt 0 ring.size, EBUSY) ∷ (length list == 0 || are_bad_tags list (tags_given list tags), EINVAL)
+    ∷ (nat_lt MOST_SLOTS (length list), EMFILE) ∷ (list_any (is_bad_file (length ring.catalogue)) list, EBADF)
+    ∷ (nat_le MOST_REGISTRATIONS ring.registrations, EAGAIN) ∷ []
+reasons_of ring Unregisters = (ring.size == 0, ENXIO) ∷ []
+reasons_of ring (SetsRange off len) = (nat_lt ring.size (off + len), EINVAL) ∷ []
+reasons_of ring (UpdatesRing off list tags) =
+    (ring.size == 0, ENXIO)
+    ∷ (length list == 0 || (nat_lt ring.size (off + length list) || are_bad_tags list (tags_given list tags)), EINVAL)
+    ∷ (list_any (is_bad_entry (length ring.catalogue)) list, EBADF) ∷ (nat_le MOST_REGISTRATIONS ring.registrations, EAGAIN) ∷ []
+reasons_of ring (SubmitsAll asked) = []
+
+abbrev first_of : List (Bool × Errno) → Option Errno
+first_of [] = None
+first_of (reason ∷ reasons) = if reason.0 then Some reason.1 else first_of reasons
+
+refusal_is : (ring : RingState) (command : Instruction) → (call_of ring command).refusal ≡ first_of (reasons_of ring command)
+refusal_is ring (SubmitsAll asked) = refl
+refusal_is ring _ = refl
+
+-- where it isn't refused, none holds
+all_fail : (reasons : List (Bool × Errno)) → first_of reasons ≡ None → AllByRecursion (λ (reason : Bool × Errno). reason.0 ≡ false) reasons
+all_fail [] is = tt
+all_fail (reason ∷ reasons) is = let (fails, rest) = passed reason.0 reason.1 (first_of reasons) is in (fails, all_fail reasons rest)
+
+pub none_holds : (ring : RingState) (command : Instruction) → (call_of ring command).refusal ≡ None
+    → AllByRecursion (λ (reason : Bool × Errno). reason.0 ≡ false) (reasons_of ring command)
+none_holds ring command none = all_fail (reasons_of ring command) (sym (refusal_is ring command) ∙ none)
+
+-- an accepted update ends within the table
+pub inside_of : (ring : RingState) (off : ℕ) (list : List ℤ) (tags : Option (List ℕ)) → (call_of ring (UpdatesRing off list tags)).refusal ≡ None
+    → off + length list ≤ ring.size
+inside_of ring off list tags none =
+    let good = (none_holds ring (UpdatesRing off list tags) none).1.0 in
+    ltb-false ring.size (off + length list) (or_parts _ _ (or_parts (length list == 0) _ good).1).0
+
+abbrev is_memory : Bool × Errno → Bool
+is_memory (holds, ENOMEM) = true
+is_memory (holds, _) = false
+
+first_other : (reasons : List (Bool × Errno)) → list_any is_memory reasons ≡ false → first_of reasons ≡ Some ENOMEM → ⊥
+first_other [] none is = cc
+first_other ((true, ENOMEM) ∷ reasons) none is = cc
+first_other ((true, _) ∷ reasons) none is = cc
+first_other ((false, errno) ∷ reasons) none is = first_other reasons (or_parts (is_memory (false, errno)) _ none).1 is
+
+none_memory : (ring : RingState) (command : Instruction) → list_any is_memory (reasons_of ring command) ≡ false
+none_memory ring (SubmitsAll asked) = refl
+none_memory ring _ = refl
+
+pub refusal_other : (ring : RingState) (command : Instruction) → (call_of ring command).refusal ≡ Some ENOMEM → ⊥
+refusal_other ring command is = first_other (reasons_of ring command) (none_memory ring command) (sym (refusal_is ring command) ∙ is)
+
+-- The files that are kept of a ring, and those that a list removes, are few and of the catalogue.
 
 abbrev pub AreOf : List FileEntry → List Closed → Type 0
 AreOf catalogue files = All (λ file. file.entry < length catalogue) files
@@ -97,3 +150,92 @@ pub good_listed : (refusal : Option Errno) (entries : ℕ) (list : List ℤ) →
     → IfNone refusal (list_any (is_bad_file entries) list ≡ false) → IfNone refusal (list_any (is_bad_entry MOST_ENTRIES) list ≡ false)
 good_listed None entries list few good = good_registered entries MOST_ENTRIES list few good
 good_listed (Some errno) entries list few good = tt
+
+-- The files that a call closes are at slots of the ring, so they have different marks.
+
+abbrev pub IsAtOne : (ℕ → Option Closed) → Closed → Type 0
+IsAtOne at file = (slot : ℕ) × (at slot ≡ Some file)
+
+listed : (at : ℕ → Option Closed) (slot : ℕ) (x : Option Closed) → at slot ≡ x → All (IsAtOne at) (option_to_list x)
+listed at slot None is = λ k d inside. absurd (omega arith)
+listed at slot (Some file) is = All-cons (IsAtOne at) file [] (slot, is) (All-nil (IsAtOne at))
+
+pub all_in_order : (at : ℕ → Option Closed) (n : ℕ) → All (IsAtOne at) (ring_files_in_order at n)
+all_in_order at zero = λ k d inside. absurd (omega arith)
+all_in_order at (suc n) = All-append (IsAtOne at) (ring_files_in_order at n) (option_to_list (at n)) (all_in_order at n) (listed at n (at n) refl)
+
+taken : (at : ℕ → Option Closed) (slot : ℕ) (number : ℤ) → All (IsAtOne at) (removed_by_number number (at slot))
+taken at slot (pos entry) = listed at slot (at slot) refl
+taken at slot (negsuc zero) = listed at slot (at slot) refl
+taken at slot (negsuc (suc n)) = λ k d inside. absurd (omega arith)
+
+pub all_removed : (at : ℕ → Option Closed) (slot : ℕ) (list : List ℤ) → All (IsAtOne at) (removed_from at slot list)
+all_removed at slot [] = λ k d inside. absurd (omega arith)
+all_removed at slot (number ∷ list) =
+    All-append (IsAtOne at) (removed_by_number number (at slot)) (removed_from at (slot + 1) list) (taken at slot number) (all_removed at (slot + 1) list)
+
+-- files at different slots have different marks
+pub one_at : (ring : RingState) → IsRing ring → (x y : Closed) → IsAtOne ring.at x → IsAtOne ring.at y → x.mark ≡ y.mark → x ≡ y
+one_at ring is x y here there marks =
+    let slots : here.0 ≡ there.0 = is.distinct here.0 there.0 x y here.1 there.1 marks in
+    let same : Some x ≡ Some y = sym here.1 ∙ ap ring.at slots ∙ there.1 in cc
+
+-- the printed text of them is the same
+pub closes_printed : (before ring : RingState) (files theirs : List Closed) (closes : CloseListView) (line printed : List ℕ) → IsRing before
+    → ring ≡ before → All (IsAtOne before.at) files → theirs ≡ files → HasClosed files closes → PrintsClosed ring theirs line printed
+    → printed ≡ line ++ closes_text before.catalogue closes.files
+closes_printed before ring files theirs closes line printed is_ring same all are closed (other, has, is) =
+    let lists : other.files ≡ closes.files =
+    one_close_list (IsAtOne before.at) (one_at before is_ring) files other closes all (subst (λ (l : List Closed). HasClosed l other) are has) closed in
+    is ∙ ap (λ (r : RingState). line ++ closes_text r.catalogue other.files) same
+    ∙ ap (λ (l : List Closed). line ++ closes_text before.catalogue l) lists
+
+-- and so is what is printed of those that are left at the end
+pub end_printed : (before : RingState) (files : List Closed) (closes : CloseListView) (text : List ℕ) → IsRing before → files ≡ files_of_ring before
+    → HasClosed files closes → PrintsEnd before text → text ≡ teardown_text before.catalogue closes.files
+end_printed before files closes text is_ring all closed (other, has, is) =
+    is ∙ ap (teardown_text before.catalogue)
+    (one_close_list (IsAtOne before.at) (one_at before is_ring) (files_of_ring before) other closes (all_in_order before.at before.size) has
+    (subst (λ (l : List Closed). HasClosed l closes) all closed))
+
+-- A list that is applied to slots, one number further.
+
+-- a number of a list leaves files in range
+pub in_range_after : (t : Table) (slot k i tag : ℕ) (z : ℤ) → AreInRange t.at → k < 2 ^ 32 → i < 2 ^ 32 → tag < 2 ^ 64
+    → AreInRange (with_file t slot (file_after (Registered k i) tag z (t.at slot))).at
+in_range_after t slot k i tag z fits low short small s file =
+    by_equality s slot (λ b. ◌≡◌ {A = Option Closed} (if b then file_after (Registered k i) tag z (t.at slot) else t.at s) (Some file) → IsFileInRange file)
+    (λ _ is. there z is) (λ _ is. fits s file is)
+  where
+    there : (z : ℤ) → file_after (Registered k i) tag z (t.at slot) ≡ Some file → IsFileInRange file
+    there (pos entry) is =
+        let e : file ≡ record { mark = Registered k i; entry = entry; tag = tag } = cc in
+        subst IsFileInRange (sym e) (record { mark = (low, short); tag = small })
+    there (negsuc zero) is = absurd (cc)
+    there (negsuc (suc n)) is = fits slot file is
+
+module _ (k off i : ℕ) (list : List ℤ) (tags : List ℕ) (z : ℤ) (first cur new : Table) (inside : i < length list)
+    (is : z ≡ slice_index_or list i (pos 0)) (before : cur ≡ record first { at = files_upto k first.at off list tags i }) where
+  pub one_more : new ≡ with_file cur (off + i) (file_after (Registered k i) (tag_at tags i) z (cur.at (off + i)))
+      → new ≡ record first { at = files_upto k first.at off list tags (i + 1) }
+  one_more after = after ∙ ap (λ (t : Table). with_file t (off + i) (file_after (Registered k i) (tag_at tags i) z (t.at (off + i)))) before
+      ∙ ap (λ (x : Option Closed). with_file (record first { at = files_upto k first.at off list tags i }) (off + i)
+      (file_after (Registered k i) (tag_at tags i) z x)) (upto_here k first.at off list tags i z inside is)
+      ∙ ap (λ (a : ℕ → Option Closed). record first { at = a }) (sym (upto_next k first.at off list tags i z inside is))
+
+  pub more_removed : (gone so_far : List Closed) → gone ≡ removed_by_number z (cur.at (off + i))
+      → so_far ++ removed_from first.at (off + i) (drop i list) ≡ removed_from first.at off list
+      → (so_far ++ gone) ++ removed_from first.at (off + (i + 1)) (drop (i + 1) list) ≡ removed_from first.at off list
+  more_removed gone so_far is_gone was =
+      let rest = removed_from first.at (off + (i + 1)) (drop (i + 1) list) in
+      append_assoc so_far gone rest ∙ ap (λ (l : List Closed). so_far ++ (l ++ rest))
+      (is_gone ∙ ap (λ (t : Table). removed_by_number z (t.at (off + i))) before ∙ ap (removed_by_number z) (upto_here k first.at off list tags i z inside is))
+      ∙ ap (λ (l : List Closed). so_far ++ l) (sym (removed_next k first.at off list tags i z inside is)) ∙ was
+
+-- The slots and counts of a ring are what some ring shows.
+
+pub shown : (catalogue : List FileEntry) (ring : RingSlots) → (next : RingContents) × (ring_of next ≡ ring_with_slots catalogue ring)
+shown catalogue ring = (
+  ring_with_files (ring_with_slots catalogue ring),
+  shows_ring (ring_with_slots catalogue ring) (none_past catalogue ring),
+)

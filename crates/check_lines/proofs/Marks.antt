@@ -1,14 +1,19 @@
--- Places and marks by their numbers.
+-- Places and marks by their numbers, and lists in order of mark.
 use Rattle.check_lines.proofs.Words.{◌≡◌, ℕ, ◌<◌, ◌^◌, List, [], ◌∷◌, ◌++◌, refl, sym, ap, ◌∙◌, arith, Option, Some, None, decimal, append_assoc}
 use Rattle.check_lines.proofs.Words.{and_from, is_digit, Mark, Place, number_text, place_digits, IsMarkInRange, IsPlaceInRange, is_without}
-use Rattle.check_lines.proofs.Words.{IsPrintedFrom, ReadsPrinted, mark_text}
-use Rattle.std.proofs.Common.{option_map}
-use Rattle.std.specs.Prelude.{not, true, false, ◌==◌}
-use Rattle.fx_base.specs.declared.mark.Mark.TheVariants.{Registered, Submitted}
-use Rattle.check_lines.specs.Front.{entry_text}
-use Rattle.check_lines.proofs.Cuts.{other_first, without_between}
-use Rattle.check_lines.proofs.Readings.{AreBoth, number_and}
+use Rattle.check_lines.proofs.Words.{IsPrintedFrom, ReadsPrinted, mark_text, option_map, suc, ◌+◌, ◌≤◌, Bool, if◌then◌else◌, length, All}
+use Rattle.check_lines.proofs.Words.{slice_index_or, inl, inr, not, true, false, ◌==◌, nat_eq, Registered, Submitted, entry_text, cases_Bool, sum_by}
+use Rattle.check_lines.proofs.Words.{All-cons, All-head, All-tail, All-permutation, ranks_by, sorted_far, sum_by-IsPermutation, CloseListView, Closed}
+use Rattle.check_lines.proofs.Words.{HasClosed}
+use Rattle.check_lines.proofs.Cuts.{other_first, without_between, AreBoth, number_and}
 use Rattle.check_lines.proofs.Decimals.{decimal_without}
+use Rattle.std.specs.Cmp.{IsStrictWeakOrder}
+use Rattle.std.specs.Cmp.Lexicographic.{bytes_decides, nat_list_cmp_total, pointwise, slice_cmp, texts_po}
+use Rattle.std.specs.Ordering.{is_lt, nat_cmp, ordering_reverse, ordering_then}
+use Rattle.std.specs.declared.cmp.Ordering.{Ordering}
+use Rattle.std.specs.declared.cmp.Ordering.TheVariants.{Equal}
+use Rattle.std.proofs.lemmas.List.Sums.{sum_by-cons}
+use Rattle.fx_base.specs.CloseList.{IsInOrderOfMark, mark_cmp}
 
 abbrev pub is_small : ℕ → Type 0
 is_small n = n < 2 ^ 32
@@ -130,3 +135,121 @@ registered_reads begins (Some x) is = record {
   printed = begins ∙ ap (λ (t : List ℕ). 114 ∷ t) is.printed;
   only = one_registered begins is;
 }
+
+-- Files with different marks have exactly one list in order of mark.
+
+-- a mark as a list of numbers, in the order of marks
+abbrev pub numbers : Mark → List ℕ
+numbers (Registered k i) = 0 ∷ k ∷ i ∷ []
+numbers (Submitted s c m e) = 1 ∷ s ∷ c ∷ m ∷ e ∷ []
+
+same_mark : (a b : Mark) → numbers a ≡ numbers b → a ≡ b
+same_mark (Registered k i) (Registered l j) same = let e : 0 ∷ k ∷ i ∷ [] ≡ 0 ∷ l ∷ j ∷ [] = same in cc
+same_mark (Registered k i) (Submitted s c m e) same = let no : 0 ∷ k ∷ i ∷ [] ≡ 1 ∷ s ∷ c ∷ m ∷ e ∷ [] = same in cc
+same_mark (Submitted s c m e) (Registered k i) same = let no : 1 ∷ s ∷ c ∷ m ∷ e ∷ [] ≡ 0 ∷ k ∷ i ∷ [] = same in cc
+same_mark (Submitted s c m e) (Submitted t d n f) same = let is : 1 ∷ s ∷ c ∷ m ∷ e ∷ [] ≡ 1 ∷ t ∷ d ∷ n ∷ f ∷ [] = same in cc
+
+abbrev pub below : List ℕ → List ℕ → Bool
+below k l = is_lt (slice_cmp nat_cmp k l)
+
+then_equal : (o : Ordering) → ordering_then o Equal ≡ o
+then_equal o = grind arith
+
+pub same_cmp : (a b : Mark) → slice_cmp nat_cmp (numbers a) (numbers b) ≡ mark_cmp a b
+same_cmp (Registered k i) (Registered l j) = ap (ordering_then (nat_cmp k l)) (then_equal (nat_cmp i j))
+same_cmp (Registered k i) (Submitted s c m e) = refl
+same_cmp (Submitted s c m e) (Registered k i) = refl
+same_cmp (Submitted s c m e) (Submitted t d n f) =
+    ap (λ (o : Ordering). ordering_then (nat_cmp s t) (ordering_then (nat_cmp c d) (ordering_then (nat_cmp m n) o))) (then_equal (nat_cmp e f))
+
+abbrev pub is_below : Closed → Closed → Bool
+is_below x y = below (numbers x.mark) (numbers y.mark)
+
+pub is_order : IsStrictWeakOrder is_below
+is_order = ranks_by nat_list_cmp_total (λ (file : Closed). numbers file.mark)
+
+-- two lists of numbers are equal if neither is below the other
+level : (o p : Ordering) → o ≡ ordering_reverse p → is_lt o ≡ false → is_lt p ≡ false → o ≡ Equal
+level o p turned one other = grind arith
+
+equal_numbers : (k l : List ℕ) → slice_cmp nat_cmp k l ≡ Equal → k ≡ l
+equal_numbers k l is = (bytes_decides k l).0 ((texts_po.matches_eq k l).1 (ap Some is))
+
+pub neither_below : (x y : Closed) → is_below x y ≡ false → is_below y x ≡ false → x.mark ≡ y.mark
+neither_below x y one other =
+    let k = numbers x.mark in
+    let l = numbers y.mark in same_mark x.mark y.mark (equal_numbers k l (level _ _ (nat_list_cmp_total.antisymm k l) one other))
+
+-- none of them is below the first
+abbrev pub AreNotBelow : Closed → List Closed → Type 0
+AreNotBelow x ys = All (λ y. is_below y x ≡ false) ys
+
+abbrev pub Rises : List Closed → Type 0
+Rises [] = Unit {0}
+Rises (x ∷ xs) = AreNotBelow x xs × Rises xs
+
+-- a sorted list rises
+rises_from : (xs : List Closed) → ((i j : ℕ) (d : Closed) → i ≤ j → j < length xs → is_below (slice_index_or xs j d) (slice_index_or xs i d) ≡ false)
+    → Rises xs
+rises_from [] far = tt
+rises_from (x ∷ xs) far = (
+  λ k d inside. far 0 (suc k) d (omega arith) (omega arith),
+  rises_from xs (λ i j d le inside. far (suc i) (suc j) d (omega arith) (omega arith)),
+)
+
+in_order_rises : (xs : List Closed) → IsInOrderOfMark xs → Rises xs
+in_order_rises xs up = rises_from xs (sorted_far is_below is_order xs
+    (λ k d low high. ap is_lt (same_cmp (slice_index_or xs (k + 1) d).mark (slice_index_or xs k d).mark) ∙ up k d low high))
+
+-- 1 where the mark has these numbers
+abbrev hits : List ℕ → Closed → ℕ
+hits k x = if pointwise nat_eq (numbers x.mark) k then 1 else 0
+
+hits_itself : (x : Closed) → hits (numbers x.mark) x ≡ 1
+hits_itself x = ap (λ (b : Bool). if b then 1 else 0) ((bytes_decides (numbers x.mark) (numbers x.mark)).1 refl)
+
+-- a mark that one of them has isn't below that before them
+found_above : (k : List ℕ) (y : Closed) (zs : List Closed) → AreNotBelow y zs → 1 ≤ sum_by (hits k) zs → below k (numbers y.mark) ≡ false
+found_above k y [] rises some = absurd (omega arith)
+found_above k y (z ∷ zs) rises some =
+    let parts = sum_by-cons (hits k) z zs in
+    elim (cases_Bool (pointwise nat_eq (numbers z.mark) k)) [
+      | inl is ↦ ap (λ (l : List ℕ). below l (numbers y.mark)) (sym ((bytes_decides (numbers z.mark) k).0 is))
+          ∙ All-head (λ (x : Closed). is_below x y ≡ false) z zs rises
+      | inr is ↦
+          let none : hits k z ≡ 0 = ap (λ (b : Bool). if b then 1 else 0) is in
+          found_above k y zs (All-tail (λ (x : Closed). is_below x y ≡ false) z zs rises) (omega arith)
+    ]
+
+no_test : (b : Bool) → (b ≡ true → b ≡ false) → b ≡ false
+no_test true is = is refl
+no_test false is = refl
+
+module _ (P : Closed → Type 0) (one : (x y : Closed) → P x → P y → x.mark ≡ y.mark → x ≡ y) where
+  first_too : (x : Closed) (xs : List Closed) → AreNotBelow x xs → AreNotBelow x (x ∷ xs)
+  first_too x xs rises = All-cons (λ (y : Closed). is_below y x ≡ false) x xs (no_test (is_below x x) (is_order.one_way x x)) rises
+
+  pub one_list : (xs ys : List Closed) → All P xs → All P ys → Rises xs → Rises ys → ((f : Closed → ℕ) → sum_by f ys ≡ sum_by f xs) → xs ≡ ys
+  one_list [] [] all too up rise sums = refl
+  one_list [] (y ∷ ys) all too up rise sums =
+      let same = sums (λ _. 1) in let parts = sum_by-cons (λ (z : Closed). 1) y ys in absurd (omega arith)
+  one_list (x ∷ xs) [] all too up rise sums =
+      let same = sums (λ _. 1) in let parts = sum_by-cons (λ (z : Closed). 1) x xs in absurd (omega arith)
+  one_list (x ∷ xs) (y ∷ ys) all too up rise sums =
+      let f = hits (numbers x.mark) in let g = hits (numbers y.mark) in let x_itself = hits_itself x in
+      let y_itself = hits_itself y in let f_parts = sum_by-cons f x xs in let g_parts = sum_by-cons g y ys in
+      let f_same = sums f in let g_same = sums g in
+      let y_not_above : is_below x y ≡ false = found_above (numbers x.mark) y (y ∷ ys) (first_too y ys rise.0) (omega arith) in
+      let x_not_above : is_below y x ≡ false = found_above (numbers y.mark) x (x ∷ xs) (first_too x xs up.0) (omega arith) in
+      let same : x ≡ y = one x y (All-head P x xs all) (All-head P y ys too) (neither_below x y y_not_above x_not_above) in
+      let rest : xs ≡ ys = one_list xs ys (All-tail P x xs all) (All-tail P y ys too) up.1 rise.1
+      (λ h. let before = sum_by-cons h x xs in let behind = sum_by-cons h y ys in let whole = sums h in
+      let equal : h x ≡ h y = ap h same in omega arith) in
+      λ i. same i ∷ rest i
+
+  -- the list of closed files that has them is one
+  pub one_close_list : (files : List Closed) (a b : CloseListView) → All P files → HasClosed files a → HasClosed files b → a.files ≡ b.files
+  one_close_list files a b all first second =
+      one_list a.files b.files (All-permutation P files a.files first.same_files all) (All-permutation P files b.files second.same_files all)
+      (in_order_rises a.files first.in_order) (in_order_rises b.files second.in_order)
+      (λ f. sum_by-IsPermutation f files b.files second.same_files ∙ sym (sum_by-IsPermutation f files a.files first.same_files))

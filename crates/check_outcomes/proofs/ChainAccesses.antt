@@ -1,8 +1,10 @@
--- A chain's next access, and what is left of the chain behind it.
-use Rattle.fx_order.proofs.Words.{◌≡◌, ℕ, ◌+◌, ◌<◌, ◌≤◌, List, [], ◌∷◌, ◌++◌, length, refl, sym, ap, ◌∙◌, arith, append_assoc, nil_from_length}
-use Rattle.fx_order.proofs.Words.{Option, Some, None, if◌then◌else◌, MatchBool, FileEntry, length-append, append-nil, by_equality, either_way}
-use Rattle.fx_order.proofs.Words.{AllByRecursion, Completed, next_member, canceled, severs, Asked, Place, IsChainDone, IsRequestDone}
-use Rattle.check_outcomes.proofs.ChoiceWords.{Access, HasMemory, IsNextOf, Rest, Rules, over, rest_at, settled_at, behind, step_of}
+-- A chain's next access, and the rest of the chain after it.
+use Rattle.check_outcomes.proofs.Words.{◌≡◌, ℕ, ◌+◌, ◌<◌, ◌≤◌, List, [], ◌∷◌, ◌++◌, length, refl, sym, ap, ◌∙◌, arith, append_assoc, nil_from_length}
+use Rattle.check_outcomes.proofs.Words.{Option, Some, None, if◌then◌else◌, MatchBool, FileEntry, length-append, append-nil, by_equality, either_way}
+use Rattle.check_outcomes.proofs.Words.{AllByRecursion, Completed, next_member, canceled, severs, Asked, Place, IsChainDone, IsRequestDone, ⊎_elim}
+use Rattle.check_outcomes.proofs.Words.{inl, inr, Contains, Closed, Table, Permits, contains_head, Access, HasMemory, IsNextOf, Rest, Rules, over}
+use Rattle.check_outcomes.proofs.Words.{rest_at, settled_at, behind, step_of, Allocates, FindsFull, cases_eq, Contains-append_left, Contains-push}
+use Rattle.check_outcomes.proofs.Words.{HasEachOf, Allocate}
 
 abbrev pub last_of : List Access → Option Access
 last_of [] = None
@@ -141,3 +143,25 @@ module _ (catalogue : List FileEntry) (size : ℕ) (rules : Rules) (right : AreR
               rest_is = record { front = front; made = long; done = rw append_assoc is.done };
             }),
       )
+
+-- The accesses by which a request may do what it is to do at a table.
+
+-- the only access is the one that the table permits
+pub the_one : (table : Table) (make : Option Closed → Access) {choices : List Access} {now at found : Option Closed} {a : Access}
+    → choices ≡ make now ∷ [] → now ≡ at → a ≡ make found → (Permits table (make found) → found ≡ at) → Permits table a → Contains choices a
+the_one table make {now = now} are is own permits may = rw (are, own, permits (rw own at may), ← is) (contains_head (make now) [])
+
+pub each_allocation : (table : Table) (choices : List Access) {file : Closed} → Contains choices FindsFull
+    → ((slot : ℕ) → slot < table.size → Contains choices (Allocates slot file)) → HasEachOf table (Allocate file) choices
+each_allocation table choices full each a (inl x) may = rw x.1 (each x.0 (rw x.1 at may).0.0)
+each_allocation table choices full each a (inr is) may = rw is full
+
+-- one more slot in the list
+pub one_slot_more : (choices : List Access) {n : ℕ} {file : Closed} → Contains choices FindsFull
+    → ((k : ℕ) → k < n → Contains choices (Allocates k file))
+    → Contains (choices ++ Allocates n file ∷ []) FindsFull × ((k : ℕ) → k < n + 1 → Contains (choices ++ Allocates n file ∷ []) (Allocates k file))
+one_slot_more choices {n} {file} full each = (
+  Contains-append_left choices _ FindsFull full,
+  λ k low. ⊎_elim (λ same. rw same (Contains-push choices (Allocates n file)))
+      (λ other. Contains-append_left choices _ (Allocates k file) (each k (omega arith))) (cases_eq k n),
+)

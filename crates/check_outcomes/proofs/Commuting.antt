@@ -1,8 +1,7 @@
 -- Two accesses that come to no slot both may be made the other way round, and leave the same table.
-use Rattle.fx_order.proofs.Words.{◌≡◌, ℕ, ◌+◌, ◌<◌, ◌≤◌, ◌==◌, List, ◌∷◌, Option, Some, None, if◌then◌else◌, refl, sym, subst, ◌∙◌, by_equality}
-use Rattle.fx_order.proofs.Words.{Table, Permits, PermitsAll, table_with, table_after, IsSome}
-use Rattle.check_outcomes.proofs.ChoiceWords.{Looks, Puts, Clears, Takes, Allocates, FindsFull, Access, Identity}
-use Rattle.std.specs.Prelude.{IfSome}
+use Rattle.check_outcomes.proofs.Words.{◌≡◌, ℕ, ◌+◌, ◌<◌, ◌≤◌, ◌==◌, List, ◌∷◌, Option, Some, None, if◌then◌else◌, refl, sym, subst, ◌∙◌, by_equality}
+use Rattle.check_outcomes.proofs.Words.{Table, Permits, PermitsAll, table_with, table_after, IsSome, Looks, Puts, Clears, Takes, Allocates, FindsFull}
+use Rattle.check_outcomes.proofs.Words.{Access, Identity, IfSome}
 
 -- an access comes to a slot, at a table with this allocation range
 abbrev pub ComesTo : ℕ × ℕ → Access → ℕ → Type 0

@@ -1,14 +1,12 @@
--- An order of a submission begins at its first state.
-use Rattle.fx_order.proofs.Words.{◌≡◌, ℕ, ◌+◌, ◌<◌, ◌≤◌, ◌==◌, List, [], ◌∷◌, ◌++◌, length, refl, sym, ap, ◌∙◌, arith, if◌then◌else◌, Bool, ⊎_elim}
-use Rattle.fx_order.proofs.Words.{inr, FileEntry, Completed, Asked, runs_of, first_member, Table, accesses_of, accesses_of_chain, AreChainsDone}
-use Rattle.fx_order.proofs.Words.{IsOneOrder, table_after, AllByRecursion, RingState, Reported, eq-eqb}
-use Rattle.check_outcomes.proofs.ChoiceWords.{ChainAccess, cases_eq, ne_eqb, at_itself, HasMemory, Rest, rules_of, settled_at, AreAllStates}
-use Rattle.check_outcomes.proofs.ChoiceWords.{AreAtStart}
-use Rattle.check_outcomes.proofs.ChoiceWords.{HasEnd, IsListed, StateView, EachOutcomeIsListed, told_from}
+-- The first states of a submission, where each order begins.
+use Rattle.check_outcomes.proofs.Words.{◌≡◌, ℕ, ◌+◌, ◌<◌, ◌≤◌, ◌==◌, List, [], ◌∷◌, ◌++◌, length, refl, sym, ap, ◌∙◌, arith, if◌then◌else◌, Bool}
+use Rattle.check_outcomes.proofs.Words.{⊎_elim, inr, FileEntry, Completed, Asked, runs_of, first_member, Table, accesses_of, accesses_of_chain}
+use Rattle.check_outcomes.proofs.Words.{AreChainsDone, IsOneOrder, table_after, AllByRecursion, RingState, Reported, eq-eqb, ChainAccess, cases_eq}
+use Rattle.check_outcomes.proofs.Words.{ne_eqb, at_itself, HasMemory, Rest, rules_of, settled_at, AreAllStates, AreAtStart, HasEnd, IsListed}
+use Rattle.check_outcomes.proofs.Words.{StateView, EachOutcomeIsListed, told_from, both_parts}
 use Rattle.check_outcomes.proofs.Requests.{are_right}
 use Rattle.check_outcomes.proofs.ChainAccesses.{settles}
 use Rattle.check_outcomes.proofs.TurnByTurn.{order_in_turn}
-use Rattle.fx_order.proofs.ChainFront.{both_parts}
 use Rattle.check_outcomes.proofs.Playing.{OfChain, Comes, both_said, runs_on}
 
 -- the same of each chain, the same whole

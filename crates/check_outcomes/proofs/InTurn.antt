@@ -1,13 +1,55 @@
+-- Orders that can be made in turn, one part and one chain after another.
+use Rattle.check_outcomes.proofs.Words.{◌≡◌, ℕ, ◌≤◌, suc, List, [], ◌∷◌, ⊎_elim, arith, All, All-cons, All-head, All-nil, All-tail, Table, PermitsAll}
+use Rattle.check_outcomes.proofs.Words.{table_with, accesses_of, accesses_of_chain, ◌⊎◌, inl, inr, ◌<◌, ◌==◌, Bool, true, false, ◌++◌, filter, cond}
+use Rattle.check_outcomes.proofs.Words.{refl, sym, ap, ◌∙◌, Option, cases_lt, false≢true, append_assoc, file_removed_by, files_removed_in, Closed}
+use Rattle.check_outcomes.proofs.Words.{IsPermutation, IsPermutation-refl, IsPermutation-cons, IsPermutation-sym, IsPermutation-trans}
+use Rattle.check_outcomes.proofs.Words.{IsPermutation-middle, option_to_list, Access, ChainAccess, not_own, of_chain, own_first, cases_eq, Looks}
+use Rattle.check_outcomes.proofs.Words.{ne_eqb, Identity, HasTurn, Parts, Rest, StateView, are_reads, All-permutation, IsPermutation-append_comm}
+use Rattle.check_outcomes.proofs.Words.{IsPermutation-append_left, IsPermutation-append_right}
+use Rattle.check_outcomes.proofs.Commuting.{AreApart, ComesTo, Leaves, first_of, in_front, looks_swapped, swapped, table}
+use Rattle.check_outcomes.proofs.Idle.{IsLook}
+
+-- what holds of each chain's accesses holds of the order's
+pub of_each : (Keeps : ℕ → Access → Type 0) {chains : ℕ} (order : List ChainAccess) → All (λ x. (1 ≤ x.chain) × (x.chain ≤ chains)) order
+    → ((q : ℕ) → 1 ≤ q → q ≤ chains → All (Keeps q) (accesses_of_chain q order)) → All (λ x. Keeps x.chain x.access) order
+of_each Keeps [] within each = All-nil (λ (x : ChainAccess). Keeps x.chain x.access)
+of_each Keeps {chains} (x ∷ order) within each =
+    let (low, high) = within 0 x (omega arith) in
+    All-cons (λ (y : ChainAccess). Keeps y.chain y.access) x order
+    (All-head (Keeps x.chain) x.access _ (rw (own_first x order) at (each x.chain low high)))
+    (of_each Keeps order (λ k d lt. within (suc k) d (omega arith)) (λ q low high. ⊎_elim
+    (λ mine. All-tail (Keeps q) x.access _ (rw mine.1 at (each q low high))) (λ other. rw other.1 at (each q low high)) (of_chain x order q)))
+
+module _ (chains : ℕ) where
+  -- an order goes on from a table
+  pub record OrderGoesOn (table : Table) (Each : ℕ → List Access → Type 0) (order : List ChainAccess) : Type 0 where
+    pub permitted : PermitsAll table (accesses_of order)
+    pub within : All (λ x. (1 ≤ x.chain) × (x.chain ≤ chains)) order
+    pub each : (chain : ℕ) → 1 ≤ chain → chain ≤ chains → Each chain (accesses_of_chain chain order)
+
+  module _ {table : Table} {Each : ℕ → List Access → Type 0} {x : ChainAccess} {order : List ChainAccess}
+      (comes : OrderGoesOn table Each (x ∷ order)) where
+    pub first_within : (1 ≤ x.chain) × (x.chain ≤ chains)
+    first_within = comes.within 0 x (omega arith)
+
+    -- the chain of its first access
+    pub its_first : Each x.chain (x.access ∷ accesses_of_chain x.chain order)
+    its_first = rw (own_first x order) at (comes.each x.chain first_within.0 first_within.1)
+
+    -- behind that access
+    pub past_first : {next : Table} (Next : ℕ → List Access → Type 0) → next ≡ table_with table x.access
+        → Next x.chain (accesses_of_chain x.chain order)
+        → ((chain : ℕ) → 1 ≤ chain → (chain ≡ x.chain → ⊥) → Each chain (accesses_of_chain chain order) → Next chain (accesses_of_chain chain order))
+        → OrderGoesOn next Next order
+    past_first Next leads own others = record {
+      permitted = rw leads comes.permitted.1;
+      within = λ k d lt. comes.within (suc k) d (omega arith);
+      each = λ chain low high. ⊎_elim (λ same. rw same own)
+          (λ apart. others chain low apart (rw (not_own x order chain apart) at (comes.each chain low high))) (cases_eq chain x.chain);
+    }
+
 -- An order of a submission whose chains are in parts can be made in turn: part by part, and chain after chain where all that is left of
 -- a part looks at slots.
-use Rattle.fx_order.proofs.Words.{◌≡◌, ◌⊎◌, inl, inr, ℕ, ◌<◌, ◌≤◌, ◌==◌, suc, Bool, true, false, List, [], ◌∷◌, ◌++◌, filter, cond, refl, sym, ap, ◌∙◌}
-use Rattle.fx_order.proofs.Words.{arith, Option, All, All-nil, All-cons, All-tail, cases_lt, false≢true, append_assoc, accesses_of}
-use Rattle.fx_order.proofs.Words.{accesses_of_chain, file_removed_by, files_removed_in, Closed, Table, IsPermutation, IsPermutation-refl, IsPermutation-cons}
-use Rattle.fx_order.proofs.Words.{IsPermutation-sym, IsPermutation-trans, IsPermutation-middle, option_to_list}
-use Rattle.check_outcomes.proofs.ChoiceWords.{Access, ChainAccess, Looks, cases_eq, ne_eqb, Identity}
-use Rattle.std.proofs.lemmas.List.Sorted.{All-permutation, IsPermutation-append_comm, IsPermutation-append_left, IsPermutation-append_right}
-use Rattle.check_outcomes.proofs.Commuting.{AreApart, ComesTo, Leaves, first_of, in_front, looks_swapped, swapped, table}
-use Rattle.check_outcomes.proofs.Idling.{IsLook}
 
 abbrev is_look : Access → Bool
 is_look (Looks slot found) = true
@@ -217,3 +259,24 @@ module _ (part : ℕ → ℕ) where
         let rest = in_turn l in
         let turns = placed x rest.order rest.by in
         record { order = turns.order; by = turns.by; is = both (behind x rest.is) turns.is }
+
+-- In an order that is made in turn, the chain of the first access has its turn.
+
+pub has_turn : (idle : Rest → Bool) (parts : Parts) (state : StateView) {chains : ℕ} (x : ChainAccess) (order : List ChainAccess)
+    → All (λ y. (1 ≤ y.chain) × (y.chain ≤ chains)) (x ∷ order)
+    → ((chain : ℕ) → 1 ≤ chain → chain ≤ chains → accesses_of_chain chain (x ∷ order) ≡ [] → idle (state.rests chain) ≡ true)
+    → ((chain : ℕ) → 1 ≤ chain → chain ≤ chains → are_reads (state.rests chain).requests ≡ true
+    → All IsLook (accesses_of_chain chain (x ∷ order)))
+    → IsInTurn parts.of_chain (x ∷ order) → HasTurn idle parts chains state x.chain
+has_turn idle parts state {chains} x order within over looks by =
+    let part = parts.of_chain in record {
+      part = λ other low high less. over other low high (none_of (x ∷ order)
+          (All-cons (λ y. y.chain ≡ other → ⊥) x order (λ same. let parts = ap part same in omega arith)
+          (λ k d lt same. let parts = ap part same in let more = by.0.part_first k d lt in omega arith)));
+      reader = λ alone other low less mine.
+          let high = (within 0 x (omega arith)).1 in
+          let all = of_each (λ q a. part q ≡ part x.chain → IsLook a) (x ∷ order) within
+          (λ q from to k a lt same. looks q from to (alone q from to same) k a lt) in
+          over other low (omega arith) (none_of (x ∷ order) (All-cons (λ y. y.chain ≡ other → ⊥) x order (λ same. omega arith)
+          (λ k d lt same. let more = by.0.chain_first all k d lt (ap part same ∙ mine) in omega arith)));
+    }

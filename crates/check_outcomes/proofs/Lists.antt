@@ -1,7 +1,6 @@
 -- What holds of each element of a list.
-use Rattle.fx_order.proofs.Words.{◌≡◌, ℕ, ◌<◌, List, [], ◌∷◌, length, map, sym, ap, ◌∙◌, arith, slice_index_or, Contains, get_or-map, length-map, suc}
-use Rattle.fx_order.proofs.Words.{◌+◌, ⊎_elim, Asked, get_or_from_slice_get, IfOk, Result}
-use Rattle.check_outcomes.proofs.Words.{cases_eq, slice_get-get_or, Ok, Err}
+use Rattle.check_outcomes.proofs.Words.{◌≡◌, ℕ, ◌<◌, List, [], ◌∷◌, length, map, sym, ap, ◌∙◌, arith, slice_index_or, Contains, get_or-map}
+use Rattle.check_outcomes.proofs.Words.{length-map, suc, ◌+◌, ⊎_elim, Asked, get_or_from_slice_get, IfOk, Result, cases_eq, slice_get-get_or, Ok, Err}
 
 -- an element of a list, by its place, and what is made of it
 pub inside_at : {X Y : Type 0} (f : X → Y) (xs : List X) {k : ℕ} {x : X} {y : Y} → k < length xs → x ≡ slice_index_or xs k x → f x ≡ y

@@ -1,13 +1,10 @@
 -- An order goes from state to state of a closed list, up to one where no chain has an access left.
-use Rattle.fx_order.proofs.Words.{◌≡◌, arith, ◌⊎◌, Bool, inl, inr, ℕ, ◌≤◌, List, [], ◌∷◌, ◌++◌, refl, sym, ap, ◌∙◌, FileEntry, append-nil, All}
-use Rattle.fx_order.proofs.Words.{All-tail, true, false, false≢true, Completed, Table, table_after, AllByRecursion, Contains, ⊎_elim, table_with}
-use Rattle.fx_order.proofs.Words.{accesses_of, accesses_of_chain}
-use Rattle.check_outcomes.proofs.ChoiceWords.{Access, ChainAccess, cases_Bool, IsNext, Rest, rules_of, step, Parts, AreClosed, IsOver, StateView}
-use Rattle.check_outcomes.proofs.ChoiceWords.{AreIdle, are_reads}
-use Rattle.check_outcomes.proofs.InTurn.{IsInTurn}
-use Rattle.check_outcomes.proofs.Idling.{IsLook, reads_done}
-use Rattle.check_outcomes.proofs.Orders.{OrderGoesOn, first_within, its_first, past_first}
-use Rattle.check_outcomes.proofs.TurnOfFirst.{has_turn}
+use Rattle.check_outcomes.proofs.Words.{◌≡◌, arith, ◌⊎◌, Bool, inl, inr, ℕ, ◌≤◌, List, [], ◌∷◌, ◌++◌, refl, sym, ap, ◌∙◌, FileEntry, append-nil, All}
+use Rattle.check_outcomes.proofs.Words.{All-tail, true, false, false≢true, Completed, Table, table_after, AllByRecursion, Contains, ⊎_elim}
+use Rattle.check_outcomes.proofs.Words.{table_with, accesses_of, accesses_of_chain, Access, ChainAccess, cases_Bool, IsNext, Rest, rules_of, step}
+use Rattle.check_outcomes.proofs.Words.{Parts, AreClosed, IsOver, StateView, AreIdle, are_reads}
+use Rattle.check_outcomes.proofs.InTurn.{IsInTurn, OrderGoesOn, first_within, its_first, past_first, has_turn}
+use Rattle.check_outcomes.proofs.Idle.{IsLook, reads_done}
 use Rattle.check_outcomes.proofs.Requests.{are_right}
 use Rattle.check_outcomes.proofs.ChainAccesses.{Goes, ends, steps, told_first}
 

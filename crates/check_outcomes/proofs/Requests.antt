@@ -1,20 +1,17 @@
 -- What each kind of request does at the table: how many accesses it makes, and its answer if memory is found; what each access was to be;
 -- and the slots to which it comes.
-use Rattle.fx_order.proofs.Words.{◌≡◌, ℕ, zero, suc, ◌+◌, ◌-◌, ◌<◌, ◌≤◌, ℤ, pos, negsuc, int_le, List, [], ◌∷◌, ◌++◌, length, refl, sym, ap, ◌∙◌}
-use Rattle.fx_order.proofs.Words.{Option, Some, None, true, false, false≢true, arith, nat_tests, inl, inr, ⊎_elim, either_option}
-use Rattle.fx_order.proofs.Words.{All, All-nil, All-cons, All-append, All-contains, contains_head, Contains-append_right, FileEntry, Errno}
-use Rattle.fx_order.proofs.Words.{Completed, Operation, Opens, Reads, Closes, Updates, Place, Slot, Any, Table, IsCatalogue, name_at, installed, refusal_of}
-use Rattle.fx_order.proofs.Words.{IsRefused, IsRequestDone, IsDoneAtTable, IsEntryDone, AreEntriesDone}
-use Rattle.std.specs.Prelude.{MatchOption, is_some}
-use Rattle.fx_order.proofs.EntriesMade.{entries_made}
-use Rattle.check_outcomes.proofs.ChoiceWords.{Access, HasMemory, rules_of, Allocates, Clears, FindsFull, Looks, Puts, Takes, allocates, closes, puts, reads}
+use Rattle.check_outcomes.proofs.Words.{◌≡◌, ℕ, zero, suc, ◌+◌, ◌-◌, ◌<◌, ◌≤◌, ℤ, pos, negsuc, int_le, List, [], ◌∷◌, ◌++◌, length, refl, sym, ap}
+use Rattle.check_outcomes.proofs.Words.{◌∙◌, Option, Some, None, true, false, false≢true, arith, nat_tests, inl, inr, ⊎_elim, either_option, All}
+use Rattle.check_outcomes.proofs.Words.{All-nil, All-cons, All-append, All-contains, contains_head, Contains-append_right, FileEntry, Errno}
+use Rattle.check_outcomes.proofs.Words.{Completed, Operation, Opens, Reads, Closes, Updates, Place, Slot, Any, Table, IsCatalogue, name_at, installed}
+use Rattle.check_outcomes.proofs.Words.{refusal_of, IsRefused, IsRequestDone, IsDoneAtTable, IsEntryDone, AreEntriesDone, MatchOption, is_some}
+use Rattle.check_outcomes.proofs.Words.{entries_made, Access, HasMemory, rules_of, Allocates, Clears, FindsFull, Looks, Puts, Takes, allocates}
+use Rattle.check_outcomes.proofs.Words.{closes, puts, reads, Intends, IsNextAccess, IsOf, Allocate, Look, Put, Take}
 use Rattle.check_outcomes.proofs.ChainAccesses.{AreRight, last_of}
 use Rattle.check_outcomes.proofs.Commuting.{ComesTo}
 use Rattle.check_outcomes.specs.Answering.{MayComeTo, count_of, answer_of, count_at_table, answer_at_table, read_answer, close_answer, allocated}
 use Rattle.check_outcomes.specs.Answering.{IsListIntent, count_or_none, entry_intent, refusal_or}
-use Rattle.check_outcomes.specs.Choices.{Intends, IsNextAccess, IsOf}
 use Rattle.check_outcomes.specs.declared.choice.Intent.{Intent}
-use Rattle.check_outcomes.specs.declared.choice.Intent.TheVariants.{Allocate, Look, Put, Take}
 
 -- so many accesses, and this answer
 abbrev Says : List Access → Completed → ℕ → Completed → Type 0

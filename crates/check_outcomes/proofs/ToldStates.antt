@@ -1,13 +1,13 @@
 -- An order goes through the states of a closed list with what is told, up to one where no chain has an access left.
-use Rattle.fx_order.proofs.Words.{◌≡◌, ℕ, ◌≤◌, List, [], ◌∷◌, ◌++◌, refl, ap, append_assoc, FileEntry, append-nil, ◌==◌, length, Asked, Completed}
-use Rattle.fx_order.proofs.Words.{Table, table_after, files_removed_in, Closed, accesses_of, IsPermutation, Contains, true, IsPermutation-trans}
-use Rattle.fx_order.proofs.Words.{IsPermutation-sym}
-use Rattle.check_outcomes.proofs.Words.{ChainAccess, Access, rules_of, IsOver, has_none, Parts, AreToldClosed, LeadsOn, ToldState}
+use Rattle.check_outcomes.proofs.Words.{◌≡◌, ℕ, ◌≤◌, List, [], ◌∷◌, ◌++◌, refl, ap, append_assoc, FileEntry, append-nil, ◌==◌, length, Asked}
+use Rattle.check_outcomes.proofs.Words.{Completed, Table, table_after, files_removed_in, Closed, accesses_of, IsPermutation, Contains, true}
+use Rattle.check_outcomes.proofs.Words.{IsPermutation-trans, IsPermutation-sym, ChainAccess, Access, rules_of, IsOver, has_none, Parts, AreToldClosed}
+use Rattle.check_outcomes.proofs.Words.{LeadsOn, ToldState, IsPermutation-append_left, ◌+◌, sym, ◌∙◌, arith, runs_of, recursion_from_All, HasMemory}
+use Rattle.check_outcomes.proofs.Words.{EachReportIsListed}
 use Rattle.check_outcomes.proofs.Playing.{OfChain, as_reader, steps_on, told_whole}
-use Rattle.std.proofs.lemmas.List.Sorted.{IsPermutation-append_left}
-use Rattle.check_outcomes.proofs.InTurn.{IsInTurn}
-use Rattle.check_outcomes.proofs.Orders.{OrderGoesOn, first_within, its_first, past_first}
-use Rattle.check_outcomes.proofs.TurnOfFirst.{has_turn}
+use Rattle.check_outcomes.proofs.InTurn.{IsInTurn, OrderGoesOn, first_within, its_first, past_first, has_turn}
+use Rattle.check_outcomes.proofs.First.{find, told_same}
+use Rattle.check_outcomes.proofs.TurnByTurn.{order_in_turn}
 
 module _ (catalogue : List FileEntry) (size chains : ℕ) (finals : ℕ → List Completed) (files : List Closed) where
   -- how each chain goes on from a state
@@ -62,3 +62,32 @@ module _ (catalogue : List FileEntry) (size chains : ℕ) (finals : ℕ → List
       (λ chain from to are. as_reader catalogue size are (comes.goes.each chain from to)) by in
       let (on, inside, leads) = closed here there x.chain low high turn x.access next comes.goes.permitted.0 in
       rw (← leads.leads.table, table_after) (runs_on states parts closed order by.1 inside (past comes leads))
+
+-- An order of a submission begins at the first of its states, and ends at one that tells of its report.
+
+pub each_report_is_listed : EachReportIsListed
+each_report_is_listed old requests states all report left memory any =
+    let runs = runs_of requests in
+    let one = order_in_turn all.parts old requests report left all.apart any in
+    let f = find old.catalogue old.size report.submission one.order all.first.state.rests (λ q told. all.first.told q ≡ told) 1 runs report.completions (recursion_from_All HasMemory report.completions memory) one.is.done (rw one.is.submission all.begins.chains) in
+    let comes : Comes old.catalogue old.size (length runs) f.finals report.closes.files all.first one.order = record {
+      goes = record {
+        permitted = rw all.begins.table one.is.permitted;
+        within = one.is.chains;
+        each = λ q low high. let (told, begins, goes) = f.each q low (omega arith) in rw begins goes;
+      };
+      closed = rw all.begins.removed one.is.closed.same_files;
+    } in
+    let (end, inside, run) = runs_on old.catalogue old.size (length runs) f.finals report.closes.files states all.parts all.closed one.order one.by
+    all.inside comes in
+    record {
+      here = end;
+      inside = inside;
+      over = run.over;
+      completions = f.whole ∙ told_same f.finals end.told 1 runs (λ q low high. run.told q low (omega arith));
+      closes = run.closed;
+      leaves = one.after ∙ (λ i. record old {
+        at = ((sym (run.table_is ∙ ap (λ (t : Table). table_after t (accesses_of one.order)) all.begins.table)) i).at;
+        submissions = old.submissions + 1;
+      });
+    }

@@ -1,15 +1,123 @@
--- What the states of the program say, chain by chain.
-use Rattle.fx_order.proofs.Words.{◌≡◌, ℕ, ◌+◌, ◌-◌, List, [], ◌∷◌, ◌++◌, length, map, refl, sym, ap, ◌∙◌, arith, slice_index_or, All, length-map, Bool}
-use Rattle.fx_order.proofs.Words.{false, not, ◌&&◌, Contains, IsTrue, Vec, Completed, Asked, Place, table_of_slots, first_member, Request, Completion}
-use Rattle.fx_order.proofs.Words.{all_asked, all_completed, asked_of, completed_of, drop, get_or_from_slice_get, AllByRecursion, recursion_from_All}
-use Rattle.fx_order.proofs.Words.{Some, slice_get, slice_get_within, All-map}
-use Rattle.check_outcomes.proofs.Words.{Access, list_all, Rules, settled_at, Settles, asks_from, moved, rest_for, rest_in, LeadsOn, answers_of}
-use Rattle.check_outcomes.proofs.Words.{IsStepTo, are_reads, has_reads_at}
-use Rattle.check_outcomes.proofs.Words.{is_idle_at, not_begun, rules_in, runs_in, told_state_of, view_in, IsExploredBy, said_by, states_of, told_by}
-use Rattle.check_outcomes.proofs.Words.{told_states, PlayedSubmission, Claimed, Progress, PlayState, is_read, IsToldOn, run_at, view_of_state, get_or-set_other}
-use Rattle.check_outcomes.proofs.Words.{get_or-set_same}
+-- The states of the program, chain by chain, and how a chain goes on.
+use Rattle.check_outcomes.proofs.Words.{◌≡◌, ℕ, ◌-◌, ◌<◌, ◌≤◌, List, [], ◌∷◌, ◌++◌, length, map, take, drop, refl, sym, ap, ◌∙◌, arith}
+use Rattle.check_outcomes.proofs.Words.{slice_index_or, false≢true, Vec, Completed, Completion, all_completed, completed_of, map-append, take_all}
+use Rattle.check_outcomes.proofs.Words.{get_or-map, take-append-drop, suc, ◌+◌, ◌==◌, false, Option, Some, None, append-nil, append_assoc, severs}
+use Rattle.check_outcomes.proofs.Words.{Asked, Place, next_member, canceled, eq-eqb, All, length-map, not, ◌&&◌, Contains, IsTrue, table_of_slots}
+use Rattle.check_outcomes.proofs.Words.{first_member, Request, all_asked, asked_of, get_or_from_slice_get, AllByRecursion, recursion_from_All}
+use Rattle.check_outcomes.proofs.Words.{slice_get, slice_get_within, All-map, slice_set, length-drop, map-set, all_told, answers_of, Access, Rules}
+use Rattle.check_outcomes.proofs.Words.{Settles, gone_on, moved, rest_for, settled_at, Progress, ne_eqb, drop-drop, StepsChain, list_all, asks_from}
+use Rattle.check_outcomes.proofs.Words.{rest_in, LeadsOn, IsStepTo, are_reads, has_reads_at, is_idle_at, not_begun, rules_in, runs_in, told_state_of}
+use Rattle.check_outcomes.proofs.Words.{view_in, IsExploredBy, said_by, states_of, told_by, told_states, PlayedSubmission, Claimed, PlayState}
+use Rattle.check_outcomes.proofs.Words.{is_read, IsToldOn, run_at, view_of_state, get_or-set_other, get_or-set_same, and_parts, drop_all}
+use Rattle.std.proofs.Common.{Bool, true, rules}
+use Rattle.std.specs.Cmp.Lexicographic.{pointwise}
+use Rattle.fx_chain.specs.contracts.completion.CompletionPartialEq.TheImpl.{eq-value as eq_of_completion}
 use Rattle.check_outcomes.proofs.Lists.{inside_at}
 use Rattle.check_outcomes.proofs.Idle.{all_reads, idle_some}
+
+-- lists of which `==` tells that they say the same
+pub same_each : {X Y : Type 0} (f : X → Y) {E : X → X → Bool} → ((x y : X) → E x y ≡ true → f x ≡ f y) → (xs ys : List X)
+    → pointwise E xs ys ≡ true → map f xs ≡ map f ys
+same_each f each [] [] is = refl
+same_each f each [] (y ∷ ys) is = absurd (false≢true is)
+same_each f each (x ∷ xs) [] is = absurd (false≢true is)
+same_each f {E} each (x ∷ xs) (y ∷ ys) is =
+    let both = and_parts (E x y) (pointwise E xs ys) is in
+    λ i. each x y both.0 i ∷ same_each f each xs ys both.1 i
+
+pub completion_same : (one other : Completion) → eq_of_completion.it one other ≡ true → completed_of one ≡ completed_of other
+completion_same one other is = search rules
+
+-- one chain answers more
+pub set_answers : (before all : List (Vec Completion)) {i : ℕ} {old : Vec Completion} (mine : Vec Completion) (own : List Completed)
+    → answers_of all ≡ answers_of before → i < length before → old ≡ slice_index_or before i old
+    → all_completed mine.items ≡ all_completed old.items ++ own
+    → answers_of (slice_set all i mine) ≡ slice_set (answers_of before) i (slice_index_or (answers_of before) i [] ++ own)
+set_answers before all {i} {old} mine own same within is adds =
+    let f : Vec Completion → List Completed = λ v. all_completed v.items in
+    rw (get_or-map f before i old [] within, ← is) (map-set f all i mine ∙ (λ j. slice_set (same j) i (adds j)))
+
+-- a list is cut where the first chain's answers end
+pub cut_told : (cs : List Completion) {n m : ℕ} {own : Vec Completion} {others answers : List (Vec Completion)} → n ≡ m → answers ≡ own ∷ others
+    → all_completed (take n cs) ≡ all_completed own.items → all_completed (take (length cs - m) (drop m cs)) ≡ all_told (answers_of others)
+    → all_completed cs ≡ all_told (answers_of answers)
+cut_told cs {n} {m} same is front back =
+    let all : length (drop m cs) ≤ length cs - m = omega (arith, length-drop m cs) in
+    rw (is, ← front, ← back, take_all (length cs - m) (drop m cs) all, same)
+    (ap all_completed (sym (take-append-drop m cs)) ∙ map-append completed_of (take m cs) (drop m cs))
+
+-- How a chain goes on, counted in members that are done.
+
+-- what was told, and one answer behind it
+pub pushed : (before : List Completion) {after : List Completion} (c : Completion) {d : Completed} → after ≡ before ++ c ∷ [] → completed_of c ≡ d
+    → all_completed after ≡ all_completed before ++ d ∷ []
+pushed before c is same = rw (is, ← same) (map-append completed_of before (c ∷ []))
+
+moved_on : (place : Place) (n : ℕ) → moved (next_member place) n ≡ moved place (1 + n)
+moved_on place n = let same : place.member + 1 + n ≡ place.member + (1 + n) = omega arith in λ i. record place { member = same i }
+
+-- a request that doesn't come to the table, and those behind it
+pub settled_on : (rules : Rules) {place : Place} {request : Asked} {requests : List Asked} {before after : List Completed} {passed : ℕ}
+    → (rules.count request == 0) ≡ true
+    → Settles (gone_on rules place request requests None) (next_member place) requests before after passed
+    → Settles (settled_at rules place (request ∷ requests)) place (request ∷ requests) before after (1 + passed)
+settled_on rules {place = place} {passed = passed} none goes =
+    let more : 1 + passed ≡ suc passed = omega arith in
+    let few = goes.within in
+    record {
+      told = rw none goes.told;
+      rest = rw (none, ← moved_on place passed, more) goes.rest;
+      within = omega arith;
+    }
+
+-- a request that answers, and those behind it
+module _ (rules : Rules) (place : Place) (request : Asked) (last : Option Access) {requests : List Asked} {c : Completed}
+    {before middle after : List Completed} {passed : ℕ} (answers : c ≡ rules.answer place request last) (first : middle ≡ before ++ c ∷ []) where
+  pub gone_cut : severs request c ≡ true → after ≡ middle ++ canceled (next_member place) requests → passed ≡ length requests
+      → Settles (gone_on rules place request requests last) (next_member place) requests before after passed
+  gone_cut cut whole all = record {
+    told = rw (← answers, cut) (rw (first, append_assoc) at whole);
+    rest = rw (← answers, cut, drop_all passed requests (omega arith)) refl;
+    within = omega arith;
+  }
+
+  pub gone_past : severs request c ≡ false
+      → Settles (settled_at rules (next_member place) requests) (next_member place) requests middle after passed
+      → Settles (gone_on rules place request requests last) (next_member place) requests before after passed
+  gone_past on settles = record {
+    told = rw (← answers, on) (rw (first, append_assoc) at settles.told);
+    rest = rw (← answers, on) settles.rest;
+    within = settles.within;
+  }
+
+module _ {rules : Rules} {place : Place} {run : List Asked} {progress : Progress} {a : Access} where
+  pub steps_over : {before : List Completed} → drop progress.done run ≡ [] → StepsChain rules place run progress a before before progress
+  steps_over {before} none = record { told = rw none (sym (append-nil before)); rest = rw none refl }
+
+  module _ {request : Asked} {requests : List Asked} (is : drop progress.done run ≡ request ∷ requests) where
+    pub steps_more : {before : List Completed} {next : Progress} → (rules.count request ≡ progress.made + 1 → ⊥)
+        → next.done ≡ progress.done → next.made ≡ progress.made + 1 → StepsChain rules place run progress a before before next
+    steps_more {before} more done made = record {
+      told = rw (is, ne_eqb _ _ more) (sym (append-nil before));
+      rest = rw (done, made, is, ne_eqb _ _ more) refl;
+    }
+
+    pub steps_on : {before after : List Completed} {next : Progress} {passed : ℕ} → rules.count request ≡ progress.made + 1
+        → Settles (gone_on rules (moved place progress.done) request requests (Some a)) (next_member (moved place progress.done)) requests
+        before after passed
+        → next.done ≡ progress.done + 1 + passed → next.made ≡ 0 → StepsChain rules place run progress a before after next
+    steps_on {next = next} {passed = passed} last goes done made =
+        let place_is : place.member + next.done ≡ place.member + progress.done + 1 + passed = omega arith in
+        let sum : progress.done + suc passed ≡ next.done = omega arith in
+        let left : drop next.done run ≡ drop passed requests =
+        rw (← sum) (sym (drop-drop (suc passed) progress.done run) ∙ ap (drop (suc passed)) is) in
+        record {
+          told = rw (is, eq-eqb _ _ last) goes.told;
+          rest = rw (is, eq-eqb _ _ last)
+              ((λ i. rest_for (record place { member = place_is i }) (left i) (made i)) ∙ sym goes.rest);
+        }
+
+-- What the states of the program say, chain by chain.
 
 pub less_one : (i : ℕ) → i + 1 - 1 ≡ i
 less_one i = omega arith

@@ -1,12 +1,24 @@
--- A list of states that leaves none of their steps out, and has no end, shows that no order leads to one.
+-- Lists of states that leave none of their steps out.
+use Rattle.check_search.proofs.Words.{length-map, get_or-map, ◌∙◌, drop-cons, ◌≡◌, ℕ, suc, ◌<◌, drop, get_or, sym, List, ◌∷◌, length, ap, All, subst}
+use Rattle.check_search.proofs.Words.{Any, arith, map, ◌≢◌, inl, inr, zero, ◌+◌, Bool, true, false, [], Option, Some, None, refl, IsLookedThrough}
+use Rattle.check_search.proofs.Words.{set_comm, get_or_from_slice_get, same_Some, slice_get_within, Contains, slice_index, slice_set, if◌then◌else◌}
+use Rattle.check_search.proofs.Words.{get_or-set_other, All-contains, All-map, slice_get, option_and_then, by_equality, Cell, Claim, At, Empty, File}
+use Rattle.check_search.proofs.Words.{Packing, Strand, Standing, Vec, all_unpacked, allows, cells_after, next, made, claim_at, Ends, is_test}
+use Rattle.check_search.proofs.Words.{unpacked, IsEndOfClaims}
 use Rattle.check_search.specs.Machine.{HasNoEnd, IsExplored, LeadsInside}
-use Rattle.check_search.proofs.Words.{◌≡◌, ◌≢◌, inl, inr, ℕ, zero, suc, ◌+◌, Bool, true, false, List, [], ◌∷◌, length, Option, Some, None, refl, sym}
-use Rattle.check_search.proofs.Words.{ap}
-use Rattle.check_search.proofs.Words.{IsLookedThrough, set_comm, get_or_from_slice_get, same_Some, slice_get_within, subst, ◌∙◌, arith, Contains, All}
-use Rattle.check_search.proofs.Words.{slice_index, slice_set, if◌then◌else◌, get_or-set_other, All-contains, All-map, slice_get, option_and_then}
-use Rattle.check_search.proofs.Words.{by_equality, Cell, Claim, At, Empty, File, Packing, Strand, Standing, Vec, all_unpacked, allows, cells_after}
-use Rattle.check_search.proofs.Words.{next}
-use Rattle.check_search.proofs.Words.{made, claim_at, Ends, is_test, unpacked, IsEndOfClaims, get_or-map, length-map}
+
+-- the element at a place of a mapped list, and those behind it
+pub mapped_at : {X Y : Type 0} (f : X → Y) (xs : List X) (i : ℕ) (x : X) → i < length xs → x ≡ get_or xs i x
+    → drop i (map f xs) ≡ f x ∷ drop (suc i) (map f xs)
+mapped_at f xs i x lt is =
+    drop-cons (map f xs) i (f x) (let long = length-map xs f in omega arith)
+    ∙ ap (λ y. y ∷ drop (suc i) (map f xs)) (get_or-map f xs i x (f x) lt ∙ ap f (sym is))
+
+-- what holds of none of a list's elements holds of no element
+pub no_any : {X : Type 0} (P : X → Type 0) (xs : List X) → All (λ x. P x → ⊥) xs → Any P xs → ⊥
+no_any P xs none (k, x, lt, is, holds) = subst (λ y. P y → ⊥) is (none k x lt) holds
+
+-- A list of states that leaves none of their steps out, and has no end, shows that no order leads to one.
 
 -- an answer of two steps has one of the first, to which the second was applied
 pub both_steps : {A B : Type 0} (f : A → Option B) (o : Option A) (y : B) → option_and_then f o ≡ Some y → (x : A) × (o ≡ Some x) × (f x ≡ Some y)

@@ -1,21 +1,38 @@
--- From a state where the files of a slot don't come out even, no end is reached.
+-- States from which no end is reached, since the files of a slot differ in number.
+use Rattle.check_search.proofs.Words.{◌≡◌, ℕ, ◌==◌, ◌||◌, Bool, List, [], ◌∷◌, Option, Some, None, refl, if◌then◌else◌, by_equality, list_any}
+use Rattle.check_search.proofs.Words.{cells_after, with_cell, has_slot, Cell, Claim, At, Empty, File, Resident, ◌⊎◌, inl, inr, zero, suc, ◌+◌, ◌≤◌}
+use Rattle.check_search.proofs.Words.{◌&&◌, not, true, false, sym, ap, count_by, IsUneven, LastStays, TooFewLeave, TwoStay, changes, is_change}
+use Rattle.check_search.proofs.Words.{is_something, leaving_files, staying, to_come, ne_eqb, and_parts, not-true, drop_all, get_or_from_slice_get}
+use Rattle.check_search.proofs.Words.{slice_get_within, ◌∙◌, arith, cond, drop, length, length-set, slice_get, slice_index, slice_set, is_some}
+use Rattle.check_search.proofs.Words.{eq-eqb, list_all, Standing, allows, cell_at, claim_at, IsEndOfClaims, is_staying, may_leave, may_stay, suits}
+use Rattle.check_search.proofs.Words.{Full, Same, Wants, Something, Strand, next, Leaves, drop-cons, ⊎_elim, ◌≢◌, cases_lt}
 use Rattle.check_search.specs.Machine.{HasNoEnd}
-use Rattle.check_search.proofs.Words.{◌≡◌, ◌⊎◌, inl, inr, ℕ, zero, suc, ◌+◌, ◌≤◌, ◌==◌, ◌&&◌, ◌||◌, not, Bool, true, false, List, [], ◌∷◌, refl, sym}
-use Rattle.check_search.proofs.Words.{ap}
-use Rattle.check_search.proofs.Words.{count_by, IsUneven, LastStays, TooFewLeave, TwoStay, changes, is_change, is_something, leaving_files, staying}
-use Rattle.check_search.proofs.Words.{to_come}
-use Rattle.check_search.proofs.Words.{ne_eqb, and_parts, not-true, drop_all, get_or_from_slice_get, slice_get_within, ◌∙◌, arith, cond, drop, length}
-use Rattle.check_search.proofs.Words.{length-set, slice_get, slice_index, slice_set, Option, Some, None, is_some, eq-eqb, if◌then◌else◌, list_all}
-use Rattle.check_search.proofs.Words.{by_equality, Standing, allows, cell_at, cells_after, claim_at, IsEndOfClaims, is_staying, may_leave, may_stay, suits}
-use Rattle.check_search.proofs.Words.{with_cell, has_slot, Cell, Claim, At, Full, Same, Empty, File, Resident, Wants, Something, Strand, next, Leaves}
-use Rattle.check_search.proofs.Words.{drop-cons, ⊎_elim, ◌≢◌, cases_lt}
 use Rattle.std.proofs.lemmas.List.Sums.{sum_by-cons}
 use Rattle.check_search.specs.declared.counted.SlotChange.{SlotChange}
 use Rattle.check_search.specs.declared.counted.SlotChange.TheVariants.{Takes, Empties, Leaving, Staying}
 use Rattle.check_search.proofs.Hopeless.{written}
-use Rattle.check_search.proofs.SlotsKept.{slots_after}
 use Rattle.check_search.proofs.Reaching.{after, none_ends}
 use Rattle.std.proofs.Math.Bool.{and-false, and-true}
+
+-- writing a file leaves what a test finds that looks at no file
+any_stays : (test : Cell → Bool) → ((cell : Cell) (file : Option Resident) → test (record cell { file = file }) ≡ test cell)
+    → (cells : List Cell) (slot : ℕ) (file : Option Resident) → list_any test (with_cell cells slot file) ≡ list_any test cells
+any_stays test same [] slot file = refl
+any_stays test same (cell ∷ cells) slot file =
+    by_equality cell.slot slot
+    (λ b. (test (if b then record cell { file = file } else cell) || list_any test (with_cell cells slot file)) ≡ (test cell || list_any test cells))
+    (λ _ i. same cell file i || any_stays test same cells slot file i) (λ _ i. test cell || any_stays test same cells slot file i)
+
+slots_stay : (cells : List Cell) (slot : ℕ) (file : Option Resident) (o : Option ℕ) → has_slot (with_cell cells slot file) o ≡ has_slot cells o
+slots_stay cells slot file None = any_stays (λ cell. cell.in_range) (λ _ _. refl) cells slot file
+slots_stay cells slot file (Some k) = any_stays (λ cell. cell.slot == k) (λ _ _. refl) cells slot file
+
+pub slots_after : (cells : List Cell) (claim : Claim) (o : Option ℕ) → has_slot (cells_after cells claim) o ≡ has_slot cells o
+slots_after cells (At slot wants Empty) o = slots_stay cells slot None o
+slots_after cells (At slot wants (File resident)) o = slots_stay cells slot (Some resident) o
+slots_after cells claim o = refl
+
+-- From a state where the files of a slot don't come out even, no end is reached.
 
 -- what was written to a slot is there
 written_here : (cells : List Cell) (slot : ℕ) (x : Option Resident) → has_slot cells (Some slot) ≡ true → cell_at (with_cell cells slot x) slot ≡ x

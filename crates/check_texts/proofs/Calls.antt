@@ -1,19 +1,13 @@
 -- The calls between submissions, and refused submissions: where memory is found they lead to one ring, and print one line.
 use Rattle.check_texts.proofs.Words.{Errno, ENOMEM, call_of, fault_of, Asked, CutFault, Instruction, SetsRange, SubmitsAll, MOST_SLOTS, refused_line}
 use Rattle.check_texts.proofs.Words.{too_many_line, IsRing, RingContents, RingState, ring_of, Reported, MOST_SUBMISSIONS, Prints, PrintsReport}
-use Rattle.check_texts.proofs.Words.{HasEachNextStage, IsLineOf, LeadsRing, MayLeadTo, Stage, after_call, count_after, count_behind, kept_text, IsCall}
-use Rattle.check_texts.proofs.Words.{FoundMemory, Bool, List, None, Option, Some, [], ap, arith, inl, nat_le, refl, sym, ℕ, ⊎_elim, ◌++◌, ◌+◌, ◌<◌, ◌∙◌}
-use Rattle.check_texts.proofs.Words.{◌≡◌, ◌≤◌, MatchBool, MatchOption, Contains}
-use Rattle.std.proofs.Common.{◌^◌}
+use Rattle.check_texts.proofs.Words.{HasEachNextStage, IsLineOf, LeadsRing, MayLeadTo, Stage, after_call, count_after, count_behind, kept_text}
+use Rattle.check_texts.proofs.Words.{IsCall, FoundMemory, Bool, List, None, Option, Some, [], ap, arith, inl, nat_le, refl, sym, ℕ, ⊎_elim, ◌++◌, ◌+◌}
+use Rattle.check_texts.proofs.Words.{◌<◌, ◌∙◌, ◌≡◌, ◌≤◌, MatchBool, MatchOption, Contains, ◌^◌, negated, AnswersFound, refusal_other, HasFound}
 use Rattle.fx_chain.proofs.Cases.{either_way}
-use Rattle.fx_chain.specs.Completed.{negated}
-use Rattle.check_lines.specs.Calls.{AnswersFound}
 use Rattle.check_lines.specs.Lines.{IsResultInRange}
-use Rattle.check_lines.proofs.ResultLines.{one_result}
-use Rattle.check_lines.proofs.Calls.{Call, Tells, not_refused}
-use Rattle.check_lines.proofs.CallAnswers.{Answers, Fails, answers, few_told, one_line_of}
-use Rattle.check_lines.proofs.Refusals.{refusal_other}
-use Rattle.check_texts.specs.Texts.{HasFound}
+use Rattle.check_lines.proofs.Decimals.{one_result}
+use Rattle.check_lines.proofs.Calls.{Call, Tells, not_refused, Answers, Fails, answers, few_told, one_line_of}
 
 -- what a submission comes to: nothing changes and it isn't counted, or it has a report and is
 cases : {R : Type 0} (x : Option CutFault) {count : ℕ} {same reports : Type 0} (line many : List ℕ) (text : CutFault → List ℕ)

@@ -1,10 +1,7 @@
 pub mod Words
-pub mod Sorted
 pub mod Calls
 pub mod Growth
 pub mod Submitted
-pub mod Plays
 pub mod Walks
-pub mod LedRings
-pub mod Whole
+pub mod Plays
 pub mod Ways

@@ -1,29 +1,18 @@
 -- The ways of plays in which memory is found: their texts, and those that begin with an exit.
 use Rattle.check_texts.proofs.Words.{Bool, Contains, FileEntry, Instruction, IsTextFound, List, Meaning, PrintsAllFound, Reported, RingContents}
-use Rattle.check_texts.proofs.Words.{RingState, Stage, [], ap, arith, false, length, map, new_ring, refl, ring_of, subst, sym, true, ℕ, ⊎_elim}
-use Rattle.check_texts.proofs.Words.{◌++◌, ◌+◌, ◌<◌, ◌∙◌, ◌∷◌, ◌≡◌, append-nil, contains_map, contains_mapped, contains_none, option_to_list}
-use Rattle.check_texts.proofs.Words.{ring_with_slots, stages_of, HasEachNextStage, IsTrue, MayLeadTo, Reached, stage}
-use Rattle.std.specs.List.{concat}
-use Rattle.std.proofs.lemmas.List.{length-append, length-map}
-use Rattle.std.proofs.lemmas.List.Elements.{All-contains, Contains-append_cases, Contains-append_left, Contains-append_right, Contains-push, Contains-push_cases}
-use Rattle.fx_table.proofs.Members.{contains_cases, contains_head, contains_only, contains_tail, each_all}
-use Rattle.fx_script.specs.Play.{PrintsEnd}
-use Rattle.check_texts.specs.Rings.{EndsAs}
-use Rattle.check_texts.specs.Ways.{AreBare, AreDistinct, AreTextsOf, CountsUpTo, GoesBy, HasWays, IsBare, IsBehind, IsWay}
-use Rattle.check_texts.specs.Ways.{ways_behind}
+use Rattle.check_texts.proofs.Words.{RingState, Stage, [], ap, arith, false, length, map, new_ring, refl, ring_of, subst, sym, true, ℕ, ⊎_elim, ◌++◌}
+use Rattle.check_texts.proofs.Words.{◌+◌, ◌<◌, ◌∙◌, ◌∷◌, ◌≡◌, append-nil, contains_map, contains_mapped, contains_none, option_to_list}
+use Rattle.check_texts.proofs.Words.{ring_with_slots, stages_of, HasEachNextStage, IsTrue, MayLeadTo, Reached, stage, All, IfSome, None, Option, Some}
+use Rattle.check_texts.proofs.Words.{Grows, bytes_decides, list_any, map-append, string_bytes, ◌||◌, append_assoc, instruction_of, concat}
+use Rattle.check_texts.proofs.Words.{length-append, length-map, All-contains, Contains-append_cases, Contains-append_left, Contains-append_right}
+use Rattle.check_texts.proofs.Words.{Contains-push, Contains-push_cases, contains_cases, contains_head, contains_only, contains_tail, each_all}
+use Rattle.check_texts.proofs.Words.{PrintsEnd, EndsAs, AreBare, AreDistinct, AreTextsOf, CountsUpTo, GoesBy, HasWays, IsBare, IsBehind, IsWay}
+use Rattle.check_texts.proofs.Words.{ways_behind, Global, String, string_eq, min, not, ◌-◌, ◌^◌, AreExits, AreWaysBy, IsRest, IsRestOf, bare}
+use Rattle.check_texts.proofs.Words.{commands_in, texts_in, Layer, none_rings}
 use Rattle.std.specs.Borrow.{Bor}
-use Rattle.check_texts.proofs.Words.{All, IfSome, None, Option, Some}
-use Rattle.check_texts.proofs.Words.{Grows, bytes_decides, list_any, map-append, string_bytes, ◌||◌}
-use Rattle.std.proofs.Common.{Global, String}
-use Rattle.std.specs.Prelude.{string_eq}
-use Rattle.std.specs.Prelude.{min, not, ◌-◌, ◌^◌}
-use Rattle.check_texts.specs.Layers.{AreExits, AreWaysBy, IsRest, IsRestOf, bare, commands_in, texts_in}
-use Rattle.check_texts.specs.declared.layers.Layer.{Layer}
-use Rattle.check_texts.proofs.Words.{append_assoc, instruction_of}
-use Rattle.fx_ring.proofs.Rings.{none_rings}
 use Rattle.check_texts.specs.declared.layers.Exits.{Exits}
 use Rattle.check_texts.specs.declared.rests.KeptWays.{KeptWays}
-use Rattle.check_texts.proofs.LedRings.{starts}
+use Rattle.check_texts.proofs.Walks.{starts}
 
 -- a text found is that of a way, and a way's text is found
 

@@ -1,3 +1,2 @@
-pub mod Entries
 pub mod Marks
-pub mod PlacesOfNames
+pub mod Entries

@@ -5,13 +5,10 @@ use Rattle.fx_baton.proofs.Words.{Leads, action_of, close_of, ◌▷◌, ◌▷�
 use Rattle.fx_baton.proofs.Words.{LetsLeave, File, Look, Release, Put, Clear, Take, Allocate, Full, Close, pass_of_number, number_behind, Opening}
 use Rattle.fx_baton.proofs.Words.{size_of, PassView, hold_of, next_of, Task, Idle, Holding, Retiring, Log, View, Start, Call, BatonPass, opening_of}
 use Rattle.fx_baton.proofs.Words.{begin_of, IsTurn, view_of, is_idle, HasTable, UsesNext, HasCalled, HasGivenBack, first_own, IsHoldOf, IsRetiredOf}
-use Rattle.fx_baton.proofs.Words.{next_is_its_own}
-use Rattle.fx_table.proofs.Removing.{new_here}
-use Rattle.fx_table.proofs.Tasks.{idle_task, holding_task, retiring_task}
-use Rattle.fx_table.specs.Tasks.{activity_of, retiring}
-use Rattle.fx_table.specs.Pass.{IsFileHold, retired_of}
+use Rattle.fx_baton.proofs.Words.{next_is_its_own, new_here, activity_of, retiring, IsFileHold, retired_of, holds_now, actions_of, doing_of}
+use Rattle.fx_baton.proofs.Words.{events_of, use_of, table_of_seats}
+use Rattle.fx_table.proofs.FileLemmas.{idle_task, holding_task, retiring_task}
 use Rattle.fx_table.specs.Calls.{IsNewFile, Adds, no_use, one_number, ReleasesFile, RetiresFile, one_look, HasRetired, Released}
-use Rattle.fx_baton.specs.Turns.{holds_now, actions_of, doing_of, events_of, use_of, table_of_seats}
 use Rattle.atomic_table.specs.Lent.{seat_with}
 use Rattle.fx_plain.specs.Step.{Allows}
 use Rattle.fx_plain.proofs.Leading.{same_size}

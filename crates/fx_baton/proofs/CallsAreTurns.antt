@@ -5,10 +5,8 @@ use Rattle.fx_baton.proofs.Words.{with_removed, Contents, state_of, leaving, Lea
 use Rattle.fx_baton.proofs.Words.{closed_by_release, closed_by_retirement, File, Event, Look, Release, Full, Close, pass_of_number, number_behind}
 use Rattle.fx_baton.proofs.Words.{HasFile, Idle, Holding, Retiring, legal_then, held_mine, one_author, Log, View, begin_of, file_held, file_in_hand}
 use Rattle.fx_baton.proofs.Words.{holds_by, removals_by, leaving_count, Knows, IsTurn, held_after, Task, more_leaving, bit_here, one_more_at}
-use Rattle.fx_baton.proofs.Words.{one_less_at}
+use Rattle.fx_baton.proofs.Words.{one_less_at, retiring, by, holds_now}
 use Rattle.fx_plain.specs.declared.event.Action.{Action}
-use Rattle.fx_table.specs.Tasks.{retiring}
-use Rattle.fx_baton.specs.Turns.{by, holds_now}
 use Rattle.fx_plain.proofs.Cells.{changed_here, changed_else}
 use Rattle.fx_table.proofs.FileLemmas.{none_file, stays_put, apart_from, leaving_file, removed_file, still_there, now_removed, not_closed}
 use Rattle.fx_baton.proofs.StepsKeepRule.{flag_set, flag_back, one_true}

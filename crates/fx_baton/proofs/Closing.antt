@@ -5,13 +5,10 @@ use Rattle.fx_baton.proofs.Words.{is_leaving, Node, IsSeenBy, part_of_pass, pass
 use Rattle.fx_baton.proofs.Words.{ClosesTable, times_drawn, Idle, contains_map, contains_mapped, contains_reverse, contains_reversed, sum_map, Log}
 use Rattle.fx_baton.proofs.Words.{View, Start, BatonPass, Shared, opening_of, logs_of, holds_by, removals_by, leaving_count, IsLog, IsHome, IsAway}
 use Rattle.fx_baton.proofs.Words.{IsKept, first_front, first_own, view_of, IsPassOf, logs_in, drawn_inside, drawn_few, all_are_drawn, found_by}
-use Rattle.fx_baton.proofs.Words.{sum_zero_at, one_if, once_is, ◌++◌, step, keeps, Allows, contains_head, contains_only, Seated, file_held}
-use Rattle.fx_plain.specs.declared.node.Node.TheVariants.{Leaving, Retired}
+use Rattle.fx_baton.proofs.Words.{sum_zero_at, one_if, once_is, ◌++◌, step, keeps, Allows, contains_head, contains_only, Seated, file_held, Leaving}
+use Rattle.fx_baton.proofs.Words.{Retired, logs_are as each_log, sum_gathered, each_seat, only_here, once, none-some}
 use Rattle.std.proofs.lemmas.List.{length-reverse, length-map, append-nil}
-use Rattle.fx_table.proofs.Gathering.{logs_are as each_log, sum_gathered, each_seat, only_here}
-use Rattle.fx_table.proofs.Settling.{IsWhole, closes_table, settles as settles_whole}
-use Rattle.fx_table.specs.Numbers.{once}
-use Rattle.std.proofs.lemmas.Option.{none-some}
+use Rattle.fx_table.proofs.Histories.{IsWhole, closes_table, settles as settles_whole}
 use Rattle.fx_baton.proofs.Passing.{ends_there}
 use Rattle.fx_table.specs.Settling.{IsSettledSoFar}
 use Rattle.fx_baton.specs.Settling.{Observes}

@@ -4,10 +4,9 @@ use Rattle.fx_baton.proofs.Words.{TableId, Seat, State, Contents, state_of, IsLe
 use Rattle.fx_baton.proofs.Words.{closed_by_retirement, File, Event, Release, number_behind, state_at, PassView, IsFront, next_of, HasDrawnInTurn}
 use Rattle.fx_baton.proofs.Words.{Task, Holding, Retiring, seen_again, seen_further, part_mine, Log, View, Start, Call, BatonPass, Seated, opening_of}
 use Rattle.fx_baton.proofs.Words.{begin_of, Takes, lent_view, log_behind, view_behind, first_front, first_own, view_of, IsPassOf, HasTable}
-use Rattle.fx_baton.proofs.Words.{HasSeenMore, UsesNext, HasCalled, HasGivenBack, pass_behind}
-use Rattle.fx_table.specs.Tasks.{activity_of}
+use Rattle.fx_baton.proofs.Words.{HasSeenMore, UsesNext, HasCalled, HasGivenBack, pass_behind, activity_of, by, actions_of, doing_of, use_of}
+use Rattle.fx_baton.proofs.Words.{events_of, table_of_seats, table_of_loan}
 use Rattle.fx_table.specs.Calls.{Adds}
-use Rattle.fx_baton.specs.Turns.{by, actions_of, doing_of, use_of, events_of, table_of_seats, table_of_loan}
 use Rattle.fx_baton.specs.declared.view.Call.TheVariants.{Look as LookCall, Release as ReleaseCall, Retire as RetireCall}
 
 -- a legal history leads to the state at its end

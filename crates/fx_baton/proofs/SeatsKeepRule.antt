@@ -5,17 +5,11 @@ use Rattle.fx_baton.proofs.Words.{removed_at, Node, numbers_for, contains_none, 
 use Rattle.fx_baton.proofs.Words.{begin_of, first_view, new_log, contains_map, length, ⊎_elim, length-append, sum_by-append, Splits, Joins, Task}
 use Rattle.fx_baton.proofs.Words.{Shared, logs_of, holds_by, removals_by, file_in_hand, IsHome, IsAway, view_without_first, view_of_first}
 use Rattle.fx_baton.proofs.Words.{joined_view, empty_view, ◌+◌, rules, TableId, Seat, PassView, IsFront, new_pass, HasDrawnInTurn, BatonPass, Seated}
-use Rattle.fx_baton.proofs.Words.{opening_of, chains_of_pass, first_front, first_own, view_of, is_idle, IsPassOf, dealt, IsNewPass}
-use Rattle.fx_plain.specs.declared.node.Node.TheVariants.{Leaving}
+use Rattle.fx_baton.proofs.Words.{opening_of, chains_of_pass, first_front, first_own, view_of, is_idle, IsPassOf, dealt, IsNewPass, Leaving}
+use Rattle.fx_baton.proofs.Words.{counted_once, IsAnew, AreReseated, split, joined, none-some, take, drop, first_left, last_left, activity_of}
 use Rattle.atomic_table.specs.Table.{opening as table_opening}
 use Rattle.std.specs.List.{range_with_len}
 use Rattle.std.proofs.lemmas.List.FromFn.{length-map-range_with_len}
-use Rattle.fx_table.proofs.Ones.{counted_once}
-use Rattle.fx_table.proofs.Seats.{IsAnew, AreReseated, split, joined}
-use Rattle.std.proofs.lemmas.Option.{none-some}
-use Rattle.std.proofs.Common.{take, drop}
-use Rattle.fx_table.proofs.Dealing.{first_left, last_left}
-use Rattle.fx_table.specs.Tasks.{activity_of}
 
 single_at : {A : Type 0} {v : A} (i : ℕ) {u : A} → get_elem? (v ∷ []) i ≡ some u → v ≡ u
 single_at {v} zero {u} e = some-injective v u e

@@ -4,13 +4,11 @@ use Rattle.fx_baton.proofs.Words.{⊎_elim, some, none, get_elem?, None, Contain
 use Rattle.fx_baton.proofs.Words.{Event, seen_again, contains_none, contains_head, contains_only, sum_at, sum_le_at, Log, View, Start, Shared, Seated}
 use Rattle.fx_baton.proofs.Words.{begin_of, logs_of, holds_by, removals_by, HasFreshNumbers, IsLog, IsView, IsHome, IsAway, IsKept, Knows, lent_view}
 use Rattle.fx_baton.proofs.Words.{Grabs, Allows, ◌≢◌, true, ◌++◌, map, dite, ℕ_discrete, some-injective, Some, gives, at_set, IsTable, IsSeenBy}
-use Rattle.fx_baton.proofs.Words.{held_by, ◌▷▷◌, Task, pass_of_number, log_behind, view_behind, Gives, IsTurn, part_mine}
-use Rattle.atomic_table.proofs.Lists.{set_here}
+use Rattle.fx_baton.proofs.Words.{held_by, ◌▷▷◌, Task, pass_of_number, log_behind, view_behind, Gives, IsTurn, part_mine, set_here, stands_at}
+use Rattle.fx_baton.proofs.Words.{none-some}
 use Rattle.std.proofs.lemmas.List.{set-get_or, length-map}
-use Rattle.fx_table.proofs.Members.{stands_at}
 use prog.Atomic.{either}
 use Rattle.fx_baton.proofs.StepsKeepRule.{holds_small, Turns, keeps_rule, logs_behind}
-use Rattle.std.proofs.lemmas.Option.{none-some}
 
 -- a seat with one pass
 pub only_log : {xs : List Log} {x y : Log} → xs ≡ x ∷ [] → Contains xs y → y ≡ x

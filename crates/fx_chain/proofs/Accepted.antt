@@ -1,12 +1,21 @@
--- The properties of a submission without a fault.
-use Rattle.fx_chain.proofs.Words.{◌≡◌, ℕ, ◌+◌, ◌*◌, ◌≤◌, List, [], ◌∷◌, ◌++◌, length, take, drop, refl, sym, ap, ◌∙◌, All, subst, arith, Option}
-use Rattle.fx_chain.proofs.Words.{Some, None, false, ltb-false, sum_by-cons, append-nil, append_assoc, All-head, All-tail, IsAccepted}
-use Rattle.fx_chain.proofs.Words.{slice_index_or, suc, IsWithinLimits, Operation, Updates, Asked, runs_of, weight_of, take-append-drop, all_weights}
-use Rattle.fx_chain.proofs.Words.{fault_behind, first_fault, or_later, is_long_update, CutFault, MOST_MEMBERS, MAX_CHAINS}
-use Rattle.std.proofs.Math.Seq.{drop-cons}
+-- Submissions without a fault, and the first fault of the others.
+use Rattle.fx_chain.proofs.Words.{◌≡◌, ℕ, ◌+◌, ◌*◌, ◌≤◌, List, [], ◌∷◌, ◌++◌, length, take, drop, refl, sym, ap, ◌∙◌, All, subst, arith, Option, Some}
+use Rattle.fx_chain.proofs.Words.{None, false, ltb-false, sum_by-cons, append-nil, append_assoc, All-head, All-tail, IsAccepted, slice_index_or, suc}
+use Rattle.fx_chain.proofs.Words.{IsWithinLimits, Operation, Updates, Asked, runs_of, weight_of, take-append-drop, all_weights, fault_behind}
+use Rattle.fx_chain.proofs.Words.{first_fault, or_later, is_long_update, CutFault, MOST_MEMBERS, MAX_CHAINS, inl, map, flat_map, take_at, drop_at}
+use Rattle.fx_chain.proofs.Words.{All-nil, All-cons, All-take, All-drop, IsShortRun, IsChain, members_of, chains_from, chains_of, but_last}
+use Rattle.fx_chain.proofs.Words.{all_installs, CHAIN_NUMBERS, ◌<◌, ◌==◌, ◌||◌, nat_lt, Bool, true, ℤ, if◌then◌else◌, list_any, FileEntry, Opens}
+use Rattle.fx_chain.proofs.Words.{Reads, ◌⊎◌, inr, HasNoFault, IsFirstFault, fault_of, drop-cons, leb-false, or_parts, ENOENT, EBADF, EINVAL, ENXIO}
+use Rattle.fx_chain.proofs.Words.{refusal_of, slot_refusal, target_refusal, list_refusal, Target}
 use Rattle.fx_chain.specs.declared.fault.CutKind.{CutKind}
 use Rattle.fx_chain.specs.declared.request.TheConstants.{LONGEST_UPDATE}
-use Rattle.fx_chain.proofs.Counted.{AreCounts, IsFine, counted_none, counted_step, fault_behind-counted, fine}
+use Rattle.fx_chain.proofs.Counted.{AreCounts, IsFine, counted_none, counted_step, fault_behind-counted, fine, all_installs-push, passed}
+use Rattle.std.proofs.lemmas.List.{length-append}
+use Rattle.fx_chain.proofs.Runs.{IsLinked, IsOver, HasMembers, are_runs, IsClosed, IsClosed-append, but_last-last, open_run-closed}
+use Rattle.std.specs.Prelude.{nat_le}
+use Rattle.fx_base.specs.AddFault.{has_name}
+use Rattle.fx_chain.specs.Refusal.{is_bad_entry}
+use Rattle.std.specs.Option.{MatchOption}
 
 or_later-none : (at : ℕ) (k : Option CutKind) (later : Option CutFault) → or_later at k later ≡ None → (k ≡ None) × (later ≡ None)
 or_later-none at None later none = (refl, none)
@@ -82,3 +91,161 @@ all_weights-small (r ∷ rs) within =
     let one = weight-small r.operation (All-head IsWithinLimits r rs within).update in
     let more = all_weights-small rs (All-tail IsWithinLimits r rs within) in
     rw (sum_by-cons (λ request. weight_of request.operation) r rs) (omega arith)
+
+-- The chains of a submission without a fault: their places and limits.
+
+-- the members of a chain are its run
+members_of-run : {requests : List Asked} (before run later : List Asked) → requests ≡ before ++ (run ++ later)
+    → members_of requests (record { first = length before; len = length run }) ≡ run
+members_of-run before run later is =
+    rw (is, drop_at before (run ++ later) (length before) refl, take_at run later (length run) refl)
+
+-- the limits of a run
+record Fits (run : List Asked) : Type 0 where
+  pub members : length run ≤ MOST_MEMBERS
+  pub installs : all_installs run ≤ CHAIN_NUMBERS
+
+module _ (requests : List Asked) (accepted : IsAccepted requests) where
+  -- a run ends with a request without a fault, so it is short
+  fits : (before run later : List Asked) → requests ≡ before ++ (run ++ later) → IsClosed before → HasMembers run → IsLinked run → Fits run
+  fits before [] later is closed some linked = absurd (omega arith)
+  fits before (x ∷ xs) later is closed some linked =
+      let (last, split) = but_last-last x xs in
+      let front = but_last (x ∷ xs) in
+      let whole : requests ≡ (before ++ front) ++ last ∷ later = is ∙ ap (λ ys. before ++ (ys ++ later)) split
+      ∙ ap (λ ys. before ++ ys) (append_assoc front (last ∷ []) later) ∙ sym (append_assoc before front (last ∷ later)) in
+      let p = passes_at (before ++ front) last later (subst IsAccepted whole accepted) in
+      let open_is = open_run-closed before front closed linked in
+      let members_is = p.counts.is.members_is ∙ ap length open_is in
+      let installs_is = p.counts.is.installs_is ∙ ap all_installs open_is in
+      let count = length-append front (last ∷ []) in
+      let installs = all_installs-push front last in
+      subst Fits (sym split) (record { members = omega arith; installs = omega arith })
+
+  chain_of_run : (before run later : List Asked) → requests ≡ before ++ (run ++ later) → IsClosed before → HasMembers run → IsLinked run
+      → IsChain requests (record { first = length before; len = length run })
+  chain_of_run before run later is closed some linked =
+      let f = fits before run later is closed some linked in
+      let run_is = members_of-run before run later is in
+      let total = ap length is ∙ length-append before (run ++ later) ∙ ap (λ n. length before + n) (length-append run later) in
+      record {
+        inside = omega arith;
+        not_empty = some;
+        members = f.members;
+        run = subst IsShortRun (sym run_is) (record {
+          not_empty = some;
+          members = f.members;
+          installs = f.installs;
+          each = subst (All IsWithinLimits) run_is (All-take IsWithinLimits (length run) (drop (length before) requests)
+              (All-drop IsWithinLimits (length before) requests (accepted-each requests accepted)));
+        });
+      }
+
+  -- the same for all runs after some requests
+  all_chains : (before : List Asked) (runs : List (List Asked)) → requests ≡ before ++ flat_map (λ run. run) runs → IsClosed before
+      → All HasMembers runs → All IsLinked runs → All IsOver (but_last runs) → All (IsChain requests) (chains_from (length before) runs)
+  all_chains before [] is closed some linked over = All-nil (IsChain requests)
+  all_chains before (run ∷ []) is closed some linked over =
+      All-cons (IsChain requests) (record { first = length before; len = length run }) []
+      (chain_of_run before run [] is closed (All-head HasMembers run [] some) (All-head IsLinked run [] linked)) (All-nil (IsChain requests))
+  all_chains before (run ∷ next ∷ runs) is closed some linked over =
+      let later = flat_map (λ y. y) (next ∷ runs) in
+      All-cons (IsChain requests) (record { first = length before; len = length run }) (chains_from (length before + length run) (next ∷ runs))
+      (chain_of_run before run later is closed (All-head HasMembers run (next ∷ runs) some) (All-head IsLinked run (next ∷ runs) linked))
+      (subst (λ (n : ℕ). All (IsChain requests) (chains_from n (next ∷ runs))) (length-append before run)
+      (all_chains (before ++ run) (next ∷ runs) (is ∙ sym (append_assoc before run later))
+      (IsClosed-append before run (All-head IsOver run (but_last (next ∷ runs)) over)) (All-tail HasMembers run (next ∷ runs) some)
+      (All-tail IsLinked run (next ∷ runs) linked) (All-tail IsOver run (but_last (next ∷ runs)) over)))
+
+-- each chain of a submission without a fault is in the submission and short
+pub accepted-chains : (requests : List Asked) → IsAccepted requests → All (IsChain requests) (chains_of (runs_of requests))
+accepted-chains requests accepted =
+    let are = are_runs requests in
+    all_chains requests accepted [] (runs_of requests) (sym are.whole) (inl refl) are.not_empty are.linked are.over
+
+-- the members of the chains are the runs
+map-members_of : (requests before : List Asked) (runs : List (List Asked)) → requests ≡ before ++ flat_map (λ run. run) runs
+    → map (members_of requests) (chains_from (length before) runs) ≡ runs
+map-members_of requests before [] is = refl
+map-members_of requests before (run ∷ runs) is =
+    let later = flat_map (λ y. y) runs in
+    let more = map-members_of requests (before ++ run) runs (is ∙ sym (append_assoc before run later)) in
+    rw (members_of-run before run later is, ← length-append before run, more)
+
+pub members-are-runs : (requests : List Asked) → map (members_of requests) (chains_of (runs_of requests)) ≡ runs_of requests
+members-are-runs requests = map-members_of requests [] (runs_of requests) (sym (are_runs requests).whole)
+
+-- The properties of requests that aren't refused.
+
+or_else : {X : Type 0} (b : Bool) (rest : Option X) (x : X) → (if b then rest else Some x) ≡ None → (b ≡ true) × (rest ≡ None)
+or_else true rest x none = (refl, none)
+or_else false rest x none = cc
+
+-- an open
+pub opens : (catalogue : List FileEntry) (size : ℕ) (name : List ℕ) (target : Target) → refusal_of catalogue size (Opens name target) ≡ None
+    → (has_name name catalogue ≡ true) × (target_refusal size target ≡ None)
+opens catalogue size name target none = or_else (has_name name catalogue) (target_refusal size target) ENOENT none
+
+-- a slot that an open fills or a close empties
+pub inside : (size slot : ℕ) → slot_refusal size slot ≡ None → slot < size
+inside size slot none =
+    let some = passed (size == 0) ENXIO _ none in
+    leb-false size slot (passed (nat_le size slot) EINVAL None some.1).0
+
+-- a slot that a read looks up
+pub reads : (catalogue : List FileEntry) (size slot off len : ℕ) → refusal_of catalogue size (Reads slot off len) ≡ None → slot < size
+reads catalogue size slot off len none = leb-false size slot (passed (nat_le size slot) EBADF None none).0
+
+-- the list of an update
+pub record IsApplied (entries size off : ℕ) (list : List ℤ) : Type 0 where
+  pub tested : (length list == 0 || nat_lt size (off + length list)) ≡ false
+  pub fits : off + length list ≤ size
+  pub good : list_any (is_bad_entry entries) list ≡ false
+
+pub applied : (entries size off : ℕ) (list : List ℤ) → list_refusal entries size off list ≡ None → IsApplied entries size off list
+applied entries size off list none =
+    let some = passed (size == 0) ENXIO _ none in
+    let long = passed (length list == 0 || nat_lt size (off + length list)) EINVAL _ some.1 in
+    let good = passed (list_any (is_bad_entry entries) list) EBADF None long.1 in
+    record { tested = long.0; fits = ltb-false size (off + length list) (or_parts (length list == 0) _ long.0).1; good = good.0 }
+
+-- The fault of a submission is that of its first request with a fault.
+
+-- a request of a list with one more request at its end is that one, or one of the list
+last_or_before : (front more behind : List Asked) (x r : Asked) → front ++ x ∷ [] ≡ more ++ r ∷ behind
+    → ((more ≡ front) × (r ≡ x)) ⊎ ((rest : List Asked) × (front ≡ more ++ r ∷ rest))
+last_or_before [] [] behind x r is = inl (refl, cc)
+last_or_before [] (y ∷ more) behind x r is = absurd (omega (arith, ap length is, length-append more (r ∷ behind)))
+last_or_before (y ∷ front) [] behind x r is = inr (front, cc)
+last_or_before (y ∷ front) (z ∷ more) behind x r is = elim (last_or_before front more behind x r (cc)) [
+  | inl last ↦ inl (cc last.0, last.1)
+  | inr (rest, parts) ↦ inr (rest, cc)
+]
+
+none_more : (front : List Asked) (x : Asked) → HasNoFault front → fault_behind front x ≡ None → HasNoFault (front ++ x ∷ [])
+none_more front x none here more r behind is = elim (last_or_before front more behind x r is) [
+  | inl last ↦ (λ i. fault_behind (last.0 i) (last.1 i)) ∙ here
+  | inr (rest, parts) ↦ none more r rest parts
+]
+
+first_behind : (front list : List Asked) → HasNoFault front
+    → MatchOption (first_fault front list) (HasNoFault (front ++ list)) (IsFirstFault (front ++ list))
+first_behind front [] none = subst HasNoFault (sym (append-nil front)) none
+first_behind front (x ∷ list) none =
+    elim (fault_behind front x) as (λ k. fault_behind front x ≡ k → MatchOption (or_later (length front + 1) k (first_fault (front ++ x ∷ []) list))
+    (HasNoFault (front ++ x ∷ list)) (IsFirstFault (front ++ x ∷ list))) [
+      | None ↦ λ here. rw (append_assoc front (x ∷ []) list) at (first_behind (front ++ x ∷ []) list (none_more front x none here))
+      | Some kind ↦ λ found. record {
+        front = front;
+        request = x;
+        behind = list;
+        parts = refl;
+        place = refl;
+        kind = found;
+        none_in_front = none;
+      }
+    ] refl
+
+pub the_first_fault : (requests : List Asked) → MatchOption (fault_of requests) (HasNoFault requests) (IsFirstFault requests)
+the_first_fault requests = first_behind [] requests
+    (λ front r behind is. absurd (omega (arith, ap length is, length-append front (r ∷ behind))))

@@ -1,6 +1,5 @@
 -- Properties by the cases of a test, and of a value that may be absent.
-use Rattle.std.proofs.Common.{◌≡◌, Bool, true, false, Option, Some, None, MatchOption, refl}
-use Rattle.std.specs.Bool.{MatchBool}
+use Rattle.fx_chain.proofs.Words.{◌≡◌, Bool, true, false, Option, Some, None, MatchOption, refl, MatchBool}
 
 pub either_way : {P Q R : Type 0} (b : Bool) → (b ≡ true → P → R) → (b ≡ false → Q → R) → MatchBool b P Q → R
 either_way true yes_so not_so given = yes_so refl given

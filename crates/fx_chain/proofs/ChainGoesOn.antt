@@ -1,16 +1,36 @@
 -- A chain goes on by one member, which is played or canceled.
-use Rattle.fx_chain.proofs.Words.{◌≡◌, ℕ, suc, ◌+◌, ◌<◌, Bool, true, false, ◌||◌, List, [], ◌∷◌, ◌++◌, length, drop, refl, sym, ap, ◌∙◌, inl, inr}
-use Rattle.fx_chain.proofs.Words.{append_assoc, length-append, slice_index_or, arith, MatchBool-at_true, MatchBool-at_false, append-nil, cases_Bool}
-use Rattle.fx_chain.proofs.Words.{sum_by-append, sum_by-cons, MatchBool, FileEntry, Action, ◌▷▷◌, Opening, size_of, Completed, next_member, refusal}
-use Rattle.fx_chain.proofs.Words.{Explains, AnswersBehind, canceled, severs, Asked, asked_of, all_asked, PlayerView, AnswersNext, PlaysMembers}
-use Rattle.fx_chain.proofs.Words.{installs_of, room_of, Place, Request}
-use Rattle.std.specs.List.{sum_by}
+use Rattle.fx_chain.proofs.Words.{◌≡◌, ℕ, ◌+◌, ◌<◌, ◌≤◌, List, [], ◌∷◌, ◌++◌, length, take, drop, slice_index_or, sym, ap, ◌∙◌, length-map}
+use Rattle.fx_chain.proofs.Words.{length-take-le, map_more, drop_more, drop_all, take_all, take-map, drop-map, asked_of, all_asked, Request, suc}
+use Rattle.fx_chain.proofs.Words.{Bool, true, false, ◌||◌, refl, inl, inr, append_assoc, length-append, arith, MatchBool-at_true, MatchBool-at_false}
+use Rattle.fx_chain.proofs.Words.{append-nil, cases_Bool, sum_by-append, sum_by-cons, MatchBool, FileEntry, Action, ◌▷▷◌, Opening, size_of, Completed}
+use Rattle.fx_chain.proofs.Words.{next_member, refusal, Explains, AnswersBehind, canceled, severs, Asked, PlayerView, AnswersNext, PlaysMembers}
+use Rattle.fx_chain.proofs.Words.{installs_of, room_of, Place, sum_by, ECANCELED}
 use Rattle.std.proofs.Math.Bool.{or-false, or_assoc}
-use Rattle.fx_base.specs.declared.errno.Errno.TheVariants.{ECANCELED}
-use Rattle.fx_chain.proofs.ActsInTurn.{so_then}
-use Rattle.fx_chain.proofs.Asking.{asked_rest}
+use Rattle.fx_chain.proofs.ActsInTurn.{so_then, may_free_then}
 use Rattle.fx_chain.proofs.Cases.{either_case}
-use Rattle.fx_chain.proofs.Freed.{may_free_then}
+
+pub asked_more : (requests : List Request) (i : ℕ) (x : Request) → i < length requests → x ≡ slice_index_or requests i x
+    → all_asked (take (i + 1) requests) ≡ all_asked (take i requests) ++ asked_of x ∷ []
+asked_more requests i x lt is = map_more asked_of requests i x lt ∙ ap (λ y. all_asked (take i requests) ++ asked_of y ∷ []) (sym is)
+
+pub asked_rest : (requests : List Request) (i : ℕ) (x : Request) → i < length requests → x ≡ slice_index_or requests i x
+    → all_asked (drop i requests) ≡ asked_of x ∷ all_asked (drop (i + 1) requests)
+asked_rest requests i x lt is = ap all_asked (drop_more requests i x lt) ∙ ap (λ y. asked_of y ∷ all_asked (drop (i + 1) requests)) (sym is)
+
+pub asked_length : (requests : List Request) (i : ℕ) → i ≤ length requests → length (all_asked (take i requests)) ≡ i
+asked_length requests i le = length-map (take i requests) asked_of ∙ length-take-le i requests le
+
+pub asked_all : (requests : List Request) (i : ℕ) → length requests ≤ i → all_asked (take i requests) ≡ all_asked requests
+asked_all requests i le = ap all_asked (take_all i requests le)
+
+pub asked_none : (requests : List Request) (i : ℕ) → length requests ≤ i → all_asked (drop i requests) ≡ []
+asked_none requests i le = ap all_asked (drop_all i requests le)
+
+-- a part of the list of requests is a part of what contracts see
+pub asked_part : (requests : List Request) (first len : ℕ) → all_asked (take len (drop first requests)) ≡ take len (drop first (all_asked requests))
+asked_part requests first len = sym (take-map asked_of len (drop first requests)) ∙ ap (take len) (sym (drop-map asked_of first requests))
+
+-- A chain goes on by one member, which is played or canceled.
 
 -- one of the members severs the chain
 abbrev pub any_severs : List Asked → List Completed → Bool

@@ -2,11 +2,10 @@
 use Rattle.fx_chain.proofs.Words.{◌≡◌, ◌≢◌, inl, inr, ℕ, ◌+◌, ◌*◌, ◌<◌, ◌≤◌, ◌==◌, nat_lt, Bool, true, false, ◌&&◌, if◌then◌else◌, List, [], ◌∷◌}
 use Rattle.fx_chain.proofs.Words.{◌++◌, length, refl, sym, ◌∙◌, arith, Option, Some, None, cases_Bool, eqb-false, ltb-false, and_cases, ne_eqb}
 use Rattle.fx_chain.proofs.Words.{cases_eq, sum_by-append, Asked, is_fixed, is_link, runs_of, open_run, installs_of, all_installs, fault_after}
-use Rattle.fx_chain.proofs.Words.{fault_behind, has_bad_flags, is_long_read, is_long_update, MOST_MEMBERS, MAX_CHAINS, CHAIN_NUMBERS}
-use Rattle.std.proofs.lemmas.Bool.{eq-eqb}
+use Rattle.fx_chain.proofs.Words.{fault_behind, has_bad_flags, is_long_read, is_long_update, MOST_MEMBERS, MAX_CHAINS, CHAIN_NUMBERS, eq-eqb}
 use Rattle.std.proofs.lemmas.List.{length-append}
 use Rattle.fx_chain.specs.declared.fault.CutKind.TheVariants.{BadFlags, LongRead, LongUpdate, ChainTooLong, TooManyFiles, TooManyChains}
-use Rattle.fx_chain.proofs.Splits.{runs-push, open_run-push, open_run-over}
+use Rattle.fx_chain.proofs.Runs.{runs-push, open_run-push, open_run-over}
 
 -- the numbers of chains, members and installations after some requests without a fault
 pub record AreCounts (front : List Asked) (chains members installs : ℕ) : Type 0 where

@@ -2,9 +2,8 @@
 use Rattle.fx_chain.proofs.Words.{◌≡◌, ℕ, zero, suc, ◌+◌, ◌<◌, Bool, true, false, if◌then◌else◌, ℤ, pos, negsuc, int_le, int_lt, List, [], ◌∷◌, ◌++◌}
 use Rattle.fx_chain.proofs.Words.{length, filter, take, drop, add-one, refl, sym, ap, ◌∙◌, slice_index_or, arith, nat_abs, ltb-true, le-leb}
 use Rattle.fx_chain.proofs.Words.{append-nil, length-take-le, take_more, filter-append, Action, ◌▷▷◌, AppliesEntry, AppliesList, is_bad_entry}
-use Rattle.fx_chain.proofs.Words.{Opening, PlayerView, ActsSo, entry_installs, list_installs, Place}
+use Rattle.fx_chain.proofs.Words.{Opening, PlayerView, ActsSo, entry_installs, list_installs, Place, drop-cons}
 use Rattle.std.proofs.lemmas.List.{append_assoc, length-append}
-use Rattle.std.proofs.Math.Seq.{drop-cons}
 use Rattle.fx_chain.proofs.ActsInTurn.{so_then}
 
 -- an entry of 0 or more is the number that it reads as

@@ -1,16 +1,13 @@
 -- The steps of a chain with other numbers, and the count of numbers that they use.
-use Rattle.fx_chain.proofs.Words.{◌≡◌, ℕ, zero, suc, ◌+◌, ◌≤◌, ℤ, pos, negsuc, List, [], ◌∷◌, ◌++◌, length, map, ap, ◌∙◌}
-use Rattle.fx_chain.proofs.Words.{Option, Some, None, inl, inr, arith, map-append, sum_by-cons, FileEntry, Action, ◌▷▷◌, MayClose}
-use Rattle.fx_chain.proofs.Words.{AppliesEntry, AppliesList, Answers, Completed, next_member, Explains, severs, canceled, Operation}
-use Rattle.fx_chain.proofs.Words.{Opens, Reads, Closes, Updates, Asked, entry_installs, list_installs, installs_of, all_installs, Place}
-use Rattle.fx_plain.specs.declared.event.File.{File}
+use Rattle.fx_chain.proofs.Words.{◌≡◌, ℕ, zero, suc, ◌+◌, ◌≤◌, ℤ, pos, negsuc, List, [], ◌∷◌, ◌++◌, length, map, ap, ◌∙◌, Option, Some, None, inl}
+use Rattle.fx_chain.proofs.Words.{inr, arith, map-append, sum_by-cons, FileEntry, Action, ◌▷▷◌, MayClose, AppliesEntry, AppliesList, Answers}
+use Rattle.fx_chain.proofs.Words.{Completed, next_member, Explains, severs, canceled, Operation, Opens, Reads, Closes, Updates, Asked, entry_installs}
+use Rattle.fx_chain.proofs.Words.{list_installs, installs_of, all_installs, Place, File, refusal_of, Target}
 use Rattle.fx_plain.specs.Laws.{installed_by}
 use Rattle.fx_plain.specs.Reopening.{Renaming, renamed, renamed_file, renamed_found, numbers_given, with_number_of}
 use Rattle.fx_chain.specs.Answers.{AnswersAtTable, OpensAt, ReadsAt, TakesAt}
-use Rattle.fx_chain.specs.Refusal.{refusal_of}
 use Rattle.fx_chain.proofs.Cases.{either_case, either_option, same_cases, same_options}
 use Rattle.fx_chain.proofs.EntryKinds.{list_installs-cons}
-use Rattle.fx_chain.specs.declared.request.Target.{Target}
 use Rattle.fx_chain.specs.declared.request.Target.TheVariants.{Slot, Any}
 
 module _ (r : Renaming) where

@@ -10,7 +10,7 @@ pub use Rattle.fx_chain.specs.Explains.{AnswersBehind, Explains, canceled, first
 pub use Rattle.fx_chain.specs.Faults.{HasNoFault, IsFirstFault, fault_after, fault_behind, fault_of, first_fault, has_bad_flags, is_long_read}
 pub use Rattle.fx_chain.specs.Faults.{is_long_update, or_later}
 pub use Rattle.fx_chain.specs.Freed.{Frees, MayFree, StepFrees, all_room, look_ups_of, room_of}
-pub use Rattle.fx_chain.specs.Operation.{Asked, Closes, Opens, Operation, Reads, Updates, all_asked, asked_of, is_fixed, is_link}
+pub use Rattle.fx_chain.specs.Operation.{Asked, Closes, Opens, Operation, Reads, Updates, all_asked, asked_of, is_fixed, is_link, operation_of}
 pub use Rattle.fx_chain.specs.Performs.{Acts, ActsSo, AnswersNext, PlayerView, PlaysChain, PlaysChainExactly, PlaysMembers, player}
 pub use Rattle.fx_chain.specs.Removals.{IsLookUp, IsRelease, IsRetirement, HasLookedUp}
 pub use Rattle.fx_chain.specs.Runs.{AreRuns, AreTheOnlyRuns, StandsIn, but_last, in_front, is_over, open_run, runs_of}
@@ -23,21 +23,30 @@ pub use Rattle.fx_chain.specs.declared.request.Request.{Request}
 pub use Rattle.fx_plain.specs.History.{close_of, closed_by, closes_in, ◌▷▷◌, ◌▷◌}
 pub use Rattle.fx_plain.specs.declared.event.Action.{Action}
 pub use Rattle.fx_plain.specs.declared.event.Action.TheVariants.{Clear, Look, Put, Release, Take}
-pub use Rattle.fx_table.specs.Calls.{Adds, Cleared, Placed, Taken, Use, both_uses, new_file, no_use, one_look, one_number}
+pub use Rattle.fx_table.specs.Calls.{Adds, Cleared, Placed, Taken, Use, both_uses, new_file, no_use, one_look, one_number, LookedAfter, PlacedFile}
 pub use Rattle.fx_table.specs.Opening.{Opening, size_of}
 pub use Rattle.fx_table.specs.Pass.{IsFront, IsIdle, PassView}
 pub use Rattle.fx_table.specs.declared.limits.TheConstants.{CHAIN_NUMBERS, MAX_CHAINS}
 pub use Rattle.fx_table.specs.declared.values.Retired.{Retired}
-pub use Rattle.std.proofs.Common.{All, Bool, Err, List, None, Ok, Option, Result, Some, [], add-one, ap, append_assoc, arith, drop, false}
-pub use Rattle.std.proofs.Common.{filter, if◌then◌else◌, inl, inr, int_le, int_lt, is_some, length, length-append, map, nat_abs, nat_lt}
-pub use Rattle.std.proofs.Common.{negsuc, not, of_z, pos, refl, rules, slice_index_or, subst, suc, sym, take, to_z, true, vec_capacity, vec_len, w32}
-pub use Rattle.std.proofs.Common.{zero, ℕ, ℤ, ◌&&◌, ◌*◌, ◌++◌, ◌+◌, ◌-◌, ◌<◌, ◌==◌, ◌||◌, ◌∙◌, ◌∷◌, ◌≡◌, ◌≢◌, ◌≤◌, ◌⊎◌}
+pub use Rattle.std.proofs.Common.{All, Bool, Err, List, None, Ok, Option, Result, Some, [], add-one, ap, append_assoc, arith, drop, false, filter}
+pub use Rattle.std.proofs.Common.{if◌then◌else◌, inl, inr, int_le, int_lt, is_some, length, length-append, map, nat_abs, nat_lt, negsuc, not, of_z}
+pub use Rattle.std.proofs.Common.{pos, refl, rules, slice_index_or, subst, suc, sym, take, to_z, true, vec_capacity, vec_len, w32, zero, ℕ, ℤ, ◌&&◌}
+pub use Rattle.std.proofs.Common.{◌*◌, ◌++◌, ◌+◌, ◌-◌, ◌<◌, ◌==◌, ◌||◌, ◌∙◌, ◌∷◌, ◌≡◌, ◌≢◌, ◌≤◌, ◌⊎◌, MatchOption}
 pub use Rattle.std.proofs.lemmas.Bool.{MatchBool-at_false, MatchBool-at_true, and_cases, and_from, and_right, both_ways, cases_Bool, cases_eq}
-pub use Rattle.std.proofs.lemmas.Bool.{eqb-false, le-leb, lt-leb, ltb-false, ltb-true, ne_eqb, not-true}
+pub use Rattle.std.proofs.lemmas.Bool.{eqb-false, le-leb, lt-leb, ltb-false, ltb-true, ne_eqb, not-true, leb-false, or_parts, eq-eqb}
 pub use Rattle.std.proofs.lemmas.Int.{to_z-of_z, to_z_pos}
-pub use Rattle.std.proofs.lemmas.List.{append-nil, drop-drop, drop-map, drop_all, drop_at, drop_more, length-map, length-take-le}
-pub use Rattle.std.proofs.lemmas.List.{map-append, map_more, take-append-drop, take-map, take_all, take_at, take_more}
+pub use Rattle.std.proofs.lemmas.List.{append-nil, drop-drop, drop-map, drop_all, drop_at, drop_more, length-map, length-take-le, map-append}
+pub use Rattle.std.proofs.lemmas.List.{map_more, take-append-drop, take-map, take_all, take_at, take_more}
 pub use Rattle.std.proofs.lemmas.List.Elements.{All-cons, All-drop, All-head, All-nil, All-push, All-tail, All-take, All-weaker, filter-append}
 pub use Rattle.std.proofs.lemmas.List.Sums.{AllPass-from_list_all, list_all-from_AllPass, sum_by-append, sum_by-cons}
 pub use Rattle.std.specs.Bool.{MatchBool}
-pub use Rattle.std.specs.List.{flat_map, list_all, list_any}
+pub use Rattle.std.specs.List.{flat_map, list_all, list_any, sum_by}
+pub use Rattle.std.proofs.Math.Seq.{drop-cons}
+pub use Rattle.fx_base.specs.declared.errno.Errno.TheVariants.{ENOENT, EBADF, EINVAL, ENXIO, ECANCELED}
+pub use Rattle.fx_chain.specs.Refusal.{refusal_of, slot_refusal, target_refusal, list_refusal}
+pub use Rattle.fx_chain.specs.declared.request.Target.{Target}
+pub use Rattle.fx_plain.specs.declared.event.File.{File}
+pub use Rattle.fx_table.specs.declared.values.Doing.{Doing}
+pub use Rattle.fx_table.specs.declared.values.Hold.{Hold}
+pub use Rattle.fx_table.proofs.Calls.{adds_nothing, adds_then, looks_least, numbers_least}
+pub use Rattle.std.specs.Result.{result_ok}

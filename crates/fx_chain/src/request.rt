@@ -96,7 +96,7 @@ impl Request {
 
     /// Returns the number of slots that the request looks up: 1 for a read, otherwise 0. In a table that lasts, each may
     /// use one more place of the room in a list of closes.
-    #[tactic(auto, using(crate::proofs::Freed::room_at_most))]
+    #[tactic(auto, using(crate::proofs::ActsInTurn::room_at_most))]
     pub fn looks(&self) -> usize
         ensures value { result ≡ look_ups_of (operation_of self.now.op) }
         ensures room { (lasts : Bool) → room_of lasts (operation_of self.now.op)

@@ -6,12 +6,8 @@ use Rattle.fx_counted.proofs.Words.{Start, Work, Idle, Holding, Retiring, Emptyi
 use Rattle.fx_counted.proofs.Words.{Between, steps_of, true, ◌<◌, inr, range_of, full_word_of, InRange, HasNode, ⊎_elim, chain_numbers, slot_of}
 use Rattle.fx_counted.proofs.Words.{slot_place, node_place, IsNumber, opening_of_table, CountedTable, size_of, ◌-◌, ne_eqb, Option, None, dite}
 use Rattle.fx_counted.proofs.Words.{ℕ_discrete, number_of, name_in, node_in, Names, named, named_suc, Bool, none, Closed, retiring, IsPassOfTable}
-use Rattle.fx_counted.proofs.Words.{Removes, begun, Seat, View, Agrees, IsIdle, step, Allows}
-use Rattle.fx_table.proofs.Calls.{adds_then}
-use Rattle.fx_table.proofs.Tasks.{idle_task, holding_task, retiring_task}
-use Rattle.fx_table.specs.Pass.{hold_of, retired_of}
-use Rattle.fx_table.specs.declared.values.Hold.{Hold}
-use Rattle.fx_table.specs.declared.values.Retired.{Retired}
+use Rattle.fx_counted.proofs.Words.{Removes, begun, Seat, View, Agrees, IsIdle, step, Allows, adds_then, hold_of, retired_of, Hold, Retired}
+use Rattle.fx_table.proofs.FileLemmas.{idle_task, holding_task, retiring_task}
 use Rattle.fx_table.specs.declared.values.Task.{Task}
 use Rattle.fx_counted.proofs.Places.{few_numbers, inside, apart}
 use Rattle.fx_counted.proofs.SlotLaws.{IsRemoval, removes_keep}

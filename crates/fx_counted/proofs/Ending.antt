@@ -4,9 +4,7 @@ use Rattle.fx_counted.proofs.Words.{sum_zero_at, numbers_for, ◌≡◌, ℕ, su
 use Rattle.fx_counted.proofs.Words.{Option, Some, None, sum_by, dite, some, dec_le, get_elem?, Closed, State, IsSettled, numbered, File, start_of}
 use Rattle.fx_counted.proofs.Words.{Does, OwnerAgrees, lengths, Agrees, place_of, Shared, opening_of, slots_of, chain_numbers, IsNumber}
 use Rattle.fx_counted.proofs.Words.{state_after_all, held_of, told_of, once, holding, Phase, placed, seated, leaving, retired, emptied, Log, Start}
-use Rattle.fx_counted.proofs.Words.{View, Work, Idle, action_of, Between, one_if, times}
-use Rattle.fx_plain.proofs.AtRest.{inside_behind, opens_inside}
-use Rattle.fx_table.proofs.Gathering.{only_here}
+use Rattle.fx_counted.proofs.Words.{View, Work, Idle, action_of, Between, one_if, times, inside_behind, opens_inside, only_here}
 use Rattle.fx_counted.proofs.Frames.{same_shape}
 use Rattle.fx_counted.proofs.Keeping.{NodeIn, in_phase, seat_in}
 

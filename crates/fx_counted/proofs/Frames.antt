@@ -1,15 +1,13 @@
 -- Legal histories, and the frame of a step of one seat.
-use Rattle.fx_counted.proofs.Words.{◌≡◌, ◌≢◌, ℕ, ◌+◌, ◌≤◌, List, [], ◌∷◌, sym, refl, ap, ◌∙◌, arith, Some, None, dite, ℕ_discrete}
-use Rattle.fx_counted.proofs.Words.{held_by, Event, Action, Look, start_of, range_of, looks, all_looks}
-use Rattle.fx_counted.proofs.Words.{opening_of, slots_of, state_after_all, Start, ReleasesItsOwn, IsLegal, looks_after, look_in, map, action_of}
-use Rattle.fx_counted.proofs.Words.{changed_here, changed_else, next_in, end_in, placing, ◌<◌, Contains, sum_of}
-use Rattle.fx_counted.proofs.Words.{sum_by, set, subst, eqb, some, some-injective, get_elem?, set_here, set_else, File, numbered, sum_two, sum_set}
-use Rattle.fx_counted.proofs.Words.{Does, OwnerAgrees, WorkAgrees, ViewAgrees, Agrees, Shared, logs_of, Phase, spare, placed, leaving, emptied, owner}
-use Rattle.fx_counted.proofs.Words.{file_in, Log, View, Work, Idle, Placing, Holding, Retiring, Emptying, Between, stands_at}
-use Rattle.fx_counted.proofs.Words.{one_if, bit_here, once_is, Option, Closed, State, SlotAgrees, Home, NodeAgrees, in_change, added}
-use Rattle.fx_counted.proofs.Words.{removed_by, changes_of, added_of, removed_of, full_in, ControlCounts, DrawsCount, told_of, unborn, seated}
-use Rattle.fx_counted.proofs.Words.{retired, closed, takes_in, born, IsSeated, IsGone, times}
-use Rattle.fx_table.proofs.Growing.{Grows}
+use Rattle.fx_counted.proofs.Words.{◌≡◌, ◌≢◌, ℕ, ◌+◌, ◌≤◌, List, [], ◌∷◌, sym, refl, ap, ◌∙◌, arith, Some, None, dite, ℕ_discrete, held_by, Event}
+use Rattle.fx_counted.proofs.Words.{Action, Look, start_of, range_of, looks, all_looks, opening_of, slots_of, state_after_all, Start, ReleasesItsOwn}
+use Rattle.fx_counted.proofs.Words.{IsLegal, looks_after, look_in, map, action_of, changed_here, changed_else, next_in, end_in, placing, ◌<◌}
+use Rattle.fx_counted.proofs.Words.{Contains, sum_of, sum_by, set, subst, eqb, some, some-injective, get_elem?, set_here, set_else, File, numbered}
+use Rattle.fx_counted.proofs.Words.{sum_two, sum_set, Does, OwnerAgrees, WorkAgrees, ViewAgrees, Agrees, Shared, logs_of, Phase, spare, placed}
+use Rattle.fx_counted.proofs.Words.{leaving, emptied, owner, file_in, Log, View, Work, Idle, Placing, Holding, Retiring, Emptying, Between, stands_at}
+use Rattle.fx_counted.proofs.Words.{one_if, bit_here, once_is, Option, Closed, State, SlotAgrees, Home, NodeAgrees, in_change, added, removed_by}
+use Rattle.fx_counted.proofs.Words.{changes_of, added_of, removed_of, full_in, ControlCounts, DrawsCount, told_of, unborn, seated, retired, closed}
+use Rattle.fx_counted.proofs.Words.{takes_in, born, IsSeated, IsGone, times, Grows}
 use Rattle.fx_plain.specs.Step.{Allows}
 use Rattle.fx_plain.proofs.Leading.{same_shape as shape_of_state}
 

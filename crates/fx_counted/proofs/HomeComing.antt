@@ -1,10 +1,10 @@
 -- The files at the settled end of a table whose passes are all idle: they are in the places of their numbers.
-use Rattle.fx_counted.proofs.Words.{◌≡◌, ℕ, ◌+◌, ◌-◌, ◌<◌, suc, sym, refl, ap, ◌∙◌, arith, inl, inr, Option, Some, None, dite, dec_le, List}
-use Rattle.fx_counted.proofs.Words.{subst, Closed, State, Contents, state_of, AreBack, slice_index, some, get_elem?, node_in, slot_place, home_place}
-use Rattle.fx_counted.proofs.Words.{homes_for, stands_at, some-injective, number_of, File, Names, Agrees, HasNode, slots_of, chain_numbers}
-use Rattle.fx_counted.proofs.Words.{IsNumber, state_after_all, CountedTable, Start, View, Idle, Final, Seen, AllAreIdle, Leaves, Between, option_map}
-use Rattle.fx_table.proofs.HomeComing.{AreAtHome, AreStored, at_home, file_at, files_are}
+use Rattle.fx_counted.proofs.Words.{◌≡◌, ℕ, ◌+◌, ◌-◌, ◌<◌, suc, sym, refl, ap, ◌∙◌, arith, inl, inr, Option, Some, None, dite, dec_le, List, subst}
+use Rattle.fx_counted.proofs.Words.{Closed, State, Contents, state_of, AreBack, slice_index, some, get_elem?, node_in, slot_place, home_place}
+use Rattle.fx_counted.proofs.Words.{homes_for, stands_at, some-injective, number_of, File, Names, Agrees, HasNode, slots_of, chain_numbers, IsNumber}
+use Rattle.fx_counted.proofs.Words.{state_after_all, CountedTable, Start, View, Idle, Final, Seen, AllAreIdle, Leaves, Between, option_map}
 use Rattle.fx_counted.proofs.Words.{ℕ_discrete, numbered}
+use Rattle.fx_table.proofs.Shells.{AreAtHome, AreStored, at_home, file_at, files_are}
 use Rattle.fx_counted.proofs.Calling.{has_node, node_is}
 use Rattle.fx_counted.proofs.Ending.{home_file, file_home, one_slot, none_outside_end}
 use Rattle.fx_counted.proofs.Frames.{same_shape}

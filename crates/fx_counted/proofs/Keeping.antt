@@ -8,10 +8,9 @@ use Rattle.fx_counted.proofs.Words.{first_log, logs_of, looks_of, held_of, Phase
 use Rattle.fx_counted.proofs.Words.{carried_after, HasPass, held_by, held_in, PlacesNext, placing, next_in, end_in, spare, HasShape, Start, no_use}
 use Rattle.fx_counted.proofs.Words.{◌▷◌, IsSeenBy, ◌*◌, chain_in, one_if, Allows, IsSeated, ◌≢◌, Between, Holding, file_in, at_set, ⊎_elim}
 use Rattle.fx_counted.proofs.Words.{get_or-set_other, get_or-set_same, Bool, changed_at, full_in, PlacesAreInside, PlacesAreApart, chain_numbers}
-use Rattle.fx_counted.proofs.Words.{owner, retired, ◌⊎◌, length-set, dite, ℕ_discrete, unborn}
-use Rattle.fx_table.proofs.Growing.{Grows, grows_none, grows_one, part_mine, each_changed}
-use Rattle.fx_counted.proofs.Frames.{IsHistory, Stays, view_stays, not_there, of_one, total_same}
-use Rattle.fx_counted.proofs.Frames.{busy, owner_stays, slot_same, node_same, control_same, draws_same, SameFile}
+use Rattle.fx_counted.proofs.Words.{owner, retired, ◌⊎◌, length-set, dite, ℕ_discrete, unborn, Grows, grows_none, grows_one, part_mine, each_changed}
+use Rattle.fx_counted.proofs.Frames.{IsHistory, Stays, view_stays, not_there, of_one, total_same, busy, owner_stays, slot_same, node_same}
+use Rattle.fx_counted.proofs.Frames.{control_same, draws_same, SameFile}
 use Rattle.fx_counted.proofs.Places.{inside, apart}
 use mathlib.Core.Option as maybe
 

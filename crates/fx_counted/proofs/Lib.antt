@@ -10,7 +10,6 @@ pub mod Swaps
 pub mod ControlSteps
 pub mod SlotLaws
 pub mod Chains
-pub mod WordBounds
 pub mod Calling
 pub mod Openings
 pub mod Searching

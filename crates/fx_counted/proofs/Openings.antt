@@ -1,22 +1,63 @@
--- The opening of a table: its first words and places, and the rule with them.
-use Rattle.fx_counted.proofs.Words.{mul-le-mul_right, ◌≡◌, ℕ, zero, suc, ◌+◌, ◌*◌, ◌<◌, ◌≤◌, List, length, refl, ap, arith, Option, Some, None}
-use Rattle.fx_counted.proofs.Words.{slice_index, State, file_numbered, File, full_in, first_at, control_place, draw_place, slot_place}
-use Rattle.fx_counted.proofs.Words.{words_for, word_for, node_for, control_word_of, [], ◌∷◌, sym}
-use Rattle.fx_counted.proofs.Words.{◌∙◌, dite, some, get_elem?, Closed, state_of, identity_of}
-use Rattle.fx_counted.proofs.Words.{length-map-range_with_len}
-use Rattle.fx_counted.proofs.Words.{dec_le, MAX_CHAINS, chain_numbers, AreFirstWords, AreFirstHomes, home_place, homes_for, home_for, OpensWith}
-use Rattle.fx_counted.proofs.Words.{Start, MAX_PASSES, first_file, node_place, Bool, nat_lt, cond, map}
-use Rattle.fx_counted.proofs.Words.{subst, eqb, lt-ltb, le-ltb, inl, inr, ⊎_elim, sum_by, count_by, sum_by-cons, some-injective, some-ne-none}
-use Rattle.fx_counted.proofs.Words.{numbered, numbers_for, range_of, born, takes_in, name_made, entry_made, takes_made, Names, SlotAgrees, NodeAgrees}
-use Rattle.fx_counted.proofs.Words.{OwnerAgrees, LogAgrees, ViewAgrees, Agrees, new_logs, word_of, place_of, opening_of, slots_of, IsNumber}
-use Rattle.fx_counted.proofs.Words.{state_after_all, new_log, Phase, unborn, seated, closed, Log, View, Idle, ◌&&◌, length-map, at_map, first_view}
-use Rattle.fx_counted.proofs.Words.{contains_map, sum_zero, Between, IsSeated, one_if, once_is, counted_once, range_with_len}
+-- The opening of a table: its words and places, and the rule with them.
+use Rattle.fx_counted.proofs.Words.{count_by-le-length, sum_by, ◌≡◌, ℕ, ◌+◌, ◌≤◌, Option, Some, None, sym, ◌∙◌, subst, arith, File, sum_le_at}
+use Rattle.fx_counted.proofs.Words.{node_in, Agrees, Names, WorkAgrees, lengths, changes_of, looks, all_looks, Shared, looks_of, told_of, Start}
+use Rattle.fx_counted.proofs.Words.{Retiring, Between, IsSeated, mul-le-mul_right, zero, suc, ◌*◌, ◌<◌, List, length, refl, ap, slice_index, State}
+use Rattle.fx_counted.proofs.Words.{file_numbered, full_in, first_at, control_place, draw_place, slot_place, words_for, word_for, node_for}
+use Rattle.fx_counted.proofs.Words.{control_word_of, [], ◌∷◌, dite, some, get_elem?, Closed, state_of, identity_of, length-map-range_with_len, dec_le}
+use Rattle.fx_counted.proofs.Words.{MAX_CHAINS, chain_numbers, AreFirstWords, AreFirstHomes, home_place, homes_for, home_for, OpensWith, MAX_PASSES}
+use Rattle.fx_counted.proofs.Words.{first_file, node_place, Bool, nat_lt, cond, map, eqb, lt-ltb, le-ltb, inl, inr, ⊎_elim, count_by, sum_by-cons}
+use Rattle.fx_counted.proofs.Words.{some-injective, some-ne-none, numbered, numbers_for, range_of, born, takes_in, name_made, entry_made, takes_made}
+use Rattle.fx_counted.proofs.Words.{SlotAgrees, NodeAgrees, OwnerAgrees, LogAgrees, ViewAgrees, new_logs, word_of, place_of, opening_of, slots_of}
+use Rattle.fx_counted.proofs.Words.{IsNumber, state_after_all, new_log, Phase, unborn, seated, closed, Log, View, Idle, ◌&&◌, length-map, at_map}
+use Rattle.fx_counted.proofs.Words.{first_view, contains_map, sum_zero, one_if, once_is, counted_once, range_with_len, full_few, not, numbered_anew}
+use Rattle.fx_counted.specs.Bounds.{AreBounded, slot_word_in, node_word_in}
+use Rattle.fx_counted.proofs.ControlSteps.{few_changes, few_full, few_added, few_removed}
+use Rattle.fx_counted.proofs.Frames.{looks_few}
+use Rattle.fx_counted.proofs.Keeping.{in_phase}
+use Rattle.fx_counted.proofs.Calling.{node_is}
 use Rattle.fx_counted.proofs.Places.{high_node, low_home, high_home}
 use Rattle.fx_table.proofs.Shells.{in_place, none_outside}
-use Rattle.std.proofs.Common.{not}
 use Rattle.atomic_table.specs.Table.{opening as table_opening}
-use Rattle.fx_counted.proofs.Words.{full_few}
-use Rattle.fx_plain.proofs.Prepared.{numbered_anew}
+
+module _ (k : Start) (s : Shared) (r : Agrees k s) where
+  few_passes : sum_by lengths s.views ≤ 16
+  few_passes = let a = r.whole in let b = r.shape.passes in omega arith
+
+  -- all looks that were made
+  few_looks : all_looks r.history + sum_by looks_of s.views ≤ 16777216
+  few_looks = let a = r.look_ups in let b = r.shape.passes in omega arith
+
+  -- a node word counts no more releases than looks
+  few_releases : (n word holds : ℕ) → word + looks r.history n ≡ 4294967296 + holds → 4294967296 ≤ word + 16777216
+  few_releases n word holds is = let a = looks_few r.history n in let b = few_looks in omega arith
+
+  of_slot : (slot : ℕ) {number : ℕ} (file : Option File) → Names (slot_word_in s slot) file
+      → IsSeated k (looks r.history) r.phase slot (slot_word_in s slot) file → node_in (slot_word_in s slot) ≡ Some number
+      → 4294967296 ≤ node_word_in k s number + 16777216
+  of_slot slot {number} None names seat is = let e : None ≡ Some number = sym (node_is (slot_word_in s slot) None names) ∙ is in absurd (cc e)
+  of_slot slot {number} (Some f) names seat is =
+      let e : Some f.number ≡ Some number = sym (node_is (slot_word_in s slot) (Some f) names) ∙ is in
+      let same : f.number ≡ number = cc in let a = in_phase k s r seat.0 seat.2 in
+      subst (λ (n : ℕ). 4294967296 ≤ node_word_in k s n + 16777216) same (few_releases f.number _ _ a.counts)
+
+  changes_most : sum_by changes_of s.views ≤ 16
+  changes_most = let a = sum_le_at changes_of lengths s.views (few_changes k s r) in let b = few_passes in omega arith
+
+  pub words_are_bounded : AreBounded k s
+  words_are_bounded = record {
+    takes = λ slot inside. let a = (r.each_slot slot inside).takes in let b = few_looks in omega arith;
+    named = λ slot number inside is. let a = r.each_slot slot inside in of_slot slot _ a.names a.seat is;
+    leaving = λ seat takes v f there is.
+        let work : WorkAgrees k r.phase seat (Between (Retiring f takes)) = subst (WorkAgrees k r.phase seat) is (r.each_view seat v there).work in
+        let a = in_phase k s r work.0 work.1 in few_releases f.number _ _ a.counts;
+    draws = let a = sum_le_at told_of lengths s.views (λ j u e. count_by-le-length (λ y. y.no_chains_left) u.logs) in let b = few_passes in
+        let c = r.draws.counts in let d = r.draws.few in omega arith;
+    changes = let a = r.control.upper in let b = changes_most in omega arith;
+    least = let a = r.control.lower in let b = few_added k s r in let c = changes_most in omega arith;
+    most = let a = r.control.lower in let b = few_removed k s r in let c = few_full k s r in let d = changes_most in omega arith;
+  }
+
+-- The opening of a table: its first words and places, and the rule with them.
 
 -- the words of the slots below this one are written so
 pub record AreWordsSoFar (st : State) (numbers done : ℕ) (words : List ℕ) : Type 0 where

@@ -7,14 +7,11 @@ use Rattle.fx_counted.proofs.Words.{is_idle, CountedPass, new_pass, IsNewPass, t
 use Rattle.fx_counted.proofs.Words.{IsSettled, ClosesTable, times_drawn, HasSameFiles, PassView, contains_none, contains_head, contains_map}
 use Rattle.fx_counted.proofs.Words.{contains_mapped, contains_reverse, contains_reversed, sum_map, sum_of, found_by, found_sum, logs_in, opening_of}
 use Rattle.fx_counted.proofs.Words.{state_after_all, first_log, Event, length-reverse, length-map, once, ◌<◌, map, reverse, once_is, ◌++◌, step}
-use Rattle.fx_counted.proofs.Words.{keeps, contains_only, held_in, set-get_or, Allows, set_again, append-nil, IsSettledSoFar}
-use Rattle.fx_table.proofs.Seats.{AreReseated, split, joined}
+use Rattle.fx_counted.proofs.Words.{keeps, contains_only, held_in, set-get_or, Allows, set_again, append-nil, IsSettledSoFar, AreReseated, split}
+use Rattle.fx_counted.proofs.Words.{joined, logs_are as each_log, sum_gathered, each_seat, first_left, last_left, in_part, some_there, some_times}
 use Rattle.fx_counted.proofs.Frames.{busy, owner_map}
 use Rattle.fx_counted.proofs.Keeping.{shape_kept}
-use Rattle.fx_table.proofs.Dealing.{first_left, last_left}
-use Rattle.fx_table.proofs.Chains.{in_part, some_there, some_times}
-use Rattle.fx_table.proofs.Gathering.{logs_are as each_log, sum_gathered, each_seat}
-use Rattle.fx_table.proofs.Settling.{IsWhole, closes_table, settles as settles_whole}
+use Rattle.fx_table.proofs.Histories.{IsWhole, closes_table, settles as settles_whole}
 use Rattle.fx_counted.proofs.Ending.{settled_end, whole_here, sum_here, drawn, told}
 use Rattle.fx_counted.specs.Settling.{Observes}
 use Rattle.fx_counted.proofs.Calling.{its_idle}

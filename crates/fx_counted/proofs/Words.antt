@@ -38,7 +38,7 @@ pub use Rattle.fx_counted.specs.declared.view.Start.{Start}
 pub use Rattle.fx_counted.specs.declared.view.View.{View}
 pub use Rattle.fx_counted.specs.declared.view.Work.{Work}
 pub use Rattle.fx_counted.specs.declared.view.Work.TheVariants.{Between, Emptying, Placing}
-pub use Rattle.fx_plain.proofs.Cells.{by_equality, changed_else, changed_here}
+pub use Rattle.fx_plain.proofs.Cells.{by_equality, changed_else, changed_here, each_set}
 pub use Rattle.fx_plain.specs.Contents.{Contents, IsPrepared, state_of}
 pub use Rattle.fx_plain.specs.History.{IsLegal, IsSeenBy, ReleasesItsOwn, action_of, held_after, held_by, part_of_pass, ◌▷▷◌, ◌▷◌}
 pub use Rattle.fx_plain.specs.State.{IsSettled, State, file_numbered, files_in_order, identities_of}
@@ -48,10 +48,10 @@ pub use Rattle.fx_plain.specs.declared.event.Action.{Action}
 pub use Rattle.fx_plain.specs.declared.event.Action.TheVariants.{Allocate, Clear, Close, Full, Look, Put, Release, Take}
 pub use Rattle.fx_plain.specs.declared.event.Event.{Event}
 pub use Rattle.fx_plain.specs.declared.event.File.{File}
-pub use Rattle.fx_table.proofs.Members.{contains_head, contains_map, contains_mapped, contains_none, contains_only, contains_reverse}
-pub use Rattle.fx_table.proofs.Members.{contains_reversed, each_all, read_at, stands_at}
-pub use Rattle.fx_table.proofs.Ones.{bit_else, bit_here, counted_once, once_is, once_more, one_if, one_less_at, one_more_at, times}
-pub use Rattle.fx_table.proofs.SumLemmas.{found_by, found_sum, sum_at, sum_le_at, sum_map, sum_of, sum_set, sum_two, sum_zero, sum_zero_at}
+pub use Rattle.fx_table.proofs.SumLemmas.{contains_head, contains_map, contains_mapped, contains_none, contains_only, contains_reverse}
+pub use Rattle.fx_table.proofs.SumLemmas.{contains_reversed, each_all, read_at, stands_at, bit_else, bit_here, counted_once, once_is, once_more}
+pub use Rattle.fx_table.proofs.SumLemmas.{one_if, one_less_at, one_more_at, times, found_by, found_sum, sum_at, sum_le_at, sum_map, sum_of, sum_set}
+pub use Rattle.fx_table.proofs.SumLemmas.{sum_two, sum_zero, sum_zero_at}
 pub use Rattle.fx_table.proofs.FullSlots.{full_all, full_else, full_few, full_here, full_one}
 pub use Rattle.fx_table.specs.FullSlots.{first_at, full_in, if_full}
 pub use Rattle.fx_table.specs.Shells.{AreBack, AreFirstHomes, file_in_place}
@@ -59,7 +59,7 @@ pub use Rattle.fx_table.specs.Calls.{Adds, Draws, Use, both_uses, no_use, one_lo
 pub use Rattle.fx_table.specs.Closing.{ClosesTable, times_drawn}
 pub use Rattle.fx_table.specs.Numbers.{numbers_for, numbers_up_to, once}
 pub use Rattle.fx_table.specs.Opening.{HasSameFiles, IsGivenBack, range_of, size_of, start_of}
-pub use Rattle.fx_table.specs.Pass.{IsFront, IsIdle, PassView, event_of, new_pass, next_number, retired_of}
+pub use Rattle.fx_table.specs.Pass.{IsFront, IsIdle, PassView, event_of, new_pass, next_number, retired_of, hold_of}
 pub use Rattle.fx_table.specs.Settling.{IsSettledSoFar}
 pub use Rattle.fx_table.specs.Tasks.{activity_of, retiring}
 pub use Rattle.fx_table.specs.declared.limits.TheConstants.{MAX_CHAINS, MAX_PASSES}
@@ -71,7 +71,7 @@ pub use Rattle.fx_words.specs.Words.{retire_amount_of, slot_word_of, takes_in}
 pub use Rattle.std.proofs.Common.{All, Bool, IsSome, List, None, Option, Some, [], ap, arith, cond, drop, eq-eqb, eqb, false, get_or}
 pub use Rattle.std.proofs.Common.{get_or-set_other, get_or-set_same, inl, inr, le-ltb, length, length-append, length-set, lt-ltb, map, nat_eq, nat_lt}
 pub use Rattle.std.proofs.Common.{ne_eqb, refl, reverse, rules, set, slice_index, subst, suc, sym, take, true, vec_capacity, zero, ℕ, ⊎_elim, ◌%◌}
-pub use Rattle.std.proofs.Common.{◌&&◌, ◌*◌, ◌++◌, ◌+◌, ◌-◌, ◌/◌, ◌<◌, ◌^◌, ◌∙◌, ◌∷◌, ◌≡◌, ◌≢◌, ◌≤◌, ◌⊎◌}
+pub use Rattle.std.proofs.Common.{◌&&◌, ◌*◌, ◌++◌, ◌+◌, ◌-◌, ◌/◌, ◌<◌, ◌^◌, ◌∙◌, ◌∷◌, ◌≡◌, ◌≢◌, ◌≤◌, ◌⊎◌, not}
 pub use Rattle.std.proofs.Math.ListN.{get_or-eq_default}
 pub use Rattle.std.proofs.Math.Nat.{mul-add, mul-le-mul_left, mul-le-mul_right}
 pub use Rattle.std.proofs.lemmas.List.{append-nil, get_or_append_left, get_or_default, get_or_push, length-map, length-reverse, set-get_or}
@@ -85,3 +85,9 @@ pub use lib.ListN.{get_elem?}
 pub use mathlib.Core.Logic.{dite}
 pub use mathlib.Core.Option.{none, some, some-injective, some-ne-none}
 pub use native.Mathlib.Decide.{dec_le, ℕ_discrete}
+pub use Rattle.fx_table.proofs.Calls.{adds_then, cleared_so, placed_so, new_here, taken_so}
+pub use Rattle.fx_table.specs.declared.values.Hold.{Hold}
+pub use Rattle.fx_plain.proofs.Prepared.{inside_behind, opens_inside, numbered_anew}
+pub use Rattle.fx_table.proofs.Seats.{only_here, AreReseated, split, joined, logs_are, sum_gathered, each_seat, gathered, last_of}
+pub use Rattle.fx_table.proofs.Growing.{Grows, grows_none, grows_one, part_mine, each_changed}
+pub use Rattle.fx_table.proofs.Chains.{first_left, last_left, in_part, some_there, some_times, IsReady, fits, one_dealt, all_dealt, AreDealt}

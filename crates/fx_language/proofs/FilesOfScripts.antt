@@ -1,11 +1,18 @@
--- The files of a script are a catalogue, of bytes alone.
-use Rattle.std.proofs.Common.{◌≡◌, ℕ, ◌+◌, ◌<◌, ◌≤◌, ◌==◌, nat_le, nat_lt, true, false, not, List, [], ◌∷◌, ◌++◌, length, refl, subst, arith}
-use Rattle.std.proofs.Common.{Option, option_and_then, Result, Ok, Err, ok_or, IfOk}
+-- Scripts: their printable words, their faults and their files.
+use Rattle.std.proofs.Common.{◌≡◌, ℕ, ◌≤◌, Bool, true, false, nat_le, List, [], ◌∷◌, refl, arith, Result, Ok, Err, inl, inr, ap, ◌+◌, ◌<◌, nat_lt}
+use Rattle.std.proofs.Common.{not, ◌++◌, length, subst, Option, option_and_then, ok_or, IfOk}
+use Rattle.std.specs.Prelude.{◌==◌, ◌&&◌, if◌then◌else◌, IsAscii, IsUtf8, MatchResult, codes}
+use Rattle.std.specs.Result.{IsOk, result_ok}
+use Rattle.std.specs.List.{list_all, onto_first}
+use Rattle.std.proofs.lemmas.Str.{IsUtf8-from_ascii}
+use Rattle.std.proofs.lemmas.Str.Ascii.{IsAscii-nil, IsAscii-cons}
+use Rattle.fx_language.specs.Lines.{is_printable, words, lines, is_skipped}
+use Rattle.std.proofs.lemmas.Bool.{and_parts, leb-true, cond_both, leb-false, ltb-false, not-false}
+use Rattle.fx_language.specs.Laws.{IsScriptOrFaulty}
+use Rattle.fx_language.specs.Script.{Meaning, LineFault, reading_of, AreFiles, Progress, IsScript, after_file, after_line, after_text, after_texts}
+use Rattle.fx_language.specs.Script.{at_end, is_late, line_fault_of, nothing, on_line, unless, with_named_file}
 use Rattle.std.specs.Str.{bytes_eq}
-use Rattle.std.proofs.lemmas.Bool.{cond_both, leb-false, ltb-false, not-false}
 use Rattle.std.proofs.lemmas.List.Elements.{All-nil, All-push}
-use Rattle.std.specs.Prelude.{codes}
-use Rattle.std.specs.Result.{result_ok}
 use Rattle.hex.specs.Hex.{IsBytes, decode_of}
 use Rattle.hex.specs.declared.error.FromHexError.{FromHexError}
 use Rattle.hex.proofs.HexLemmas.{decode_of-ok}
@@ -19,9 +26,64 @@ use Rattle.fx_language.specs.declared.fault.ScriptFault.{ScriptFault}
 use Rattle.fx_language.specs.declared.fault.ScriptFault.TheVariants.{BadHex}
 use Rattle.fx_language.specs.declared.limits.TheConstants.{LONGEST_SCRIPT, LONGEST_LINE}
 use Rattle.fx_language.specs.Line.{Line, FileLine, line_of, ◌>>=◌}
-use Rattle.fx_language.specs.Lines.{lines, words, is_printable, is_skipped}
-use Rattle.fx_language.specs.Script.{AreFiles, LineFault, Meaning, Progress, IsScript, after_file, after_line, after_text, after_texts, at_end}
-use Rattle.fx_language.specs.Script.{is_late, line_fault_of, nothing, on_line, reading_of, unless, with_named_file}
+
+-- one byte before the parts
+one_byte : (ends : Bool) (b : ℕ) (parts : List (List ℕ)) → nat_le 32 b && nat_le b 126 ≡ true → list_all is_printable parts ≡ true
+    → list_all is_printable (if ends then [] ∷ parts else onto_first b parts) ≡ true
+one_byte true b parts here all = all
+one_byte false b [] here all = rw here
+one_byte false b (part ∷ others) here all = rw here all
+
+-- the words of a printable line are printable
+pub words_are_printable : (line : List ℕ) → is_printable line ≡ true → list_all is_printable (words line) ≡ true
+words_are_printable [] all = refl
+words_are_printable (b ∷ bs) all =
+    let parts = and_parts (nat_le 32 b && nat_le b 126) (is_printable bs) all in
+    one_byte (b == 32) b (words bs) parts.0 (words_are_printable bs parts.1)
+
+-- and so are the later ones
+pub others_are_printable : {word : List ℕ} {others left : List (List ℕ)} → left ≡ word ∷ others → list_all is_printable left ≡ true
+    → list_all is_printable others ≡ true
+others_are_printable {word} {others} is all = (and_parts (is_printable word) (list_all is_printable others) (rw is at all)).1
+
+printable_is_ascii : (word : List ℕ) → is_printable word ≡ true → IsAscii word
+printable_is_ascii [] all = IsAscii-nil
+printable_is_ascii (b ∷ bs) all =
+    let parts = and_parts (nat_le 32 b && nat_le b 126) (is_printable bs) all in
+    let small : b ≤ 126 = leb-true b 126 (and_parts (nat_le 32 b) (nat_le b 126) parts.0).1 in
+    IsAscii-cons b bs (omega arith) (printable_is_ascii bs parts.1)
+
+pub printable_is_text : (word : List ℕ) → is_printable word ≡ true → IsUtf8 word
+printable_is_text word all = IsUtf8-from_ascii word (printable_is_ascii word all)
+
+-- a conversion that fails only for bytes that aren't text doesn't fail
+pub text_is_ok : {A E : Type 0} (r : Result A E) (word : List ℕ) (P : A → Type 0) (Q : E → Type 0)
+    → MatchResult r P (λ e. ¬ (IsUtf8 word) × Q e) → IsUtf8 word → IsOk r
+text_is_ok (Ok x) word P Q cases is = refl
+text_is_ok (Err e) word P Q cases is = absurd (cases.0 is)
+
+-- Scripts, their faults and their files.
+
+by_reading : (bytes : List ℕ) (r : Result Meaning LineFault) → reading_of bytes ≡ r → IsScriptOrFaulty bytes
+by_reading bytes (Ok meaning) is = inl (record {
+  meaning = meaning;
+  is_script = is;
+  only = λ other script. cc (script, is);
+  no_fault = λ line kind fault. cc (fault, is);
+})
+by_reading bytes (Err fault) is = inr (record {
+  line = fault.line;
+  kind = fault.kind;
+  has_fault = is;
+  only_line = λ other of_kind has. let same : record { line = other; kind = of_kind } ≡ fault = cc (has, is) in ap (λ (f : LineFault). f.line) same;
+  only_kind = λ on other has. let same : record { line = on; kind = other } ≡ fault = cc (has, is) in ap (λ (f : LineFault). f.kind) same;
+  no_script = λ meaning script. cc (script, is);
+})
+
+pub decided : (bytes : List ℕ) → IsScriptOrFaulty bytes
+decided bytes = by_reading bytes (reading_of bytes) refl
+
+-- The files of a script are a catalogue, of bytes alone.
 
 -- the files of lines that are read are those of a script
 abbrev Keeps : Result Progress ScriptFault → Type 0

@@ -1,3 +1,1 @@
-pub mod Printable
-pub mod Decided
 pub mod FilesOfScripts

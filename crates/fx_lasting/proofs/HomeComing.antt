@@ -1,13 +1,13 @@
 -- The files at the settled end of a table whose passes are all idle: they are in the places of their nodes.
-use Rattle.fx_lasting.proofs.Words.{◌≡◌, ℕ, ◌-◌, sym, refl, ap, ◌∙◌, arith, Option, Some, None, List, subst, Closed, State, state_of}
-use Rattle.fx_lasting.proofs.Words.{slice_index, some, get_elem?, node_in, slot_place, stands_at, some-injective, File, Names, name_in, Agrees}
-use Rattle.fx_lasting.proofs.Words.{slots_of, state_after_all, LastingTable, Start, View, HasNoFile, eq-eqb, ne_eqb}
+use Rattle.fx_lasting.proofs.Words.{◌≡◌, ℕ, ◌-◌, sym, refl, ap, ◌∙◌, arith, Option, Some, None, List, subst, Closed, State, state_of, slice_index}
+use Rattle.fx_lasting.proofs.Words.{some, get_elem?, node_in, slot_place, stands_at, some-injective, File, Names, name_in, Agrees, slots_of}
+use Rattle.fx_lasting.proofs.Words.{state_after_all, LastingTable, Start, View, HasNoFile, eq-eqb, ne_eqb}
 use Rattle.std.specs.Prelude.{option_map}
 use Rattle.atomic_table.specs.Table.{Final, Seen}
 use Rattle.fx_plain.specs.Contents.{Contents}
 use Rattle.fx_plain.specs.Table.{number_of}
 use Rattle.fx_table.specs.Shells.{AreBack}
-use Rattle.fx_table.proofs.HomeComing.{AreAtHome, AreStored, at_home, file_at, files_are}
+use Rattle.fx_table.proofs.Shells.{AreAtHome, AreStored, at_home, file_at, files_are}
 use Rattle.fx_lasting.specs.Lives.{AllAreIdle, Leaves}
 use Rattle.fx_lasting.proofs.Ending.{home_file, file_home, one_slot, none_outside_end}
 use Rattle.fx_lasting.proofs.Histories.{same_shape}

@@ -4,37 +4,36 @@ pub use Rattle.atomic_table.specs.Seated.{TableId}
 pub use Rattle.atomic_table.specs.Table.{Act, keeps, Valid, stepped, carried_after, step, gives, rest, takes, Allows}
 pub use Rattle.fx_base.specs.declared.open_file.Closed.{Closed}
 pub use Rattle.fx_lasting.specs.Agrees.{HoldAgrees, MayBeUnmarked, GuardAgrees, GlanceAgrees, Heats, LogAgrees, ViewAgrees, Agrees, NodeAgrees, Does}
-pub use Rattle.fx_lasting.specs.Agrees.{OwnerAgrees, HoldsAt, WorkAgrees, IsAllowed, IsIdleIn, IsToVisit, NamesNode, Nodes, Names, IsSeated, SlotAgrees, Home, IsFileOfNode}
-pub use Rattle.fx_lasting.specs.Agrees.{IsVacant}
+pub use Rattle.fx_lasting.specs.Agrees.{OwnerAgrees, HoldsAt, WorkAgrees, IsAllowed, IsIdleIn, IsToVisit, NamesNode, Nodes, Names, IsSeated}
+pub use Rattle.fx_lasting.specs.Agrees.{SlotAgrees, Home, IsFileOfNode, IsVacant}
 pub use Rattle.fx_lasting.specs.AtWork.{IsAtWork, IsReleasing, HasPlace}
 pub use Rattle.fx_lasting.specs.Control.{owing, owing_of, is_in, uncounted, account, ControlCounts}
 pub use Rattle.fx_lasting.specs.Counts.{tally, owed}
 pub use Rattle.fx_lasting.specs.Ends.{LetsMarkGo, LetsFileGo, Guards, LooksByTake}
 pub use Rattle.fx_lasting.specs.Cuts.{new_logs, first_view, together, spent}
-pub use Rattle.fx_lasting.specs.Laws.{HasToLetGo, IsOffCount}
-pub use Rattle.fx_lasting.specs.Laws.{ClearsKeep, TakesOutKeep, ExchangesKeep, HasPass, GlancesKeep, AnnouncesKeep, ConfirmsKeep, WithdrawsKeep}
-pub use Rattle.fx_lasting.specs.Laws.{TakesOnceKeep, HeatsKeep, SplitsKeep, JoinsKeep, LowersKeep, RaisesKeep, AsksKeep, PeeksKeep}
-pub use Rattle.fx_lasting.specs.Laws.{InstallsKeep, StepsDownKeep, LettingGoKeeps, SeeksKeep, BirthsKeep, RestsKeep, VisitsKeep, MarksKeep}
+pub use Rattle.fx_lasting.specs.Laws.{HasToLetGo, IsOffCount, ClearsKeep, TakesOutKeep, ExchangesKeep, HasPass, GlancesKeep, AnnouncesKeep}
+pub use Rattle.fx_lasting.specs.Laws.{ConfirmsKeep, WithdrawsKeep, TakesOnceKeep, HeatsKeep, SplitsKeep, JoinsKeep, LowersKeep, RaisesKeep, AsksKeep}
+pub use Rattle.fx_lasting.specs.Laws.{PeeksKeep, InstallsKeep, StepsDownKeep, LettingGoKeeps, SeeksKeep, BirthsKeep, RestsKeep, VisitsKeep, MarksKeep}
 pub use Rattle.fx_lasting.specs.Laws.{RetiresKeep, IsInRange, ListsKeep, SkimsKeep, IsPassed}
 pub use Rattle.fx_lasting.specs.Layout.{control_place, list_place, slot_place, hold_place, node_place, block_for, block_start}
 pub use Rattle.fx_lasting.specs.Opens.{word_for, node_for, home_for, first_file, OpensWith}
-pub use Rattle.fx_lasting.specs.Parts.{hot_bit, count_in, hot_in, IsHot, cold_takes, birth_word, closed_word, retirement_amount, announced, mark, bit_of}
-pub use Rattle.fx_lasting.specs.Parts.{IsListedIn}
-pub use Rattle.fx_lasting.specs.Passes.{node_of_number, HasNoFile}
-pub use Rattle.fx_lasting.specs.Passes.{Shared, Sat, state_at_start, slots_of, range_at_start, nodes_of, IsInBlock, word_of, hold_word_of, logs_of, lengths}
-pub use Rattle.fx_lasting.specs.Passes.{state_after_all, IsHistory, new_log, first_log, held_in, if_file, held_of, taking, taken_of}
+pub use Rattle.fx_lasting.specs.Parts.{hot_bit, count_in, hot_in, IsHot, cold_takes, birth_word, closed_word, retirement_amount, announced, mark}
+pub use Rattle.fx_lasting.specs.Parts.{bit_of, IsListedIn}
+pub use Rattle.fx_lasting.specs.Passes.{node_of_number, HasNoFile, Shared, Sat, state_at_start, slots_of, range_at_start, nodes_of, IsInBlock}
+pub use Rattle.fx_lasting.specs.Passes.{word_of, hold_word_of, logs_of, lengths, state_after_all, IsHistory, new_log, first_log, held_in, if_file}
+pub use Rattle.fx_lasting.specs.Passes.{held_of, taking, taken_of}
 pub use Rattle.fx_lasting.specs.Phases.{Phase, owner, file_in, file_if_numbered, removed_in, free, placed, seated, leaving, retired, emptied}
 pub use Rattle.fx_lasting.specs.Runs.{Runs}
-pub use Rattle.fx_lasting.specs.Tables.{hold_at, retired_at, doing_in, numbers_of_pass, pass_of, opening_of, view_of, steps_taken, IsBetweenCalls, IsSeatOf, IsPassOf}
-pub use Rattle.fx_lasting.specs.Tables.{opening_of_table, IsPassOfTable, IsSeatOfTable}
+pub use Rattle.fx_lasting.specs.Tables.{hold_at, retired_at, doing_in, numbers_of_pass, pass_of, opening_of, view_of, steps_taken, IsBetweenCalls}
+pub use Rattle.fx_lasting.specs.Tables.{IsSeatOf, IsPassOf, opening_of_table, IsPassOfTable, IsSeatOfTable}
 pub use Rattle.fx_lasting.specs.declared.pass.LastingPass.{LastingPass}
 pub use Rattle.fx_lasting.specs.declared.table.LastingTable.{LastingTable}
-pub use Rattle.fx_lasting.specs.Tells.{LetsGo, At, rested, Lists, Skims, IsOnList, as_listed, round_at, round_from, new_round}
+pub use Rattle.fx_lasting.specs.Tells.{LetsGo, At, rested, Lists, Skims, IsOnList, as_listed, round_at, round_from, new_round, Announces, Shows}
+pub use Rattle.fx_lasting.specs.Tells.{Confirms, Withdraws, glance_after, Takes, HeatTells, StepsDown, TakesOut, slot_of, pass_at, pass_event}
+pub use Rattle.fx_lasting.specs.Tells.{pass_in, IsInside, Stepped, Goes, Glances, Exchanges, LettingGo, Seeks, Births, Rests, Visits, Marks, Retires}
+pub use Rattle.fx_lasting.specs.Tells.{first_visit, retiring_work, Found, Installs, Removes, Turns, Asks, Peeks}
 pub use Rattle.fx_lasting.specs.Visits.{Visited, HasVisited, HasMarked, round_to}
 pub use Rattle.fx_lasting.specs.Searches.{next_of}
-pub use Rattle.fx_lasting.specs.Tells.{Announces, Shows, Confirms, Withdraws, glance_after, Takes, HeatTells, StepsDown, TakesOut, slot_of, pass_at}
-pub use Rattle.fx_lasting.specs.Tells.{pass_event, pass_in, IsInside, Stepped, Goes, Glances, Exchanges, LettingGo, Seeks, Births, Rests, Visits, Marks}
-pub use Rattle.fx_lasting.specs.Tells.{Retires, first_visit, retiring_work, Found, Installs, Removes, Turns, Asks, Peeks}
 pub use Rattle.fx_lasting.specs.declared.view.Change.{Change}
 pub use Rattle.fx_lasting.specs.declared.view.Change.TheVariants.{Outside, Inside}
 pub use Rattle.fx_lasting.specs.declared.view.Glance.{Glance}
@@ -47,7 +46,7 @@ pub use Rattle.fx_lasting.specs.declared.view.Work.{Work}
 pub use Rattle.fx_lasting.specs.declared.view.Work.TheVariants.{Idle, Announced, Counted, Guarded, Owing, Yielding, Searching, Placing, Retiring}
 pub use Rattle.fx_lasting.specs.declared.view.Work.TheVariants.{Emptying}
 pub use Rattle.fx_plain.proofs.Cells.{changed_here, changed_else, by_equality}
-pub use Rattle.fx_plain.specs.Contents.{state_of}
+pub use Rattle.fx_plain.specs.Contents.{state_of, Contents, IsPrepared}
 pub use Rattle.fx_plain.specs.History.{◌▷◌, held_by, held_after, part_of_pass, IsSeenBy, action_of, ◌▷▷◌, ReleasesItsOwn}
 pub use Rattle.fx_plain.specs.State.{State, IsSettled}
 pub use Rattle.fx_plain.specs.Step.{changed_at, with_removed}
@@ -56,9 +55,9 @@ pub use Rattle.fx_plain.specs.declared.event.Action.{Action}
 pub use Rattle.fx_plain.specs.declared.event.Action.TheVariants.{Look, Put, Clear, Take, Allocate, Close, Release, Full}
 pub use Rattle.fx_plain.specs.declared.event.Event.{Event}
 pub use Rattle.fx_plain.specs.declared.event.File.{File}
-pub use Rattle.fx_table.proofs.Members.{contains_head, contains_map, contains_only, stands_at}
-pub use Rattle.fx_table.proofs.Ones.{one_if, bit_here, bit_else, once_is, one_more_at, one_less_at, counted_once}
-pub use Rattle.fx_table.proofs.SumLemmas.{found_by, found_sum, sum_at, sum_two, sum_set, sum_le_at, sum_of, sum_zero_at, sum_only}
+pub use Rattle.fx_table.proofs.SumLemmas.{contains_head, contains_map, contains_only, stands_at, one_if, bit_here, bit_else, once_is, one_more_at}
+pub use Rattle.fx_table.proofs.SumLemmas.{one_less_at, counted_once, found_by, found_sum, sum_at, sum_two, sum_set, sum_le_at, sum_of, sum_zero_at}
+pub use Rattle.fx_table.proofs.SumLemmas.{sum_only}
 pub use Rattle.fx_words.proofs.Parts.{name_made, entry_made, takes_made}
 pub use Rattle.fx_words.specs.Words.{end_amount_of, node_in, name_in, entry_in, slot_word_of, one_change, bias}
 pub use Rattle.std.proofs.Common.{bit_or, eq-eqb, ne_eqb, length-append, true, map, get_or, IsSome, ◌*◌, get_or-set_other, get_or-set_same, ◌/◌}
@@ -66,7 +65,7 @@ pub use Rattle.std.proofs.Common.{lt-ltb, le-ltb, Option, Some, None, slice_inde
 pub use Rattle.std.proofs.Common.{length-set, ◌≡◌, ◌≢◌, ℕ, zero, suc, ◌<◌, ◌≤◌, Bool, cond, nat_lt, List, [], ◌∷◌, length, set, sym, refl, ap, ◌∙◌}
 pub use Rattle.std.proofs.Common.{subst, arith, rules, All, take, drop, reverse, vec_capacity, nat_eq}
 pub use Rattle.std.proofs.Math.Nat.{mul-le-mul_right}
-pub use Rattle.std.proofs.lemmas.List.{length-map, set-get_or}
+pub use Rattle.std.proofs.lemmas.List.{length-map, set-get_or, get_or_append_left, get_or_push}
 pub use Rattle.std.proofs.lemmas.List.FromFn.{length-map-range_with_len}
 pub use Rattle.std.proofs.lemmas.List.Sums.{sum_by-append, sum_by-cons}
 pub use Rattle.std.specs.Int.{bit_at}
@@ -76,8 +75,6 @@ pub use Rattle.fx_table.proofs.FullSlots.{full_all, full_else, full_few, full_he
 pub use Rattle.fx_table.specs.FullSlots.{first_at, full_in, if_full}
 pub use Rattle.fx_table.specs.Shells.{AreFirstHomes}
 pub use Rattle.fx_lasting.specs.Lives.{dealt, logs_in, IsNewPass, HasAllPasses, IsIdleSeatOf, AllAreIdle, Leaves}
-pub use Rattle.fx_plain.specs.Contents.{Contents, IsPrepared}
-pub use Rattle.std.proofs.lemmas.List.{get_or_append_left, get_or_push}
 pub use Rattle.std.specs.Mem.Slots.{slots_items, slots_len, IsFull, slots_filled}
 pub use Rattle.std.specs.Prelude.{sum_by, Contains, ℤ}
 pub use lib.ListN.{get_elem?}

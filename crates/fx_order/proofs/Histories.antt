@@ -1,14 +1,157 @@
+-- The history of an order: its accesses, each done at once.
+use Rattle.fx_order.proofs.Words.{◌≡◌, ℕ, ◌+◌, ◌<◌, ◌≤◌, ◌==◌, true, List, [], ◌∷◌, ◌++◌, map, filter, cond, refl, sym, ap, subst, ◌∙◌, append_assoc}
+use Rattle.fx_order.proofs.Words.{All-contains, arith, All, Contains, append-nil, map-append, All-head, All-tail, Contains-append_cases}
+use Rattle.fx_order.proofs.Words.{filter-append, Event, Action, State, IsSettled, action_of, part_of_chain, AllowsAll, Leads, AllReleaseTheirOwn}
+use Rattle.fx_order.proofs.Words.{state_after, closes_in, by_equality, Table, PermitsAll, access_of, accesses_of, accesses_of_chain, files_removed_in}
+use Rattle.fx_order.proofs.Words.{table_after, Access, ChainAccess, leads_then, closes_in-then, contains_none, ⊎_elim, All-map, ◌*◌, either_case}
+use Rattle.fx_order.proofs.Words.{length, length-append, sum_by, sum_by-cons, FileEntry, IsAccepted, members_of, Completed, next_member, severs}
+use Rattle.fx_order.proofs.Words.{first_member, Asked, runs_of, Place, IsChainDone, AreChainsDone, chains_of, installs_of, all_installs}
+use Rattle.fx_order.proofs.Words.{accepted-chains, members-are-runs, lt-ltb, le-ltb, Closed, opening, state_of, numbers_for, RingContents, RingState}
+use Rattle.fx_order.proofs.Words.{HasClosed, ring_of, IsOneHistory, Reported, IsOneOrder, table_of, sum_by-le}
+use Rattle.fx_order.proofs.Accesses.{of_all, of_author, shown, shown-opening}
+use Rattle.fx_order.proofs.RequestSteps.{AllDo, Done, by, done, installs, all_chains_explained}
+use Rattle.fx_order.proofs.Ordered.{IsWithin, ring_after, same_outline}
+use Rattle.fx_ring.proofs.Parts.{few_by_key}
+use Rattle.fx_order.proofs.ChainsFront.{chain_at}
+use Rattle.fx_order.proofs.Placed.{placed, placed_by}
+use Rattle.fx_order.proofs.RequestCases.{few_placed}
+use Rattle.fx_order.proofs.OneRing.{NonePast, none_past_accesses, none_past_table, ring_with_files, shows_ring}
+
+-- the number of files that the accesses install
+abbrev pub installs_in : List Access → ℕ
+installs_in [] = 0
+installs_in (access ∷ accesses) = installs access + installs_in accesses
+
+-- a legal history of the order's accesses, from one settled state to another
+pub record Made (chains : ℕ) (st : State) (order : List ChainAccess) : Type 0 where
+  pub history : List Event
+  pub allowed : AllowsAll st (map action_of history)
+  pub releases : (before : List Event) → AllReleaseTheirOwn before → AllReleaseTheirOwn (history ++ before)
+  pub shows : shown (state_after st (map action_of history)) ≡ table_after (shown st) (accesses_of order)
+  pub settled : IsSettled (state_after st (map action_of history))
+  pub authors : (e : Event) → Contains history e → IsWithin chains e.chain
+  pub parts : (chain : ℕ) → AllDo (accesses_of_chain chain order) (map action_of (part_of_chain chain history))
+  pub closes : closes_in (map action_of history) ≡ files_removed_in (accesses_of order)
+
+module _ (chains : ℕ) (st : State) (number : ℕ) (x : ChainAccess) (order : List ChainAccess) (within : IsWithin chains x.chain)
+    (one : Done st number x.access) (rest : Made chains (state_after st one.own) order) where
+  abbrev mine : List Event
+  mine = map (by x.chain) one.own
+
+  whole : map action_of (rest.history ++ mine) ≡ map action_of rest.history ++ one.own
+  whole = map-append action_of rest.history mine ∙ (λ i. map action_of rest.history ++ of_all (by x.chain) action_of (λ _. refl) one.own i)
+
+  abbrev theirs : List Action
+  theirs = map action_of rest.history
+
+  leads : Leads st (theirs ++ one.own) (state_after (state_after st one.own) theirs)
+  leads = leads_then st (state_after st one.own) (state_after (state_after st one.own) theirs) one.own theirs (one.allowed, refl) (rest.allowed, refl)
+
+  end : state_after (state_after st one.own) theirs ≡ state_after st (map action_of (rest.history ++ mine))
+  end = leads.1 ∙ ap (state_after st) (sym whole)
+
+  part_does : (chain : ℕ) → AllDo (accesses_of_chain chain (x ∷ order)) (map action_of (part_of_chain chain (rest.history ++ mine)))
+  part_does chain =
+      let part : List Action = map action_of (part_of_chain chain rest.history) in
+      let own = of_author (by x.chain) action_of (λ e. e.chain == chain) (x.chain == chain) (λ _. refl) (λ _. refl) one.own in
+      let all : map action_of (part_of_chain chain (rest.history ++ mine)) ≡ part ++ cond (x.chain == chain) one.own [] =
+      ap (map action_of) (filter-append (λ e. e.chain == chain) rest.history mine)
+      ∙ (map-append action_of (part_of_chain chain rest.history) (part_of_chain chain mine) ∙ (λ i. part ++ own i)) in
+      let others : List ChainAccess = filter (λ y. y.chain == chain) order in
+      subst (AllDo (accesses_of_chain chain (x ∷ order))) (sym all)
+      (by_equality x.chain chain (λ b. AllDo (map access_of (cond b (x ∷ others) others)) (part ++ cond b one.own []))
+      (λ _. (one.own, part, refl, one.does, rest.parts chain))
+      (λ _. subst (AllDo (accesses_of_chain chain order)) (sym (append-nil part)) (rest.parts chain)))
+
+  one_more : Made chains st (x ∷ order)
+  one_more = record {
+    history = rest.history ++ mine;
+    allowed = subst (AllowsAll st) (sym whole) leads.0;
+    releases = λ before all. subst AllReleaseTheirOwn (sym (append_assoc rest.history mine before))
+        (rest.releases (mine ++ before) (one.releases x.chain before all));
+    shows = ap shown (sym end) ∙ (rest.shows ∙ ap (λ (t : Table). table_after t (accesses_of order)) one.shows);
+    settled = subst IsSettled end rest.settled;
+    authors = λ e has. ⊎_elim (λ theirs. rest.authors e theirs)
+        (All-contains (λ e. IsWithin chains e.chain) mine e (All-map (λ e. IsWithin chains e.chain) (by x.chain) one.own (λ _ _ _. within)))
+        (Contains-append_cases rest.history mine e has);
+    parts = part_does;
+    closes = ap closes_in whole ∙ (closes_in-then one.own (map action_of rest.history) ∙ (λ i. one.closes i ++ rest.closes i));
+  }
+
+-- each order that the table permits is a history, where enough numbers are fresh
+pub made : (chains : ℕ) (order : List ChainAccess) (st : State) (number : ℕ) → IsSettled st
+    → ((n : ℕ) → number ≤ n → n < number + installs_in (accesses_of order) → st.fresh n ≡ true)
+    → All (λ x. IsWithin chains x.chain) order → PermitsAll (shown st) (accesses_of order) → Made chains st order
+made chains [] st number settled fresh within may = record {
+  history = [];
+  allowed = tt;
+  releases = λ before all. all;
+  shows = refl;
+  settled = settled;
+  authors = λ e has. absurd (contains_none e has);
+  parts = λ chain. refl;
+  closes = refl;
+}
+made chains (x ∷ order) st number settled fresh within may =
+    let one : Done st number x.access = done st number settled x.access (λ some. fresh number (omega arith) (omega arith)) may.0 in
+    one_more chains st number x order (All-head (λ y. IsWithin chains y.chain) x order within) one
+    (made chains order (state_after st one.own) (number + installs x.access) one.settled
+    (λ n low high. one.fresh n low ∙ fresh n (omega arith) (omega arith))
+    (All-tail (λ y. IsWithin chains y.chain) x order within)
+    (subst (λ (t : Table). PermitsAll t (accesses_of order)) (sym one.shows) may.1))
+
+-- An order of a submission without a fault installs no more files than its chains have numbers.
+
+installs_in-append : (xs ys : List Access) → installs_in (xs ++ ys) ≡ installs_in xs + installs_in ys
+installs_in-append [] ys = omega arith
+installs_in-append (x ∷ xs) ys = let rest = installs_in-append xs ys in omega arith
+
+-- as many as files that they place
+installs_placed : (xs : List Access) → installs_in xs ≡ length (placed xs)
+installs_placed [] = refl
+installs_placed (x ∷ xs) = let rest = installs_placed xs in sym (length-append (placed_by x) (placed xs) ∙ omega arith)
+
+module _ (catalogue : List FileEntry) (size : ℕ) where
+  chain_few : (place : Place) (requests : List Asked) (accesses : List Access) (cs : List Completed)
+      → IsChainDone catalogue size place requests accesses cs → installs_in accesses ≤ all_installs requests
+  chain_few place [] accesses cs x = rw x.0 (omega arith)
+  chain_few place (request ∷ requests) accesses cs x =
+      let one = few_placed catalogue size place request.operation x.0 x.2 x.6 in
+      let own = installs_placed x.0 in
+      let more = either_case {R = installs_in x.1 ≤ all_installs requests} (severs request x.2) (λ y. rw y.0 (omega arith))
+      (chain_few (next_member place) requests x.1 x.3) x.7 in
+      let both = installs_in-append x.0 x.1 in
+      let all = sum_by-cons (λ (r : Asked). installs_of r.operation) request requests in
+      rw x.4 (omega arith)
+
+-- an order's, access by access
+order_installs : (order : List ChainAccess) → sum_by (λ x. installs x.access) order ≡ installs_in (accesses_of order)
+order_installs [] = refl
+order_installs (x ∷ order) = let rest = order_installs order in sum_by-cons (λ (y : ChainAccess). installs y.access) x order ∙ omega arith
+
+-- no chain of a submission without a fault installs more files than it has numbers
+few_a_chain : (requests : List Asked) → IsAccepted requests → All (λ run. all_installs run ≤ 64) (runs_of requests)
+few_a_chain requests accepted =
+    subst (All (λ (run : List Asked). all_installs run ≤ 64)) (members-are-runs requests)
+    (All-map (λ (run : List Asked). all_installs run ≤ 64) (members_of requests) (chains_of (runs_of requests))
+    (λ k d lt. (accepted-chains requests accepted k d lt).run.installs))
+
+pub few_installs : (catalogue : List FileEntry) (size submission : ℕ) (requests : List Asked) (order : List ChainAccess) (cs : List Completed)
+    → IsAccepted requests → All (λ x. (1 ≤ x.chain) × (x.chain ≤ length (runs_of requests))) order
+    → AreChainsDone catalogue size submission 1 (runs_of requests) order cs → installs_in (accesses_of order) ≤ 64 * length (runs_of requests)
+few_installs catalogue size submission requests order cs accepted within chains =
+    let few = few_by_key (λ x. x.chain) (λ x. installs x.access) (λ _. 64) [] 1 (runs_of requests) order
+    (λ k d lt. let low = (within k d lt).0 in let high = (within k d lt).1 in (omega arith, omega arith)) (λ i lt.
+    let c : ℕ = 1 + i in
+    let at = chain_at catalogue size submission 1 (runs_of requests) order cs chains (λ run. all_installs run ≤ 64)
+    (few_a_chain requests accepted) c (omega arith) (omega arith) in
+    let own = chain_few catalogue size (first_member submission c) at.run (accesses_of_chain c order) at.own at.done in
+    let most = at.holds in
+    omega (arith, order_installs (filter (λ x. x.chain == c) order))) in
+    let most = sum_by-le (λ (_ : List Asked). 64) 64 (runs_of requests) (λ k d lt. omega arith) in
+    omega (arith, few, most, order_installs order)
+
 -- The history of an order's accesses leads to what the order leads to.
-use Rattle.fx_order.proofs.Words.{◌≡◌, ℕ, ◌+◌, ◌≤◌, List, [], map, length, refl, sym, ap, subst, ◌∙◌, arith, lt-ltb, le-ltb, append-nil, Closed}
-use Rattle.fx_order.proofs.Words.{Action, State, opening, state_of, action_of, state_after, AllReleaseTheirOwn, numbers_for, IsAccepted, Asked}
-use Rattle.fx_order.proofs.Words.{runs_of, RingContents, RingState, HasClosed, ring_of, IsOneHistory, Reported, Table, PermitsAll, table_after}
-use Rattle.fx_order.proofs.Words.{accesses_of, IsOneOrder, table_of}
-use Rattle.fx_order.proofs.Accesses.{shown, shown-opening}
-use Rattle.fx_order.proofs.Explained.{all_chains_explained}
-use Rattle.fx_order.proofs.Installs.{few_installs}
-use Rattle.fx_order.proofs.Made.{Made, made}
-use Rattle.fx_order.proofs.Shown.{NonePast, none_past_accesses, none_past_table, ring_with_files, shows_ring}
-use Rattle.fx_order.proofs.Ordered.{ring_after, same_outline}
 
 history_of_order : {old new : RingContents} {requests : List Asked} {report : Reported} → (ring_of old).size ≤ 256
     → IsAccepted requests → IsOneOrder (ring_of old) requests report (ring_of new) → IsOneHistory old requests report new

@@ -9,7 +9,7 @@ pub use Rattle.fx_base.specs.declared.mark.Mark.{Mark}
 pub use Rattle.fx_base.specs.declared.mark.Mark.TheVariants.{Registered, Submitted}
 pub use Rattle.fx_base.specs.declared.open_file.Closed.{Closed}
 pub use Rattle.fx_chain.proofs.Cases.{both_options, both_ways, either_case, either_option, either_way, same_cases, same_options}
-pub use Rattle.fx_chain.proofs.Chains.{accepted-chains, members-are-runs}
+pub use Rattle.fx_chain.proofs.Accepted.{accepted-chains, members-are-runs, applied}
 pub use Rattle.fx_chain.proofs.EntryKinds.{list_installs-cons}
 pub use Rattle.fx_chain.specs.Accepted.{IsAccepted, IsChain, IsWithinLimits, members_of}
 pub use Rattle.fx_chain.specs.Answers.{Answers, AnswersAtTable, AppliesEntry, AppliesList, MayClose, OpensAt, ReadsAt, Refuses, TakesAt, installed}
@@ -40,10 +40,9 @@ pub use Rattle.fx_order.specs.Slots.{ring_of_slots, table_of_slots, ring_with_sl
 pub use Rattle.fx_order.specs.declared.access.Access.{Access}
 pub use Rattle.fx_order.specs.declared.access.ChainAccess.{ChainAccess}
 pub use Rattle.fx_order.specs.declared.slots.Slots.{Slots}
-pub use Rattle.fx_plain.proofs.Cells.{by_equality}
-pub use Rattle.fx_plain.proofs.LawTallies.{placed_one, present, tally, tally_all, tally_start}
+pub use Rattle.fx_plain.proofs.Cells.{by_equality, named, named_same}
+pub use Rattle.fx_plain.proofs.LawHolds.{placed_one, present, tally, tally_all, tally_start}
 pub use Rattle.fx_plain.proofs.Leading.{closes_in-then, leads_then}
-pub use Rattle.fx_plain.proofs.Named.{named, named_same}
 pub use Rattle.fx_plain.proofs.Prepared.{opening_is_start, same_identity}
 pub use Rattle.fx_plain.specs.Contents.{file_at, state_of}
 pub use Rattle.fx_plain.specs.History.{AllReleaseTheirOwn, AllowsAll, Leads, action_of, close_of, closed_by, closes_in, held_by, part_of_chain}
@@ -56,35 +55,36 @@ pub use Rattle.fx_plain.specs.declared.event.Action.{Action}
 pub use Rattle.fx_plain.specs.declared.event.Action.TheVariants.{Allocate, Clear, Close, Full, Look, Put, Release, Take}
 pub use Rattle.fx_plain.specs.declared.event.Event.{Event}
 pub use Rattle.fx_plain.specs.declared.event.File.{File}
-pub use Rattle.fx_ring.proofs.Rings.{file_told, not_yet}
+pub use Rattle.fx_ring.proofs.Rings.{file_told, not_yet, ring_so}
 pub use Rattle.fx_ring.specs.Ring.{HasClosed, IsRing, RingContents, RingState, ring_of, ring_with}
 pub use Rattle.fx_ring.specs.Submission.{ExplainsParts, IsOneHistory, Reported}
-pub use Rattle.fx_table.proofs.Members.{contains_cases, contains_head, contains_none, contains_tail}
+pub use Rattle.fx_table.proofs.SumLemmas.{contains_cases, contains_head, contains_none, contains_tail}
 pub use Rattle.fx_table.specs.Numbers.{numbers_for}
 pub use Rattle.std.proofs.Common.{All, Bool, Contains, Decides, IfOk, IsPermutation, IsSome, IsTrue, List, None, Option, Result, Some, [], ap}
 pub use Rattle.std.proofs.Common.{append_assoc, arith, cond, drop, eq-eqb, false, filter, if◌then◌else◌, inl, inr, int_le, length, map, min, nat_le}
 pub use Rattle.std.proofs.Common.{nat_lt, negsuc, not, of_z, option_map, pos, refl, rules, slice_get, slice_index_or, subst, suc, sym, take, to_z}
 pub use Rattle.std.proofs.Common.{true, w32, zero, ℕ, ℤ, ⊎_elim, ◌&&◌, ◌*◌, ◌++◌, ◌+◌, ◌-◌, ◌<◌, ◌==◌, ◌||◌, ◌↔◌, ◌∙◌, ◌∷◌, ◌≡◌, ◌≢◌, ◌≤◌, ◌⊎◌}
+pub use Rattle.std.proofs.Common.{add-zero, zero-add}
 pub use Rattle.std.proofs.Math.ListN.{get_or-eq_default}
 pub use Rattle.std.proofs.Math.Seq.{drop-append_seam, split_at, take-append_seam, take-length}
-pub use Rattle.std.proofs.lemmas.Bool.{cases_lt, false≢true, le-ltb, leb-false, lt-ltb, ltb-false, not-true, or_parts}
+pub use Rattle.std.proofs.lemmas.Bool.{cases_lt, false≢true, le-ltb, leb-false, lt-ltb, ltb-false, not-true, or_parts, cases_Bool, cond_both}
 pub use Rattle.std.proofs.lemmas.Bool.Decides.{Decides-and, Decides-eqb, Decides-like, nat_tests, when_false, when_true, Decides-not}
 pub use Rattle.std.proofs.lemmas.Bool.Decides.{not_from_Decides, same_from_decides}
 pub use Rattle.std.proofs.lemmas.List.{append-nil, drop-map, get_or-map, length-append, length-map, map-append, take-append-drop, take-map, take_all}
-pub use Rattle.std.proofs.lemmas.List.{take_more, get_or_default, nil_from_length}
+pub use Rattle.std.proofs.lemmas.List.{take_more, get_or_default, nil_from_length, length-take-le}
 pub use Rattle.std.proofs.lemmas.List.Elements.{All-append, All-cons, All-head, All-map, All-nil, All-tail, All-weaker, Contains-append_cases}
 pub use Rattle.std.proofs.lemmas.List.Elements.{Contains-append_right, filter-append, All-contains, Contains-get_or, recursion_from_All}
 pub use Rattle.std.proofs.lemmas.List.Sorted.{Contains-permutation, IsPermutation-cons, IsPermutation-map, IsPermutation-middle, IsPermutation-more}
 pub use Rattle.std.proofs.lemmas.List.Sorted.{IsPermutation-pop_more, IsPermutation-refl, IsPermutation-sym, IsPermutation-to_front}
 pub use Rattle.std.proofs.lemmas.List.Sorted.{IsPermutation-trans, length_permutation, sum_by-IsPermutation, IsPermutation-push_more}
-pub use Rattle.std.proofs.lemmas.List.Sums.{sum_by-append, sum_by-cons}
+pub use Rattle.std.proofs.lemmas.List.Sums.{sum_by-append, sum_by-cons, sum_by-le}
 pub use Rattle.std.proofs.lemmas.Map.Keys.{IsDistinct-IsPermutation, IsDistinct-cons, apart_from_distinct}
-pub use Rattle.std.proofs.lemmas.Option.{slice_get_past, get_or_from_slice_get, slice_get_within}
+pub use Rattle.std.proofs.lemmas.Option.{slice_get_past, get_or_from_slice_get, slice_get_within, slice_get_read}
 pub use Rattle.std.proofs.lemmas.Result.{IfOk-weaker}
 pub use Rattle.std.specs.Bool.{MatchBool}
 pub use Rattle.std.specs.Cmp.Lexicographic.{bytes_decides}
 pub use Rattle.std.specs.Global.{Vec}
 pub use Rattle.std.specs.List.{list_any, remove, sum_by, AllByRecursion, IsDistinct}
-pub use Rattle.std.specs.Option.{option_to_list}
-pub use Rattle.std.specs.Ordering.{is_lt}
+pub use Rattle.std.specs.Option.{option_to_list, option_eq}
+pub use Rattle.std.specs.Ordering.{is_lt, int_eq}
 pub use Rattle.std.specs.Str.{bytes_eq}

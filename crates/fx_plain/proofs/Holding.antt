@@ -4,11 +4,10 @@ use Rattle.fx_plain.proofs.Words.{◌∙◌, slice_index, slice_index_or, slice_
 use Rattle.fx_plain.proofs.Words.{get_or-set_other, Closed, File, Look, Release, Steps, changed_at, after, Leads, close_of, ◌▷▷◌, Contents, IsTable}
 use Rattle.fx_plain.proofs.Words.{IsCounted, state_of, slot_at, node_at, file_at, placed_at, leaving, removed_at, is_fresh, is_leaving, is_retired}
 use Rattle.fx_plain.proofs.Words.{identity_in, node_after_retirement, removed_count_of, At, Leaving, Retired, Gone, numbered, identity_of}
-use Rattle.fx_plain.proofs.Words.{closed_by_retirement, EndsHold, Node, get_or-le-sum_by, sum_by-set, ◌▷◌, closed_by_release}
+use Rattle.fx_plain.proofs.Words.{closed_by_retirement, EndsHold, Node, get_or-le-sum_by, sum_by-set, ◌▷◌, closed_by_release, All-from_get_or}
+use Rattle.fx_plain.proofs.Words.{sum_by-le}
 use Rattle.fx_plain.proofs.Cells.{by_equality, each_set, unchanged, written, inside_of, IsOff, inside_of-At, inside_told, leaving_is, retired_is}
 use Rattle.fx_plain.proofs.Cells.{state_of-holds, state_of-nodes, leaving-nodes, same_file}
-use Rattle.std.proofs.lemmas.List.Elements.{All-from_get_or}
-use Rattle.std.proofs.lemmas.List.Sums.{sum_by-le}
 
 -- the file at a slot
 pub at_is : (c : Contents) {slot number : ℕ} {file : Closed} → slot_at c.slots slot ≡ Some number → node_at c.nodes number ≡ At slot file

@@ -2,10 +2,8 @@
 use Rattle.fx_plain.proofs.Words.{◌≡◌, ◌≢◌, ◌⊎◌, ℕ, zero, suc, ◌<◌, Bool, true, false, List, [], ◌∷◌, length, refl, sym, ap, ◌∙◌, Option, Some, None}
 use Rattle.fx_plain.proofs.Words.{if◌then◌else◌, ◌==◌, arith, inl, inr, File, ◌+◌, ◌-◌, ◌≤◌, not, ◌&&◌, nat_lt, map, cases_lt, lt-ltb, le-ltb, State}
 use Rattle.fx_plain.proofs.Words.{IsSettled, opening, file_numbered, AllowsAll, state_after, action_of, Event, Action, IsLegal, identity_of}
-use Rattle.fx_plain.proofs.Words.{number_of, Put, Allocate}
+use Rattle.fx_plain.proofs.Words.{number_of, Put, Allocate, true_from_ne_false, IsStart, installed_by}
 use Rattle.fx_plain.proofs.Cells.{by_equality}
-use Rattle.std.proofs.lemmas.Bool.{true_from_ne_false}
-use Rattle.fx_plain.specs.Laws.{IsStart, installed_by}
 use Rattle.fx_plain.proofs.LawFiles.{installed_now, used_after}
 use Rattle.fx_plain.proofs.Renaming.{IsOneToOne, IsNamed, read_at, renamed_state, IsRenamable, InstallsNamed, legal_renamed}
 use Rattle.fx_plain.specs.Reopening.{Renaming, renamed_found, renamed_event, numbers_given, with_number_of, HasOtherNumbers, IsTableAtRest}

@@ -4,9 +4,8 @@ use Rattle.fx_plain.proofs.Words.{slice_set, ◌^◌, Option, Some, None, arith,
 use Rattle.fx_plain.proofs.Words.{File, Put, Take, changed_at, with_removed, Contents, IsTable, IsCounted, AllPlaced, state_of, slot_at, node_at}
 use Rattle.fx_plain.proofs.Words.{file_at, placed_at, leaving, removed_at, is_fresh, is_leaving, is_retired, node_after_removal, file_count_of}
 use Rattle.fx_plain.proofs.Words.{removed_count_of, At, Leaving, Gone, numbered, LetsLeave, sum_by, Node, IsSettled, get_or-le-sum_by, sum_by-set}
-use Rattle.fx_plain.proofs.Words.{number_of, more_leaving}
+use Rattle.fx_plain.proofs.Words.{number_of, more_leaving, sum_by-le}
 use Rattle.fx_plain.proofs.Cells.{each_set, written, unchanged, inside_of-At, inside_told, fresh_is, file_same}
-use Rattle.std.proofs.lemmas.List.Sums.{sum_by-le}
 use Rattle.fx_plain.proofs.Settled.{not_removed, IsQuiet, quiet_is}
 
 abbrev pub removed_of : List Node → ℕ → Option File

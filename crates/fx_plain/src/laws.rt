@@ -17,7 +17,7 @@ pub fn no_close_while_held()
 {}
 
 /// States that a file is closed at most once.
-#[tactic(auto, using(crate::proofs::LawTallies::closed_at_most_once))]
+#[tactic(auto, using(crate::proofs::LawHolds::closed_at_most_once))]
 pub fn closed_at_most_once()
     ensures { ClosedAtMostOnce }
 {}
@@ -48,7 +48,7 @@ pub fn opening_is_at_rest()
 {}
 
 /// States that a table at rest is at rest again whenever its history leads to a settled state.
-#[tactic(auto, using(crate::proofs::AtRest::stays_at_rest))]
+#[tactic(auto, using(crate::proofs::Prepared::stays_at_rest))]
 pub fn a_table_comes_to_rest()
     ensures { StaysAtRest }
 {}

@@ -1,11 +1,11 @@
 -- A worker goes on by one chain that its pass drew.
-use Rattle.fx_ring.proofs.Words.{◌≡◌, ◌≢◌, ℕ, ◌+◌, ◌-◌, ◌<◌, ◌≤◌, List, [], ◌∷◌, ◌++◌, map, length, sym, ap, subst, ◌∙◌, All, Contains, Some}
-use Rattle.fx_ring.proofs.Words.{None, ⊎_elim, length-append, arith, map-append, map-id, map-map, All-append, FileEntry, CloseListView, Closed, Event, Action}
-use Rattle.fx_ring.proofs.Words.{action_of, closes_in, part_of_chain, ◌▷◌, Opening, size_of, PassView, event_of, Completed, Explains, first_member}
-use Rattle.fx_ring.proofs.Words.{Asked, all_weights, IsEnoughFor, WorkerState, worker_state, run_of_chain, completions_of_chain, HasWorked, HasRoom, drop, slice_index_or}
-use Rattle.fx_ring.proofs.Words.{sum_by, sum_by-drop_more, drop-drop, Contains-append_cases, sum_by-take-drop, closes_in-then, Draws, Use}
-use Rattle.fx_ring.proofs.Words.{contains_head, contains_tail, contains_cases, contains_map, each_all, PlaysChainExactly, player}
-use Rattle.fx_chain.proofs.ChainGoesOn.{explained_count}
+use Rattle.fx_ring.proofs.Words.{◌≡◌, ◌≢◌, ℕ, ◌+◌, ◌-◌, ◌<◌, ◌≤◌, List, [], ◌∷◌, ◌++◌, map, length, sym, ap, subst, ◌∙◌, All, Contains, Some, None}
+use Rattle.fx_ring.proofs.Words.{⊎_elim, length-append, arith, map-append, map-id, map-map, All-append, FileEntry, CloseListView, Closed, Event}
+use Rattle.fx_ring.proofs.Words.{Action, action_of, closes_in, part_of_chain, ◌▷◌, Opening, size_of, PassView, event_of, Completed, Explains}
+use Rattle.fx_ring.proofs.Words.{first_member, Asked, all_weights, IsEnoughFor, WorkerState, worker_state, run_of_chain, completions_of_chain}
+use Rattle.fx_ring.proofs.Words.{HasWorked, HasRoom, drop, slice_index_or, sum_by, sum_by-drop_more, drop-drop, Contains-append_cases}
+use Rattle.fx_ring.proofs.Words.{sum_by-take-drop, closes_in-then, Draws, Use, contains_head, contains_tail, contains_cases, contains_map, each_all}
+use Rattle.fx_ring.proofs.Words.{PlaysChainExactly, player, explained_count}
 use Rattle.fx_ring.proofs.Parts.{only_first, only_second, not_first, not_second}
 use Rattle.fx_ring.proofs.CompletionPlaces.{explained_of_members}
 use Rattle.fx_table.proofs.Calls.{looks_least}

@@ -1,8 +1,43 @@
--- Where the completions of a chain stand.
-use Rattle.fx_ring.proofs.Words.{◌≡◌, ℕ, ◌+◌, ◌*◌, ◌<◌, ◌≤◌, List, [], ◌∷◌, length, refl, sym, ap, subst, arith, All, All-nil, All-cons, All-weaker}
-use Rattle.fx_ring.proofs.Words.{FileEntry, Action, Completed, next_member, Explains, canceled, severs, Asked, Place, either_case}
+-- The places of completions: of a chain, and of a submission in parts.
+use Rattle.fx_ring.proofs.Words.{◌≡◌, ℕ, ◌+◌, ◌-◌, ◌<◌, List, [], length, take, drop, slice_index_or, sym, ap, subst, ◌∙◌, All, arith, get_or-map}
+use Rattle.fx_ring.proofs.Words.{length-map, IsChain, IsShortRun, members_of, Asked, all_asked, runs_of, all_installs, Chain, Request, AreCutInto}
+use Rattle.fx_ring.proofs.Words.{InstallAtMost, All-map, All-weaker, ◌≤◌, ◌*◌, ◌∷◌, refl, All-nil, All-cons, FileEntry, Action, Completed}
+use Rattle.fx_ring.proofs.Words.{next_member, Explains, canceled, severs, Place, either_case, suc, ◌++◌, length-append, map, sum_by, IsPermutation}
+use Rattle.fx_ring.proofs.Words.{flat_map, IsNonDecreasingBy, All-head, All-tail, All-append, sum_by-cons, IsPermutation-sym, IsPermutation-trans}
+use Rattle.fx_ring.proofs.Words.{length_permutation, MOST_MEMBERS, part_of_chain, action_of, Event, first_member, ExplainsParts, completions_of_chain}
+use Rattle.fx_ring.proofs.Words.{run_of_chain, Contains, HasWorked, WorkerState, range_with_len, asked_part}
 use Rattle.fx_ring.proofs.Installs.{answered}
-use Rattle.fx_ring.proofs.OneOrder.{Rises}
+use Rattle.fx_ring.proofs.OneOrder.{Rises, one_list_in_order}
+use Rattle.fx_ring.proofs.Parts.{made_by_key, split_by_key}
+
+-- the part of a list that a chain is
+pub asked_of_part : (requests : List Request) (chain : Chain)
+    → all_asked (take (chain.first + chain.len - chain.first) (drop chain.first requests)) ≡ members_of (all_asked requests) chain
+asked_of_part requests chain =
+    let count : chain.first + chain.len - chain.first ≡ chain.len = omega arith in
+    ap (λ (n : ℕ). all_asked (take n (drop chain.first requests))) count ∙ asked_part requests chain.first chain.len
+
+module _ {requests : List Asked} {chains : List Chain} (cut : AreCutInto requests chains) where
+  -- there are as many chains as runs
+  pub as_many : length (runs_of requests) ≡ length chains
+  as_many = ap length (sym cut.members) ∙ length-map chains (members_of requests)
+
+  -- the members of a chain are the run at its place
+  pub run_at : (i : ℕ) (d : Chain) → i < length chains → members_of requests (slice_index_or chains i d) ≡ slice_index_or (runs_of requests) i []
+  run_at i d inside = sym (get_or-map (members_of requests) chains i d [] inside)
+      ∙ ap (λ (runs : List (List Asked)). slice_index_or runs i []) cut.members
+
+  -- what no chain installs more than, no run does
+  pub runs_install : {most : ℕ} → All (λ chain. all_installs (members_of requests chain) ≤ most) chains → InstallAtMost requests most
+  runs_install {most} each = subst (All (λ run. all_installs run ≤ most)) cut.members
+      (All-map (λ run. all_installs run ≤ most) (members_of requests) chains each)
+
+  -- the runs are short
+  pub runs_within : All IsShortRun (runs_of requests)
+  runs_within = subst (All IsShortRun) cut.members (All-map IsShortRun (members_of requests) chains
+      (All-weaker (IsChain requests) (λ chain. IsShortRun (members_of requests chain)) (λ chain is. is.run) chains cut.within))
+
+-- Where the completions of a chain stand.
 
 -- the key by which completions are put in order of place
 abbrev pub place_key : Completed → ℕ
@@ -50,3 +85,85 @@ explained_of_members catalogue size place (request ∷ requests) events (own, ot
     (either_case (severs request c)
     (λ cut. subst (AreOfMembers (next_member place) requests) (sym cut.1) (canceled_of_members (next_member place) requests))
     (λ more. explained_of_members catalogue size (next_member place) requests others more) behind))
+
+-- The completions of a submission, once they are in order of place: they are the chains' parts, one after another.
+
+rises_append : {m : ℕ} (xs ys : List Completed) → Rises place_key xs → Rises place_key ys → All (λ c. place_key c < m) xs
+    → All (λ c. m ≤ place_key c) ys → Rises place_key (xs ++ ys)
+rises_append [] ys left right below above = right
+rises_append {m} (x ∷ xs) ys left right below above =
+    let one : place_key x < m = All-head (λ c. place_key c < m) x xs below in (
+      All-append (λ y. place_key x < place_key y) xs ys left.0
+          (All-weaker (λ c. m ≤ place_key c) (λ y. place_key x < place_key y) (λ y le. omega arith) ys above),
+      rises_append xs ys left.1 right (All-tail (λ c. place_key c < m) x xs below) above,
+    )
+
+abbrev pub IsShort : List Asked → Type 0
+IsShort run = length run ≤ MOST_MEMBERS
+
+-- the chains that a worker drew are of the submission
+pub drawn_inside : {catalogue : List FileEntry} {size submission : ℕ} {runs : List (List Asked)} {w : WorkerState}
+    → HasWorked catalogue size submission runs w → {c : ℕ} → Contains w.pass.drawn c → (1 ≤ c) × (c ≤ length runs)
+drawn_inside worked {c} drew = let is = worked.inside c drew in (is.0, omega (arith, is.1, worked.reached))
+
+module _ (catalogue : List FileEntry) (size submission : ℕ) (history : List Event) (all : List Completed) where
+  -- the chain's part of the completions is explained by its part of the history
+  abbrev IsExplainedPart : ℕ → List Asked → Type 0
+  IsExplainedPart chain run = Explains catalogue size (first_member submission chain) run (map action_of (part_of_chain chain history))
+      (completions_of_chain chain all)
+
+  -- the parts of the chains from this one on
+  abbrev parts : ℕ → List (List Asked) → List Completed
+  parts chain runs = flat_map (λ k. completions_of_chain k all) (range_with_len chain (length runs))
+
+  record AreInOrder (chain : ℕ) (runs : List (List Asked)) : Type 0 where
+    explains : ExplainsParts catalogue size submission chain runs history (parts chain runs)
+    count : length (parts chain runs) ≡ sum_by (λ run. length run) runs
+    above : All (λ c. chain * 32 + 1 ≤ place_key c) (parts chain runs)
+    rises : Rises place_key (parts chain runs)
+
+  in_order : (chain : ℕ) (runs : List (List Asked)) → All IsShort runs
+      → ((i : ℕ) → i < length runs → IsExplainedPart (chain + i) (slice_index_or runs i [])) → AreInOrder chain runs
+  in_order chain [] few explained = record { explains = refl; count = refl; above = All-nil (λ c. chain * 32 + 1 ≤ place_key c); rises = tt }
+  in_order chain (run ∷ runs) few explained =
+      let mine = completions_of_chain chain all in
+      let same : chain + 0 ≡ chain = omega arith in
+      let own = subst (λ c. IsExplainedPart c run) same (explained 0 (omega arith)) in
+      let are = explained_of_members catalogue size (first_member submission chain) run (map action_of (part_of_chain chain history)) own in
+      let rest = in_order (chain + 1) runs (All-tail IsShort run runs few)
+      (λ i lt. let on : chain + suc i ≡ chain + 1 + i = omega arith in
+      subst (λ c. IsExplainedPart c (slice_index_or runs i [])) on (explained (suc i) (omega arith))) in
+      let short : length run ≤ MOST_MEMBERS = All-head IsShort run runs few in
+      let whole = length-append mine (parts (chain + 1) runs) in
+      let sum = sum_by-cons (λ (r : List Asked). length r) run runs in
+      record {
+        explains = (mine, parts (chain + 1) runs, refl, own, rest.explains);
+        count = omega arith;
+        above = All-append (λ c. chain * 32 + 1 ≤ place_key c) mine (parts (chain + 1) runs) (λ k d lt. (are.within k d lt).1)
+            (All-weaker (λ c. (chain + 1) * 32 + 1 ≤ place_key c) (λ c. chain * 32 + 1 ≤ place_key c) (λ c le. omega arith) (parts (chain + 1) runs)
+            rest.above);
+        rises = rises_append mine (parts (chain + 1) runs) are.rises rest.rises
+            (λ k d lt. let high = (are.within k d lt).2 in omega arith) rest.above;
+      }
+
+  module _ (runs : List (List Asked)) (few : All IsShort runs) (inside : All (λ c. (1 ≤ c.place.chain) × (c.place.chain ≤ length runs)) all)
+      (explained : (c : ℕ) → 1 ≤ c → c ≤ length runs → IsExplainedPart c (run_of_chain runs c)) where
+    whole : AreInOrder 1 runs
+    whole = in_order 1 runs few (λ i lt. let same : 1 + i - 1 ≡ i = omega arith in
+        subst (λ j. IsExplainedPart (1 + i) (slice_index_or runs j [])) same (explained (1 + i) (omega arith) (omega arith)))
+
+    all_parts : IsPermutation all (parts 1 runs)
+    all_parts = made_by_key (λ c. c.place.chain) (λ l. l) refl (split_by_key (λ c. c.place.chain)) 1 (length runs) all
+        (λ k d lt. let it = inside k d lt in let low = it.0 in let high = it.1 in (omega arith, omega arith))
+
+    -- there is one completion of each request
+    pub one_of_each_request : length all ≡ sum_by (λ run. length run) runs
+    one_of_each_request = sym (length_permutation all (parts 1 runs) all_parts) ∙ whole.count
+
+    -- in order of place, the completions are explained chain by chain
+    pub in_order_explained : {sorted : List Completed} → IsPermutation all sorted → IsNonDecreasingBy place_key sorted
+        → ExplainsParts catalogue size submission 1 runs history sorted
+    in_order_explained {sorted} same up =
+        subst (ExplainsParts catalogue size submission 1 runs history) (one_list_in_order place_key
+        (IsPermutation-trans (parts 1 runs) all sorted (IsPermutation-sym all (parts 1 runs) all_parts) same) whole.rises up)
+        whole.explains

@@ -1,13 +1,11 @@
 -- What the members of a chain install: files of the catalogue, each with a mark of its own.
-use Rattle.fx_ring.proofs.Words.{refl, installed_by, ◌≡◌, ◌≢◌, ℕ, zero, suc, ◌+◌, ◌<◌, ◌≤◌, ℤ, pos, negsuc, false, List}
-use Rattle.fx_ring.proofs.Words.{[], ◌∷◌, length, sym, ap, subst, ◌∙◌, ⊎_elim, Option, Some, None, arith, list_any, leb-false, FileEntry}
-use Rattle.fx_ring.proofs.Words.{Errno, ENOMEM, Mark, Submitted, Closed, ◌▷◌, File, Action, Look, Release, Put}
-use Rattle.fx_ring.proofs.Words.{Clear, Take, Allocate, Full, Answers, AnswersAtTable, OpensAt, AppliesEntry, AppliesList, Refuses, installed, is_bad_entry}
-use Rattle.fx_ring.proofs.Words.{Completed, next_member, Explains, severs, Operation, Opens, Reads, Closes, Updates, Asked, Place, Target, Slot, Any}
-use Rattle.fx_ring.proofs.Words.{either_case, either_option, or_parts}
-use Rattle.fx_ring.proofs.NewMarks.{Puts, puts_then, puts_so, puts_none, puts_one, puts_may_close}
+use Rattle.fx_ring.proofs.Words.{refl, installed_by, ◌≡◌, ◌≢◌, ℕ, zero, suc, ◌+◌, ◌<◌, ◌≤◌, ℤ, pos, negsuc, false, List, [], ◌∷◌, length, sym, ap}
+use Rattle.fx_ring.proofs.Words.{subst, ◌∙◌, ⊎_elim, Option, Some, None, arith, list_any, leb-false, FileEntry, Errno, ENOMEM, Mark, Submitted}
+use Rattle.fx_ring.proofs.Words.{Closed, ◌▷◌, File, Action, Look, Release, Put, Clear, Take, Allocate, Full, Answers, AnswersAtTable, OpensAt}
+use Rattle.fx_ring.proofs.Words.{AppliesEntry, AppliesList, Refuses, installed, is_bad_entry, Completed, next_member, Explains, severs, Operation}
+use Rattle.fx_ring.proofs.Words.{Opens, Reads, Closes, Updates, Asked, Place, Target, Slot, Any, either_case, either_option, or_parts, applied}
+use Rattle.fx_ring.proofs.MarksApart.{Puts, puts_then, puts_so, puts_none, puts_one, puts_may_close}
 use Rattle.fx_base.proofs.Entries.{entry_named}
-use Rattle.fx_chain.proofs.Refused.{applied}
 use Rattle.fx_chain.specs.Refusal.{refusal_of}
 
 -- a file of the catalogue, by its mark

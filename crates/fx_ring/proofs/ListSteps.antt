@@ -1,11 +1,49 @@
--- What a list has done, one number further.
-use Rattle.fx_ring.proofs.Words.{◌≡◌, ℕ, suc, ◌+◌, ◌-◌, ◌<◌, ◌≤◌, if◌then◌else◌, ℤ, pos, List, ◌++◌, length, nat_lt, length-append, append_assoc}
-use Rattle.fx_ring.proofs.Words.{append-nil, refl, sym, ap, ◌∙◌, Option, Some, slice_get, drop, slice_index_or, arith, lt-ltb, le-ltb, slice_get_past}
-use Rattle.fx_ring.proofs.Words.{drop-cons, CloseListView, Registered, Closed, State, IsSettled, changed_at, by_equality, file_after, file_listed}
-use Rattle.fx_ring.proofs.Words.{files_after, removed_by_number, removed_from, tag_at, files_at, SetsList, SetsNumber}
-use Rattle.std.proofs.Math.Seq.{drop-length}
+-- Lists that are applied to slots, one number after another.
+use Rattle.fx_ring.proofs.Words.{◌≡◌, ℕ, zero, suc, ◌==◌, ◌||◌, not, Bool, false, ℤ, pos, negsuc, List, [], ◌∷◌, length, refl, ap, ◌∙◌, eq-eqb}
+use Rattle.fx_ring.proofs.Words.{length-map, list_any, zip, are_bad_tags, is_bad_tag, no_tags, tag_at, sym, Some, slice_get, arith, ltb-false, le-ltb}
+use Rattle.fx_ring.proofs.Words.{is_bad_entry, is_bad_file, or_from, or_parts, ◌+◌, ◌-◌, ◌<◌, ◌≤◌, if◌then◌else◌, ◌++◌, nat_lt, length-append}
+use Rattle.fx_ring.proofs.Words.{append_assoc, append-nil, Option, drop, slice_index_or, lt-ltb, slice_get_past, drop-cons, CloseListView, Registered}
+use Rattle.fx_ring.proofs.Words.{Closed, State, IsSettled, changed_at, by_equality, file_after, file_listed, files_after, removed_by_number}
+use Rattle.fx_ring.proofs.Words.{removed_from, files_at, SetsList, SetsNumber, drop-length, slice_get-get_or}
 use Rattle.std.proofs.lemmas.Bool.Decides.{nat_tests}
-use Rattle.std.proofs.lemmas.Option.{slice_get-get_or}
+
+none_bad : (list : List ℤ) → list_any (λ pair. is_bad_tag pair.0 pair.1) (zip list (no_tags list)) ≡ false
+none_bad [] = refl
+none_bad (pos entry ∷ list) = none_bad list
+none_bad (negsuc n ∷ list) = none_bad list
+
+-- they are as many as the numbers, and no number below 0 has one
+pub no_bad_tags : (list : List ℤ) → are_bad_tags list (no_tags list) ≡ false
+no_bad_tags list =
+    ap (λ (n : ℕ). not (length list == n) || list_any (λ pair. is_bad_tag pair.0 pair.1) (zip list (no_tags list))) (length-map list (λ _. 0))
+    ∙ ap (λ (b : Bool). not b || list_any (λ pair. is_bad_tag pair.0 pair.1) (zip list (no_tags list))) (eq-eqb (length list) (length list) refl)
+    ∙ none_bad list
+
+-- each of them is 0
+pub no_tag_at : (list : List ℤ) (i : ℕ) → tag_at (no_tags list) i ≡ 0
+no_tag_at [] i = refl
+no_tag_at (number ∷ list) zero = refl
+no_tag_at (number ∷ list) (suc i) = no_tag_at list i
+
+-- The numbers of a list, by their sign.
+
+good_file : (entries : ℕ) (z : ℤ) → is_bad_file entries z ≡ false → is_bad_entry entries z ≡ false
+good_file entries (pos n) good = good
+good_file entries (negsuc n) good = let le = ltb-false 0 n good in le-ltb 1 n (omega arith)
+
+-- what a registration takes, an update takes
+pub good_files : (entries : ℕ) (list : List ℤ) → list_any (is_bad_file entries) list ≡ false → list_any (is_bad_entry entries) list ≡ false
+good_files entries [] good = refl
+good_files entries (z ∷ list) good = or_from _ _ (good_file entries z (or_parts _ _ good).0) (good_files entries list (or_parts _ _ good).1)
+
+-- a number of a good list is good
+pub good_get : (entries : ℕ) (list : List ℤ) (j : ℕ) {z : ℤ} → list_any (is_bad_entry entries) list ≡ false
+    → slice_get list j ≡ Some z → is_bad_entry entries z ≡ false
+good_get entries [] j good is = cc
+good_get entries (y ∷ list) zero {z} good is = let same : y ≡ z = cc in ap (is_bad_entry entries) (sym same) ∙ (or_parts _ _ good).0
+good_get entries (y ∷ list) (suc j) {z} good is = good_get entries list j (or_parts _ _ good).1 is
+
+-- What a list has done, one number further.
 
 module _ (k : ℕ) (at : ℕ → Option Closed) (off : ℕ) (list : List ℤ) (tags : List ℕ) where
   pub files_below : (slot : ℕ) → slot < off → files_after k at off list tags slot ≡ at slot

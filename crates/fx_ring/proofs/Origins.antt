@@ -1,11 +1,79 @@
+-- Where the files of a ring come from, and how a file leaves its slot.
+use Rattle.fx_ring.proofs.Words.{◌≡◌, ℕ, ◌+◌, Bool, true, List, ◌++◌, length, refl, sym, ap, subst, ◌∙◌, Option, Some, None, if◌then◌else◌}
+use Rattle.fx_ring.proofs.Words.{option_to_list, CloseListView, Closed, File, Action, State, IsSettled, changed_at, with_removed, files_at, Leads}
+use Rattle.fx_ring.proofs.Words.{close_of, identity_of, number_of, more_leaving, by_equality, changed_here, changed_else, SetsSlot, CanRetire}
+use Rattle.fx_ring.proofs.Words.{closes_of_removed, file_removed, ◌≢◌, ◌⊎◌, zero, suc, ◌-◌, ◌<◌, ◌≤◌, false, ℤ, pos, negsuc, [], ◌∷◌, length-append}
+use Rattle.fx_ring.proofs.Words.{All, slice_get, inl, inr, ⊎_elim, arith, list_any, cases_lt, leb-false, All-append, Mark, Registered, Submitted}
+use Rattle.fx_ring.proofs.Words.{is_bad_entry, RingState, IsRing, HasCounted, file_listed, removed_by_number, removed_from, registered, updated}
+use Rattle.fx_ring.proofs.Words.{is_bad_file, tag_at, IsPermutation, IsInOrderOfMark, state_of, RingContents, ListsFiles, ring_of, with_table}
+use Rattle.fx_ring.proofs.Words.{SetsList}
+use Rattle.fx_ring.proofs.ListSteps.{good_get, good_files, files_below, files_from}
+use Rattle.fx_ring.proofs.Rings.{IsEntry, counted_still, entry_listed, none_rings, lists_files}
+
+-- the files of changed slots, their numbers aside
+files_changed : (at : ℕ → Option File) (slot : ℕ) (x : Option File)
+    → (λ (s : ℕ). identity_of (changed_at at slot x s)) ≡ changed_at (λ s. identity_of (at s)) slot (identity_of x)
+files_changed at slot x = λ i s. by_equality s slot
+    (λ b. identity_of (if b then x else at s) ≡ (if b then identity_of x else identity_of (at s))) (λ _. refl) (λ _. refl) i
+
+-- a file that left a settled table may be retired
+pub can_retire : {first : State} (before : State) {leaves : ℕ → Bool} (going : ℕ → Bool) (removed : Option File) {number : Option ℕ}
+    → IsSettled first → before.holds ≡ first.holds → leaves ≡ more_leaving going removed → number ≡ number_of removed
+    → CanRetire leaves before number
+can_retire before {leaves} going None s holds left is = subst (CanRetire leaves before) (sym is) tt
+can_retire before {leaves} going (Some f) s holds left is =
+    subst (CanRetire leaves before) (sym is) (
+      ap (λ (l : ℕ → Bool). l f.number) left ∙ changed_here going f.number true f.number refl,
+      ap (λ (h : ℕ → ℕ). h f.number) holds ∙ s.unheld f.number,
+    )
+
+-- what was removed is found by its number
+removed_found : (first before : State) (removed : Option File) → before.removed ≡ with_removed first.removed removed
+    → (file_removed before (number_of removed) ≡ identity_of removed) × (closes_of_removed before (number_of removed) ≡ close_of removed)
+removed_found first before None out = (refl, refl)
+removed_found first before (Some f) out =
+    let found : before.removed f.number ≡ Some f = ap (λ (r : ℕ → Option File). r f.number) out
+    ∙ changed_here first.removed f.number (Some f) f.number refl in
+    (ap identity_of found, ap close_of found)
+
+-- once it is closed, nothing is removed any more
+closed_up : {first before last : State} (removed : Option File) → IsSettled first → before.removed ≡ with_removed first.removed removed
+    → Leads before (close_of removed) last → (gone : ℕ → Option File) × (last ≡ record before { removed = gone }) × ((n : ℕ) → gone n ≡ None)
+closed_up {before} None s out lead = (before.removed, lead.1, λ n. ap (λ (r : ℕ → Option File). r n) out ∙ s.closed n)
+closed_up {first} {before} (Some f) s out lead = (
+  changed_at before.removed f.number None,
+  lead.1,
+  λ n. by_equality n f.number (λ b. (if b then None else before.removed n) ≡ None) (λ _. refl)
+      (λ apart. ap (λ (r : ℕ → Option File). r n) out ∙ changed_else first.removed f.number (Some f) n apart ∙ s.closed n),
+)
+
+-- what a removal at a slot and the close behind it come to, as the calls make them
+pub removed_and_closed : {first before last : State} {slot : ℕ} (x there : Option File) {fresh : ℕ → Bool} {removed : Option ℕ}
+    {earlier : CloseListView} (closed : CloseListView) → IsSettled first → first.at slot ≡ there → removed ≡ number_of there
+    → before ≡ record first { at = changed_at first.at slot x; fresh = fresh; removed = with_removed first.removed there }
+    → Leads before (closes_of_removed before removed) last
+    → closed.files ≡ earlier.files ++ option_to_list (file_removed before removed)
+    → closed.room + length (option_to_list (file_removed before removed)) ≡ earlier.room
+    → SetsSlot first last slot (identity_of x) earlier closed × (last.fresh ≡ fresh)
+removed_and_closed {first} {before} {last} {slot} x there {fresh} {earlier = earlier} closed settled was is step lead files room =
+    let out = ap (λ (st : State). st.removed) step in
+    let found = removed_found first before there out in
+    let file = ap (file_removed before) is ∙ found.0 ∙ ap identity_of (sym was) in
+    let up = closed_up there settled out (subst (λ (h : List Action). Leads before h last) (ap (closes_of_removed before) is ∙ found.1) lead) in
+    let whole : last ≡ record first { at = changed_at first.at slot x; fresh = fresh; removed = up.0 } =
+    up.1 ∙ ap (λ (st : State). record st { removed = up.0 }) step in (
+      record {
+        size = ap (λ (st : State). st.size) whole;
+        range = ap (λ (st : State). st.range) whole;
+        at_slots = ap files_at whole ∙ files_changed first.at slot x;
+        settled = subst IsSettled (sym whole) (record { unheld = settled.unheld; closed = up.2 });
+        closed = files ∙ ap (λ (y : Option Closed). earlier.files ++ option_to_list y) file;
+        room = ap (λ (y : Option Closed). closed.room + length (option_to_list y)) (sym file) ∙ room;
+      },
+      ap (λ (st : State). st.fresh) whole,
+    )
+
 -- Where the files of a ring come from, once a list was applied.
-use Rattle.fx_ring.proofs.Words.{◌≡◌, ◌≢◌, ◌⊎◌, ℕ, zero, suc, ◌+◌, ◌-◌, ◌<◌, ◌≤◌, false, ℤ, pos, negsuc, List, [], ◌∷◌, ◌++◌, length, length-append}
-use Rattle.fx_ring.proofs.Words.{All, refl, sym, ap, subst, ◌∙◌, Option, Some, None, slice_get, inl, inr, ⊎_elim, arith, list_any, cases_lt}
-use Rattle.fx_ring.proofs.Words.{leb-false, All-append, Mark, Registered, Submitted, Closed, is_bad_entry, RingState, IsRing, HasCounted, file_listed}
-use Rattle.fx_ring.proofs.Words.{removed_by_number, removed_from, registered, updated, is_bad_file, tag_at}
-use Rattle.fx_ring.proofs.Numbers.{good_get, good_files}
-use Rattle.fx_ring.proofs.ListSteps.{files_below, files_from}
-use Rattle.fx_ring.proofs.Rings.{IsEntry, counted_still, entry_listed, none_rings}
 
 -- a file that the k-th list installed at its place i
 abbrev IsListed : ℕ → ℕ → ℕ → Closed → Type 0
@@ -94,3 +162,22 @@ few_removed at slot [] = omega arith
 few_removed at slot (z ∷ list) =
     let both = length-append (removed_by_number z (at slot)) (removed_from at (slot + 1) list) in
     omega (arith, one_removed_by z (at slot), few_removed at (slot + 1) list, both)
+
+-- A ring whose table has had a list applied.
+
+module _ (c : RingContents) (off : ℕ) (list : List ℤ) (tags : List ℕ) {new : State} {given closes : CloseListView}
+    (sets : SetsList (c.registrations + 1) off list tags (state_of c.table) new given closes) where
+  -- the slots have the files that they should have
+  pub is_updated : with_table (record (ring_of c) { registrations = c.registrations + 1 }) new ≡ updated (ring_of c) off list tags
+  is_updated = λ i. record (ring_of c) { size = sets.size i; range = sets.range i; at = sets.at_slots i; registrations = c.registrations + 1 }
+
+  module _ (ring : IsRing (ring_of c)) where
+    pub ring_updated : list_any (is_bad_entry (length c.catalogue)) list ≡ false
+        → IsRing (with_table (record (ring_of c) { registrations = c.registrations + 1 }) new)
+    ring_updated good = subst IsRing (sym is_updated) (updated_rings (ring_of c) off list tags ring good)
+
+    -- and the list has those that were there
+    pub list_updated : {sorted : CloseListView} → given.files ≡ [] → IsPermutation closes.files sorted.files → IsInOrderOfMark sorted.files
+        → ListsFiles (ring_of c) (removed_from (ring_of c).at off list) sorted
+    list_updated none = lists_files (ring_of c) (removed_entries (length c.catalogue) (ring_of c).at off list ring.entries)
+        (sets.closed ∙ ap (λ (l : List Closed). l ++ removed_from (files_at (state_of c.table)) off list) none)

@@ -1,10 +1,56 @@
+-- Lists in parts, by a key of their elements.
+use Rattle.fx_ring.proofs.Words.{◌≡◌, ℕ, ◌+◌, ◌<◌, ◌≤◌, List, [], ◌∷◌, ◌++◌, flat_map, All, sum_by, refl, sym, ap, ◌∙◌, arith, append-nil, ⊎_elim}
+use Rattle.fx_ring.proofs.Words.{All-nil, All-append, sum_by-cons, sum_of, Contains, range_with_len, length-range_with_len, get_or-range_with_len}
+use Rattle.fx_ring.proofs.Words.{contains_none, contains_head, contains_tail, contains_cases, ◌≢◌, zero, suc, Bool, not, cond, filter, length}
+use Rattle.fx_ring.proofs.Words.{IsPermutation, slice_index_or, sum_by-append, sum_by-IsPermutation, subst, ◌==◌, ne_eqb, All-head, All-tail}
+use Rattle.fx_ring.proofs.Words.{All-cons, IsPermutation-refl, IsPermutation-trans, IsPermutation-append_right, IsPermutation-filter_both}
+use Rattle.fx_ring.proofs.Words.{by_equality, eq-eqb, filter-append, true, false, map, append_assoc, length-append, IsPermutation-append_left}
+use Rattle.fx_ring.proofs.Words.{IsPermutation-append_comm, Closed, action_of, closed_by, closes_in, Event}
+
+pub number_within : {first : ℕ} (n : ℕ) {k : ℕ} → Contains (range_with_len first n) k → (first ≤ k) × (k < first + n)
+number_within {first} n {k} (i, lt, is) =
+    let long = length-range_with_len first n in let there = get_or-range_with_len first n i k (omega arith) in (omega arith, omega arith)
+
+module _ {W X : Type 0} (g : W → List X) where
+  pub no_parts : (ws : List W) → ((w : W) → Contains ws w → g w ≡ []) → flat_map g ws ≡ []
+  no_parts [] none = refl
+  no_parts (w ∷ ws) none =
+      ap (λ (l : List X). l ++ flat_map g ws) (none w (contains_head w ws)) ∙ no_parts ws (λ v h. none v (contains_tail w ws v h))
+
+  -- where one element is counted, and a part is empty where nothing is counted, that element's part is the whole
+  pub one_part : {count : W → ℕ} (ws : List W) {w : W} → sum_by count ws ≤ 1 → Contains ws w → 1 ≤ count w
+      → ((v : W) → Contains ws v → count v ≡ 0 → g v ≡ []) → flat_map g ws ≡ g w
+  one_part [] {w} few h counted none = absurd (contains_none w h)
+  one_part {count} (v ∷ ws) {w} few h counted none =
+      let sum = sum_by-cons count v ws in
+      ⊎_elim
+      (λ (is : w ≡ v).
+      let same = ap count is in
+      ap (λ (l : List X). g v ++ l) (no_parts ws (λ u i. let part = sum_of count ws u i in none u (contains_tail v ws u i) (omega arith)))
+      ∙ append-nil (g v) ∙ ap g (sym is))
+      (λ t.
+      let part = sum_of count ws w t in
+      ap (λ (l : List X). l ++ flat_map g ws) (none v (contains_head v ws) (omega arith))
+      ∙ one_part ws (omega arith) t counted (λ u i. none u (contains_tail v ws u i))) (contains_cases v ws w h)
+
+  pub all_parts : (P : X → Type 0) (ws : List W) → ((w : W) → Contains ws w → All P (g w)) → All P (flat_map g ws)
+  all_parts P [] each = All-nil P
+  all_parts P (w ∷ ws) each =
+      All-append P (g w) (flat_map g ws) (each w (contains_head w ws)) (all_parts P ws (λ v h. each v (contains_tail w ws v h)))
+
+  -- what is made of the parts, one behind another
+  pub made_of_parts : {Y : Type 0} (made : List X → List Y) → made [] ≡ [] → ((xs ys : List X) → made (xs ++ ys) ≡ made xs ++ made ys)
+      → (ws : List W) → made (flat_map g ws) ≡ flat_map (λ w. made (g w)) ws
+  made_of_parts made none both [] = none
+  made_of_parts {Y} made none both (w ∷ ws) =
+      both (g w) (flat_map g ws) ∙ ap (λ (l : List Y). made (g w) ++ l) (made_of_parts made none both ws)
+
+-- parts that are the same for each element
+pub same_parts : {W X : Type 0} {g h : W → List X} (ws : List W) → ((w : W) → Contains ws w → g w ≡ h w) → flat_map g ws ≡ flat_map h ws
+same_parts [] each = refl
+same_parts {g} {h} (w ∷ ws) each = λ i. each w (contains_head w ws) i ++ same_parts ws (λ v t. each v (contains_tail w ws v t)) i
+
 -- A list in parts, by a key of its elements.
-use Rattle.fx_ring.proofs.Words.{◌≡◌, ◌≢◌, ℕ, zero, suc, ◌+◌, ◌<◌, ◌≤◌, Bool, not, cond, List, [], ◌∷◌, ◌++◌, filter, flat_map, length, All, sum_by}
-use Rattle.fx_ring.proofs.Words.{IsPermutation, refl, sym, slice_index_or, sum_by-append, sum_by-cons, sum_by-IsPermutation, ap, subst, ◌∙◌, ◌==◌}
-use Rattle.fx_ring.proofs.Words.{arith, ne_eqb, All-head, All-tail, All-cons, All-nil, IsPermutation-refl, IsPermutation-trans}
-use Rattle.fx_ring.proofs.Words.{IsPermutation-append_right, IsPermutation-filter_both, by_equality, append-nil, eq-eqb, filter-append}
-use Rattle.fx_ring.proofs.Words.{range_with_len}
-use Rattle.fx_ring.proofs.NumberedParts.{number_within, same_parts}
 
 module _ {X : Type 0} (key : X → ℕ) where
   abbrev pub has : ℕ → X → Bool
@@ -105,3 +151,44 @@ module _ {X : Type 0} (key : X → ℕ) (c : ℕ) where
 
     pub only_second : All (λ x. key x ≢ c) xs → All (λ x. key x ≡ c) ys → with_key (xs ++ ys) ≡ ys
     only_second none all = not_first none ∙ all_kept ys all
+
+-- The files that a history closed, in parts by a key of its events.
+
+abbrev pub closes_of : List Event → List Closed
+closes_of h = closes_in (map action_of h)
+
+-- what stands in front of the last part goes behind it
+pub moved_behind : (a b c : List Closed) → IsPermutation ((a ++ b) ++ c) ((a ++ c) ++ b)
+moved_behind a b c =
+    subst (λ (l : List Closed). IsPermutation l ((a ++ c) ++ b)) (sym (append_assoc a b c))
+    (subst (IsPermutation (a ++ (b ++ c))) (sym (append_assoc a c b))
+    (IsPermutation-append_right a (b ++ c) (c ++ b) (IsPermutation-append_comm b c)))
+
+module _ (key : Event → ℕ) where
+  closes_split : (first : ℕ) (h : List Event)
+      → IsPermutation (closes_of h) (closes_of (filter (has key first) h) ++ closes_of (filter (lacks key first) h))
+  closes_split first [] = IsPermutation-refl []
+  closes_split first (e ∷ h) =
+      let mine : List Event = filter (has key first) h in
+      let others : List Event = filter (lacks key first) h in
+      let c : List Closed = closed_by e.action in
+      let so_far : IsPermutation (closes_of h ++ c) ((closes_of mine ++ closes_of others) ++ c) =
+      IsPermutation-append_left c (closes_of h) (closes_of mine ++ closes_of others) (closes_split first h) in
+      elim (key e == first) as (λ b.
+      IsPermutation (closes_of h ++ c) (closes_of (cond b (e ∷ mine) mine) ++ closes_of (cond (not b) (e ∷ others) others))) [
+        | true ↦ IsPermutation-trans (closes_of h ++ c) ((closes_of mine ++ closes_of others) ++ c) ((closes_of mine ++ c) ++ closes_of others)
+            so_far (moved_behind (closes_of mine) (closes_of others) c)
+        | false ↦ subst (IsPermutation (closes_of h ++ c)) (append_assoc (closes_of mine) (closes_of others) c) so_far
+      ]
+
+  -- where each key is one of so many from the first on, the parts are all
+  pub closes_by_key : (first n : ℕ) (h : List Event) → All (λ e. (first ≤ key e) × (key e < first + n)) h
+      → IsPermutation (closes_of h) (flat_map (λ k. closes_of (filter (λ e. key e == k) h)) (range_with_len first n))
+  closes_by_key = made_by_key key closes_of refl closes_split
+
+-- how many they are
+pub closes_sum : (h : List Event) → length (closes_of h) ≡ sum_by (λ e. length (closed_by e.action)) h
+closes_sum [] = refl
+closes_sum (e ∷ h) =
+    let sum = sum_by-cons (λ (e : Event). length (closed_by e.action)) e h in
+    omega (arith, length-append (closes_of h) (closed_by e.action), sum, closes_sum h)

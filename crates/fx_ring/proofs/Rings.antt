@@ -1,12 +1,17 @@
--- What a ring keeps, as its table changes.
+-- Rings: the tables and states that they have.
 use Rattle.fx_ring.proofs.Words.{◌≡◌, ℕ, Bool, zero, suc, ◌<◌, List, [], ◌++◌, length, refl, sym, ap, subst, ◌∙◌, Option, Some, None, All, arith, ◌+◌}
 use Rattle.fx_ring.proofs.Words.{◌≢◌, option_to_list, IsPermutation, All-append, All-cons, All-nil, All-permutation, CloseListView, IsInOrderOfMark}
 use Rattle.fx_ring.proofs.Words.{Closed, State, IsSettled, opening, vacant, state_of, identity_of, File, Contents, IsGivenBack, RingContents}
-use Rattle.fx_ring.proofs.Words.{RingState, IsAtRest, IsRing, HasCounted, Mark, Registered, Submitted, ◌≤◌, HasClosed, ListsFiles, AreEntries, ring_of, ring_with}
-use Rattle.fx_ring.proofs.Words.{with_table, files_at, same_identity, HasSameFiles, ring_files_in_order, files_of_ring}
+use Rattle.fx_ring.proofs.Words.{RingState, IsAtRest, IsRing, HasCounted, Mark, Registered, Submitted, ◌≤◌, HasClosed, ListsFiles, AreEntries}
+use Rattle.fx_ring.proofs.Words.{ring_of, ring_with, with_table, files_at, same_identity, HasSameFiles, ring_files_in_order, files_of_ring}
+use Rattle.fx_ring.proofs.Words.{numbers_for, Asked, runs_of, Reported, IsOneHistory, IsLegal, ExplainsParts, opens_alike, map, slice_index_or}
+use Rattle.fx_ring.proofs.Words.{cases_lt, inl, inr, FileEntry, read_default, number_if, node_if, table_with_files, range_with_len, get_or_past}
+use Rattle.fx_ring.proofs.Words.{length-map-range_with_len, get_or-map-range_with_len, file_at, placed_at, removed_at, slot_at}
 use Rattle.fx_plain.proofs.Emptying.{listed}
 use Rattle.fx_plain.specs.State.{files_in_order as files_in_order_of_state, files_of as files_of_state}
 use Rattle.fx_ring.specs.declared.ring.Ring.TheInside.{Inside}
+use Rattle.fx_plain.specs.declared.node.Node.{Node}
+use Rattle.fx_plain.specs.declared.node.Node.TheVariants.{Gone}
 
 -- what a ring keeps, by its fields
 abbrev pub contents_of : Inside → RingContents
@@ -109,3 +114,70 @@ given_back_rings {c} {back} given = ring_as c back given.files
 
 pub given_back_at_rest : {c : RingContents} {back : Contents} → IsAtRest c → IsGivenBack c.table back → IsAtRest (record c { table = back })
 given_back_at_rest {c} {back} rest given = assumption (given.settled, subst IsRing (sym (given_back_rings given)) rest.ring, rest)
+
+-- Rings that show the same may do the same: which numbers their files have makes no difference.
+
+pub same_history : (old same new : RingContents) (requests : List Asked) (report : Reported) → ring_of same ≡ ring_of old
+    → IsOneHistory old requests report new → IsOneHistory same requests report new
+same_history old same new requests report is one = record {
+  history = one.history;
+  end = one.end;
+  legal = subst (λ (st : State). IsLegal st one.history one.end) (opens_alike (state_of old.table) (state_of same.table)
+      (λ i. (sym is i).size) (λ i. (sym is i).range) (λ slot i. (sym is i).at slot) (numbers_for (length (runs_of requests)))) one.legal;
+  settled = one.settled;
+  chains = one.chains;
+  explained = subst (λ (r : RingState). ExplainsParts r.catalogue r.size report.submission 1 (runs_of requests) one.history report.completions)
+      (sym is) one.explained;
+  closed = one.closed;
+  submission = subst (λ (r : RingState). report.submission ≡ r.submissions + 1) (sym is) one.submission;
+  after = subst (λ (r : RingState). ring_of new ≡ record (with_table r one.end) { submissions = r.submissions + 1 }) (sym is) one.after;
+}
+
+-- A table that is made with the files of a state.
+
+read_there : {X : Type 0} (at : ℕ → X) (n i : ℕ) (d : X) → i < n → slice_index_or (map at (range_with_len 0 n)) i d ≡ at i
+read_there at n i d lt = get_or-map-range_with_len at 0 n i i d lt (omega arith)
+
+pub size_there : (st : State) → (state_of (table_with_files st)).size ≡ st.size
+size_there st = length-map-range_with_len (λ k. number_if k (st.at k)) 0 st.size
+
+module _ (st : State) (inside : (slot : ℕ) → st.size ≤ slot → st.at slot ≡ None) where
+  abbrev table : Contents
+  table = table_with_files st
+
+  placed_so : {slot : ℕ} (x : Option File) → st.at slot ≡ x → slot < st.size → identity_of (file_at table.nodes (number_if slot x)) ≡ identity_of x
+  placed_so None is lt = refl
+  placed_so {slot} (Some f) is lt =
+      ap (λ (node : Node). identity_of (placed_at slot node)) (read_there (λ k. node_if k (st.at k)) st.size slot Gone lt ∙ ap (node_if slot) is)
+
+  pub told_at : (slot : ℕ) → identity_of (file_at table.nodes (slot_at table.slots slot)) ≡ identity_of (st.at slot)
+  told_at slot = elim (cases_lt slot st.size) [
+    | inl lt ↦ ap (λ (x : Option ℕ). identity_of (file_at table.nodes x)) (read_there (λ k. number_if k (st.at k)) st.size slot None lt)
+        ∙ placed_so (st.at slot) refl lt
+    | inr le ↦ ap (λ (x : Option ℕ). identity_of (file_at table.nodes x)) (get_or_past table.slots slot None (let len = size_there st in omega arith))
+        ∙ sym (ap identity_of (inside slot le))
+  ]
+
+  pub opened_so : (numbers : ℕ) → opening (state_of table) numbers ≡ opening st numbers
+  opened_so = opens_alike (state_of table) st (size_there st) refl told_at
+
+  pub ring_so : (catalogue : List FileEntry) (submissions registrations : ℕ)
+      → ring_of (ring_with catalogue table submissions registrations)
+      ≡ record (with_table (ring_of (ring_with catalogue table submissions registrations)) st) { submissions = submissions }
+  ring_so catalogue submissions registrations = λ i. record (ring_of (ring_with catalogue table submissions registrations)) {
+    size = size_there st i;
+    range = st.range;
+    at = λ slot. told_at slot i;
+  }
+
+-- it is settled
+pub table_settled : (st : State) → IsSettled (state_of (table_with_files st))
+table_settled st = record {
+  unheld = λ n. read_default st.size n 0;
+  closed = λ n. elim (cases_lt n st.size) [
+    | inl lt ↦ ap (removed_at n) (read_there (λ k. node_if k (st.at k)) st.size n Gone lt)
+        ∙ elim (st.at n) as (λ x. removed_at n (node_if n x) ≡ None) [ None ↦ refl | Some f ↦ refl ]
+    | inr le ↦ ap (removed_at n) (get_or_past (table_with_files st).nodes n Gone
+        (let len = length-map-range_with_len (λ k. node_if k (st.at k)) 0 st.size in omega arith))
+  ];
+}

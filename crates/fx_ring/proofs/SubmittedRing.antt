@@ -1,15 +1,18 @@
--- A ring behind a submission keeps what every ring keeps.
+-- Rings after a submission, and rings whose table is opened or closed.
 use Rattle.fx_ring.proofs.Words.{◌≡◌, ℕ, ◌+◌, ◌<◌, ◌≤◌, List, [], ◌∷◌, length, map, Contains, refl, sym, ap, subst, ◌∙◌, ⊎_elim, inl, Option, Some}
 use Rattle.fx_ring.proofs.Words.{None, arith, FileEntry, Submitted, Closed, State, IsSettled, opening, state_of, action_of, closes_in, identity_of}
 use Rattle.fx_ring.proofs.Words.{File, Event, Action, by_equality, numbers_for, Completed, first_member, Asked, runs_of, RingContents, RingState}
 use Rattle.fx_ring.proofs.Words.{IsRing, IsAtRest, HasCounted, AreEntries, ring_of, with_table, ExplainsParts, Reported, IsOneHistory}
-use Rattle.fx_ring.proofs.Words.{MOST_SUBMISSIONS}
-use Rattle.fx_plain.proofs.FilesWereInstalled.{HoldsOfAll, holds_of_closes, all_closes_in}
-use Rattle.fx_ring.proofs.Rings.{counted_still, file_told, not_yet, opening_files, entries_closed}
-use Rattle.fx_ring.proofs.NewMarks.{IsPut, Puts}
+use Rattle.fx_ring.proofs.Words.{MOST_SUBMISSIONS, ◌-◌, ◌*◌, Contents, All, All-head, length-map, length-append, ◌++◌, new_passes, Opening, state_at}
+use Rattle.fx_ring.proofs.Words.{PassView, IsIdle, new_pass, ClosesTable, ring_with, same_size, MOST_SLOTS, MAX_CHAINS, IsOpenedFor, HasSameFiles}
+use Rattle.fx_ring.proofs.Words.{start_of, IsSettledSoFar, contains_none, same_identity, ring_led_by, IsKeptOpen, IsAloneAt, MOST_MEMBERS}
+use Rattle.fx_ring.proofs.Words.{vec_capacity, contains_head, HoldsOfAll, holds_of_closes, all_closes_in}
+use Rattle.fx_ring.proofs.Rings.{counted_still, file_told, not_yet, opening_files, entries_closed, told_at, size_there, table_settled}
+use Rattle.fx_ring.proofs.MarksApart.{IsPut, Puts, IsOfChain, part_actions, put_in_part, installed_put, whole_new, IsApart, IsUnlike, apart_after}
 use Rattle.fx_ring.proofs.Installs.{IsOfMembers, explained_puts}
-use Rattle.fx_ring.proofs.ChainsApart.{IsOfChain, part_actions, put_in_part, installed_put, whole_new}
-use Rattle.fx_ring.proofs.MarksApart.{IsApart, IsUnlike, apart_after}
+use Rattle.std.specs.Global.{Vec}
+use Rattle.fx_ring.proofs.LonePlays.{at_rest_of}
+use Rattle.fx_table.proofs.Histories.{own_history}
 
 -- each chain's part of the history installs files of the catalogue with marks of its own, and no mark twice
 part_puts : (catalogue : List FileEntry) (size : ℕ) {submission : ℕ} (first : ℕ) (runs : List (List Asked)) (history : List Event)
@@ -127,3 +130,109 @@ submitted_at_rest {old} {new} {requests} {report} rest one settled few =
       few_submissions = omega arith;
       few_registrations = omega arith;
     }
+
+-- A ring whose table is opened or closed has the same files.
+
+-- the ring with a table of the same files
+same_ring : (catalogue : List FileEntry) {o : Opening} {v : PassView} (left : Contents) (submissions registrations : ℕ) → IsSettledSoFar o v
+    → HasSameFiles (state_at o v.own) (state_of left)
+    → ring_of (ring_with catalogue left submissions registrations) ≡ ring_of (ring_led_by catalogue o v submissions registrations)
+same_ring catalogue {o} {v} left submissions registrations settled files = λ i. record {
+  catalogue = catalogue;
+  size = (files.size ∙ sym (size_there (state_at o v.own))) i;
+  range = files.range i;
+  at = λ slot. (files.files slot ∙ sym (told_at (state_at o v.own) (at_rest_of settled).inside slot)) i;
+  submissions = submissions;
+  registrations = registrations;
+}
+
+closed_files : {o : Opening} {v : PassView} {left : Contents} → ClosesTable o (v ∷ []) left → HasSameFiles (state_at o v.own) (state_of left)
+closed_files {o} {v} {left} closing = subst (λ (h : List Event). HasSameFiles (state_at o h) (state_of left))
+    (own_history v closing.history closing.authors (closing.own v (contains_head v []))) closing.files
+
+new_settled : (o : Opening) → IsSettledSoFar o (new_pass 1)
+new_settled o = record {
+  whole = refl;
+  legal = record { leads = (tt, refl); releases = tt };
+  settled = record { unheld = λ _. refl; closed = λ _. refl };
+  held = refl;
+  chains_inside = λ c h. absurd (contains_none c h);
+}
+
+module _ {P : Type 0} {V : P → PassView} {Fits : P → Type 0} {catalogue : List FileEntry} {o : Opening} {pass : P} {list : Vec P}
+    {size left most submissions registrations : ℕ}
+    (kept : IsKeptOpen V Fits catalogue o pass list size left most submissions registrations) where
+  pub closed_ring : {plain : Contents} → ClosesTable o (V pass ∷ []) plain
+      → (ring_of (ring_with catalogue plain submissions registrations) ≡ ring_of (ring_led_by catalogue o (V pass) submissions registrations))
+      × IsAtRest (ring_with catalogue plain submissions registrations)
+  closed_ring {plain} closing =
+      let same = same_ring catalogue plain submissions registrations kept.at.settled (closed_files closing) in
+      (same, assumption (closing.left_settled, subst IsRing (sym same) kept.rest.ring, kept.rest))
+
+  pub size_shown : size ≡ (ring_of (ring_led_by catalogue o (V pass) submissions registrations)).size
+  size_shown = kept.slots ∙ sym (same_size (start_of o) (state_at o (V pass).own) _ kept.at.settled.legal.leads)
+      ∙ sym (size_there (state_at o (V pass).own))
+
+  -- after a submission of the pass
+  module _ {now : P} (count : ℕ) {requests : List Asked} {report : Reported} (after : IsAloneAt V Fits o now)
+      (few : count ≤ left) (few_submissions : submissions < MOST_SUBMISSIONS) (chain : (V now).chain ≡ (V pass).chain + count)
+      (looked : (V pass).looks_left ≤ (V now).looks_left + count * MOST_MEMBERS)
+      (one : IsOneHistory (ring_led_by catalogue o (V pass) submissions registrations) requests report
+      (ring_led_by catalogue o (V now) (submissions + 1) registrations)) where
+    pub kept_after : IsKeptOpen V Fits catalogue o now list size (left - count) most (submissions + 1) registrations
+    kept_after = record {
+      at = after;
+      place = kept.place;
+      slots = kept.slots;
+      chains = omega (arith, kept.chains, chain, few);
+      installs = kept.installs;
+      looks = omega (arith, kept.looks, looked, few);
+      rest = submitted_at_rest kept.rest one (table_settled (state_at o (V now).own)) few_submissions;
+    }
+
+    pub entries_after : AreEntries (ring_of (ring_led_by catalogue o (V now) (submissions + 1) registrations)) report.closes.files
+    entries_after = submitted_entries kept.rest.ring one
+
+-- the only pass of a list
+pub only_pass : {P : Type 0} (V : P → PassView) (Q : P → Type 0) {items : List P} (rest : List P) {pass : P} → items ≡ rest ++ pass ∷ []
+    → map V items ≡ new_passes 1 → All Q items → (rest ≡ []) × (V pass ≡ new_pass 1) × Q pass
+only_pass V Q [] {pass} is new ready =
+    let one : V pass ∷ [] ≡ new_pass 1 ∷ [] = ap (map V) (sym is) ∙ new in (refl, cc one, All-head Q pass [] (subst (All Q) is ready))
+only_pass V Q (p ∷ rest) {pass} is new ready =
+    absurd (omega (arith, ap length (ap (map V) (sym is) ∙ new), length-map (p ∷ (rest ++ pass ∷ [])) V, length-append rest (pass ∷ [])))
+
+-- a table that was just opened
+module _ {o : Opening} {plain : Contents} {chains most : ℕ} (opened : IsOpenedFor plain chains most 1 o) where
+  opened_files : HasSameFiles (state_at o (new_pass 1).own) (state_of plain)
+  opened_files = record {
+    size = ap (λ (c : Contents). (state_of c).size) (sym opened.contents);
+    range = ap (λ (c : Contents). (state_of c).range) (sym opened.contents);
+    files = λ slot. ap (λ (c : Contents). identity_of ((state_of c).at slot)) (sym opened.contents)
+        ∙ sym (same_identity ((state_of o.contents).at slot) slot);
+  }
+
+  module _ {catalogue : List FileEntry} {submissions registrations : ℕ} {v : PassView} (new : v ≡ new_pass 1) where
+    pub opened_ring : ring_of (ring_led_by catalogue o v submissions registrations) ≡ ring_of (ring_with catalogue plain submissions registrations)
+    opened_ring = ap (λ (v : PassView). ring_of (ring_led_by catalogue o v submissions registrations)) new
+        ∙ sym (same_ring catalogue plain submissions registrations (new_settled o) opened_files)
+
+  pub kept_opened : {P : Type 0} (V : P → PassView) (Fits : P → Type 0) {catalogue : List FileEntry} {submissions registrations size : ℕ} {pass : P}
+      {list : Vec P} → IsAtRest (ring_with catalogue plain submissions registrations) → V pass ≡ new_pass 1
+      → size ≡ (state_of plain).size → size ≤ MOST_SLOTS → chains ≤ MAX_CHAINS → (list.items ≡ []) × (1 ≤ vec_capacity list)
+      → Fits pass × IsIdle (V pass) → IsKeptOpen V Fits catalogue o pass list size chains most submissions registrations
+  kept_opened V Fits {pass} was new slots few few_chains room ready = record {
+    at = record {
+      alone = opened.passes;
+      few_slots = let same = ap (λ (c : Contents). (state_of c).size) opened.contents in omega (arith, same, slots, few);
+      fits = ready.0;
+      idle = ready.1;
+      more = ap (λ (v : PassView). v.no_chains_left) new;
+      settled = subst (IsSettledSoFar o) (sym new) (new_settled o);
+    };
+    place = room;
+    slots = slots ∙ ap (λ (c : Contents). (state_of c).size) (sym opened.contents);
+    chains = let none = ap (λ (v : PassView). v.chain) new in omega (arith, none, opened.chains);
+    installs = opened.numbers.0;
+    looks = let all = ap (λ (v : PassView). v.looks_left) new in omega (arith, all, few_chains);
+    rest = assumption (table_settled (state_at o (V pass).own), subst IsRing (sym (opened_ring new)) was.ring, was);
+  }

@@ -7,7 +7,7 @@ pub use Rattle.fx_base.specs.declared.errno.Errno.TheVariants.{ENOMEM}
 pub use Rattle.fx_base.specs.declared.mark.Mark.{Mark}
 pub use Rattle.fx_base.specs.declared.mark.Mark.TheVariants.{Registered, Submitted}
 pub use Rattle.fx_base.specs.declared.open_file.Closed.{Closed}
-pub use Rattle.fx_chain.proofs.Accepted.{accepted-each, accepted-length, all_weights-small}
+pub use Rattle.fx_chain.proofs.Accepted.{accepted-each, accepted-length, all_weights-small, applied}
 pub use Rattle.fx_chain.proofs.Cases.{either_case, either_option}
 pub use Rattle.fx_chain.specs.Accepted.{IsAccepted, IsChain, IsShortRun, members_of}
 pub use Rattle.fx_chain.specs.Answers.{Answers, AnswersAtTable, AppliesEntry, AppliesList, MayClose, OpensAt, Refuses, installed, is_bad_entry}
@@ -25,9 +25,9 @@ pub use Rattle.fx_chain.specs.declared.request.Request.{Request}
 pub use Rattle.fx_chain.specs.declared.request.Target.{Target}
 pub use Rattle.fx_chain.specs.declared.request.Target.TheVariants.{Any, Slot}
 pub use Rattle.fx_plain.proofs.Cells.{by_equality, changed_else, changed_here, read_default}
-pub use Rattle.fx_plain.proofs.Leading.{closes_in-then, same_size}
-pub use Rattle.fx_plain.proofs.Prepared.{opening_is_start, opens_alike, same_identity}
-pub use Rattle.fx_plain.specs.Contents.{Contents, leaving, state_of}
+pub use Rattle.fx_plain.proofs.Leading.{closes_in-then, same_size, legal_behind}
+pub use Rattle.fx_plain.proofs.Prepared.{opening_is_start, opens_alike, same_identity, stays_at_rest}
+pub use Rattle.fx_plain.specs.Contents.{Contents, leaving, state_of, file_at, placed_at, removed_at, slot_at}
 pub use Rattle.fx_plain.specs.History.{IsLegal, Leads, action_of, close_of, closed_by, closes_in, part_of_chain, part_of_pass, state_after, ◌▷▷◌, ◌▷◌}
 pub use Rattle.fx_plain.specs.Laws.{IsInstalled, installed_by}
 pub use Rattle.fx_plain.specs.State.{IsSettled, State, opening, vacant}
@@ -39,37 +39,37 @@ pub use Rattle.fx_plain.specs.declared.event.Event.{Event}
 pub use Rattle.fx_plain.specs.declared.event.File.{File}
 pub use Rattle.fx_plain.specs.declared.table.TheConstants.{MOST_SLOTS}
 pub use Rattle.fx_ring.specs.Calls.{ListsFiles}
-pub use Rattle.fx_ring.specs.OpenRings.{IsAloneAt, IsKeptOpen, OpenRingContents, begun_behind, chain_less, chains_to, node_if}
-pub use Rattle.fx_ring.specs.OpenRings.{number_if, ring_led_by, table_with_files}
+pub use Rattle.fx_ring.specs.OpenRings.{IsAloneAt, IsKeptOpen, OpenRingContents, begun_behind, chain_less, chains_to, node_if, number_if, ring_led_by}
+pub use Rattle.fx_ring.specs.OpenRings.{table_with_files}
 pub use Rattle.fx_ring.specs.Outcomes.{HasRoomFor}
-pub use Rattle.fx_ring.specs.Playing.{number_of_worker, state_of_worker}
+pub use Rattle.fx_ring.specs.Playing.{number_of_worker, state_of_worker, IsReadyFor}
 pub use Rattle.fx_ring.specs.Registration.{file_after, file_listed, files_after, is_bad_file, registered, removed_by_number, removed_from, updated}
-pub use Rattle.fx_ring.specs.Ring.{AreEntries, HasClosed, HasCounted, IsAtRest, IsRing, RingContents, RingState, ring_files_in_order, files_of_ring, ring_of}
-pub use Rattle.fx_ring.specs.Ring.{ring_with, with_table}
+pub use Rattle.fx_ring.specs.Ring.{AreEntries, HasClosed, HasCounted, IsAtRest, IsRing, RingContents, RingState, ring_files_in_order, files_of_ring}
+pub use Rattle.fx_ring.specs.Ring.{ring_of, ring_with, with_table}
 pub use Rattle.fx_ring.specs.Slots.{AreFresh, CanRetire, SetsList, SetsNumber, SetsSlot, closes_of_removed, file_removed, files_at}
 pub use Rattle.fx_ring.specs.Submission.{ExplainsParts, IsOneHistory, Reported}
 pub use Rattle.fx_ring.specs.Tags.{are_bad_tags, is_bad_tag, no_tags, tag_at, tags_for}
-pub use Rattle.fx_ring.specs.Work.{AreCutInto, HasRoom, HasWorked, InstallAtMost, IsEnoughFor, WorkerState, completions_of_chain, run_of_chain, worker_state}
+pub use Rattle.fx_ring.specs.Work.{AreCutInto, HasRoom, HasWorked, InstallAtMost, IsEnoughFor, WorkerState, completions_of_chain, run_of_chain}
+pub use Rattle.fx_ring.specs.Work.{worker_state}
 pub use Rattle.fx_ring.specs.declared.outcome.Outcome.{Outcome}
 pub use Rattle.fx_ring.specs.declared.ring.TheConstants.{MOST_SUBMISSIONS}
 pub use Rattle.fx_ring.specs.declared.worker.Worker.{Worker}
 pub use Rattle.fx_table.proofs.Chains.{part_of_drawn, some_times}
-pub use Rattle.fx_table.proofs.Members.{contains_cases, contains_head, contains_map, contains_mapped, contains_none}
-pub use Rattle.fx_table.proofs.Members.{contains_tail, each_all}
+pub use Rattle.fx_table.proofs.SumLemmas.{contains_cases, contains_head, contains_map, contains_mapped, contains_none, contains_tail, each_all}
 pub use Rattle.fx_table.proofs.SumLemmas.{sum_map, sum_of}
 pub use Rattle.fx_table.specs.Calls.{Draws, Use}
 pub use Rattle.fx_table.specs.Closing.{ClosesTable, times_drawn}
 pub use Rattle.fx_table.specs.Numbers.{numbers_for}
 pub use Rattle.fx_table.specs.Opening.{HasSameFiles, IsGivenBack, IsOpenedFor, Opening, size_of, start_of, state_at}
-pub use Rattle.fx_table.specs.Pass.{IsIdle, IsOfDrawnChains, PassView, event_of, new_pass, new_passes}
+pub use Rattle.fx_table.specs.Pass.{IsIdle, IsOfDrawnChains, PassView, event_of, new_pass, new_passes, IsFront}
 pub use Rattle.fx_table.specs.Settling.{IsSettledSoFar}
 pub use Rattle.fx_table.specs.declared.limits.TheConstants.{MAX_CHAINS, PASS_LOOKS}
 pub use Rattle.std.proofs.Common.{All, Bool, Contains, IsPermutation, List, None, Option, Some, [], add-one, ap, append-nil, append_assoc, arith}
 pub use Rattle.std.proofs.Common.{cond, count_by, drop, eq-eqb, eqb, eqb-true, false, filter, flat_map, get_or, if◌then◌else◌, inl, inr, length}
-pub use Rattle.std.proofs.Common.{length-append, map, nat_lt, ne_eqb, negsuc, not, option_to_list, pos, refl, rules, slice_get}
-pub use Rattle.std.proofs.Common.{slice_index_or, subst, suc, sum_by, sym, take, true, vec_capacity, vec_len, zero, ℕ, ℤ, ⊎_elim, ◌*◌}
-pub use Rattle.std.proofs.Common.{◌++◌, ◌+◌, ◌-◌, ◌<◌, ◌==◌, ◌||◌, ◌∙◌, ◌∷◌, ◌≡◌, ◌≢◌, ◌≤◌, ◌⊎◌}
-pub use Rattle.std.proofs.Math.Seq.{drop-cons}
+pub use Rattle.std.proofs.Common.{length-append, map, nat_lt, ne_eqb, negsuc, not, option_to_list, pos, refl, rules, slice_get, slice_index_or, subst}
+pub use Rattle.std.proofs.Common.{suc, sum_by, sym, take, true, vec_capacity, vec_len, zero, ℕ, ℤ, ⊎_elim, ◌*◌, ◌++◌, ◌+◌, ◌-◌, ◌<◌, ◌==◌, ◌||◌, ◌∙◌}
+pub use Rattle.std.proofs.Common.{◌∷◌, ◌≡◌, ◌≢◌, ◌≤◌, ◌⊎◌}
+pub use Rattle.std.proofs.Math.Seq.{drop-cons, drop-length}
 pub use Rattle.std.proofs.lemmas.Bool.{cases_lt, le-ltb, leb-false, lt-ltb, ltb-false, or_from, or_parts}
 pub use Rattle.std.proofs.lemmas.List.{drop-drop, get_or-map, get_or_past, length-map, map-append, map-id, take_all}
 pub use Rattle.std.proofs.lemmas.List.Concat.{length-flat_map}
@@ -81,7 +81,11 @@ pub use Rattle.std.proofs.lemmas.List.Sorted.{All-permutation, Contains-permutat
 pub use Rattle.std.proofs.lemmas.List.Sorted.{IsPermutation-append_left, IsPermutation-append_right, IsPermutation-filter_both, IsPermutation-map}
 pub use Rattle.std.proofs.lemmas.List.Sorted.{IsPermutation-refl, IsPermutation-sym, IsPermutation-trans, length_permutation, sum_by-IsPermutation}
 pub use Rattle.std.proofs.lemmas.List.Sums.{sum_by-append, sum_by-cons, sum_by-drop_more, sum_by-le, sum_by-take-drop, sum_by_more_le}
-pub use Rattle.std.proofs.lemmas.Option.{slice_get_past}
+pub use Rattle.std.proofs.lemmas.Option.{slice_get_past, slice_get-get_or}
 pub use Rattle.std.proofs.lemmas.Simd.{map-map}
 pub use Rattle.std.specs.List.{list_any, range_with_len, zip}
 pub use Rattle.std.specs.List.Sorted.{IsNonDecreasingBy}
+pub use Rattle.fx_chain.proofs.ChainGoesOn.{explained_count, asked_part}
+pub use Rattle.fx_table.proofs.Seats.{begins_at_rest, start_is}
+pub use Rattle.fx_plain.proofs.LawFiles.{HoldsOfAll, holds_of_closes, all_closes_in, every_removed_file_is_closed}
+pub use Rattle.fx_plain.proofs.LawHolds.{closed_at_most_once, no_close_while_held}

@@ -1,20 +1,16 @@
 -- What the workers of a submission did, taken together.
-use Rattle.fx_ring.proofs.Words.{◌≡◌, ℕ, ◌+◌, ◌-◌, ◌<◌, ◌≤◌, ◌==◌, true, List, [], map, flat_map, length, All, sum_by, count_by}
-use Rattle.fx_ring.proofs.Words.{slice_index_or, closed_by, filter, filter-append, refl, sym, ap, subst, ◌∙◌, arith, eqb, IsNonDecreasingBy}
-use Rattle.fx_ring.proofs.Words.{All-contains, IsPermutation-trans, length_permutation, FileEntry, IsInOrderOfMark, CloseListView, Closed, opening}
-use Rattle.fx_ring.proofs.Words.{Contents, state_of, IsLegal, action_of, part_of_chain, Event, ClosesTable, times_drawn, numbers_for, Opening}
-use Rattle.fx_ring.proofs.Words.{size_of, state_at, PassView, IsOfDrawnChains, some_times, part_of_drawn, sum_map, Completed, Explains}
-use Rattle.fx_ring.proofs.Words.{first_member, Asked, runs_of, all_weights, ring_with, IsOneHistory, WorkerState, HasWorked, run_of_chain}
-use Rattle.fx_ring.proofs.Words.{completions_of_chain, Contains, IsPermutation, contains_map, contains_mapped}
-use Rattle.fx_ring.proofs.Words.{each_all, range_with_len, flat_map-map, State, false}
-use Rattle.fx_ring.proofs.ClosesInParts.{closes_of, closes_by_key, closes_sum}
+use Rattle.fx_ring.proofs.Words.{◌≡◌, ℕ, ◌+◌, ◌-◌, ◌<◌, ◌≤◌, ◌==◌, true, List, [], map, flat_map, length, All, sum_by, count_by, slice_index_or}
+use Rattle.fx_ring.proofs.Words.{closed_by, filter, filter-append, refl, sym, ap, subst, ◌∙◌, arith, eqb, IsNonDecreasingBy, All-contains}
+use Rattle.fx_ring.proofs.Words.{IsPermutation-trans, length_permutation, FileEntry, IsInOrderOfMark, CloseListView, Closed, opening, Contents}
+use Rattle.fx_ring.proofs.Words.{state_of, IsLegal, action_of, part_of_chain, Event, ClosesTable, times_drawn, numbers_for, Opening, size_of}
+use Rattle.fx_ring.proofs.Words.{state_at, PassView, IsOfDrawnChains, some_times, part_of_drawn, sum_map, Completed, Explains, first_member, Asked}
+use Rattle.fx_ring.proofs.Words.{runs_of, all_weights, ring_with, IsOneHistory, WorkerState, HasWorked, run_of_chain, completions_of_chain, Contains}
+use Rattle.fx_ring.proofs.Words.{IsPermutation, contains_map, contains_mapped, each_all, range_with_len, flat_map-map, State, false, start_is}
+use Rattle.fx_ring.proofs.Parts.{closes_of, closes_by_key, closes_sum, number_within, one_part, all_parts, made_of_parts, same_parts, few_by_key}
+use Rattle.fx_ring.proofs.Parts.{none_kept}
 use Rattle.fx_table.proofs.Chains.{in_part}
-use Rattle.fx_ring.proofs.NumberedParts.{number_within, one_part, all_parts, made_of_parts, same_parts}
-use Rattle.fx_ring.proofs.CompletionPlaces.{place_key}
+use Rattle.fx_ring.proofs.CompletionPlaces.{place_key, IsShort, drawn_inside, one_of_each_request, in_order_explained}
 use Rattle.fx_ring.proofs.Rings.{ring_as}
-use Rattle.fx_ring.proofs.Parts.{few_by_key, none_kept}
-use Rattle.fx_ring.proofs.PartsExplained.{IsShort, drawn_inside, one_of_each_request, in_order_explained}
-use Rattle.fx_table.proofs.Openings.{start_is}
 
 abbrev pub pass_of : WorkerState → PassView
 pass_of w = w.pass

@@ -45,7 +45,7 @@ pub(crate) struct Play<'a, T: FileTable, R, G> {
 
 impl<'a, R, G> Submission<'a, R, G> {
     /// Returns the members of a chain.
-    #[tactic(auto, using(crate::proofs::Runs::asked_of_part))]
+    #[tactic(auto, using(crate::proofs::CompletionPlaces::asked_of_part))]
     pub(crate) fn members(&self, chain: Chain) -> &'a [Request]
         requires { IsChain (all_asked self.now.requests.now) chain }
         ensures { all_asked result.now ≡ members_of (all_asked self.now.requests.now) chain }

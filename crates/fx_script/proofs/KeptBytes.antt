@@ -1,6 +1,7 @@
--- The kept bytes of an input, and its meaning.
+-- The kept bytes of an input, read turn by turn, and its meaning.
 use Rattle.fx_script.proofs.Words.{◌≡◌, ℕ, ◌+◌, ◌<◌, true, nat_lt, List, length, take, refl, sym, ap, ◌∙◌, inl, inr, arith, Option, Some, None}
-use Rattle.fx_script.proofs.Words.{IfSome, Err, length-take, take_all, IsInput, IsInputFault, LONGEST_SCRIPT}
+use Rattle.fx_script.proofs.Words.{IfSome, Err, length-take, take_all, IsInput, IsInputFault, LONGEST_SCRIPT, zero, suc, ◌-◌, ◌≤◌, [], ◌∷◌, ◌++◌}
+use Rattle.fx_script.proofs.Words.{append_assoc, length-append, Consumes, IsAtEnd, append-nil}
 use Rattle.std.proofs.lemmas.Bool.{cases_lt}
 use Rattle.std.proofs.lemmas.Bool.Decides.{nat_tests}
 use Rattle.fx_script.specs.RunView.{fault_told}
@@ -36,3 +37,48 @@ pub fault_kept : (input : Option (List ℕ)) (kept : List ℕ) (error : ScriptEr
 fault_kept None kept (Fault line kind) is has = tt
 fault_kept (Some bytes) kept (Fault line kind) is has = sym (reading_of-take bytes) ∙ (sym (ap reading_of is) ∙ has)
 fault_kept input kept NoMemory is has = tt
+
+-- The bytes that were read and kept, turn by turn.
+
+-- the bytes that were read are gone from the reader, and the first `n` of them were kept
+pub record Kept (n : ℕ) (old now : Option (List ℕ)) (input : List ℕ) : Type 0 where
+  pub read : List ℕ
+  pub gone : Consumes old now read
+  pub kept : input ≡ take n read
+
+pub take_append : (n : ℕ) (xs ys : List ℕ) → take n xs ++ take (n - length (take n xs)) ys ≡ take n (xs ++ ys)
+take_append zero xs ys = refl
+take_append (suc n) [] ys = let same : suc n - 0 ≡ suc n = omega arith in ap (λ (k : ℕ). take k ys) same
+take_append (suc n) (x ∷ xs) ys =
+    let less : suc n - suc (length (take n xs)) ≡ n - length (take n xs) = omega arith in
+    ap (λ zs. x ∷ zs) (ap (λ (k : ℕ). take n xs ++ take k ys) less ∙ take_append n xs ys)
+
+pub both_consumed : (a b c : Option (List ℕ)) (x y : List ℕ) → Consumes a b x → Consumes b c y → Consumes a c (x ++ y)
+both_consumed None b c x y first second = tt
+both_consumed (Some xs) None c x y first second = absurd first
+both_consumed (Some xs) (Some ys) None x y first second = absurd second
+both_consumed (Some xs) (Some ys) (Some zs) x y first second = first ∙ (ap (λ (l : List ℕ). x ++ l) second ∙ sym (append_assoc x y zs))
+
+-- one more read
+pub one_read : {n : ℕ} (count : ℕ) {old now next : Option (List ℕ)} {input more : List ℕ} (buffer : List ℕ) → Kept n old now input
+    → Consumes now next (take count buffer) → more ≡ input ++ take (n - length input) (take count buffer) → Kept n old next more
+one_read {n} count {old} {now} {next} buffer kept gone grown = record {
+  read = kept.read ++ take count buffer;
+  gone = both_consumed old now next kept.read (take count buffer) kept.gone gone;
+  kept = grown ∙ (ap (λ (xs : List ℕ). xs ++ take (n - length xs) (take count buffer)) kept.kept ∙ take_append n kept.read (take count buffer));
+}
+
+pub few_kept : {n : ℕ} (input : List ℕ) {more : List ℕ} (part : List ℕ) → length input ≤ n → more ≡ input ++ take (n - length input) part
+    → length more ≤ n
+few_kept input part few grown = omega (arith, ap length grown, length-append {A = ℕ}, length-take {A = ℕ})
+
+-- a read that gave nothing at the end: all was read
+pub at_end : {n : ℕ} (old now next : Option (List ℕ)) {input : List ℕ} {count : ℕ} (buffer : List ℕ) → Kept n old now input
+    → Consumes now next (take count buffer) → count ≡ 0 → IsAtEnd next → IfSome old (λ bytes. input ≡ take n bytes)
+at_end None now next buffer kept gone none end = tt
+at_end (Some bytes) None next buffer kept gone none end = absurd kept.gone
+at_end (Some bytes) (Some left) None buffer kept gone none end = absurd gone
+at_end {n} (Some bytes) (Some left) (Some last) buffer kept gone none end =
+    let nothing : left ≡ [] = gone ∙ (ap (λ (k : ℕ). take k buffer ++ last) none ∙ end) in
+    let all : bytes ≡ kept.read = kept.gone ∙ (ap (λ (l : List ℕ). kept.read ++ l) nothing ∙ append-nil kept.read) in
+    kept.kept ∙ ap (take n) (sym all)

@@ -1,5 +1,3 @@
 pub mod Words
-pub mod Turns
 pub mod KeptBytes
-pub mod SameRings
 pub mod PlaySteps

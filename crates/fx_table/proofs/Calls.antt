@@ -1,9 +1,12 @@
--- Two calls in a row.
-use Rattle.fx_table.proofs.Words.{◌≤◌, ℕ, ◌+◌, Bool, true, false, List, [], ◌++◌, sym, refl, ap, ◌∙◌, arith, map-append, Event, Action, IsSeenBy, ◌▷▷◌}
-use Rattle.fx_table.proofs.Words.{Doing, Opening}
-use Rattle.fx_table.proofs.Words.{PassView, IsFront, Use, Adds}
-use Rattle.std.proofs.Common.{append_assoc}
-use Rattle.fx_table.specs.Calls.{no_use, both_uses, Spends}
+-- Calls in a row, and calls that empty or replace a slot.
+use Rattle.fx_table.proofs.Words.{◌≤◌, ℕ, ◌+◌, Bool, true, false, List, [], ◌++◌, sym, refl, ap, ◌∙◌, arith, map-append, Event, Action, IsSeenBy}
+use Rattle.fx_table.proofs.Words.{◌▷▷◌, Doing, Opening, PassView, IsFront, Use, Adds, ◌≡◌, None, Contents, state_of, append_assoc, no_use, both_uses}
+use Rattle.fx_table.proofs.Words.{Spends, one_number, IsNewFile, Placed, Cleared, Taken, Option, Some, option_map, Result, ok_or, ◌▷◌, numbered, File}
+use Rattle.fx_table.proofs.Words.{next_number, retired_of, IsFileRemoval, activity_of, retiring, Retired, opening, IsGivenBack}
+use Rattle.fx_base.specs.Identity.{Identity}
+use Rattle.fx_plain.specs.declared.event.Action.TheVariants.{Put, Clear, Take}
+use Rattle.fx_table.specs.declared.values.Empty.{Empty}
+use Rattle.fx_plain.proofs.Prepared.{same_identity, settled_at_opening}
 
 pub seen_again : (h : List Event) → IsSeenBy h h
 seen_again h = ([], refl)
@@ -62,4 +65,43 @@ adds_then o u v w xs ys d e a b one two = record {
   no_chains_left = two.no_chains_left ∙ one.no_chains_left;
   numbers_left = spends_then o.lasts u.numbers_left v.numbers_left w.numbers_left a.numbers b.numbers one.numbers_left two.numbers_left;
   looks_left = spends_then o.lasts u.looks_left v.looks_left w.looks_left a.looks b.looks one.looks_left two.looks_left;
+}
+
+-- The results of calls that empty or replace a slot.
+
+module _ (o : Opening) (v : PassView) (slot : ℕ) where
+  -- a value that names the file by its number
+  is_removal : (f : File) (takes : ℕ) → IsFileRemoval o f (retired_of f takes)
+  is_removal f takes = record { entry = refl; same = λ _. refl }
+
+  -- a new file under the pass's next number
+  pub new_here : (n : ℕ) (its new : Identity) → n ≡ next_number o v → its ≡ new → IsNewFile o v new (numbered n its)
+  new_here n its new next same = record { identity = same; same = λ _. rw (next, same) refl }
+
+  pub cleared_so : (file : Option File) (takes : ℕ) (removed : Option Retired) (w : PassView) → removed ≡ option_map (λ f. retired_of f takes) file
+      → Adds o v ([] ▷ Clear slot file) (activity_of (retiring file takes)) no_use w → Cleared o v slot removed w
+  cleared_so None takes removed w is adds = rw is adds
+  cleared_so (Some f) takes removed w is adds = rw is (f, is_removal f takes, adds)
+
+  -- the same for a close
+  pub taken_so : (file : Option File) (takes : ℕ) (removed : Option Retired) (w : PassView) → removed ≡ option_map (λ f. retired_of f takes) file
+      → (result : Result Retired Empty) (empty : Empty) → result ≡ ok_or removed empty
+      → Adds o v ([] ▷ Take slot file) (activity_of (retiring file takes)) no_use w → Taken o v slot result w
+  taken_so None takes removed w is result empty answer adds = rw (answer, is) adds
+  taken_so (Some f) takes removed w is result empty answer adds = rw (answer, is) (f, is_removal f takes, adds)
+
+  -- the same for an installation, under the pass's next number
+  pub placed_so : (file : Option File) (takes : ℕ) (removed : Option Retired) (w : PassView) → removed ≡ option_map (λ f. retired_of f takes) file
+      → (n : ℕ) (its new : Identity) → n ≡ next_number o v → its ≡ new
+      → Adds o v ([] ▷ Put slot (numbered n its) file) (activity_of (retiring file takes)) one_number w → Placed o v slot new removed w
+  placed_so None takes removed w is n its new next same adds = rw is (numbered n its, new_here n its new next same, adds)
+  placed_so (Some f) takes removed w is n its new next same adds =
+      rw is (numbered n its, new_here n its new next same, (f, is_removal f takes, adds))
+
+-- A prepared table has the same files, under other numbers.
+
+pub prepared_again : (old new : Contents) (numbers : ℕ) → state_of new ≡ opening (state_of old) numbers → IsGivenBack old new
+prepared_again old new numbers is = record {
+  files = rw is (record { size = refl; range = refl; files = λ slot. same_identity ((state_of old).at slot) slot });
+  settled = settled_at_opening (state_of old) (state_of new) numbers is;
 }

@@ -1,14 +1,14 @@
--- The places of files before and after an action.
+-- The numbers and places of files, and activities that name files by them.
 use Rattle.fx_table.proofs.Words.{◌≡◌, ◌≢◌, ℕ, true, false, List, sym, refl, ap, ◌∙◌, subst, ◌⊎◌, inl, inr, ⊎_elim, dite, ℕ_discrete, None, State}
-use Rattle.fx_table.proofs.Words.{changed_at, Contents, state_of}
-use Rattle.std.specs.Prelude.{Option, Some}
-use Rattle.fx_plain.specs.Step.{with_removed}
-use Rattle.fx_plain.specs.Contents.{leaving, is_leaving, IsTable, node_at, slot_at, placed_at, removed_at, file_at}
+use Rattle.fx_table.proofs.Words.{changed_at, Contents, state_of, Option, Some, with_removed, leaving, is_leaving, IsTable, node_at, slot_at}
+use Rattle.fx_table.proofs.Words.{placed_at, removed_at, file_at, File, changed_here, changed_else, hold_of, retired_of, activity_of, Retired}
 use Rattle.fx_plain.specs.declared.node.Node.{Node}
 use Rattle.fx_plain.specs.declared.node.Node.TheVariants.{At}
-use Rattle.fx_plain.specs.declared.event.File.{File}
 use Rattle.fx_table.specs.Files.{HasFile}
-use Rattle.fx_plain.proofs.Cells.{changed_here, changed_else}
+use Rattle.fx_table.specs.declared.values.Doing.TheVariants as doing
+use Rattle.fx_table.specs.declared.values.Hold.{Hold}
+use Rattle.fx_table.specs.declared.values.Task.{Task}
+use Rattle.fx_table.specs.declared.values.Task.TheVariants.{Idle, Holding, Retiring}
 
 pub some_file : (f g : File) → Some f ≡ Some g → f ≡ g
 some_file f g e = cc
@@ -75,3 +75,28 @@ module _ (s : State) (slot : ℕ) (new found : Option File) (is : found ≡ s.at
 pub not_closed : (s : State) (g f : File) → f.number ≢ g.number → HasFile s f
     → ((slot : ℕ) × (s.at slot ≡ Some f)) ⊎ (changed_at s.removed g.number None f.number ≡ Some f)
 not_closed s g f other there = ⊎_elim (λ p. inl p) (λ e. inr (changed_else s.removed g.number None f.number other ∙ e)) there
+
+-- Activities in a table whose holds and removals name files by their numbers.
+
+-- an idle pass has nothing to do
+pub idle_task : (t : Task) → activity_of t ≡ doing.Idle → t ≡ Idle
+idle_task Idle is = refl
+idle_task (Holding f) is = absurd (cc is)
+idle_task (Retiring f takes) is = absurd (cc is)
+
+-- a pass that shows a hold has the file of that number
+pub holding_task : (t : Task) (f : File) (hold : Hold) → activity_of t ≡ doing.Holding f hold → (t ≡ Holding f) × (hold ≡ hold_of f)
+holding_task Idle f hold is = absurd (cc is)
+holding_task (Holding g) f hold is = let same : g ≡ f = cc in (cc, cc)
+holding_task (Retiring g takes) f hold is = absurd (cc is)
+
+-- a pass that shows a removal has the file of that number
+pub retiring_task : (t : Task) (f : File) (retired : Retired) → activity_of t ≡ doing.Retiring f retired
+    → (t ≡ Retiring f retired.takes) × (retired ≡ retired_of f retired.takes)
+retiring_task Idle f retired is = absurd (cc is)
+retiring_task (Holding g) f retired is = absurd (cc is)
+retiring_task (Retiring g takes) f retired is =
+    let file : g ≡ f = cc in
+    let value : retired_of g takes ≡ retired = cc in
+    let same : takes ≡ retired.takes = ap (λ (x : Retired). x.takes) value in
+    ((λ i. Retiring (file i) (same i)), sym value ∙ (λ i. retired_of (file i) (same i)))

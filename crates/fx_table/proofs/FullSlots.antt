@@ -1,11 +1,7 @@
 -- The number of full slots when a slot changes, and of a table's files.
-use Rattle.fx_table.proofs.Words.{◌≡◌, ◌≢◌, ℕ, zero, suc, ◌+◌, ◌<◌, ◌≤◌, length, sym, ap, arith, subst, dite, ℕ_discrete, changed_at, None, refl, State}
-use Rattle.std.proofs.Common.{length-append}
-use Rattle.std.specs.Prelude.{Option, Some, IsSome}
-use Rattle.fx_plain.proofs.Cells.{changed_here, changed_else}
-use Rattle.fx_plain.specs.State.{file_numbered, files_in_order, identities_of}
-use Rattle.fx_plain.specs.declared.event.File.{File}
-use Rattle.fx_table.specs.FullSlots.{if_full, full_in, first_at}
+use Rattle.fx_table.proofs.Words.{◌≡◌, ◌≢◌, ℕ, zero, suc, ◌+◌, ◌<◌, ◌≤◌, length, sym, ap, arith, subst, dite, ℕ_discrete, changed_at, None, refl}
+use Rattle.fx_table.proofs.Words.{State, length-append, Option, Some, IsSome, changed_here, changed_else, file_numbered, files_in_order}
+use Rattle.fx_table.proofs.Words.{identities_of, File, if_full, full_in, first_at}
 
 module _ (at : ℕ → Option File) (s : ℕ) (new : Option File) where
   pub full_else : (off len : ℕ) → ((i : ℕ) → i < len → off + i ≢ s) → full_in (changed_at at s new) off len ≡ full_in at off len

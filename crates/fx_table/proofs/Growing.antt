@@ -1,7 +1,6 @@
 -- Histories that grow by one event of a pass.
-use Rattle.fx_table.proofs.Words.{◌≡◌, ◌≢◌, ℕ, List, ◌∷◌, sym, refl, ap, ◌∙◌, eq-eqb, ne_eqb, cond, IsSeenBy, held_by, part_of_pass, Event, changed_at}
-use Rattle.fx_table.proofs.Words.{by_equality}
-use Rattle.fx_plain.specs.History.{held_after}
+use Rattle.fx_table.proofs.Words.{◌≡◌, ◌≢◌, ℕ, List, ◌∷◌, sym, refl, ap, ◌∙◌, eq-eqb, ne_eqb, cond, IsSeenBy, held_by, part_of_pass, Event}
+use Rattle.fx_table.proofs.Words.{changed_at, by_equality, held_after}
 
 pub part_mine : {p : ℕ} {e : Event} (h : List Event) → e.pass ≡ p → part_of_pass p (e ∷ h) ≡ e ∷ part_of_pass p h
 part_mine {p} {e} h is = rw (eq-eqb e.pass p is) refl

@@ -1,10 +1,11 @@
--- Histories continued by one pass's events or by those of others.
-use Rattle.fx_table.proofs.Words.{◌≡◌, ◌≢◌, ℕ, List, [], ◌∷◌, ◌++◌, map, refl, ap, ◌∙◌, eq-eqb, ne_eqb, Contains, map-append, State}
-use Rattle.fx_table.proofs.Words.{held_by, IsLegal, part_of_pass, ◌▷▷◌, Event, Action}
-use Rattle.std.proofs.lemmas.List.Elements.{filter-append}
+-- Histories continued by one pass or by others, and those of all passes.
+use Rattle.fx_table.proofs.Words.{◌≡◌, ◌≢◌, ℕ, List, [], ◌∷◌, ◌++◌, map, refl, ap, ◌∙◌, eq-eqb, ne_eqb, Contains, map-append, State, held_by, IsLegal}
+use Rattle.fx_table.proofs.Words.{part_of_pass, ◌▷▷◌, Event, Action, ◌<◌, ◌≤◌, true, sym, None, sum_by, Contains-append_right, Contents, state_of}
+use Rattle.fx_table.proofs.Words.{IsSeenBy, ClosesTable, times_drawn, Opening, PassView, IsFront, filter-append, Leads, action_of, held_after}
+use Rattle.fx_table.proofs.Words.{AllReleaseTheirOwn, IsSettled, start_of, state_at, HasSameFiles}
 use Rattle.fx_plain.proofs.Leading.{leads_then}
-use Rattle.fx_plain.specs.History.{Leads, action_of, held_after, AllReleaseTheirOwn}
-use Rattle.fx_table.proofs.Members.{contains_head, contains_tail, contains_map}
+use Rattle.fx_table.proofs.SumLemmas.{contains_head, contains_tail, contains_map, contains_only}
+use Rattle.fx_table.specs.Settling.{IsSettledSoFar}
 
 part_none : (q : ℕ) (es : List Event) → ((e : Event) → Contains es e → e.pass ≢ q) → part_of_pass q es ≡ []
 part_none q [] n = refl
@@ -45,3 +46,49 @@ legal_then first mid last es h legal leads own = record {
 pub one_author : (p chain : ℕ) (actions : List Action) (e : Event)
     → Contains (map (λ action. record { pass = p; chain = chain; action = action }) actions) e → e.pass ≡ p
 one_author p chain actions e h = ap (λ (z : Event). z.pass) (contains_map _ actions e h).2
+
+-- The history of all passes, which a close yields, and that of a table with one pass before its close.
+
+-- the contract of a close, except for the table that is returned
+pub record IsWhole (o : Opening) (history : List Event) (passes : List PassView) : Type 0 where
+  pub legal : IsLegal (start_of o) history (state_at o history)
+  pub settled : IsSettled (state_at o history)
+  pub seen : (v : PassView) → Contains passes v → IsSeenBy v.front history
+  pub own : (v : PassView) → Contains passes v → part_of_pass v.number history ≡ v.own
+  pub authors : (e : Event) → Contains history e → (v : PassView) × Contains passes v × (e.pass ≡ v.number)
+  pub chains_inside : (v : PassView) → Contains passes v → (c : ℕ) → Contains v.drawn c → (0 < c) × (c ≤ o.chains)
+  pub drawn_once : (c : ℕ) → sum_by (times_drawn c) passes ≤ 1
+  pub all_drawn : ((v : PassView) → Contains passes v → v.no_chains_left ≡ true)
+      → (c : ℕ) → 0 < c → c ≤ o.chains → (v : PassView) × Contains passes v × Contains v.drawn c
+
+pub closes_table : (o : Opening) (h : List Event) (passes : List PassView) (left : Contents) → IsWhole o h passes
+    → HasSameFiles (state_at o h) (state_of left) → IsSettled (state_of left) → ClosesTable o passes left
+closes_table o h passes left whole same at_rest =
+    search (whole.legal, whole.settled, whole.seen, whole.own, whole.authors, whole.chains_inside, whole.drawn_once, whole.all_drawn)
+
+-- a history with events of one pass only is that pass's own
+pub own_history : (v : PassView) (h : List Event) → ((e : Event) → Contains h e → (w : PassView) × Contains (v ∷ []) w × (e.pass ≡ w.number))
+    → part_of_pass v.number h ≡ v.own → h ≡ v.own
+own_history v h authors own =
+    sym (part_all v.number h (λ e i. let a = authors e i in a.2 ∙ ap (λ (w : PassView). w.number) (contains_only v a.0 a.1))) ∙ own
+
+-- a table of one pass, which holds nothing
+module _ (o : Opening) (v : PassView) (h : List Event) (whole : IsWhole o h (v ∷ [])) (front : IsFront o v)
+    (free : held_by h v.number ≡ None) where
+  is_own : h ≡ v.own
+  is_own = own_history v h whole.authors (whole.own v (contains_head v []))
+
+  author : (e : Event) → Contains v.front e → e.pass ≡ v.number
+  author e i =
+      let seen = whole.seen v (contains_head v []) in
+      let a = whole.authors e (rw seen.1 (Contains-append_right seen.0 v.front e i)) in
+      a.2 ∙ ap (λ (w : PassView). w.number) (contains_only v a.0 a.1)
+
+  pub settles : IsSettledSoFar o v
+  settles = record {
+    whole = sym (part_all v.number v.front author) ∙ front.mine;
+    legal = rw is_own at whole.legal;
+    settled = rw is_own at whole.settled;
+    held = rw is_own at free;
+    chains_inside = whole.chains_inside v (contains_head v []);
+  }

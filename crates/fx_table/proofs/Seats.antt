@@ -1,11 +1,73 @@
+-- Passes in seats: as they begin, move and come back.
+use Rattle.fx_table.proofs.Words.{◌≡◌, ℕ, Bool, true, false, State, state_of, Opening, ◌≢◌, List, [], ◌∷◌, ◌++◌, map, length, reverse, sym, refl, ap}
+use Rattle.fx_table.proofs.Words.{◌∙◌, subst, Contains, sum_by, reverse-append, dite, some, ℕ_discrete, get_elem?, All, zero, suc, ◌+◌, set, take}
+use Rattle.fx_table.proofs.Words.{◌⊎◌, inl, inr, ⊎_elim, Contains-append_left, Contains-append_right, Contains-append_cases, sum_by-append}
+use Rattle.fx_table.proofs.Words.{some-injective, some-ne-none, arith, drop, opening, numbers_for, start_of, is_fresh_at_first, flat_map}
+use Rattle.fx_table.proofs.Words.{All-contains, Contains-push, nil_from_length, take-append-drop}
+use Rattle.std.proofs.lemmas.Grind.{common_steps}
+use Rattle.fx_plain.specs.Laws.{IsStart}
+use Rattle.fx_plain.specs.Reopening.{IsTableAtRest}
+use Rattle.fx_plain.proofs.Prepared.{opens_inside, opening_is_start}
+use Rattle.fx_table.proofs.SumLemmas.{contains_head, contains_tail, sum_map, sum_only, sum_reverse, sum_two, contains_none, sum_set}
+
+-- a table that doesn't last has fresh numbers up to the last chain's last
+pub start_is : (o : Opening) → o.lasts ≡ false → start_of o ≡ opening (state_of o.contents) (numbers_for o.chains)
+start_is o ends = λ i. record (opening (state_of o.contents) (numbers_for o.chains)) {
+  fresh = is_fresh_at_first (ends i) (state_of o.contents).size (numbers_for o.chains);
+}
+
+starts : (st : State) (numbers : ℕ) (lasts : Bool) → IsStart (record (opening st numbers) { fresh = is_fresh_at_first lasts st.size numbers })
+starts st numbers false = opening_is_start st numbers
+starts st numbers true = grind (arith, common_steps)
+
+-- each table begins at rest
+pub begins_at_rest : (o : Opening) → IsTableAtRest (start_of o)
+begins_at_rest o = record {
+  start = starts (state_of o.contents) (numbers_for o.chains) o.lasts;
+  inside = opens_inside o.contents (numbers_for o.chains);
+}
+
+-- All passes in one seat, which come back one after another.
+
+-- a property of all elements holds for the last one
+pub last_of : {X : Type 0} (P : X → Type 0) (xs ys : List X) (x : X) → xs ≡ ys ++ x ∷ [] → All P xs → P x
+last_of {X} P xs ys x split all = All-contains P xs x all (subst (λ (l : List X). Contains l x) (sym split) (Contains-push ys x))
+
+module _ {P L : Type 0} (logs : P → List L) where
+  -- the first pass, and the others after it
+  pub gathered : (ps others : List P) (first : P) (its all : List L) → ps ≡ others ++ first ∷ [] → its ≡ logs first
+      → all ≡ its ++ flat_map logs (reverse others) → all ≡ flat_map logs (reverse ps)
+  gathered ps others first its all split is joined = rw (split, reverse-append, ← is) joined
+
+  -- if each pass has one log
+  pub logs_are : (log : P → L) (ps : List P) → ((p : P) → Contains ps p → logs p ≡ log p ∷ []) → flat_map logs ps ≡ map log ps
+  logs_are log [] each = refl
+  logs_are log (p ∷ ps) each = λ i. each p (contains_head p ps) i ++ logs_are log ps (λ q h. each q (contains_tail p ps q h)) i
+
+  -- the sum over all of them
+  pub sum_gathered : (log : P → L) (f : L → ℕ) (ps : List P) (all : List L) → all ≡ map log (reverse ps) → sum_by f all ≡ sum_by (λ p. f (log p)) ps
+  sum_gathered log f ps all is = ap (sum_by f) is ∙ (sum_map f log (reverse ps) ∙ sum_reverse (λ p. f (log p)) ps)
+
+-- a seat that has all logs
+module _ {V L : Type 0} (logs : V → List L) (views : List V) (seat : ℕ) (v : V) (at : get_elem? views seat ≡ some v)
+    (all : length (logs v) ≡ sum_by (λ u. length (logs u)) views) where
+  pub empty_else : (i : ℕ) (u : V) → i ≢ seat → get_elem? views i ≡ some u → logs u ≡ []
+  empty_else i u other e =
+      let a = sum_two (λ z. length (logs z)) views seat i v u (λ j. other (sym j)) at e in
+      nil_from_length (logs u) (omega arith)
+
+  -- only this seat adds to a sum that seats without logs don't add to
+  pub only_here : (f : V → ℕ) → ((u : V) → logs u ≡ [] → f u ≡ 0) → sum_by f views ≡ f v
+  only_here f none = sum_only f views seat v at (λ i u other e. none u (empty_else i u other e))
+
+  -- a property of this seat, and of each seat without logs, holds for each seat
+  pub each_seat : (P : V → Type 0) → P v → ((i : ℕ) (u : V) → get_elem? views i ≡ some u → logs u ≡ [] → P u)
+      → (i : ℕ) (u : V) → get_elem? views i ≡ some u → P u
+  each_seat P here none i u e = dite (ℕ_discrete i seat)
+      (λ same. let is : v ≡ u = cc in subst P is here)
+      (λ other. none i u e (empty_else i u other e))
+
 -- Passes move between idle seats.
-use Rattle.fx_table.proofs.Words.{◌≡◌, ◌≢◌, ℕ, zero, suc, ◌+◌, List, [], ◌∷◌, ◌++◌, set, take, refl, sym, ap, ◌∙◌, subst, arith, ◌⊎◌, inl, inr}
-use Rattle.fx_table.proofs.Words.{⊎_elim, Contains, sum_by, Contains-append_left, Contains-append_right, Contains-append_cases, sum_by-append, dite}
-use Rattle.fx_table.proofs.Words.{some, some-injective, some-ne-none, ℕ_discrete, get_elem?}
-use Rattle.std.proofs.Common.{drop}
-use Rattle.std.proofs.lemmas.List.{take-append-drop}
-use Rattle.fx_table.proofs.Members.{contains_none}
-use Rattle.fx_table.proofs.SumLemmas.{sum_set}
 
 module _ {A : Type 0} where
   pub set_else : (l : List A) (i j : ℕ) (a : A) → j ≢ i → get_elem? (set l i a) j ≡ get_elem? l j

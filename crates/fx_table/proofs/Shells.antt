@@ -1,16 +1,12 @@
--- Files leave a table of one thread for the places of a shared one, and come back one after the other.
-use Rattle.fx_table.proofs.Words.{◌≡◌, ◌≢◌, ℕ, zero, suc, ◌+◌, ◌<◌, ◌≤◌, List, [], ◌∷◌, ◌++◌, length, sym, refl, ap, ◌∙◌, arith, ◌⊎◌, inl, inr, ⊎_elim}
-use Rattle.fx_table.proofs.Words.{None, dite, ℕ_discrete, some, get_elem?, State, Contents, state_of, changed_at}
-use Rattle.std.specs.Prelude.{Option, Some}
+-- Files move between a table of one thread and the places of a shared one.
+use Rattle.fx_table.proofs.Words.{◌≡◌, ◌≢◌, ℕ, zero, suc, ◌+◌, ◌<◌, ◌≤◌, List, [], ◌∷◌, ◌++◌, length, sym, refl, ap, ◌∙◌, arith, ◌⊎◌, inl, inr}
+use Rattle.fx_table.proofs.Words.{⊎_elim, None, dite, ℕ_discrete, some, get_elem?, State, Contents, state_of, changed_at, cond, set, subst, Bool}
+use Rattle.fx_table.proofs.Words.{Option, Some, nat_lt, option_map, dec_le, Closed, changed_here, changed_else, IsSettled, identity_of, numbered}
+use Rattle.fx_table.proofs.Words.{slots_in_order, number_of, HasSameFiles, IsShell, IsShellOf, AreBack, file_in_place, lt-ltb, le-ltb, File}
 use Rattle.std.proofs.Math.ListN.{get_or-eq_default}
 use Rattle.std.proofs.lemmas.List.FromFn.{get_or-map-range_with_len, length-map-range_with_len}
-use native.Mathlib.Decide.{dec_le}
-use Rattle.fx_base.specs.declared.open_file.Closed.{Closed}
-use Rattle.fx_plain.proofs.Cells.{changed_here, changed_else}
-use Rattle.fx_plain.specs.State.{IsSettled}
-use Rattle.fx_plain.specs.Table.{identity_of, numbered, slots_in_order}
-use Rattle.fx_table.specs.Opening.{HasSameFiles}
-use Rattle.fx_table.specs.Shells.{IsShell, IsShellOf, AreBack, file_in_place}
+use Rattle.fx_table.proofs.SumLemmas.{read_at, stands_at}
+use Rattle.fx_table.proofs.Seats.{set_here, set_else}
 
 -- a table has no file past its slots
 pub none_outside : (c : Contents) {slot : ℕ} → (state_of c).size ≤ slot → (state_of c).at slot ≡ None
@@ -110,3 +106,134 @@ module _ (shell : State) (file : ℕ → Option Closed) where
       → IsPartlyBack shell file from to st'
   last_back {from = from} {to = to} = one_back (λ s l u. (l, omega arith, λ same. omega arith))
       (λ s ne out. ⊎_elim (λ (l : s < from). inl l) (λ (g : to ≤ s). inr (omega (arith, ne))) out)
+
+-- Files come out of the places of a shared table, and back to a table of one thread, one slot after the other.
+
+-- the place of the file at each of `size` slots
+module _ (size : ℕ) (place_at : ℕ → Option ℕ) where
+  abbrev pub file_of : List (Option Closed) → Option ℕ → Option Closed
+  file_of xs None = None
+  file_of xs (Some place) = file_in_place xs place
+
+  abbrev pub file_at : List (Option Closed) → ℕ → Option Closed
+  file_at xs slot = cond (nat_lt slot size) (file_of xs (place_at slot)) None
+
+  -- the files of the slots are in places of their own, and no other place has one
+  pub record AreAtHome (xs : List (Option Closed)) : Type 0 where
+    pub inside : (slot place : ℕ) → slot < size → place_at slot ≡ Some place → place < length xs
+    pub apart : (slot other p q : ℕ) → slot < size → other < size → slot ≢ other → place_at slot ≡ Some p → place_at other ≡ Some q → p ≢ q
+    pub others : (place : ℕ) (file : Closed) → get_elem? xs place ≡ some (Some file)
+        → (slot : ℕ) × (slot < size) × (place_at slot ≡ Some place)
+
+  pub here_at : (xs : List (Option Closed)) {slot : ℕ} → slot < size → file_at xs slot ≡ file_of xs (place_at slot)
+  here_at xs {slot} l = ap (λ (b : Bool). cond b (file_of xs (place_at slot)) None) (lt-ltb slot size l)
+
+  pub none_past : (xs : List (Option Closed)) {slot : ℕ} → size ≤ slot → file_at xs slot ≡ None
+  none_past xs {slot} g = ap (λ (b : Bool). cond b (file_of xs (place_at slot)) None) (le-ltb slot size g)
+
+  -- the files of the first slots are back, and those of the others are in their places
+  pub record AreComing (shell : State) (xs : List (Option Closed)) (done : ℕ) (now : List (Option Closed)) (st : State) : Type 0 where
+    pub part : IsPartlyBack shell (file_at xs) done size st
+    pub left : (slot place : ℕ) → done ≤ slot → slot < size → place_at slot ≡ Some place → get_elem? now place ≡ get_elem? xs place
+    pub others : (place : ℕ) (file : Closed) → get_elem? now place ≡ some (Some file)
+        → (slot : ℕ) × (done ≤ slot) × (slot < size) × (place_at slot ≡ Some place)
+
+  pub none_came : {shell : State} {xs : List (Option Closed)} → IsShell shell → AreAtHome xs → AreComing shell xs 0 xs shell
+  none_came {shell} {xs} empty home = record {
+    part = none_back_yet shell (file_at xs) empty (λ slot out. none_past xs (omega (arith, out)));
+    left = λ _ _ _ _ _. refl;
+    others = λ place file e. let o = home.others place file e in (o.0, omega arith, o.1, o.2);
+  }
+
+  module _ {shell : State} {xs : List (Option Closed)} {done : ℕ} {now : List (Option Closed)} {st : State} (coming : AreComing shell xs done now st) where
+    pub all_came : size ≤ done → AreBack shell (file_at xs) st
+    all_came whole = all_back shell (file_at xs) whole coming.part
+
+    pub none_left : size ≤ done → (place : ℕ) {file : Closed} → get_elem? now place ≡ some (Some file) → ⊥
+    none_left whole place {file} there = let o = coming.others place file there in omega (arith, whole, o.1, o.2)
+
+    -- one slot's file comes back, if there is one
+    module _ (home : AreAtHome xs) (inside : done < size) where
+      later : {slot : ℕ} → done ≤ slot → place_at slot ≢ place_at done → done + 1 ≤ slot
+      later {slot} le other = let ne : slot ≢ done = λ same. other (ap place_at same) in omega (arith, le, ne)
+
+      not_back : file_at xs done ≡ None → IsPartlyBack shell (file_at xs) (done + 1) size st
+      not_back none = first_back shell (file_at xs) (rw none record {
+        size = refl;
+        range = refl;
+        there = ap identity_of (coming.part.away done (omega arith) inside);
+        others = λ other ne. refl;
+        settled = coming.part.settled;
+      }) coming.part
+
+      pub none_named : place_at done ≡ None → AreComing shell xs (done + 1) now st
+      none_named none = record {
+        part = not_back (here_at xs inside ∙ ap (file_of xs) none);
+        left = λ slot place le. coming.left slot place (omega (arith, le));
+        others = λ place file e. let o = coming.others place file e in (o.0, later o.1 (λ same. cc (sym o.3 ∙ (same ∙ none))), o.2, o.3);
+      }
+
+      module _ {place : ℕ} {x : Option Closed} {new : List (Option Closed)} (named : place_at done ≡ Some place)
+          (there : get_elem? now place ≡ some x) (written : new ≡ set now place None) where
+        file_is : file_at xs done ≡ x
+        file_is = here_at xs inside ∙ (ap (file_of xs) named
+            ∙ read_at xs place None (sym (coming.left done place (omega arith) inside named) ∙ there))
+
+        place_left : {st' : State} → IsPartlyBack shell (file_at xs) (done + 1) size st' → AreComing shell xs (done + 1) new st'
+        place_left part = rw written record {
+          part = part;
+          left = λ slot other le lt is. set_else now place other None (home.apart slot done other place lt inside (λ same. omega arith) is named)
+              ∙ coming.left slot other (omega (arith, le)) lt is;
+          others = λ other file e. dite (ℕ_discrete other place)
+              (λ same. let bad : None ≡ Some file = set_here now place None (Some file) (rw same at e) in absurd (cc bad))
+              (λ ne. let o = coming.others other file (sym (set_else now place other None ne) ∙ e) in
+              (o.0, later o.1 (λ same. ne (let is : Some other ≡ Some place = sym o.3 ∙ (same ∙ named) in cc is)), o.2, o.3));
+        }
+
+        pub some_came : {file : Closed} {st' : State} → x ≡ Some file → Becomes st done (Some file) st' → AreComing shell xs (done + 1) new st'
+        some_came {st' = st'} is gets = place_left (first_back shell (file_at xs)
+            (subst (λ (f : Option Closed). Becomes st done f st') (sym (file_is ∙ is)) gets) coming.part)
+
+        pub none_there : x ≡ None → AreComing shell xs (done + 1) new st
+        none_there is = place_left (not_back (file_is ∙ is))
+
+-- the files of a state, each in the place of its number
+module _ (size : ℕ) (place_at : ℕ → Option ℕ) (end : State) (place_of : ℕ → ℕ) (xs : List (Option Closed)) where
+  pub record AreStored : Type 0 where
+    pub named : (slot : ℕ) → slot < size → place_at slot ≡ option_map place_of (number_of (end.at slot))
+    pub there : (slot : ℕ) (f : File) → slot < size → end.at slot ≡ Some f → get_elem? xs (place_of f.number) ≡ some (Some f.identity)
+    pub apart : (slot other : ℕ) (f g : File) → slot < size → other < size → end.at slot ≡ Some f → end.at other ≡ Some g
+        → place_of f.number ≡ place_of g.number → slot ≡ other
+    pub others : (place : ℕ) (file : Closed) → get_elem? xs place ≡ some (Some file)
+        → (slot : ℕ) × (f : File) × (slot < size) × (end.at slot ≡ Some f) × (place_of f.number ≡ place)
+    pub outside : (slot : ℕ) → size ≤ slot → end.at slot ≡ None
+
+  module _ (s : AreStored) where
+    file_there : (slot place : ℕ) → slot < size → place_at slot ≡ Some place → (f : File) × (end.at slot ≡ Some f) × (place_of f.number ≡ place)
+    file_there slot place l is = go (end.at slot) (sym (s.named slot l) ∙ is)
+      where
+        go : (found : Option File) → option_map place_of (number_of found) ≡ Some place
+            → (f : File) × (found ≡ Some f) × (place_of f.number ≡ place)
+        go None e = absurd (cc e)
+        go (Some f) e = (f, refl, cc e)
+
+    pub at_home : AreAtHome size place_at xs
+    at_home = record {
+      inside = λ slot place l is. let f = file_there slot place l is in
+          (stands_at xs place _ (ap (get_elem? xs) (sym f.2) ∙ s.there slot f.0 l f.1)).0;
+      apart = λ slot other p q l m ne is is' same. let f = file_there slot p l is in let g = file_there other q m is' in
+          ne (s.apart slot other f.0 g.0 l m f.1 g.1 (f.2 ∙ (same ∙ sym g.2)));
+      others = λ place file e. let o = s.others place file e in
+          (o.0, o.2, s.named o.0 o.2 ∙ (ap (λ (x : Option File). option_map place_of (number_of x)) o.3 ∙ ap (λ (n : ℕ). Some n) o.4));
+    }
+
+    pub files_are : (slot : ℕ) → file_at size place_at xs slot ≡ identity_of (end.at slot)
+    files_are slot = dite (dec_le (suc slot) size)
+        (λ low. let l : slot < size = omega (arith, low) in
+        here_at size place_at xs l ∙ (ap (file_of size place_at xs) (s.named slot l) ∙ go l (end.at slot) refl))
+        (λ high. let g : size ≤ slot = omega (arith, high) in none_past size place_at xs g ∙ sym (ap identity_of (s.outside slot g)))
+      where
+        go : slot < size → (found : Option File) → end.at slot ≡ found
+            → file_of size place_at xs (option_map place_of (number_of found)) ≡ identity_of found
+        go l None e = refl
+        go l (Some f) e = read_at xs (place_of f.number) None (s.there slot f l e)

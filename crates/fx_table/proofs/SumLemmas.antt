@@ -1,11 +1,108 @@
--- Sums over lists, and the change of a sum if one element changes.
-use Rattle.fx_table.proofs.Words.{◌≡◌, ◌≢◌, ℕ, zero, suc, ◌+◌, ◌≤◌, List, [], ◌∷◌, map, set, reverse, sym, refl, ap, ◌∙◌, arith, cond, eqb, sum_by}
-use Rattle.fx_table.proofs.Words.{count_by, Contains, sum_by-cons, some, some-injective, some-ne-none, dite, ℕ_discrete, get_elem?, by_equality}
-use Rattle.std.specs.List.{sum}
-use Rattle.std.proofs.lemmas.List.Sorted.{IsPermutation-reverse, sum_by-IsPermutation}
+-- Sums over lists, and membership in a list.
+use Rattle.fx_table.proofs.Words.{◌≡◌, ◌≢◌, ℕ, zero, suc, ◌+◌, ◌-◌, ◌<◌, ◌≤◌, cond, eqb, List, map, refl, ap, arith, eq-eqb, ne_eqb, ◌⊎◌, inl, inr}
+use Rattle.fx_table.proofs.Words.{count_by, range_with_len, sum_by-cons, dite, ℕ_discrete, changed_at, length, get_elem?, some, some-ne-none}
+use Rattle.fx_table.proofs.Words.{some-injective, [], ◌∷◌, reverse, sym, ◌∙◌, ⊎_elim, Contains, All, set, sum_by, by_equality, Bool, lt-ltb, le-ltb}
+use Rattle.fx_table.proofs.Words.{dec_le, once, slice_index_or, length-map, get_or-map, get_or_default, All-contains_itself, sum}
+use Rattle.std.proofs.lemmas.List.Sorted.{Contains-permutation, IsPermutation-reverse, IsPermutation-sym, sum_by-IsPermutation}
 use Rattle.std.proofs.lemmas.List.Sums.{sum-map, sum_by-set, get_or-le-sum_by}
 use Rattle.std.proofs.lemmas.Simd.{map-map}
-use Rattle.fx_table.proofs.Members.{stands_at, contains_head, contains_tail}
+
+abbrev pub one_if : Bool → ℕ
+one_if b = cond b 1 0
+
+-- the number of times that the chain is in the list
+abbrev pub times : ℕ → List ℕ → ℕ
+times c l = count_by (λ d. eqb d c) l
+
+pub bit_here : (p q : ℕ) → q ≡ p → one_if (eqb q p) ≡ 1
+bit_here p q e = rw (eq-eqb q p e) refl
+
+pub bit_else : (p q : ℕ) → q ≢ p → one_if (eqb q p) ≡ 0
+bit_else p q e = rw (ne_eqb q p e) refl
+
+pub bit_is : (p q : ℕ) → ((q ≡ p) × (one_if (eqb q p) ≡ 1)) ⊎ ((q ≢ p) × (one_if (eqb q p) ≡ 0))
+bit_is p q = dite (ℕ_discrete q p) (λ e. inl (e, bit_here p q e)) (λ e. inr (e, bit_else p q e))
+
+pub once_is : (n p : ℕ) → ((0 < p) × (p ≤ n) × (once n p ≡ 1)) ⊎ (((p ≡ 0) ⊎ (n < p)) × (once n p ≡ 0))
+once_is n zero = inr (inl refl, refl)
+once_is n (suc p) = dite (dec_le (suc p) n) (λ l. inl (omega arith, l, ap one_if (lt-ltb p n (omega (arith, l)))))
+    (λ g. inr (inr (omega (arith, g)), ap one_if (le-ltb p n (omega (arith, g)))))
+
+-- one number more
+pub once_more : (n m p : ℕ) → m ≡ n + 1 → once m p ≡ once n p + one_if (eqb m p)
+once_more n m p is = omega (arith, is, once_is n p, once_is m p, bit_is p m)
+
+-- one more or one less at a place
+pub one_more_at : (f : ℕ → ℕ) (q n : ℕ) → changed_at f q (f q + 1) n ≡ f n + one_if (eqb q n)
+one_more_at f q n = grind arith
+
+pub one_less_at : (f : ℕ → ℕ) (q n : ℕ) → 0 < f q → changed_at f q (f q - 1) n + one_if (eqb q n) ≡ f n
+one_less_at f q n held = grind arith
+
+-- one element for each number: the count of elements with this number
+module _ {X : Type 0} (number : X → ℕ) (new : ℕ → X) (its : (p : ℕ) → number (new p) ≡ p) (q : ℕ) where
+  abbrev counted : ℕ → ℕ → ℕ
+  counted p n = count_by (λ x. eqb (number x) q) (map new (range_with_len p n))
+
+  counted_from : (p n : ℕ) → counted (p + 1) n + once p q ≡ once (p + n) q
+  counted_from p zero = let e : p ≡ p + 0 = omega arith in let f = ap (λ m. once m q) e in omega arith
+  counted_from p (suc n) =
+      let a = sum_by-cons (λ x. one_if (eqb (number x) q)) (new (p + 1)) (map new (range_with_len ((p + 1) + 1) n)) in
+      let b = ap (λ m. one_if (eqb m q)) (its (p + 1)) in
+      let e : (p + 1) + n ≡ p + suc n = omega arith in
+      omega (arith, counted_from (p + 1) n, a, b, once_more p (p + 1) q refl, ap (λ m. once m q) e)
+
+  pub counted_once : (n : ℕ) → counted 1 n ≡ once n q
+  counted_once n = let e : 0 + n ≡ n = omega arith in omega (arith, counted_from 0 n, ap (λ m. once m q) e, once_is 0 q)
+
+-- Membership in a list, by its first element and the others.
+
+module _ {X : Type 0} where
+  pub contains_none : (x : X) → Contains [] x → ⊥
+  contains_none x h = omega (arith, h.1)
+
+  pub contains_head : (x : X) (xs : List X) → Contains (x ∷ xs) x
+  contains_head x xs = (0, omega arith, refl)
+
+  pub contains_tail : (y : X) (xs : List X) (x : X) → Contains xs x → Contains (y ∷ xs) x
+  contains_tail y xs x h = (suc h.0, omega (arith, h.1), h.2)
+
+  pub contains_cases : (y : X) (xs : List X) (x : X) → Contains (y ∷ xs) x → (x ≡ y) ⊎ Contains xs x
+  contains_cases y xs x (zero, inside, is) = inl (sym is)
+  contains_cases y xs x (suc k, inside, is) = inr (k, omega arith, is)
+
+  -- the element at an index
+  pub stands_at : (l : List X) (i : ℕ) (v : X) → get_elem? l i ≡ some v → (i < length l) × (slice_index_or l i v ≡ v)
+  stands_at [] i v e = absurd (some-ne-none v (sym e))
+  stands_at (x ∷ l) zero v e = (omega arith, some-injective x v e)
+  stands_at (x ∷ l) (suc i) v e = let r = stands_at l i v e in (omega (arith, r.0), r.1)
+
+  pub read_at : (l : List X) (i : ℕ) {v : X} (d : X) → get_elem? l i ≡ some v → slice_index_or l i d ≡ v
+  read_at l i {v} d e = let at = stands_at l i v e in get_or_default l i d v at.0 ∙ at.1
+
+  -- a list of one
+  pub contains_only : (x y : X) → Contains (x ∷ []) y → y ≡ x
+  contains_only x y h = ⊎_elim (λ is. is) (λ t. absurd (contains_none y t)) (contains_cases x [] y h)
+
+  pub each_all : (P : X → Type 0) (xs : List X) → ((x : X) → Contains xs x → P x) → All P xs
+  each_all P xs f k d inside = f (slice_index_or xs k d) (All-contains_itself xs k d inside)
+
+  pub contains_reverse : (xs : List X) (x : X) → Contains (reverse xs) x → Contains xs x
+  contains_reverse xs x = Contains-permutation (reverse xs) xs x (IsPermutation-sym xs (reverse xs) (IsPermutation-reverse xs))
+
+  pub contains_reversed : (xs : List X) (x : X) → Contains xs x → Contains (reverse xs) x
+  contains_reversed xs x = Contains-permutation xs (reverse xs) x (IsPermutation-reverse xs)
+
+pub contains_map : {X Y : Type 0} (f : X → Y) (xs : List X) (y : Y) → Contains (map f xs) y → (x : X) × Contains xs x × (y ≡ f x)
+contains_map f [] y h = absurd (contains_none y h)
+contains_map f (x ∷ xs) y (zero, inside, is) = (x, contains_head x xs, sym is)
+contains_map f (x ∷ xs) y (suc k, inside, is) =
+    let r = contains_map f xs y (k, omega (arith, inside), is) in (r.0, contains_tail x xs r.0 r.1, r.2)
+
+pub contains_mapped : {X Y : Type 0} (f : X → Y) (xs : List X) (x : X) → Contains xs x → Contains (map f xs) (f x)
+contains_mapped f xs x (k, inside, is) = (k, omega (arith, length-map xs f, inside), get_or-map f xs k x (f x) inside ∙ ap f is)
+
+-- Sums over lists, and the change of a sum if one element changes.
 
 module _ {X : Type 0} (f : X → ℕ) where
   pub sum_set : (l : List X) (i : ℕ) (v w : X) → get_elem? l i ≡ some v → sum_by f (set l i w) + f v ≡ sum_by f l + f w

@@ -1,4 +1,4 @@
-use Rattle.check_judge.proofs.ClaimWords.{ℕ, ◌<◌, slice_index_or, Claim, Brings}
+use Rattle.check_judge.proofs.Words.{ℕ, ◌<◌, slice_index_or, Claim, Brings}
 use Rattle.check_judge.proofs.brought.has_bringing.Given as goal
 
 -- none of those that were looked at does

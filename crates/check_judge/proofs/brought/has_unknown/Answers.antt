@@ -1,4 +1,4 @@
-use Rattle.check_judge.proofs.ClaimWords.{Contains-get_or}
+use Rattle.check_judge.proofs.Words.{Contains-get_or}
 use Rattle.check_judge.proofs.brought.has_unknown.Goals as goal
 
 pub returns-then-is_unknown : goal.returns-then-is_unknown

@@ -1,4 +1,4 @@
-use Rattle.check_judge.proofs.ClaimWords.{◌≢◌, ℕ, ◌<◌, slice_index_or, Option, Some, Closed}
+use Rattle.check_judge.proofs.Words.{◌≢◌, ℕ, ◌<◌, slice_index_or, Option, Some, Closed}
 use Rattle.check_judge.proofs.brought.is_at_slot.Given as goal
 
 -- it is at none of those that were looked at

@@ -1,4 +1,4 @@
-use Rattle.check_judge.proofs.ClaimWords.{◌∙◌, All-more, Claim, Vec, refl, sym, take_all, true≢false, Brings, no_any}
+use Rattle.check_judge.proofs.Words.{◌∙◌, All-more, Claim, Vec, refl, sym, take_all, true≢false, Brings, no_any}
 use Rattle.std.specs.Prelude.{Any}
 use Rattle.check_judge.proofs.brought.is_brought.Goals as goal
 

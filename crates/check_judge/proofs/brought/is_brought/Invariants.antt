@@ -1,4 +1,4 @@
-use Rattle.check_judge.proofs.ClaimWords.{All, Claim, Vec, take, Brings}
+use Rattle.check_judge.proofs.Words.{All, Claim, Vec, take, Brings}
 use Rattle.std.specs.Prelude.{Any}
 use Rattle.check_judge.proofs.brought.is_brought.Given as goal
 

@@ -1,5 +1,5 @@
-use Rattle.check_judge.proofs.ClaimWords.{◌≡◌, ◌∙◌, ap, not, sym, true}
-use Rattle.check_judge.proofs.Unknown.{never_known}
+use Rattle.check_judge.proofs.Words.{◌≡◌, ◌∙◌, ap, not, sym, true}
+use Rattle.check_judge.proofs.Refuting.{never_known}
 use Rattle.check_judge.proofs.brought.is_unknown.Goals as goal
 
 pub returns : goal.returns

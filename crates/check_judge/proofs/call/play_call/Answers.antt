@@ -1,6 +1,6 @@
 use Rattle.check_judge.proofs.Words.{IfOk-weaker, RingState, ap, sym, instruction_of, ring_with_slots, string_bytes, ◌∙◌}
-use Rattle.check_lines.proofs.CallRings.{called_submissions}
-use Rattle.check_judge.proofs.Calls.{call_keeps, fails, found, never}
+use Rattle.check_lines.proofs.Calls.{called_submissions}
+use Rattle.check_judge.proofs.Plays.{call_keeps, fails, found, never}
 use Rattle.check_judge.proofs.call.play_call.Goals as goal
 
 pub call-requires-clause-few : goal.call-requires-clause-few

@@ -1,6 +1,5 @@
-use Rattle.check_judge.proofs.ClaimWords.{add-zero, arith, drop_all, length-map, all_asked, asked_of}
-use Rattle.fx_chain.proofs.Cases.{either_case}
-use Rattle.check_judge.proofs.Telling.{all_told, more_told, none_told}
+use Rattle.check_judge.proofs.Words.{add-zero, arith, drop_all, length-map, all_asked, asked_of, either_case}
+use Rattle.check_judge.proofs.RequestClaims.{all_told, more_told, none_told}
 use Rattle.check_judge.proofs.ChainClaims.{next_told, one_stops}
 use Rattle.check_judge.proofs.chain_claims.claims_of_chain.Goals as goal
 

@@ -1,4 +1,4 @@
-use Rattle.check_judge.proofs.ClaimWords.{all_completed, all_asked}
+use Rattle.check_judge.proofs.Words.{all_completed, all_asked}
 use Rattle.check_judge.proofs.ChainClaims.{ChainTold}
 use Rattle.check_judge.proofs.chain_claims.claims_of_chain.Given as goal
 

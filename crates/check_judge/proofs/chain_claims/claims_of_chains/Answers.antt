@@ -1,9 +1,7 @@
-use Rattle.check_judge.proofs.ClaimWords.{◌≡◌, ◌+◌, ◌∙◌, ◌∷◌, ap, arith, drop, drop_all, eq-eqb, length, sym, true≢false, length-map, map}
-use Rattle.check_judge.proofs.ClaimWords.{slice_index_or}
-use Rattle.check_judge.proofs.ClaimWords.{get_or_default, members_of, completed_of, all_asked, asked_of, add-one, mapped_at}
-use Rattle.fx_chain.specs.declared.chain.Chain.{Chain}
-use Rattle.fx_order.proofs.ChainsFront.{own_completed, others_completed}
-use Rattle.check_judge.proofs.AllChains.{none_told, few_completions, chain_stops, chain_told}
+use Rattle.check_judge.proofs.Words.{◌≡◌, ◌+◌, ◌∙◌, ◌∷◌, ap, arith, drop, drop_all, eq-eqb, length, sym, true≢false, length-map, map, slice_index_or}
+use Rattle.check_judge.proofs.Words.{get_or_default, members_of, completed_of, all_asked, asked_of, add-one, mapped_at, Chain, own_completed}
+use Rattle.check_judge.proofs.Words.{others_completed}
+use Rattle.check_judge.proofs.ChainClaims.{none_told, few_completions, chain_stops, chain_told}
 use Rattle.check_judge.proofs.chain_claims.claims_of_chains.Goals.{After-members-members}
 use Rattle.check_judge.proofs.chain_claims.claims_of_chains.Goals as goal
 

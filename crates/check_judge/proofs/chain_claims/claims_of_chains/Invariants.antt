@@ -1,5 +1,5 @@
-use Rattle.check_judge.proofs.ClaimWords.{map, members_of, all_completed, all_asked}
-use Rattle.check_judge.proofs.AllChains.{Sofar}
+use Rattle.check_judge.proofs.Words.{map, members_of, all_completed, all_asked}
+use Rattle.check_judge.proofs.ChainClaims.{Sofar}
 use Rattle.check_judge.proofs.chain_claims.claims_of_chains.Given as goal
 
 -- the claims of the chains so far

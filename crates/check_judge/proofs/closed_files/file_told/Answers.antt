@@ -1,5 +1,5 @@
 use Rattle.check_judge.proofs.Words.{◌≡◌, ◌∙◌, ℕ, List, Some, ap, name_at, Closed, NamedClose, sym}
-use Rattle.check_judge.proofs.Tellings.{same_entry, same_file}
+use Rattle.check_judge.proofs.OrderFiles.{same_entry, same_file}
 use Rattle.check_judge.proofs.closed_files.file_told.Goals as goal
 
 pub returns-then-file-entry-clause-only : goal.returns-then-file-entry-clause-only

@@ -1,5 +1,5 @@
 use Rattle.check_judge.proofs.Words.{◌≡◌, Option, Some, slice_index_or, take_more, Registered, Closed, map_push}
-use Rattle.check_judge.proofs.Tellings.{close_at}
+use Rattle.check_judge.proofs.OrderFiles.{close_at}
 use Rattle.check_judge.proofs.closed_files.files_told.Goals as goal
 
 any : Closed

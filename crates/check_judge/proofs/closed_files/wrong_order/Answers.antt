@@ -1,5 +1,5 @@
 use Rattle.check_judge.proofs.Words.{◌∙◌, ◌-◌, ap, sym, arith, is_lt}
-use Rattle.check_judge.proofs.Tellings.{not_in_turn}
+use Rattle.check_judge.proofs.OrderFiles.{not_in_turn}
 use Rattle.check_judge.proofs.closed_files.wrong_order.Goals as goal
 
 pub returns-then-not-is_lt : goal.returns-then-not-is_lt

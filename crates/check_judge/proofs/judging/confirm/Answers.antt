@@ -1,5 +1,5 @@
-use Rattle.check_judge.proofs.ClaimWords.{refl, none_past}
-use Rattle.check_judge.proofs.RingsAfter.{order_rings}
+use Rattle.check_judge.proofs.Words.{refl, none_past}
+use Rattle.check_judge.proofs.Plays.{order_rings}
 use Rattle.check_judge.proofs.judging.confirm.Goals as goal
 
 pub returns-clause-came : goal.returns-clause-came

@@ -1,4 +1,4 @@
-use Rattle.check_judge.proofs.ClaimWords.{◌≡◌, ◌∙◌, length, sym, ap, arith, length-map, members_of, all_asked, ring_with_slots, IfOk-weaker}
+use Rattle.check_judge.proofs.Words.{◌≡◌, ◌∙◌, length, sym, ap, arith, length-map, members_of, all_asked, ring_with_slots, IfOk-weaker}
 use Rattle.check_judge.proofs.Refuting.{no_claims, outcome_told}
 use Rattle.check_judge.proofs.judging.judge_told.Goals as goal
 

@@ -1,4 +1,4 @@
-use Rattle.check_judge.proofs.Tellings.{next_installed, none_installed}
+use Rattle.check_judge.proofs.OrderFiles.{next_installed, none_installed}
 use Rattle.check_judge.proofs.known.is_installed.Goals.{else-i-completions-via-then-i-completions+else-has_installed}
 use Rattle.check_judge.proofs.known.is_installed.Goals.{else-i-completions-via-else-i-completions}
 use Rattle.check_judge.proofs.known.is_installed.Goals as goal

@@ -1,4 +1,4 @@
-use Rattle.check_judge.proofs.Projected.{no_order}
+use Rattle.check_judge.proofs.StrandClaims.{no_order}
 use Rattle.check_judge.proofs.part.judge_part.Goals as goal
 
 pub returns-in-NoEnd : goal.returns-in-NoEnd

@@ -1,5 +1,5 @@
 use Rattle.check_judge.proofs.Words.{sym, ◌∙◌, completed_of, asked_of, first_is}
-use Rattle.check_judge.proofs.Listed.{severed_put}
+use Rattle.check_judge.proofs.AccessPlaces.{severed_put}
 use Rattle.check_judge.proofs.places.+push_chain.Goals as goal
 
 pub returns-then-severs : goal.returns-then-severs

@@ -1,6 +1,6 @@
 use Rattle.check_judge.proofs.Words.{◌≡◌, ◌+◌, ◌<◌, ℕ, Some, length, map, replicate, slice_get, slice_index_or, take, Vec, places_of_chain}
 use Rattle.check_judge.proofs.Words.{AccessPlace}
-use Rattle.check_judge.proofs.Merged.{count_of}
+use Rattle.check_judge.proofs.AccessPlaces.{count_of}
 use Rattle.check_judge.proofs.places.in_order.Given as goal
 
 abbrev pub invariant-loop-list : goal.invariant-loop-list

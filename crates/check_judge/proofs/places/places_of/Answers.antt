@@ -1,6 +1,6 @@
 use Rattle.check_judge.proofs.Words.{List, Result, Ok, Err, IfOk, map, length-map, members_of, all_completed, Asked, all_asked, AreListsOf, FileEntry}
 use Rattle.check_judge.proofs.Words.{◌++◌, ◌∙◌, ap, subst, sym, AccessPlace, Vec}
-use Rattle.check_judge.proofs.Lists.{all_places, as_many_lists, first_lists}
+use Rattle.check_judge.proofs.AccessPlaces.{all_places, as_many_lists, first_lists}
 use Rattle.check_judge.proofs.places.places_of.Goals.{In_ok-push_lists}
 use Rattle.check_judge.proofs.places.places_of.Goals as goal
 

@@ -1,5 +1,5 @@
 use Rattle.check_judge.proofs.Words.{◌++◌, ℕ, List, Option, ap, ◌∙◌, map, place_at, take_all}
-use Rattle.check_judge.proofs.Listed.{places_more}
+use Rattle.check_judge.proofs.AccessPlaces.{places_more}
 use Rattle.check_judge.proofs.places.push_own.Goals as goal
 
 pub loop-entry-preserved : goal.loop-entry-preserved

@@ -1,4 +1,4 @@
-use Rattle.check_judge.proofs.ClaimWords.{subst, HasNoEnd}
+use Rattle.check_judge.proofs.Words.{subst, HasNoEnd}
 use Rattle.check_judge.proofs.refuted.sees_no_end.Goals as goal
 
 pub returns-then-is_uneven : goal.returns-then-is_uneven

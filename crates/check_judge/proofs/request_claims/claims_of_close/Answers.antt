@@ -1,6 +1,5 @@
-use Rattle.check_judge.proofs.ClaimWords.{refl}
-use Rattle.check_judge.proofs.RequestClaims.{close_here, close_missed}
-use Rattle.check_judge.proofs.Telling.{tells_so}
+use Rattle.check_judge.proofs.Words.{refl}
+use Rattle.check_judge.proofs.RequestClaims.{close_here, close_missed, tells_so}
 use Rattle.check_judge.proofs.request_claims.claims_of_close.Goals as goal
 
 pub returns-then-is_refusal : goal.returns-then-is_refusal

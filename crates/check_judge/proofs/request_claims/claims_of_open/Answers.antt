@@ -1,6 +1,5 @@
-use Rattle.check_judge.proofs.ClaimWords.{refl, Any, Slot, completed_of}
-use Rattle.check_judge.proofs.RequestClaims.{named_entry}
-use Rattle.check_judge.proofs.Telling.{tells_so}
+use Rattle.check_judge.proofs.Words.{refl, Any, Slot, completed_of}
+use Rattle.check_judge.proofs.RequestClaims.{named_entry, tells_so}
 use Rattle.check_judge.proofs.request_claims.claims_of_open.Goals as goal
 
 pub returns-in-Slot : goal.returns-in-Slot

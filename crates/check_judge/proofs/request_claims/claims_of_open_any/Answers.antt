@@ -1,6 +1,5 @@
-use Rattle.check_judge.proofs.ClaimWords.{ℤ, refl, ap, ◌∙◌, [], completed}
-use Rattle.check_judge.proofs.RequestClaims.{any_full, any_here, not_below}
-use Rattle.check_judge.proofs.Telling.{tells_so}
+use Rattle.check_judge.proofs.Words.{ℤ, refl, ap, ◌∙◌, [], completed}
+use Rattle.check_judge.proofs.RequestClaims.{any_full, any_here, not_below, tells_so}
 use Rattle.check_judge.proofs.request_claims.claims_of_open_any.Goals as goal
 
 pub returns-then-is_refusal : goal.returns-then-is_refusal

@@ -1,5 +1,4 @@
-use Rattle.check_judge.proofs.RequestClaims.{open_here}
-use Rattle.check_judge.proofs.Telling.{tells_so}
+use Rattle.check_judge.proofs.RequestClaims.{open_here, tells_so}
 use Rattle.check_judge.proofs.request_claims.claims_of_open_at.Goals as goal
 
 pub returns : goal.returns

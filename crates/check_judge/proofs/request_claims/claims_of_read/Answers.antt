@@ -1,6 +1,5 @@
-use Rattle.check_judge.proofs.ClaimWords.{refl, arith, sym, true≢false}
-use Rattle.check_judge.proofs.RequestClaims.{read_found, read_missed}
-use Rattle.check_judge.proofs.Telling.{tells_so}
+use Rattle.check_judge.proofs.Words.{refl, arith, sym, true≢false}
+use Rattle.check_judge.proofs.RequestClaims.{read_found, read_missed, tells_so}
 use Rattle.check_judge.proofs.request_claims.claims_of_read.Goals.{else-len-gt0-via-then-len-gt0+else-is_refusal, else-len-gt0-via-else-len-gt0}
 use Rattle.check_judge.proofs.request_claims.claims_of_read.Goals as goal
 

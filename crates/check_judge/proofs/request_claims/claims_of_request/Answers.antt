@@ -1,5 +1,5 @@
-use Rattle.check_judge.proofs.ClaimWords.{sym}
-use Rattle.check_judge.proofs.Telling.{tells_so}
+use Rattle.check_judge.proofs.Words.{sym}
+use Rattle.check_judge.proofs.RequestClaims.{tells_so}
 use Rattle.check_judge.proofs.request_claims.claims_of_request.Goals as goal
 
 pub returns-in-Some : goal.returns-in-Some

@@ -1,4 +1,4 @@
-use Rattle.check_judge.proofs.ClaimWords.{◌≡◌, true, slice_index_or, Closed, completed_of, gives}
+use Rattle.check_judge.proofs.Words.{◌≡◌, true, slice_index_or, Closed, completed_of, gives}
 use Rattle.check_judge.proofs.request_claims.fits_of.Given as goal
 
 -- each entry that was left out has other bytes

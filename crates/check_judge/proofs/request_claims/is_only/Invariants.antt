@@ -1,4 +1,4 @@
-use Rattle.check_judge.proofs.ClaimWords.{◌≡◌, ℕ, ◌<◌, Some, name_at}
+use Rattle.check_judge.proofs.Words.{◌≡◌, ℕ, ◌<◌, Some, name_at}
 use Rattle.check_judge.proofs.request_claims.is_only.Given as goal
 
 -- no other one of those that were looked at has the name

@@ -1,4 +1,4 @@
-use Rattle.check_judge.proofs.ClaimWords.{◌≡◌, drop, list_any}
+use Rattle.check_judge.proofs.Words.{◌≡◌, drop, list_any}
 use Rattle.check_judge.proofs.strands.has_range.Given as goal
 
 -- a cell is of the range if and only if one of those that are left is

@@ -1,4 +1,4 @@
-use Rattle.check_judge.proofs.ClaimWords.{◌≡◌, take, filter, keeps}
+use Rattle.check_judge.proofs.Words.{◌≡◌, take, filter, keeps}
 use Rattle.check_judge.proofs.strands.kept.Given as goal
 
 abbrev pub invariant-loop-claim : goal.invariant-loop-claim

@@ -1,5 +1,5 @@
-use Rattle.check_judge.proofs.ClaimWords.{◌≡◌, ◌∙◌, ℕ, List, length, refl, sym, ap, subst, arith, filter, slice_get_read, AreStrands, keeps, Strand}
-use Rattle.check_judge.proofs.StrandSteps.{SoFar, none_yet, one_more}
+use Rattle.check_judge.proofs.Words.{◌≡◌, ◌∙◌, ℕ, List, length, refl, sym, ap, subst, arith, filter, slice_get_read, AreStrands, keeps, Strand}
+use Rattle.check_judge.proofs.StrandClaims.{SoFar, none_yet, one_more}
 use Rattle.check_judge.proofs.strands.strands_of.Goals as goal
 
 pub loop-i-init : goal.loop-i-init

@@ -1,4 +1,4 @@
-use Rattle.check_judge.proofs.StrandSteps.{SoFar}
+use Rattle.check_judge.proofs.StrandClaims.{SoFar}
 use Rattle.check_judge.proofs.strands.strands_of.Given as goal
 
 abbrev pub invariant-loop-i : goal.invariant-loop-i

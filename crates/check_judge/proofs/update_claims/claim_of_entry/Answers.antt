@@ -1,6 +1,5 @@
-use Rattle.check_judge.proofs.ClaimWords.{◌≡◌, ◌∙◌, ℕ, zero, suc, ℤ, pos, negsuc, int_le, int_lt, true, false, refl, sym, arith, to_z-of_z, w32}
-use Rattle.check_judge.proofs.ClaimWords.{le-leb}
-use Rattle.check_judge.proofs.ClaimWords.{unsigned, minus_one, installed, IsEntryDone}
+use Rattle.check_judge.proofs.Words.{◌≡◌, ◌∙◌, ℕ, zero, suc, ℤ, pos, negsuc, int_le, int_lt, true, false, refl, sym, arith, to_z-of_z, w32, le-leb}
+use Rattle.check_judge.proofs.Words.{unsigned, minus_one, installed, IsEntryDone}
 use Rattle.check_judge.proofs.update_claims.claim_of_entry.Goals as goal
 
 below : (z : ℤ) → int_le (pos 0) z ≡ false → int_lt (negsuc 1) z ≡ false → (n : ℕ) × (z ≡ negsuc (suc n))

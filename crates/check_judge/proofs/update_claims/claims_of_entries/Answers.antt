@@ -1,6 +1,5 @@
-use Rattle.check_judge.proofs.ClaimWords.{◌≡◌, ◌++◌, pos, add-zero, append-nil, drop_all, rules, to_z, of_z, w32, slice_index_or, option_to_list}
-use Rattle.check_judge.proofs.Telling.{all_told, more_told, none_told}
-use Rattle.check_judge.proofs.Entries.{one_told}
+use Rattle.check_judge.proofs.Words.{◌≡◌, ◌++◌, pos, add-zero, append-nil, drop_all, rules, to_z, of_z, w32, slice_index_or, option_to_list}
+use Rattle.check_judge.proofs.RequestClaims.{all_told, more_told, none_told, one_told}
 use Rattle.check_judge.proofs.update_claims.claims_of_entries.Goals.{in-Some+in_ok-push, in_default}
 use Rattle.check_judge.proofs.update_claims.claims_of_entries.Goals as goal
 

@@ -1,4 +1,4 @@
-use Rattle.check_judge.proofs.Entries.{EntriesTold}
+use Rattle.check_judge.proofs.RequestClaims.{EntriesTold}
 use Rattle.check_judge.proofs.update_claims.claims_of_entries.Given as goal
 
 -- the claims so far are those of the entries so far

@@ -1,4 +1,4 @@
-use Rattle.check_judge.proofs.Telling.{tells_so}
+use Rattle.check_judge.proofs.RequestClaims.{tells_so}
 use Rattle.check_judge.proofs.update_claims.claims_of_update.Goals as goal
 
 pub returns : goal.returns

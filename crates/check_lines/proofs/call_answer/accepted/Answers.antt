@@ -1,4 +1,4 @@
-use Rattle.check_lines.proofs.CallRings.{none_in_range, ranged_left, same_in_range}
+use Rattle.check_lines.proofs.Calls.{none_in_range, ranged_left, same_in_range}
 use Rattle.check_lines.proofs.call_answer.accepted.Goals as goal
 
 pub returns-in_ok-empty_slots-in-Sparse-clause-in_range : goal.returns-in_ok-empty_slots-in-Sparse-clause-in_range

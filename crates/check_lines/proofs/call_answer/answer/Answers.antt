@@ -1,11 +1,6 @@
-use Rattle.std.proofs.Common.{◌≡◌, ◌<◌, ◌^◌, ◌∙◌, ap, sym, pos, to_z, w64, arith, length, string_bytes, ℤ}
-use Rattle.std.proofs.lemmas.Int.{ints}
+use Rattle.check_lines.proofs.Words.{◌≡◌, ◌<◌, ◌^◌, ◌∙◌, ap, sym, pos, to_z, w64, arith, length, string_bytes, ℤ, ints, ring_with_slots, result_line}
 use Rattle.fx_language.specs.Instruction.{instruction_of}
-use Rattle.fx_order.specs.Slots.{ring_with_slots}
-use Rattle.fx_print.specs.Text.{result_line}
-use Rattle.check_lines.proofs.CallAnswers.{few_told}
-use Rattle.check_lines.proofs.CallRings.{copy_in_range, refused_leaves}
-use Rattle.check_lines.proofs.Calls.{accepted_line}
+use Rattle.check_lines.proofs.Calls.{few_told, copy_in_range, refused_leaves, accepted_line}
 use Rattle.check_lines.proofs.Entries.{AreOf, all_closed, closed_files}
 use Rattle.check_lines.proofs.call_answer.answer.Goals.{After-deref}
 use Rattle.check_lines.proofs.call_answer.answer.Goals as goal

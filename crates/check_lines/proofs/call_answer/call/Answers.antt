@@ -1,4 +1,4 @@
-use Rattle.check_lines.proofs.CallRings.{copy_in_range}
+use Rattle.check_lines.proofs.Calls.{copy_in_range}
 use Rattle.check_lines.proofs.call_answer.call.Goals as goal
 
 pub returns-in_ok-line-in-Submit-clause-value : goal.returns-in_ok-line-in-Submit-clause-value

@@ -1,4 +1,4 @@
-use Rattle.std.proofs.Common.{◌≡◌, ◌+◌, length, take}
+use Rattle.check_lines.proofs.Words.{◌≡◌, ◌+◌, length, take}
 use Rattle.check_lines.proofs.call_closes.close_in_order.Given as goal
 
 abbrev pub invariant-loop-file : goal.invariant-loop-file

@@ -1,6 +1,4 @@
-use Rattle.std.proofs.Common.{◌≡◌}
-use Rattle.fx_ring.specs.Ring.{ring_files_in_order}
-use Rattle.fx_order.specs.Slots.{table_of_slots}
+use Rattle.check_lines.proofs.Words.{◌≡◌, ring_files_in_order, table_of_slots}
 use Rattle.check_lines.proofs.call_closes.files_at.Given as goal
 
 abbrev pub invariant-loop-file : goal.invariant-loop-file

@@ -1,20 +1,13 @@
-use Rattle.std.proofs.Common.{◌≡◌, ◌+◌, ℕ, List, [], ◌∷◌, ◌++◌, pos, to_z, of_z, w32, slice_index_or, drop, ap, subst, sym, ◌∙◌, rules, arith}
-use Rattle.std.proofs.Common.{length, append-nil}
+use Rattle.check_lines.proofs.Words.{◌≡◌, ◌+◌, ℕ, List, [], ◌∷◌, ◌++◌, pos, to_z, of_z, w32, slice_index_or, drop, ap, subst, sym, ◌∙◌, rules, arith}
+use Rattle.check_lines.proofs.Words.{length, upto_none, upto_all, option_to_list, Registered, Closed, Table, with_file, table_of_slots, file_after}
+use Rattle.check_lines.proofs.Words.{removed_from, tags_for, AreInRange}
+use Rattle.std.proofs.Common.{append-nil}
 use Rattle.std.proofs.Math.Nat.{add-zero}
 use Rattle.std.proofs.Math.Seq.{drop-length}
-use Rattle.fx_ring.proofs.ListSteps.{upto_none, upto_all}
 use Rattle.std.specs.Global.{Vec}
-use Rattle.std.specs.Option.{option_to_list}
-use Rattle.fx_base.specs.declared.mark.Mark.TheVariants.{Registered}
-use Rattle.fx_base.specs.declared.open_file.Closed.{Closed}
-use Rattle.fx_order.specs.Access.{Table, with_file}
-use Rattle.fx_order.specs.Slots.{table_of_slots}
-use Rattle.fx_ring.specs.Registration.{file_after, removed_from}
-use Rattle.fx_ring.specs.Tags.{tags_for}
-use Rattle.check_lines.proofs.ListWorked.{in_range_after, one_more, more_removed}
+use Rattle.check_lines.proofs.Entries.{in_range_after, one_more, more_removed}
 use Rattle.check_lines.proofs.call_list.apply_list.Goals.{in-Some+in_ok-push, in_default}
 use Rattle.check_lines.proofs.call_list.apply_list.Goals as goal
-use Rattle.check_lines.specs.InRange.{AreInRange}
 
 pub loop-i-init : goal.loop-i-init
 loop-i-init c =

@@ -1,10 +1,5 @@
-use Rattle.std.proofs.Common.{◌≡◌, ◌+◌, ◌++◌, drop}
-use Rattle.fx_order.specs.Slots.{table_of_slots}
-use Rattle.fx_ring.specs.Registration.{removed_from}
-use Rattle.fx_ring.specs.Tags.{tags_for}
-use Rattle.fx_ring.proofs.ListSteps.{files_upto}
+use Rattle.check_lines.proofs.Words.{◌≡◌, ◌+◌, ◌++◌, drop, table_of_slots, removed_from, tags_for, files_upto, AreInRange}
 use Rattle.check_lines.proofs.call_list.apply_list.Given as goal
-use Rattle.check_lines.specs.InRange.{AreInRange}
 
 abbrev pub invariant-loop-i : goal.invariant-loop-i
 invariant-loop-i l = record {

@@ -1,5 +1,5 @@
 use Rattle.check_lines.proofs.Words.{◌≡◌, refl, rules, mark_text}
-use Rattle.check_lines.proofs.CloseTexts.{one_close, parts_of_close}
+use Rattle.check_lines.proofs.ReportTexts.{one_close, parts_of_close}
 use Rattle.check_lines.proofs.Marks.{mark_without}
 use Rattle.check_lines.proofs.closed_line.closed_of.Goals as goal
 

@@ -1,6 +1,6 @@
 use Rattle.check_lines.proofs.Words.{rules, None, Some}
 use Rattle.check_lines.proofs.Marks.{registered_reads, submitted_only}
-use Rattle.check_lines.proofs.Readings.{from_none, no_number, number_then}
+use Rattle.check_lines.proofs.Cuts.{from_none, no_number, number_then}
 use Rattle.check_lines.proofs.closed_line.mark_of.Goals as goal
 
 pub returns-in_err-place : goal.returns-in_err-place

@@ -1,6 +1,5 @@
 use Rattle.check_lines.proofs.Words.{[], ◌∷◌, codes, map-append, named_close_of, IsMarkInRange}
-use Rattle.check_lines.proofs.CloseTexts.{close_fits, closes_are_lines}
-use Rattle.check_lines.proofs.LinesInTurn.{ends_here, goes_on, line_begins, next_line, no_line, not_begun, other_line}
+use Rattle.check_lines.proofs.ReportTexts.{close_fits, closes_are_lines, ends_here, goes_on, line_begins, next_line, no_line, not_begun, other_line}
 use Rattle.check_lines.proofs.closed_line.read_closed.Goals as goal
 
 pub returns-in_default-cut : goal.returns-in_default-cut

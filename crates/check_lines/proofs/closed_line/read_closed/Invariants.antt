@@ -1,5 +1,5 @@
 use Rattle.check_lines.proofs.Words.{length, map, codes, named_close_of, AreAll, IsCloseInRange, named_line}
-use Rattle.check_lines.proofs.LinesInTurn.{HasFirst}
+use Rattle.check_lines.proofs.ReportTexts.{HasFirst}
 use Rattle.check_lines.proofs.closed_line.read_closed.Given as goal
 
 abbrev pub decreases-loop-behind : goal.decreases-loop-behind

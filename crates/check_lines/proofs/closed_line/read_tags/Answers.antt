@@ -1,6 +1,5 @@
 use Rattle.check_lines.proofs.Words.{◌<◌, ◌^◌, codes}
-use Rattle.check_lines.proofs.CloseTexts.{tags_are_lines}
-use Rattle.check_lines.proofs.LinesInTurn.{ends_here, goes_on, line_begins, next_line, no_line, not_begun, other_line}
+use Rattle.check_lines.proofs.ReportTexts.{tags_are_lines, ends_here, goes_on, line_begins, next_line, no_line, not_begun, other_line}
 use Rattle.check_lines.proofs.closed_line.read_tags.Goals as goal
 
 pub returns-in_default-cut : goal.returns-in_default-cut

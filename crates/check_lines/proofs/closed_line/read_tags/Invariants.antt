@@ -1,5 +1,5 @@
 use Rattle.check_lines.proofs.Words.{◌<◌, ◌^◌, length, codes, AreAll, line_of_tag}
-use Rattle.check_lines.proofs.LinesInTurn.{HasFirst}
+use Rattle.check_lines.proofs.ReportTexts.{HasFirst}
 use Rattle.check_lines.proofs.closed_line.read_tags.Given as goal
 
 abbrev pub decreases-loop-behind : goal.decreases-loop-behind

@@ -1,5 +1,5 @@
 use Rattle.check_lines.proofs.Words.{None, Some, rules, w32, FitsSigned, to_z-of_z}
-use Rattle.check_lines.proofs.AnswerTexts.{alone_reads, none_bytes, none_word, one_both}
+use Rattle.check_lines.proofs.CompletionTexts.{alone_reads, none_bytes, none_word, one_both}
 use Rattle.check_lines.proofs.completion_line.answer_of.Goals as goal
 
 pub returns-in_default-res_of : goal.returns-in_default-res_of

@@ -1,7 +1,5 @@
-use Rattle.check_lines.proofs.Words.{◌∙◌, sym, ap, inl, inr, rules, encode_lower, eqb-true, true≢false, Decides-eqb}
-use Rattle.std.proofs.Common.{eq-eqb}
-use Rattle.std.proofs.lemmas.Slice.Eq.{slice_eq-Decides}
-use Rattle.check_lines.proofs.Hexes.{none_empty, none_other, printed_again, printed_otherwise}
+use Rattle.check_lines.proofs.Words.{◌∙◌, sym, ap, inl, inr, rules, encode_lower, eqb-true, true≢false, Decides-eqb, eq-eqb, slice_eq-Decides}
+use Rattle.check_lines.proofs.Cuts.{none_empty, none_other, printed_again, printed_otherwise}
 use Rattle.check_lines.proofs.completion_line.bytes_of.Goals as goal
 
 pub returns-then-is_empty : goal.returns-then-is_empty

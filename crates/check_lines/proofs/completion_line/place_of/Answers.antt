@@ -1,6 +1,6 @@
 use Rattle.check_lines.proofs.Words.{rules, None, Some}
 use Rattle.check_lines.proofs.Marks.{place_reads}
-use Rattle.check_lines.proofs.Readings.{from_none, no_number, number_then}
+use Rattle.check_lines.proofs.Cuts.{from_none, no_number, number_then}
 use Rattle.check_lines.proofs.completion_line.place_of.Goals as goal
 
 pub returns-in_err-submission : goal.returns-in_err-submission

@@ -1,10 +1,8 @@
 use Rattle.fx_chain.specs.declared.completion.Completion.{Completion}
 use Rattle.check_lines.proofs.Words.{◌≡◌, ℕ, List, AreSoMany, ◌<◌, ◌≤◌, [], ◌∷◌, length, refl, arith, length-append, map-append, all_completed}
-use Rattle.check_lines.proofs.Words.{IsCompletionInRange}
-use Rattle.std.proofs.lemmas.List.{length-map}
-use Rattle.fx_chain.specs.Completed.{completed_of}
+use Rattle.check_lines.proofs.Words.{IsCompletionInRange, length-map, completed_of}
 use Rattle.check_lines.proofs.CompletionTexts.{completions_are_lines}
-use Rattle.check_lines.proofs.LinesInTurn.{ends_here, next_line, no_line, other_line}
+use Rattle.check_lines.proofs.ReportTexts.{ends_here, next_line, no_line, other_line}
 use Rattle.check_lines.proofs.completion_line.read_completions.Goals as goal
 
 -- the text may not end before `count` completions

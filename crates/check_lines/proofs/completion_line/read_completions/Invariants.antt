@@ -1,5 +1,5 @@
 use Rattle.check_lines.proofs.Words.{◌≡◌, length, all_completed, AreSoMany, IsCompletionInRange, completion_line}
-use Rattle.check_lines.proofs.LinesInTurn.{HasFirst}
+use Rattle.check_lines.proofs.ReportTexts.{HasFirst}
 use Rattle.check_lines.proofs.completion_line.read_completions.Given as goal
 
 -- the completions so far are those of the first lines

@@ -1,4 +1,4 @@
-use Rattle.std.proofs.lemmas.List.{take_rest}
+use Rattle.check_lines.proofs.Words.{take_rest}
 use Rattle.check_lines.proofs.Cuts.{cut_here}
 use Rattle.check_lines.proofs.cut.cut.Goals as goal
 

@@ -1,5 +1,4 @@
-use Rattle.std.proofs.lemmas.Bool.Decides.{Decides-eqb}
-use Rattle.std.proofs.lemmas.Slice.Eq.{strip_prefix_is}
+use Rattle.check_lines.proofs.Words.{Decides-eqb, strip_prefix_is}
 use Rattle.check_lines.proofs.Cuts.{behind_is}
 use Rattle.check_lines.proofs.cut.rest_behind.Goals as goal
 

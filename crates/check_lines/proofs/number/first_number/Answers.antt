@@ -1,6 +1,6 @@
 use Rattle.check_lines.proofs.Words.{◌∷◌, ◌++◌, ℕ, List, ◌∙◌, sym, ap, refl, arith, rules, decimal}
 use Rattle.check_lines.proofs.Decimals.{decimal_without}
-use Rattle.check_lines.proofs.Readings.{from_none, parts_are}
+use Rattle.check_lines.proofs.Cuts.{from_none, parts_are}
 use Rattle.check_lines.proofs.number.first_number.Goals as goal
 
 pub returns-in_err-digits : goal.returns-in_err-digits

@@ -1,6 +1,6 @@
 use Rattle.check_lines.proofs.Words.{◌∙◌, sym, arith, rules}
 use Rattle.check_lines.proofs.Decimals.{number_reads}
-use Rattle.check_lines.proofs.Readings.{from_none}
+use Rattle.check_lines.proofs.Cuts.{from_none}
 use Rattle.check_lines.proofs.number.number.Goals as goal
 
 pub returns-in_err-number_up_to : goal.returns-in_err-number_up_to

@@ -1,9 +1,6 @@
-use Rattle.std.proofs.Common.{◌≡◌, ◌-◌, ◌<◌, ◌^◌, ◌∙◌, sym, arith, rules, to_z, of_z, w32}
-use Rattle.std.specs.Prelude.{pos, negsuc, ◌-ℤ◌}
-use Rattle.std.proofs.lemmas.Int.{ints}
-use Rattle.check_lines.proofs.Decimals.{number_reads}
-use Rattle.check_lines.proofs.Readings.{from_none}
-use Rattle.check_lines.proofs.Results.{negative, no_negative, no_positive, no_zero, positive}
+use Rattle.check_lines.proofs.Words.{◌≡◌, ◌-◌, ◌<◌, ◌^◌, ◌∙◌, sym, arith, rules, to_z, of_z, w32, pos, negsuc, ◌-ℤ◌, ints}
+use Rattle.check_lines.proofs.Decimals.{number_reads, negative, no_negative, no_positive, no_zero, positive}
+use Rattle.check_lines.proofs.Cuts.{from_none}
 use Rattle.check_lines.proofs.number.res_of.Goals as goal
 
 pub returns-in_err-number_up_to : goal.returns-in_err-number_up_to

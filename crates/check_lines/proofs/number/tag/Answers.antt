@@ -1,4 +1,4 @@
-use Rattle.std.proofs.Common.{arith}
+use Rattle.check_lines.proofs.Words.{arith}
 use Rattle.check_lines.proofs.Decimals.{number_reads}
 use Rattle.check_lines.proofs.number.tag.Goals as goal
 

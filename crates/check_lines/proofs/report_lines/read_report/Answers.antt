@@ -1,5 +1,4 @@
-use Rattle.check_lines.proofs.Words.{◌∙◌, codes, sym, take, true≢false, Decides-eqb}
-use Rattle.std.proofs.lemmas.Slice.Eq.{slice_eq-Decides}
+use Rattle.check_lines.proofs.Words.{◌∙◌, codes, sym, take, true≢false, Decides-eqb, slice_eq-Decides}
 use Rattle.check_lines.proofs.ReportTexts.{all_parts, closed_behind_tags, no_first, no_second, no_third}
 use Rattle.check_lines.proofs.report_lines.read_report.Goals as goal
 

@@ -1,5 +1,5 @@
-use Rattle.fx_order.proofs.Words.{◌≡◌, ◌∙◌, pos, negsuc, int_le, true, sym, rules, arith, to_z, of_z, w32, slice_index_or, nil_from_length, None}
-use Rattle.fx_order.proofs.FirstAndRest.{first_and_rest}
+use Rattle.check_outcomes.proofs.Words.{◌≡◌, ◌∙◌, pos, negsuc, int_le, true, sym, rules, arith, to_z, of_z, w32, slice_index_or, nil_from_length}
+use Rattle.check_outcomes.proofs.Words.{None, first_and_rest}
 use Rattle.check_outcomes.proofs.Requests.{entry_first, entry_none, entry_past}
 use Rattle.check_outcomes.proofs.answering.+list_intent.Goals as goal
 

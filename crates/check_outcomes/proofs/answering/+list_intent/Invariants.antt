@@ -1,4 +1,4 @@
-use Rattle.fx_order.proofs.Words.{length}
+use Rattle.check_outcomes.proofs.Words.{length}
 use Rattle.check_outcomes.proofs.answering.+list_intent.Given as goal
 
 abbrev pub decreases-list_intent : goal.decreases-list_intent

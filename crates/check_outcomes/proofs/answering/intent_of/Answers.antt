@@ -1,5 +1,4 @@
-use Rattle.fx_order.proofs.Words.{◌≡◌, operation_of, refusal_of, rules, true}
-use Rattle.std.specs.Prelude.{is_some}
+use Rattle.check_outcomes.proofs.Words.{◌≡◌, operation_of, refusal_of, rules, true, is_some}
 use Rattle.check_outcomes.proofs.Requests.{allocate_meant, look_meant, none_meant, put_meant, take_meant}
 use Rattle.check_outcomes.proofs.answering.intent_of.Goals as goal
 

@@ -1,4 +1,4 @@
-use Rattle.fx_order.proofs.Words.{length}
+use Rattle.check_outcomes.proofs.Words.{length}
 use Rattle.check_outcomes.proofs.chain.+cancel.Given as goal
 
 abbrev pub decreases-cancel : goal.decreases-cancel

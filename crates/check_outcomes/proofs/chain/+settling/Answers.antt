@@ -1,6 +1,5 @@
-use Rattle.fx_order.proofs.Words.{◌∙◌, sym, refl, asked_of, eq-eqb, IfOk-weaker}
-use Rattle.check_outcomes.proofs.Words.{first_is, rules_in}
-use Rattle.check_outcomes.proofs.Settling.{gone_past, pushed, settled_on}
+use Rattle.check_outcomes.proofs.Words.{◌∙◌, sym, refl, asked_of, eq-eqb, IfOk-weaker, first_is, rules_in}
+use Rattle.check_outcomes.proofs.Viewing.{gone_past, pushed, settled_on}
 use Rattle.check_outcomes.proofs.chain.+settling.Goals as goal
 
 pub settle-returns : goal.settle-returns

@@ -1,4 +1,4 @@
-use Rattle.fx_order.proofs.Words.{◌+◌, ◌*◌, length}
+use Rattle.check_outcomes.proofs.Words.{◌+◌, ◌*◌, length}
 use Rattle.check_outcomes.proofs.chain.+settling.Given as goal
 
 abbrev pub decreases-settle : goal.decreases-settle

@@ -1,5 +1,4 @@
-use Rattle.fx_order.proofs.Words.{◌-◌, length, drop, sym, ap, ◌∙◌, arith, drop-map, take_all, all_asked, asked_of}
-use Rattle.check_outcomes.proofs.Words.{length-drop}
+use Rattle.check_outcomes.proofs.Words.{◌-◌, length, drop, sym, ap, ◌∙◌, arith, drop-map, take_all, all_asked, asked_of, length-drop}
 use Rattle.check_outcomes.proofs.chain.left.Goals as goal
 
 pub returns-clause-left : goal.returns-clause-left

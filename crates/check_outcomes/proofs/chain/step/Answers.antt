@@ -1,6 +1,5 @@
-use Rattle.fx_order.proofs.Words.{◌∙◌, sym, ap, refl, all_asked, arith, nil_from_length}
-use Rattle.check_outcomes.proofs.Words.{first_is}
-use Rattle.check_outcomes.proofs.Settling.{steps_more, steps_on, steps_over}
+use Rattle.check_outcomes.proofs.Words.{◌∙◌, sym, ap, refl, all_asked, arith, nil_from_length, first_is}
+use Rattle.check_outcomes.proofs.Viewing.{steps_more, steps_on, steps_over}
 use Rattle.check_outcomes.proofs.chain.step.Goals as goal
 
 pub returns-in_default : goal.returns-in_default

@@ -1,6 +1,5 @@
-use Rattle.fx_order.proofs.Words.{IfOk-weaker}
-use Rattle.check_outcomes.proofs.ChoiceWords.{Clears, Looks, Puts, Takes}
-use Rattle.check_outcomes.proofs.Choices.{the_one}
+use Rattle.check_outcomes.proofs.Words.{IfOk-weaker, Clears, Looks, Puts, Takes}
+use Rattle.check_outcomes.proofs.ChainAccesses.{the_one}
 use Rattle.check_outcomes.proofs.choice.accesses_of.Goals as goal
 
 pub returns-in-Look : goal.returns-in-Look

@@ -1,5 +1,5 @@
-use Rattle.fx_order.proofs.Words.{arith}
-use Rattle.check_outcomes.proofs.Choices.{each_allocation, one_slot_more}
+use Rattle.check_outcomes.proofs.Words.{arith}
+use Rattle.check_outcomes.proofs.ChainAccesses.{each_allocation, one_slot_more}
 use Rattle.check_outcomes.proofs.choice.allocations.Goals as goal
 
 pub loop-slot-preserved : goal.loop-slot-preserved

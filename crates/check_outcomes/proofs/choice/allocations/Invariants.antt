@@ -1,5 +1,4 @@
-use Rattle.fx_order.proofs.Words.{ℕ, ◌<◌, Contains}
-use Rattle.check_outcomes.proofs.ChoiceWords.{Allocates, FindsFull}
+use Rattle.check_outcomes.proofs.Words.{ℕ, ◌<◌, Contains, Allocates, FindsFull}
 use Rattle.check_outcomes.proofs.choice.allocations.Given as goal
 
 abbrev pub invariant-loop-slot : goal.invariant-loop-slot

@@ -1,4 +1,4 @@
-use Rattle.fx_order.proofs.Words.{◌≡◌, IfOk-weaker, arith, length}
+use Rattle.check_outcomes.proofs.Words.{◌≡◌, IfOk-weaker, arith, length}
 use Rattle.check_outcomes.proofs.choice.next_accesses.Goals as goal
 
 pub returns-in-Some : goal.returns-in-Some

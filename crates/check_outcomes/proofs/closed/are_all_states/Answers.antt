@@ -1,5 +1,5 @@
-use Rattle.fx_order.proofs.Words.{◌≡◌, length, arith, all_asked, IfOk-weaker}
-use Rattle.check_outcomes.proofs.AllOfThem.{all_by, as_many}
+use Rattle.check_outcomes.proofs.Words.{◌≡◌, length, arith, all_asked, IfOk-weaker}
+use Rattle.check_outcomes.proofs.AllReports.{all_by, as_many}
 use Rattle.check_outcomes.proofs.closed.are_all_states.Goals as goal
 
 pub returns : goal.returns

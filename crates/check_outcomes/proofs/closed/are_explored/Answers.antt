@@ -1,6 +1,4 @@
-use Rattle.fx_order.proofs.Words.{Permits, None, table_of_slots}
-use Rattle.check_outcomes.proofs.Words.{IsExploredBy}
-use Rattle.fx_order.specs.declared.access.Access.TheVariants.{Looks}
+use Rattle.check_outcomes.proofs.Words.{Permits, None, table_of_slots, IsExploredBy, Looks}
 use Rattle.check_outcomes.proofs.Lists.{one_more_at}
 use Rattle.check_outcomes.proofs.closed.are_explored.Goals as goal
 

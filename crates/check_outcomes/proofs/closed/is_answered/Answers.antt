@@ -1,7 +1,6 @@
-use Rattle.fx_order.proofs.Words.{◌∙◌, sym, completed_of}
-use Rattle.check_outcomes.proofs.Words.{PossibleAnswer}
+use Rattle.check_outcomes.proofs.Words.{◌∙◌, sym, completed_of, PossibleAnswer}
 use Rattle.check_outcomes.proofs.Lists.{inside_at}
-use Rattle.check_outcomes.proofs.SameAnswers.{completion_same}
+use Rattle.check_outcomes.proofs.Viewing.{completion_same}
 use Rattle.check_outcomes.proofs.closed.is_answered.Goals as goal
 
 pub returns-then-eq : goal.returns-then-eq

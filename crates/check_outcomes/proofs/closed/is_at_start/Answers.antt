@@ -1,5 +1,4 @@
-use Rattle.fx_order.proofs.Words.{◌≡◌, ◌∙◌, ap, sym, slice_index_or, all_completed}
-use Rattle.check_outcomes.proofs.Words.{said_by, not_begun, rules_in, Progress}
+use Rattle.check_outcomes.proofs.Words.{◌≡◌, ◌∙◌, ap, sym, slice_index_or, all_completed, said_by, not_begun, rules_in, Progress}
 use Rattle.check_outcomes.proofs.Viewing.{at_start_by}
 use Rattle.check_outcomes.proofs.closed.is_at_start.Goals as goal
 

@@ -1,6 +1,5 @@
-use Rattle.check_outcomes.proofs.Words.{IsExploredInTurn}
+use Rattle.check_outcomes.proofs.Words.{IsExploredInTurn, below_more}
 use Rattle.check_outcomes.proofs.closed.is_state_explored.Goals as goal
-use borrow.Author.Count.{below_more}
 
 pub loop-i-preserved : goal.loop-i-preserved
 loop-i-preserved c =

@@ -1,5 +1,4 @@
-use Rattle.fx_order.proofs.Words.{◌<◌, ℕ}
-use Rattle.check_outcomes.proofs.Words.{IsExploredInTurn}
+use Rattle.check_outcomes.proofs.Words.{◌<◌, ℕ, IsExploredInTurn}
 use Rattle.check_outcomes.proofs.closed.is_state_explored.Given as goal
 
 abbrev pub invariant-loop-i : goal.invariant-loop-i

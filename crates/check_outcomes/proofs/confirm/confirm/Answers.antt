@@ -1,8 +1,7 @@
-use Rattle.fx_order.proofs.Words.{All-map, all_asked, completed_of, ring_of_slots, ◌≡◌, ◌↔◌, ◌-◌, IfOk, IsSome, Option, Result, Some, None}
-use Rattle.fx_order.proofs.Words.{arith, length, refl, sym}
-use Rattle.check_outcomes.proofs.Words.{Slots, HasMemory, report_of_play, IsReportBy}
+use Rattle.check_outcomes.proofs.Words.{All-map, all_asked, completed_of, ring_of_slots, ◌≡◌, ◌↔◌, ◌-◌, IfOk, IsSome, Option, Result, Some, None}
+use Rattle.check_outcomes.proofs.Words.{arith, length, refl, sym, Slots, HasMemory, report_of_play, IsReportBy}
 use Rattle.std.proofs.Common.{IfSome, Ok, Err}
-use Rattle.check_outcomes.proofs.Promised.{may_of}
+use Rattle.check_outcomes.proofs.AllReports.{may_of}
 use Rattle.check_outcomes.proofs.confirm.confirm.Goals as goal
 
 -- where a call answers some slots exactly if A holds, what follows of both holds of its answer

@@ -1,5 +1,4 @@
-use Rattle.fx_order.proofs.Words.{All}
-use Rattle.check_outcomes.proofs.Words.{IsAnswerIn}
+use Rattle.check_outcomes.proofs.Words.{All, IsAnswerIn}
 use Rattle.check_outcomes.proofs.outcome.all_confirmed.Given as goal
 
 abbrev pub invariant-loop-by : goal.invariant-loop-by

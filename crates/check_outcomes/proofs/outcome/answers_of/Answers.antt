@@ -1,4 +1,4 @@
-use Rattle.check_outcomes.proofs.Promised.{answers_by}
+use Rattle.check_outcomes.proofs.AllReports.{answers_by}
 use Rattle.check_outcomes.proofs.outcome.answers_of.Goals as goal
 
 pub returns-clause-all : goal.returns-clause-all

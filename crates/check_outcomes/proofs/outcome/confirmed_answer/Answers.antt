@@ -1,5 +1,5 @@
-use Rattle.fx_order.proofs.Words.{◌∙◌, ap, Completed}
-use Rattle.check_outcomes.proofs.Promised.{is_answer}
+use Rattle.check_outcomes.proofs.Words.{◌∙◌, ap, Completed}
+use Rattle.check_outcomes.proofs.AllReports.{is_answer}
 use Rattle.check_outcomes.proofs.outcome.confirmed_answer.Goals as goal
 
 pub returns : goal.returns

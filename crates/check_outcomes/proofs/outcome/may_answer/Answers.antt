@@ -1,4 +1,4 @@
-use Rattle.fx_order.proofs.Words.{IfOk-weaker, refl}
+use Rattle.check_outcomes.proofs.Words.{IfOk-weaker, refl}
 use Rattle.check_outcomes.proofs.outcome.may_answer.Goals as goal
 
 pub returns-clause-all : goal.returns-clause-all

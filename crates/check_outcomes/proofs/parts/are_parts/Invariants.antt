@@ -1,5 +1,4 @@
-use Rattle.fx_order.proofs.Words.{◌<◌, ℕ}
-use Rattle.check_outcomes.proofs.Words.{IsInPart}
+use Rattle.check_outcomes.proofs.Words.{◌<◌, ℕ, IsInPart}
 use Rattle.check_outcomes.proofs.parts.are_parts.Given as goal
 
 abbrev pub invariant-loop-i : goal.invariant-loop-i

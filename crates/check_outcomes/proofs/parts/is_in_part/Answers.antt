@@ -1,5 +1,4 @@
-use Rattle.fx_order.proofs.Words.{All-map, slice_index_or, asked_of, Asked, table_of_slots}
-use Rattle.check_outcomes.proofs.Words.{StaysIn, parts_by_numbers}
+use Rattle.check_outcomes.proofs.Words.{All-map, slice_index_or, asked_of, Asked, table_of_slots, StaysIn, parts_by_numbers}
 use Rattle.check_outcomes.proofs.parts.is_in_part.Goals as goal
 
 pub returns : goal.returns

@@ -1,6 +1,5 @@
-use Rattle.fx_order.proofs.Words.{◌∙◌, sym, ap, refl, all_completed}
-use Rattle.check_outcomes.proofs.Words.{first_is}
-use Rattle.check_outcomes.proofs.SameAnswers.{cut_told}
+use Rattle.check_outcomes.proofs.Words.{◌∙◌, sym, ap, refl, all_completed, first_is}
+use Rattle.check_outcomes.proofs.Viewing.{cut_told}
 use Rattle.check_outcomes.proofs.possible_report.+are_told.Goals as goal
 
 pub returns-then-are_same : goal.returns-then-are_same

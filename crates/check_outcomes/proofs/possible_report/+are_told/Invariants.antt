@@ -1,4 +1,4 @@
-use Rattle.fx_order.proofs.Words.{length}
+use Rattle.check_outcomes.proofs.Words.{length}
 use Rattle.check_outcomes.proofs.possible_report.+are_told.Given as goal
 
 abbrev pub decreases-are_told : goal.decreases-are_told

@@ -1,5 +1,4 @@
-use Rattle.std.proofs.lemmas.List.Elements.{All-push}
-use Rattle.check_outcomes.proofs.Words.{IsPossibleIn}
+use Rattle.check_outcomes.proofs.Words.{All-push, IsPossibleIn}
 use Rattle.check_outcomes.proofs.possible_report.all_confirmed.Goals.{in-Some+in_ok-push, in_default}
 use Rattle.check_outcomes.proofs.possible_report.all_confirmed.Goals as goal
 

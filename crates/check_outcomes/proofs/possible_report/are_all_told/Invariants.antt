@@ -1,5 +1,4 @@
-use Rattle.fx_order.proofs.Words.{ℕ, ◌<◌, slice_index_or}
-use Rattle.check_outcomes.proofs.Words.{IsToldAt, PlayState}
+use Rattle.check_outcomes.proofs.Words.{ℕ, ◌<◌, slice_index_or, IsToldAt, PlayState}
 use Rattle.check_outcomes.proofs.possible_report.are_all_told.Given as goal
 
 abbrev pub invariant-loop-state : goal.invariant-loop-state

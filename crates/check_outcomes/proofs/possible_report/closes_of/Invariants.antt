@@ -1,4 +1,4 @@
-use Rattle.fx_order.proofs.Words.{◌≡◌, ◌+◌, ◌<◌, length, take, All}
+use Rattle.check_outcomes.proofs.Words.{◌≡◌, ◌+◌, ◌<◌, length, take, All}
 use Rattle.check_outcomes.proofs.possible_report.closes_of.Given as goal
 
 abbrev pub invariant-loop-file : goal.invariant-loop-file

@@ -1,5 +1,5 @@
-use Rattle.fx_order.proofs.Words.{◌∙◌}
-use Rattle.check_outcomes.proofs.EachReport.{is_possible, same_report}
+use Rattle.check_outcomes.proofs.Words.{◌∙◌}
+use Rattle.check_outcomes.proofs.AllReports.{is_possible, same_report}
 use Rattle.check_outcomes.proofs.possible_report.confirmed.Goals as goal
 
 pub returns : goal.returns

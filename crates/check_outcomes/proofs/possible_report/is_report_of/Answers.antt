@@ -1,7 +1,5 @@
-use Rattle.fx_order.proofs.Words.{◌≡◌, ◌∙◌, sym}
+use Rattle.check_outcomes.proofs.Words.{◌≡◌, ◌∙◌, sym, slice_eq-Decides, file_Decides}
 use Rattle.std.proofs.Common.{rules}
-use Rattle.std.proofs.lemmas.Slice.Eq.{slice_eq-Decides}
-use Rattle.fx_order.proofs.EqualFiles.{file_Decides}
 use Rattle.check_outcomes.proofs.possible_report.is_report_of.Goals as goal
 
 pub returns-then-are_told : goal.returns-then-are_told

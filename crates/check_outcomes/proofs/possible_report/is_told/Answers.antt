@@ -1,4 +1,4 @@
-use Rattle.fx_order.proofs.Words.{sym}
+use Rattle.check_outcomes.proofs.Words.{sym}
 use Rattle.check_outcomes.proofs.possible_report.is_told.Goals as goal
 
 pub returns-in-Some : goal.returns-in-Some

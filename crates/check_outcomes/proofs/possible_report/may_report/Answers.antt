@@ -1,4 +1,4 @@
-use Rattle.fx_order.proofs.Words.{IfOk-weaker, refl}
+use Rattle.check_outcomes.proofs.Words.{IfOk-weaker, refl}
 use Rattle.check_outcomes.proofs.possible_report.may_report.Goals as goal
 
 pub returns-clause-each : goal.returns-clause-each

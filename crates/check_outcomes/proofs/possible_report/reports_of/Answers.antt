@@ -1,6 +1,5 @@
-use Rattle.fx_order.proofs.Words.{◌∙◌, false≢true, sym}
-use Rattle.check_outcomes.proofs.EachReport.{reports_by}
-use Rattle.check_outcomes.proofs.Promised.{ends_by}
+use Rattle.check_outcomes.proofs.Words.{◌∙◌, false≢true, sym}
+use Rattle.check_outcomes.proofs.AllReports.{reports_by, ends_by}
 use Rattle.check_outcomes.proofs.possible_report.reports_of.Goals.{then-are_told+in_ok-are_all, else-are_told}
 use Rattle.check_outcomes.proofs.possible_report.reports_of.Goals as goal
 

@@ -1,4 +1,4 @@
-use Rattle.fx_order.proofs.Words.{length}
+use Rattle.check_outcomes.proofs.Words.{length}
 use Rattle.check_outcomes.proofs.telling.+push_lists.Given as goal
 
 abbrev pub decreases-push_lists : goal.decreases-push_lists

@@ -1,5 +1,5 @@
-use Rattle.fx_order.proofs.Words.{sym, ◌∙◌, all_completed, completed_of, Vec, Completion}
-use Rattle.check_outcomes.proofs.SameAnswers.{completion_same, same_each}
+use Rattle.check_outcomes.proofs.Words.{sym, ◌∙◌, all_completed, completed_of, Vec, Completion}
+use Rattle.check_outcomes.proofs.Viewing.{completion_same, same_each}
 use Rattle.check_outcomes.proofs.telling.are_all_same.Goals as goal
 
 pub returns : goal.returns

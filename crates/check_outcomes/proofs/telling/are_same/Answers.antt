@@ -1,5 +1,5 @@
-use Rattle.check_outcomes.proofs.SameAnswers.{completion_same, same_each}
-use Rattle.fx_order.proofs.Words.{sym, ◌∙◌, completed_of}
+use Rattle.check_outcomes.proofs.Viewing.{completion_same, same_each}
+use Rattle.check_outcomes.proofs.Words.{sym, ◌∙◌, completed_of}
 use Rattle.check_outcomes.proofs.telling.are_same.Goals as goal
 
 pub returns : goal.returns

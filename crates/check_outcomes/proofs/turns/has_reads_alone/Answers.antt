@@ -1,8 +1,6 @@
-use Rattle.fx_order.proofs.Words.{◌≡◌, ◌+◌, ◌-◌, true, arith, slice_index_or, all_asked}
-use Rattle.check_outcomes.proofs.Words.{has_reads_at}
-use Rattle.check_outcomes.proofs.AllOfThem.{as_many}
+use Rattle.check_outcomes.proofs.Words.{◌≡◌, ◌+◌, ◌-◌, true, arith, slice_index_or, all_asked, has_reads_at, below_more}
+use Rattle.check_outcomes.proofs.AllReports.{as_many}
 use Rattle.check_outcomes.proofs.turns.has_reads_alone.Goals as goal
-use borrow.Author.Count.{below_more}
 
 pub loop-i-preserved : goal.loop-i-preserved
 loop-i-preserved c = below_more

@@ -1,5 +1,5 @@
-use Rattle.fx_order.proofs.Words.{◌∙◌, sym, arith, all_asked, ⊎_elim}
-use Rattle.check_outcomes.proofs.AllOfThem.{as_many, is_turn}
+use Rattle.check_outcomes.proofs.Words.{◌∙◌, sym, arith, all_asked, ⊎_elim}
+use Rattle.check_outcomes.proofs.AllReports.{as_many, is_turn}
 use Rattle.check_outcomes.proofs.turns.part_at.Goals as goal
 
 pub loop-i-preserved : goal.loop-i-preserved

@@ -1,4 +1,4 @@
-use Rattle.check_outcomes.proofs.AllOfThem.{is_reader}
+use Rattle.check_outcomes.proofs.AllReports.{is_reader}
 use Rattle.check_outcomes.proofs.turns.reader_at.Goals as goal
 
 pub returns-then-goes_on : goal.returns-then-goes_on

@@ -1,5 +1,4 @@
-use Rattle.check_search.proofs.Words.{◌≡◌, Bool, Cell, None, Option, Resident, Some, ℕ}
-use Rattle.std.proofs.Common.{rules}
+use Rattle.check_search.proofs.Words.{◌≡◌, Bool, Cell, None, Option, Resident, Some, ℕ, rules}
 use Rattle.std.specs.Bool.{Decides}
 use Rattle.std.proofs.lemmas.Slice.Eq.{slice_eq-Decides}
 use Rattle.check_search.specs.contracts.cell.CellPartialEq.TheImpl.{eq-value}

@@ -1,5 +1,5 @@
 use Rattle.check_texts.proofs.Words.{instruction_of, stage_of}
-use Rattle.check_texts.proofs.LedRings.{next_ring}
+use Rattle.check_texts.proofs.Walks.{next_ring}
 use Rattle.check_texts.proofs.Ways.{exits_are, only_new}
 use Rattle.check_texts.proofs.layers.exits_at.Goals as goal
 

@@ -1,7 +1,5 @@
-use Rattle.check_texts.proofs.Words.{instruction_of, stage_of}
-use Rattle.std.proofs.lemmas.List.Elements.{All-push}
+use Rattle.check_texts.proofs.Words.{instruction_of, stage_of, All-push, AreExits}
 use Rattle.check_texts.proofs.Growth.{at_value}
-use Rattle.check_texts.specs.Layers.{AreExits}
 use Rattle.check_texts.proofs.layers.exits_of.Goals as goal
 
 pub exits_at-requires-clause-bare : goal.exits_at-requires-clause-bare

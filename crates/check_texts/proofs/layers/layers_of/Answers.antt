@@ -1,8 +1,6 @@
-use Rattle.check_texts.proofs.Words.{refl, arith, take_all}
-use Rattle.std.proofs.lemmas.List.Elements.{All-push}
+use Rattle.check_texts.proofs.Words.{refl, arith, take_all, All-push, IsLayer}
 use Rattle.check_texts.proofs.Walks.{taken_one}
 use Rattle.check_texts.proofs.Ways.{bare_start, commands_more}
-use Rattle.check_texts.specs.Layers.{IsLayer}
 use Rattle.check_texts.proofs.layers.layers_of.Goals as goal
 
 pub loop-command-init : goal.loop-command-init

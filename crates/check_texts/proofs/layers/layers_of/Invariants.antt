@@ -1,6 +1,4 @@
-use Rattle.check_texts.proofs.Words.{instructions_of, stages_of, take, ◌≡◌, All}
-use Rattle.check_texts.specs.Layers.{IsLayer, commands_in}
-use Rattle.check_texts.specs.Ways.{AreBare}
+use Rattle.check_texts.proofs.Words.{instructions_of, stages_of, take, ◌≡◌, All, IsLayer, commands_in, AreBare}
 use Rattle.check_texts.proofs.layers.layers_of.Given as goal
 
 abbrev pub invariant-loop-command : goal.invariant-loop-command

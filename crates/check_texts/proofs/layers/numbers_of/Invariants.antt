@@ -1,6 +1,4 @@
-use Rattle.check_texts.proofs.Words.{FileEntry, List, stages_of}
-use Rattle.check_texts.specs.Rings.{AreRings}
-use Rattle.check_texts.specs.Ways.{AreBare}
+use Rattle.check_texts.proofs.Words.{FileEntry, List, stages_of, AreRings, AreBare}
 use Rattle.check_texts.proofs.layers.numbers_of.Given as goal
 
 abbrev pub invariant-loop-exit : goal.invariant-loop-exit

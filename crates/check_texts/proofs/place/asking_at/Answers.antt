@@ -1,5 +1,4 @@
-use Rattle.check_texts.proofs.Words.{all_asked, instruction_of, arith, refl, sym, ◌+◌, ◌∙◌}
-use Rattle.std.proofs.lemmas.List.{take_rest}
+use Rattle.check_texts.proofs.Words.{all_asked, instruction_of, arith, refl, sym, ◌+◌, ◌∙◌, take_rest}
 use Rattle.check_texts.proofs.Calls.{call_uncounted}
 use Rattle.check_texts.proofs.Submitted.{counted_one}
 use Rattle.check_texts.proofs.Walks.{around, count_one}

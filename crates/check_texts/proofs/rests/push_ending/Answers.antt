@@ -1,6 +1,5 @@
-use Rattle.check_texts.proofs.Words.{refl, string_bytes}
+use Rattle.check_texts.proofs.Words.{refl, string_bytes, TextEnd}
 use Rattle.check_texts.proofs.Growth.{has_pushed, pushed}
-use Rattle.check_texts.specs.declared.rests.TextEnd.{TextEnd}
 use Rattle.check_texts.proofs.rests.push_ending.Goals as goal
 
 pub returns-clause-grows : goal.returns-clause-grows

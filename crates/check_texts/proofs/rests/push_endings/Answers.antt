@@ -1,6 +1,5 @@
-use Rattle.check_texts.proofs.Words.{string_bytes, take_all, ◌++◌, ◌≡◌}
+use Rattle.check_texts.proofs.Words.{string_bytes, take_all, ◌++◌, ◌≡◌, TextEnd}
 use Rattle.check_texts.proofs.Growth.{at_value, grows_on, holds_more}
-use Rattle.check_texts.specs.declared.rests.TextEnd.{TextEnd}
 use Rattle.check_texts.proofs.rests.push_endings.Goals as goal
 
 pub loop-ending-preserved : goal.loop-ending-preserved

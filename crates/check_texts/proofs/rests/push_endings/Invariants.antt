@@ -1,6 +1,4 @@
-use Rattle.check_texts.proofs.Words.{Grows, List, string_bytes, take, ℕ, ◌++◌, Contains}
-use Rattle.check_texts.specs.Layers.{texts_in}
-use Rattle.check_texts.specs.Ways.{IsBehind}
+use Rattle.check_texts.proofs.Words.{Grows, List, string_bytes, take, ℕ, ◌++◌, Contains, texts_in, IsBehind}
 use Rattle.check_texts.proofs.rests.push_endings.Given as goal
 
 abbrev pub invariant-loop-ending : goal.invariant-loop-ending

@@ -1,6 +1,5 @@
-use Rattle.check_texts.proofs.Words.{string_bytes}
+use Rattle.check_texts.proofs.Words.{string_bytes, texts_in}
 use Rattle.check_texts.proofs.Ways.{counts_sum, texts_more}
-use Rattle.check_texts.specs.Layers.{texts_in}
 use Rattle.check_texts.proofs.rests.push_ways.Goals as goal
 
 pub returns-clause-all : goal.returns-clause-all

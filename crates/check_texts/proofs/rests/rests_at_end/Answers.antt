@@ -1,7 +1,5 @@
-use Rattle.check_texts.proofs.Words.{[], stage_of}
-use Rattle.std.proofs.lemmas.List.Elements.{All-push}
+use Rattle.check_texts.proofs.Words.{[], stage_of, All-push, IsRest}
 use Rattle.check_texts.proofs.Growth.{at_value}
-use Rattle.check_texts.specs.Layers.{IsRest}
 use Rattle.check_texts.proofs.rests.rests_at_end.Goals as goal
 
 pub rest_at_end-requires-clause-bare : goal.rest_at_end-requires-clause-bare

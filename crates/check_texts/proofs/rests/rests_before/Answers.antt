@@ -1,6 +1,4 @@
-use Rattle.check_texts.proofs.Words.{◌∷◌}
-use Rattle.std.proofs.lemmas.List.Elements.{All-push}
-use Rattle.check_texts.specs.Layers.{IsRest}
+use Rattle.check_texts.proofs.Words.{◌∷◌, All-push, IsRest}
 use Rattle.check_texts.proofs.rests.rests_before.Goals as goal
 
 pub loop-own-preserved : goal.loop-own-preserved

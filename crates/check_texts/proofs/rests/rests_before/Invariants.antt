@@ -1,5 +1,4 @@
-use Rattle.check_texts.proofs.Words.{Instruction, List, All, ◌∷◌}
-use Rattle.check_texts.specs.Layers.{AreExits, IsRest}
+use Rattle.check_texts.proofs.Words.{Instruction, List, All, ◌∷◌, AreExits, IsRest}
 use Rattle.check_texts.proofs.rests.rests_before.Given as goal
 
 abbrev pub invariant-loop-own : goal.invariant-loop-own

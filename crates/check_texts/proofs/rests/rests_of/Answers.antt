@@ -1,8 +1,6 @@
 use Rattle.check_texts.proofs.Words.{All, Instruction, List, ap, append-nil, arith, instruction_of, subst, sym, [], ◌++◌, ◌∙◌, ◌∷◌, ◌≡◌}
-use Rattle.std.proofs.lemmas.List.{nil_from_length}
+use Rattle.check_texts.proofs.Words.{nil_from_length, IsLayer, IsRest, commands_in, Layer}
 use Rattle.check_texts.proofs.Ways.{commands_before, last_layer}
-use Rattle.check_texts.specs.Layers.{IsLayer, IsRest, commands_in}
-use Rattle.check_texts.specs.declared.layers.Layer.{Layer}
 use Rattle.check_texts.proofs.rests.rests_of.Goals as goal
 
 pub rests_at_end-requires-clause-rings : goal.rests_at_end-requires-clause-rings

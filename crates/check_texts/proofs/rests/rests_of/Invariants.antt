@@ -1,5 +1,4 @@
-use Rattle.check_texts.proofs.Words.{Instruction, List, All, length, ◌++◌, ◌≡◌}
-use Rattle.check_texts.specs.Layers.{IsLayer, IsRest, commands_in}
+use Rattle.check_texts.proofs.Words.{Instruction, List, All, length, ◌++◌, ◌≡◌, IsLayer, IsRest, commands_in}
 use Rattle.check_texts.proofs.rests.rests_of.Given as goal
 
 abbrev pub invariant-loop-layer : goal.invariant-loop-layer

@@ -1,6 +1,5 @@
 use Rattle.check_texts.proofs.Words.{instruction_of, instructions_of, AreStagesFrom, stages_of, take, take_all}
-use Rattle.check_texts.proofs.LedRings.{stage_ring}
-use Rattle.check_texts.proofs.Walks.{all_more, each_more, taken_one}
+use Rattle.check_texts.proofs.Walks.{stage_ring, all_more, each_more, taken_one}
 use Rattle.check_texts.proofs.rings.after_all.Goals as goal
 
 pub after-requires : goal.after-requires

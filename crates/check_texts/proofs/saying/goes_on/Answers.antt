@@ -1,7 +1,7 @@
 use Rattle.check_texts.proofs.Words.{from_here, instruction_of, instructions_of, MayLeadTo, stage_of, drop, ◌+◌}
 use Rattle.std.proofs.Math.ListN.{drop_of_length-le}
-use Rattle.check_texts.proofs.LedRings.{next_ring}
-use Rattle.check_texts.proofs.Whole.{may_end, may_end_behind}
+use Rattle.check_texts.proofs.Walks.{next_ring}
+use Rattle.check_texts.proofs.Plays.{may_end, may_end_behind}
 use Rattle.check_texts.proofs.saying.goes_on.Goals as goal
 
 pub loop-command-preserved : goal.loop-command-preserved

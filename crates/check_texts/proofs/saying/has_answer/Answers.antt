@@ -1,6 +1,6 @@
 use Rattle.check_texts.proofs.Words.{completed_of, Said, sym, ◌∙◌}
 use Rattle.check_outcomes.proofs.Lists.{inside_at}
-use Rattle.check_outcomes.proofs.SameAnswers.{completion_same}
+use Rattle.check_outcomes.proofs.Viewing.{completion_same}
 use Rattle.check_texts.proofs.saying.has_answer.Goals as goal
 
 pub returns-then-eq : goal.returns-then-eq

@@ -1,5 +1,4 @@
-use Rattle.check_texts.proofs.Words.{AreOf, all_closed, all_of_ring, few_of_ring, ring_with_slots, ◌∙◌}
-use Rattle.check_lines.proofs.FilesThere.{end_printed}
+use Rattle.check_texts.proofs.Words.{AreOf, all_closed, all_of_ring, few_of_ring, ring_with_slots, ◌∙◌, end_printed}
 use Rattle.check_texts.proofs.text_end.text_at_end.Goals.{After-deref}
 use Rattle.check_texts.proofs.text_end.text_at_end.Goals as goal
 

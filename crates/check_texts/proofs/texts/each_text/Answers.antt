@@ -1,7 +1,5 @@
-use Rattle.check_texts.proofs.Words.{string_bytes, subst, sym, take_all, ⊎_elim, ◌∙◌, ◌≡◌, Contains}
+use Rattle.check_texts.proofs.Words.{string_bytes, subst, sym, take_all, ⊎_elim, ◌∙◌, ◌≡◌, Contains, texts_in, TextEnd}
 use Rattle.check_texts.proofs.Growth.{at_value, holds_more}
-use Rattle.check_texts.specs.Layers.{texts_in}
-use Rattle.check_texts.specs.declared.rests.TextEnd.{TextEnd}
 use Rattle.check_texts.proofs.texts.each_text.Goals as goal
 
 pub loop-ending-preserved : goal.loop-ending-preserved

@@ -1,5 +1,4 @@
-use Rattle.check_texts.proofs.Words.{List, map, string_bytes, take, ℕ, Contains}
-use Rattle.check_texts.specs.Layers.{texts_in}
+use Rattle.check_texts.proofs.Words.{List, map, string_bytes, take, ℕ, Contains, texts_in}
 use Rattle.check_texts.proofs.texts.each_text.Given as goal
 
 abbrev pub invariant-loop-ending : goal.invariant-loop-ending

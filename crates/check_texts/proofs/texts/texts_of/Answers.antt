@@ -1,8 +1,5 @@
-use Rattle.check_texts.proofs.Words.{IsTextFound, ring_with_slots, string_bytes, sym, ◌∙◌, ◌≡◌}
+use Rattle.check_texts.proofs.Words.{IsTextFound, ring_with_slots, string_bytes, sym, ◌∙◌, ◌≡◌, All-contains, All-nil, new_ring, IsRest, commands_in}
 use Rattle.std.proofs.lemmas.Bool.{false≢true}
-use Rattle.std.proofs.lemmas.List.Elements.{All-contains, All-nil}
-use Rattle.fx_ring.specs.Ring.{new_ring}
-use Rattle.check_texts.specs.Layers.{IsRest, commands_in}
 use Rattle.check_texts.proofs.Growth.{all_of_values}
 use Rattle.check_texts.proofs.Ways.{no_script_ways, script_text, script_texts, script_ways}
 use Rattle.check_texts.proofs.texts.texts_of.Goals.{In-Some}

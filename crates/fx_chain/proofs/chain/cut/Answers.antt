@@ -1,8 +1,7 @@
-use Rattle.fx_chain.proofs.Words.{◌+◌, ◌≤◌, length, map, All, refl, ap, ◌∙◌, arith, length-map, All-weaker, IsChain, members_of}
-use Rattle.fx_chain.proofs.Words.{asked_of, all_asked, Chain}
-use Rattle.fx_chain.proofs.Accepted.{accepted-length, accepted-runs}
-use Rattle.fx_chain.proofs.Chains.{accepted-chains, members-are-runs}
-use Rattle.fx_chain.proofs.Cutting.{cut_all}
+use Rattle.fx_chain.proofs.Words.{◌+◌, ◌≤◌, length, map, All, refl, ap, ◌∙◌, arith, length-map, All-weaker, IsChain, members_of, asked_of, all_asked}
+use Rattle.fx_chain.proofs.Words.{Chain}
+use Rattle.fx_chain.proofs.Accepted.{accepted-length, accepted-runs, accepted-chains, members-are-runs}
+use Rattle.fx_chain.proofs.Runs.{cut_all}
 use Rattle.fx_chain.proofs.chain.cut.Goals as goal
 
 pub loop-first-init : goal.loop-first-init

@@ -1,5 +1,5 @@
 use Rattle.fx_chain.proofs.Words.{◌≤◌, ◌*◌, ◌-◌, length, MOST_MEMBERS, MAX_CHAINS}
-use Rattle.fx_chain.proofs.Cutting.{IsCut}
+use Rattle.fx_chain.proofs.Runs.{IsCut}
 use Rattle.fx_chain.proofs.chain.cut.Given as goal
 
 abbrev pub invariant-loop-first : goal.invariant-loop-first

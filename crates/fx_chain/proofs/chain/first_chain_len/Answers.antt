@@ -1,8 +1,7 @@
-use Rattle.fx_chain.proofs.Words.{◌≡◌, ◌+◌, ◌++◌, ◌∷◌, length, take, drop, sym, ap, ◌∙◌, arith, length-map, map-append, take-append-drop}
-use Rattle.fx_chain.proofs.Words.{All-push, asked_of, all_asked, runs_of}
-use Rattle.fx_chain.proofs.Asking.{asked_more, asked_all, asked_none}
-use Rattle.fx_chain.proofs.Runs.{AllLink, HasMembers, Links, first_run, one_run}
-use Rattle.fx_chain.proofs.Splits.{but_last-links, but_last-push, is_over-push}
+use Rattle.fx_chain.proofs.Words.{◌≡◌, ◌+◌, ◌++◌, ◌∷◌, length, take, drop, sym, ap, ◌∙◌, arith, length-map, map-append, take-append-drop, All-push}
+use Rattle.fx_chain.proofs.Words.{asked_of, all_asked, runs_of}
+use Rattle.fx_chain.proofs.ChainGoesOn.{asked_more, asked_all, asked_none}
+use Rattle.fx_chain.proofs.Runs.{AllLink, HasMembers, Links, first_run, one_run, but_last-links, but_last-push, is_over-push}
 use Rattle.fx_chain.proofs.chain.first_chain_len.Goals as goal
 
 pub loop-i-preserved : goal.loop-i-preserved

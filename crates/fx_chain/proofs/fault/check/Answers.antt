@@ -1,5 +1,5 @@
 use Rattle.fx_chain.proofs.Words.{◌≡◌, None, sym, ◌∙◌, fault_after, asked_of}
-use Rattle.fx_chain.proofs.Asking.{asked_more, asked_rest}
+use Rattle.fx_chain.proofs.ChainGoesOn.{asked_more, asked_rest}
 use Rattle.fx_chain.proofs.Counted.{counted_step, fault_behind-counted}
 use Rattle.fx_chain.proofs.fault.check.Goals as goal
 

@@ -1,4 +1,4 @@
-use Rattle.fx_chain.proofs.Freed.{plays_exactly, room_exactly}
+use Rattle.fx_chain.proofs.ActsInTurn.{plays_exactly, room_exactly}
 use Rattle.fx_chain.proofs.laws.only_lasting_tables_free.Goals as goal
 
 pub returns : goal.returns

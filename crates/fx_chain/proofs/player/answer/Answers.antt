@@ -1,8 +1,5 @@
-use Rattle.fx_chain.proofs.Words.{◌≡◌, Some, rules, size_of}
-use Rattle.fx_chain.proofs.ActsInTurn.{so_nothing}
-use Rattle.fx_chain.proofs.Freed.{may_free, so_performed}
-use Rattle.fx_chain.specs.Operation.{operation_of}
-use Rattle.fx_chain.specs.Refusal.{refusal_of}
+use Rattle.fx_chain.proofs.Words.{◌≡◌, Some, rules, size_of, operation_of, refusal_of}
+use Rattle.fx_chain.proofs.ActsInTurn.{so_nothing, may_free, so_performed}
 use Rattle.fx_chain.proofs.player.answer.Goals as goal
 
 pub returns-in-Some-clause-performed : goal.returns-in-Some-clause-performed

@@ -1,6 +1,5 @@
 use Rattle.fx_chain.proofs.Words.{rules}
-use Rattle.fx_chain.proofs.ActsInTurn.{so_nothing}
-use Rattle.fx_chain.proofs.Freed.{may_free}
+use Rattle.fx_chain.proofs.ActsInTurn.{so_nothing, may_free}
 use Rattle.fx_chain.proofs.player.next_answer.Goals as goal
 
 pub returns-then-severed-clause-answered : goal.returns-then-severed-clause-answered

@@ -1,10 +1,8 @@
 use Rattle.fx_chain.proofs.Words.{rules, ◌≡◌, ◌<◌, ◌+◌, ◌++◌, ◌∷◌, [], length, take, sym, refl, ◌∙◌, append_assoc, arith, append-nil, map-append}
-use Rattle.fx_chain.proofs.Words.{size_of, completed_of, all_completed, first_member, Asked, asked_of, all_asked, installs_of, room_of}
-use Rattle.fx_chain.proofs.ActsInTurn.{so_nothing}
-use Rattle.fx_chain.proofs.Freed.{may_free}
-use Rattle.fx_chain.proofs.Asking.{asked_more, asked_length}
-use Rattle.fx_chain.proofs.ChainGoesOn.{any_severs-push, answers_next, explained_count, weighs_from}
-use Rattle.fx_table.proofs.Calls.{looks_least, numbers_least}
+use Rattle.fx_chain.proofs.Words.{size_of, completed_of, all_completed, first_member, Asked, asked_of, all_asked, installs_of, room_of, looks_least}
+use Rattle.fx_chain.proofs.Words.{numbers_least}
+use Rattle.fx_chain.proofs.ActsInTurn.{so_nothing, may_free}
+use Rattle.fx_chain.proofs.ChainGoesOn.{asked_more, asked_length, any_severs-push, answers_next, explained_count, weighs_from}
 use Rattle.fx_chain.proofs.player.run_chain.Goals as goal
 
 pub loop-i-init : goal.loop-i-init

@@ -1,6 +1,4 @@
-use Rattle.fx_chain.proofs.Words.{ℕ, Option, Some, None, refl, Put, one_number, Opening, PassView, Retired}
-use Rattle.fx_plain.specs.declared.event.File.{File}
-use Rattle.fx_table.specs.Calls.{PlacedFile}
+use Rattle.fx_chain.proofs.Words.{ℕ, Option, Some, None, refl, Put, one_number, Opening, PassView, Retired, File, PlacedFile}
 use Rattle.fx_chain.proofs.ActsInTurn.{Removed, removes}
 use Rattle.fx_chain.proofs.removal.put.Goals as goal
 

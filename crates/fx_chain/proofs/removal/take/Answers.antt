@@ -1,5 +1,4 @@
-use Rattle.fx_chain.proofs.Words.{◌≡◌, ℕ, Result, Ok, Err, Option, refl, ◌∙◌, Take, Taken, no_use, Opening, PassView, Retired}
-use Rattle.std.specs.Result.{result_ok}
+use Rattle.fx_chain.proofs.Words.{◌≡◌, ℕ, Result, Ok, Err, Option, refl, ◌∙◌, Take, Taken, no_use, Opening, PassView, Retired, result_ok}
 use Rattle.fx_table.specs.declared.values.Empty.{Empty}
 use Rattle.fx_chain.proofs.ActsInTurn.{Removed, removes}
 use Rattle.fx_chain.proofs.removal.take.Goals as goal

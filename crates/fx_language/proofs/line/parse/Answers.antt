@@ -1,4 +1,4 @@
-use Rattle.fx_language.proofs.Printable.{words_are_printable, others_are_printable}
+use Rattle.fx_language.proofs.FilesOfScripts.{words_are_printable, others_are_printable}
 use Rattle.fx_language.proofs.line.parse.Goals as goal
 
 pub file-requires : goal.file-requires

@@ -1,4 +1,4 @@
-use Rattle.fx_language.proofs.Printable.{printable_is_text, text_is_ok}
+use Rattle.fx_language.proofs.FilesOfScripts.{printable_is_text, text_is_ok}
 use Rattle.fx_language.proofs.words.text.Goals as goal
 
 pub unwrap-requires : goal.unwrap-requires

@@ -1,6 +1,6 @@
 use Rattle.fx_order.proofs.Words.{arith}
-use Rattle.fx_order.proofs.OrderOf.{never}
-use Rattle.fx_order.proofs.SameFiles.{none_left, one_more, none_over}
+use Rattle.fx_order.proofs.Ordered.{never}
+use Rattle.fx_order.proofs.Apart.{none_left, one_more, none_over}
 use Rattle.fx_order.proofs.order.has_same_files.Goals as goal
 
 pub returns-in_default : goal.returns-in_default

@@ -1,5 +1,5 @@
 use Rattle.fx_order.proofs.Words.{refl, table_of_slots}
-use Rattle.fx_order.proofs.OrderSteps.{make_one, permitted_here}
+use Rattle.fx_order.proofs.Ordered.{make_one, permitted_here}
 use Rattle.fx_order.proofs.order.make_all.Goals as goal
 
 pub loop-x-preserved : goal.loop-x-preserved

@@ -1,5 +1,5 @@
 use Rattle.fx_order.proofs.Words.{sym, ap, ◌∙◌, append-nil, Closed, Vec}
-use Rattle.fx_order.proofs.OrderSteps.{more_removed}
+use Rattle.fx_order.proofs.Ordered.{more_removed}
 use Rattle.fx_order.proofs.order.removed_in.Goals.{in-Some+in_ok-push, in_default}
 use Rattle.fx_order.proofs.order.removed_in.Goals as goal
 

@@ -1,5 +1,5 @@
 use Rattle.fx_order.proofs.Words.{List, ℤ, sym, ap, ◌∙◌, length, completed_of, IsUpdateDone}
-use Rattle.fx_order.proofs.EntriesMade.{done_ones, entries_made}
+use Rattle.fx_order.proofs.RequestCases.{done_ones, entries_made}
 use Rattle.fx_order.proofs.request.accesses_made.Goals as goal
 
 pub returns-in-Update : goal.returns-in-Update

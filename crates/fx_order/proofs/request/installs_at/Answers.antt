@@ -1,8 +1,5 @@
 use Rattle.fx_order.proofs.Words.{◌≡◌, ◌↔◌, ℕ, ℤ, pos, negsuc, int_le, sym, ap, ◌∙◌, rules, refl, List, Some, None, IsTrue, to_z, of_z, w32}
-use Rattle.std.proofs.Common.{slice_get}
-use Rattle.std.proofs.lemmas.Option.{slice_get_read, slice_get_past}
-use Rattle.fx_chain.specs.Operation.{Updates, operation_of}
-use Rattle.fx_order.specs.Requests.{InstallsAt}
+use Rattle.fx_order.proofs.Words.{slice_get, slice_get_read, slice_get_past, Updates, operation_of, InstallsAt}
 use Rattle.fx_order.proofs.request.installs_at.Goals as goal
 
 -- the number at a position of an update's list

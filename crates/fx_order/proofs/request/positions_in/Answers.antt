@@ -1,5 +1,5 @@
 use Rattle.fx_order.proofs.Words.{◌≡◌, ℕ, ℤ, pos, negsuc, int_le, sym, ap, ◌∙◌, append-nil, rules, slice_index_or, to_z, of_z, w32, Option, Vec}
-use Rattle.fx_order.proofs.EntriesMade.{positions_more}
+use Rattle.fx_order.proofs.RequestCases.{positions_more}
 use Rattle.fx_order.proofs.request.positions_in.Goals.{then-entry-geminus1+in_ok-push, else-entry-geminus1}
 use Rattle.fx_order.proofs.request.positions_in.Goals as goal
 

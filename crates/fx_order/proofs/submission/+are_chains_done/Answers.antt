@@ -1,7 +1,6 @@
 use Rattle.fx_order.proofs.Words.{IfOk-weaker, ◌∙◌, rules, IsChain, all_asked, Chain, not_from_Decides}
-use Rattle.fx_order.proofs.ChainsFront.{few_completions, first_run, goes_on, not_first, others_completed, own_completed}
-use Rattle.fx_order.proofs.FirstAndRest.{all_of_rest}
-use Rattle.fx_order.proofs.OrderOf.{never}
+use Rattle.fx_order.proofs.ChainsFront.{few_completions, first_run, goes_on, not_first, others_completed, own_completed, all_of_rest}
+use Rattle.fx_order.proofs.Ordered.{never}
 use Rattle.fx_order.proofs.submission.+are_chains_done.Goals as goal
 
 abbrev none : Chain

@@ -1,7 +1,7 @@
 use Rattle.fx_order.proofs.Words.{◌+◌, ◌-◌, List, take, drop, sym, subst, All, arith, length-map, all_asked, asked_of, Request, get_or-map}
 use Rattle.fx_order.proofs.Words.{IsWithinLimits}
 use Rattle.fx_order.proofs.submission.members.Goals as goal
-use Rattle.fx_ring.proofs.Runs.{asked_of_part}
+use Rattle.fx_ring.proofs.CompletionPlaces.{asked_of_part}
 
 limits_of : (requests : List Request) → All IsWithinLimits (all_asked requests) → All (λ (r : Request). IsWithinLimits (asked_of r)) requests
 limits_of requests all = λ k d lt.

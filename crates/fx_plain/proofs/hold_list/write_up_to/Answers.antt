@@ -1,5 +1,5 @@
 use Rattle.fx_plain.proofs.Words.{rules, ap, ◌∙◌, arith, with_rest}
-use Rattle.fx_plain.proofs.ReservedLists.{with_rest-push}
+use Rattle.fx_plain.proofs.Emptying.{with_rest-push}
 use Rattle.fx_plain.proofs.hold_list.write_up_to.Goals as goal
 
 pub loop-preserved : goal.loop-preserved

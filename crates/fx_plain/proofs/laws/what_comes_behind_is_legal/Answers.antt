@@ -1,4 +1,4 @@
-use Rattle.fx_plain.proofs.Behind.{legal_behind}
+use Rattle.fx_plain.proofs.Leading.{legal_behind}
 use Rattle.fx_plain.proofs.laws.what_comes_behind_is_legal.Goals as goal
 
 pub returns : goal.returns

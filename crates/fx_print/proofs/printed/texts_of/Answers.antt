@@ -7,7 +7,7 @@ use Rattle.std.specs.Prelude.{IfOk, Ok}
 use Rattle.fx_chain.specs.Completed.{all_completed, completed_of}
 use Rattle.fx_chain.specs.declared.completion.Completion.{Completion}
 use Rattle.fx_print.specs.Text.{completion_line, completion_lines}
-use Rattle.fx_print.proofs.Chunks.{all_chunks, joined}
+use Rattle.fx_print.proofs.Hexes.{all_chunks, joined}
 use Rattle.fx_print.proofs.printed.texts_of.Goals as goal
 
 lines-append : (a b : List Completion)

@@ -1,4 +1,4 @@
-use Rattle.fx_ring.proofs.LoneHistories.{part_is_one_history}
+use Rattle.fx_ring.proofs.LonePlays.{part_is_one_history}
 use Rattle.fx_ring.proofs.laws.what_a_pass_alone_does_is_one_history.Goals as goal
 
 pub returns : goal.returns

@@ -1,10 +1,9 @@
-use Rattle.fx_ring.proofs.Words.{◌≡◌, ◌+◌, ◌-◌, ◌≤◌, [], length, arith, sym, ap, subst, Some, PassView, all_asked, runs_of, Reported}
-use Rattle.fx_ring.proofs.Words.{IsOneHistory, IsSettledSoFar, ring_led_by}
-use Rattle.fx_ring.proofs.NewCrew.{few_of_chains}
-use Rattle.fx_ring.proofs.Runs.{as_many, runs_within}
+use Rattle.fx_ring.proofs.Words.{◌≡◌, ◌+◌, ◌-◌, ◌≤◌, [], length, arith, sym, ap, subst, Some, PassView, all_asked, runs_of, Reported, IsOneHistory}
+use Rattle.fx_ring.proofs.Words.{IsSettledSoFar, ring_led_by}
+use Rattle.fx_ring.proofs.Crews.{few_of_chains}
+use Rattle.fx_ring.proofs.CompletionPlaces.{as_many, runs_within}
 use Rattle.fx_ring.proofs.ChainPlayed.{enough}
-use Rattle.fx_ring.proofs.LonePlays.{begins, goes_on, authors_of, all_drawn}
-use Rattle.fx_ring.proofs.LoneHistories.{part_is_one_history}
+use Rattle.fx_ring.proofs.LonePlays.{begins, goes_on, authors_of, all_drawn, part_is_one_history}
 use Rattle.fx_ring.proofs.open_ring.play_alone.Goals as goal
 
 pub loop-i-init : goal.loop-i-init

@@ -1,13 +1,11 @@
 use Rattle.fx_ring.proofs.Words.{◌+◌, List, length, sym, ap, subst, ◌∙◌, arith, PassView, IsIdle, all_asked, runs_of, Completed, all_completed}
 use Rattle.fx_ring.proofs.Words.{HasRoomFor, ring_with, IsOneHistory, Reported, Worker, Completion, CloseListView, Closed, IsPermutation}
-use Rattle.fx_ring.proofs.Words.{accepted-length, ClosesTable, PASS_LOOKS}
-use Rattle.fx_ring.proofs.NewCrew.{IsNew, all_gathered, all_new, numbers_are, as_many_passes, new_has_worked, new_has_room, runs_have_all}
-use Rattle.fx_ring.proofs.NewCrew.{runs_weigh_all}
+use Rattle.fx_ring.proofs.Words.{accepted-length, ClosesTable, PASS_LOOKS, ◌≡◌, true, All, All-map, All-weaker, HasWorked, IsShortRun, map-map}
+use Rattle.fx_ring.proofs.Words.{size_of, state_of_worker}
+use Rattle.fx_ring.proofs.Crews.{IsNew, all_gathered, all_new, numbers_are, as_many_passes, new_has_worked, new_has_room, runs_have_all}
+use Rattle.fx_ring.proofs.Crews.{runs_weigh_all, states, scattered_views, completions_joined, files_joined, as_many_completions, as_many_files}
 use Rattle.fx_ring.proofs.WorkersTogether.{HavePlayed, number_of, one_of_each, closes_weigh, one_history}
-use Rattle.fx_ring.proofs.PlayedCrew.{states, scattered_views, completions_joined, files_joined, as_many_completions, as_many_files}
-use Rattle.fx_ring.proofs.Words.{◌≡◌, true, All, All-map, All-weaker, HasWorked, IsShortRun, map-map, size_of, state_of_worker}
-use Rattle.fx_ring.proofs.PartsExplained.{IsShort}
-use Rattle.fx_ring.proofs.Runs.{as_many, runs_within}
+use Rattle.fx_ring.proofs.CompletionPlaces.{IsShort, as_many, runs_within}
 use Rattle.fx_ring.proofs.submission.play_open.Given.{Over}
 use Rattle.fx_ring.proofs.submission.play_open.Goals.{After-close-left}
 use Rattle.fx_ring.proofs.submission.play_open.Goals as goal

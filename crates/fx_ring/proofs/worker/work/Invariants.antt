@@ -1,5 +1,4 @@
-use Rattle.fx_ring.proofs.Words.{◌≡◌, ◌-◌, number_of_worker}
-use Rattle.fx_ring.specs.Playing.{IsReadyFor}
+use Rattle.fx_ring.proofs.Words.{◌≡◌, ◌-◌, number_of_worker, IsReadyFor}
 use Rattle.fx_ring.proofs.worker.work.Given as goal
 
 abbrev pub invariant-loop-chain : goal.invariant-loop-chain

@@ -1,5 +1,5 @@
 use Rattle.fx_script.proofs.Words.{◌+◌, ◌≤◌, length, LONGEST_SCRIPT}
-use Rattle.fx_script.proofs.Turns.{Kept}
+use Rattle.fx_script.proofs.KeptBytes.{Kept}
 use Rattle.fx_script.proofs.input.read_all.Given as goal
 
 -- the first bytes that the reader has returned are kept

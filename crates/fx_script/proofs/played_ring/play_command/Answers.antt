@@ -1,6 +1,5 @@
 use Rattle.fx_script.proofs.Words.{◌∙◌, ap, sym, string_bytes, ring_of, instruction_of, ring_played, Prints, IfOk-weaker, on_ok_weaker}
-use Rattle.fx_script.proofs.PlaySteps.{text_written, written_as}
-use Rattle.fx_script.proofs.SameRings.{prints_same}
+use Rattle.fx_script.proofs.PlaySteps.{text_written, written_as, prints_same}
 use Rattle.fx_ring.specs.OpenRings.{OpenRingContents}
 use Rattle.fx_script.proofs.played_ring.play_command.Goals as goal
 

@@ -1,5 +1,4 @@
-use Rattle.fx_table.proofs.Words.{◌≡◌, ℕ, ap, ◌∙◌, arith, state_of}
-use Rattle.fx_table.specs.FullSlots.{full_in, first_at}
+use Rattle.fx_table.proofs.Words.{◌≡◌, ℕ, ap, ◌∙◌, arith, state_of, full_in, first_at}
 use Rattle.fx_table.proofs.FullSlots.{all_counted, full_few}
 use Rattle.fx_table.proofs.shell.full_in_range.Goals as goal
 

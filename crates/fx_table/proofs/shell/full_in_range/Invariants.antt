@@ -1,5 +1,4 @@
-use Rattle.fx_table.proofs.Words.{◌≡◌, ◌≤◌, ◌+◌, ◌-◌, state_of}
-use Rattle.fx_table.specs.FullSlots.{full_in, first_at}
+use Rattle.fx_table.proofs.Words.{◌≡◌, ◌≤◌, ◌+◌, ◌-◌, state_of, full_in, first_at}
 use Rattle.fx_table.proofs.shell.full_in_range.Given as goal
 
 -- the full slots of the range so far

@@ -1,4 +1,4 @@
-use Rattle.fx_table.proofs.Preparing.{prepared_again}
+use Rattle.fx_table.proofs.Calls.{prepared_again}
 use Rattle.fx_table.proofs.shell.make_room.Goals as goal
 
 pub returns-clause-same : goal.returns-clause-same

@@ -1,8 +1,4 @@
-use Rattle.fx_table.proofs.Words.{ap, ◌∙◌, arith, length, ◌∷◌, [], List, None, State}
-use Rattle.std.proofs.Common.{length-append, rules}
-use Rattle.std.specs.Prelude.{Option}
-use Rattle.fx_base.specs.declared.open_file.Closed.{Closed}
-use Rattle.fx_table.specs.Shells.{file_in_place}
+use Rattle.fx_table.proofs.Words.{ap, ◌∙◌, arith, length, ◌∷◌, [], List, None, State, length-append, rules, Option, Closed, file_in_place}
 use Rattle.fx_table.proofs.Shells.{all_taken, files_taken, none_behind}
 use Rattle.fx_table.proofs.shell.move_out.Goals as goal
 

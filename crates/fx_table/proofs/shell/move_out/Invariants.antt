@@ -1,7 +1,4 @@
-use Rattle.fx_table.proofs.Words.{◌≡◌, ◌≤◌, ℕ, length, state_of}
-use Rattle.std.specs.Prelude.{vec_capacity}
-use Rattle.fx_plain.specs.Table.{identity_of}
-use Rattle.fx_table.specs.Shells.{file_in_place}
+use Rattle.fx_table.proofs.Words.{◌≡◌, ◌≤◌, ℕ, length, state_of, vec_capacity, identity_of, file_in_place}
 use Rattle.fx_table.proofs.shell.move_out.Given as goal
 
 abbrev pub invariant-loop : goal.invariant-loop

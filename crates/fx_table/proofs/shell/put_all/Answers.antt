@@ -1,9 +1,5 @@
-use Rattle.fx_table.proofs.Words.{◌≡◌, ◌<◌, ◌+◌, ℕ, length, List, [], ◌∷◌, ◌++◌, refl, sym, ap, ◌∙◌, arith, None, state_of}
-use Rattle.std.proofs.Common.{length-append}
-use Rattle.std.proofs.lemmas.List.{get_or_append_left, get_or_push}
-use Rattle.std.specs.Prelude.{Option}
-use Rattle.fx_base.specs.declared.open_file.Closed.{Closed}
-use Rattle.fx_table.specs.Shells.{file_in_place}
+use Rattle.fx_table.proofs.Words.{◌≡◌, ◌<◌, ◌+◌, ℕ, length, List, [], ◌∷◌, ◌++◌, refl, sym, ap, ◌∙◌, arith, None, state_of, length-append}
+use Rattle.fx_table.proofs.Words.{get_or_append_left, get_or_push, Option, Closed, file_in_place}
 use Rattle.fx_table.proofs.Shells.{file_put, last_back}
 use Rattle.fx_table.proofs.shell.put_all.Goals as goal
 

@@ -1,6 +1,4 @@
-use Rattle.fx_table.proofs.Words.{◌≡◌, ◌<◌, ℕ, length, state_of}
-use Rattle.fx_plain.specs.Contents.{IsPrepared}
-use Rattle.fx_table.specs.Shells.{file_in_place}
+use Rattle.fx_table.proofs.Words.{◌≡◌, ◌<◌, ℕ, length, state_of, IsPrepared, file_in_place}
 use Rattle.fx_table.proofs.Shells.{IsPartlyBack}
 use Rattle.fx_table.proofs.shell.put_all.Given as goal
 

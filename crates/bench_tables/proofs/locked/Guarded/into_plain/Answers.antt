@@ -1,4 +1,4 @@
-use Rattle.bench_tables.proofs.Vacant.{vacant_settled}
+use Rattle.bench_tables.proofs.FewHolds.{vacant_settled}
 use Rattle.bench_tables.proofs.locked.Guarded.into_plain.Goals as goal
 
 pub returns : goal.returns

@@ -1,4 +1,4 @@
-use Rattle.fx_order.proofs.Words.{◌∙◌, false≢true, refl, sym, eq-eqb}
+use Rattle.check_outcomes.proofs.Words.{◌∙◌, false≢true, refl, sym, eq-eqb}
 use Rattle.check_outcomes.proofs.Viewing.{idle_some_here}
 use Rattle.check_outcomes.proofs.state.PlayState.is_idle.Goals as goal
 

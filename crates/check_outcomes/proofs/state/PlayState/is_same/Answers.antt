@@ -1,10 +1,6 @@
-use Rattle.fx_order.proofs.Words.{◌≡◌, ◌∙◌, sym, refl}
-use Rattle.check_outcomes.proofs.Words.{Progress}
+use Rattle.check_outcomes.proofs.Words.{◌≡◌, ◌∙◌, sym, refl, Progress, not-false, slice_eq-Decides, file_Decides}
 use Rattle.std.proofs.Common.{rules}
 use Rattle.std.specs.Bool.{Decides}
-use Rattle.std.proofs.lemmas.Bool.{not-false}
-use Rattle.std.proofs.lemmas.Slice.Eq.{slice_eq-Decides}
-use Rattle.fx_order.proofs.EqualFiles.{file_Decides}
 use Rattle.check_outcomes.specs.contracts.chain.ProgressPartialEq.TheImpl.{eq-value}
 use Rattle.check_outcomes.proofs.state.PlayState.is_same.Goals as goal
 

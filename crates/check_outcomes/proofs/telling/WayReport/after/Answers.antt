@@ -1,6 +1,5 @@
-use Rattle.fx_order.proofs.Words.{◌≡◌, ◌∙◌, ◌++◌, all_completed}
-use Rattle.check_outcomes.proofs.Words.{answers_of}
-use Rattle.check_outcomes.proofs.SameAnswers.{set_answers}
+use Rattle.check_outcomes.proofs.Words.{◌≡◌, ◌∙◌, ◌++◌, all_completed, answers_of}
+use Rattle.check_outcomes.proofs.Viewing.{set_answers}
 use Rattle.check_outcomes.proofs.telling.WayReport.after.Goals as goal
 
 pub returns : goal.returns

@@ -8,8 +8,7 @@ use Rattle.fx_base.specs.Catalogue.{FileEntry}
 use Rattle.fx_base.specs.CatalogueView.{file_entries_of, file_entry_of}
 use Rattle.fx_base.specs.Name.{is_name}
 use Rattle.fx_base.specs.AddFault.{has_name}
-use Rattle.fx_base.proofs.Entries.{one_more}
-use Rattle.fx_base.proofs.PlacesOfNames.{place_from, place_from-push}
+use Rattle.fx_base.proofs.Entries.{one_more, place_from, place_from-push}
 use Rattle.fx_base.proofs.catalogue.Catalogue.add.Goals as goal
 
 pub invariant_of-self-2 : goal.invariant_of-self-2

@@ -1,6 +1,5 @@
-use Rattle.fx_baton.proofs.Words.{state_of}
+use Rattle.fx_baton.proofs.Words.{state_of, taken_so}
 use Rattle.fx_baton.proofs.Calling.{may_lend, slot_inside, take_called, added}
-use Rattle.fx_table.proofs.Removing.{taken_so}
 use Rattle.fx_baton.proofs.calls.BatonTableSharedTable.take.Goals as goal
 
 pub slot_mut-plain-requires : goal.slot_mut-plain-requires

@@ -1,6 +1,4 @@
-use Rattle.fx_baton.proofs.Words.{map, ap, subst, arith, ClosesTable, opening_of, view_of, BatonPass, IsPassOfTable}
-use Rattle.fx_table.proofs.Dealing.{fits}
-use Rattle.fx_table.proofs.Gathering.{gathered}
+use Rattle.fx_baton.proofs.Words.{map, ap, subst, arith, ClosesTable, opening_of, view_of, BatonPass, IsPassOfTable, fits, gathered}
 use Rattle.fx_baton.proofs.Closing.{at_home, closes}
 use Rattle.fx_baton.proofs.table.BatonTable.close_all.Goals as goal
 

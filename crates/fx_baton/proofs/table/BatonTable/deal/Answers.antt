@@ -1,5 +1,4 @@
-use Rattle.fx_baton.proofs.Words.{◌≡◌, ◌≤◌, [], ◌∙◌, ap, arith, View, Seated, view_without_first, view_of_first}
-use Rattle.fx_table.proofs.Dealing.{one_dealt, all_dealt}
+use Rattle.fx_baton.proofs.Words.{◌≡◌, ◌≤◌, [], ◌∙◌, ap, arith, View, Seated, view_without_first, view_of_first, one_dealt, all_dealt}
 use Rattle.fx_baton.proofs.SeatsKeepRule.{rest_is_dealt, last_is_dealt, is_new_pass, may_split}
 use Rattle.fx_baton.proofs.table.BatonTable.deal.Goals as goal
 

@@ -1,5 +1,4 @@
-use Rattle.fx_baton.proofs.Words.{◌≡◌, ◌≤◌, ◌-◌, vec_capacity, [], view_of, IsPassOf, dealt}
-use Rattle.fx_table.proofs.Dealing.{AreDealt}
+use Rattle.fx_baton.proofs.Words.{◌≡◌, ◌≤◌, ◌-◌, vec_capacity, [], view_of, IsPassOf, dealt, AreDealt}
 use Rattle.fx_baton.proofs.table.BatonTable.deal.Given as goal
 
 abbrev pub invariant-loop-number : goal.invariant-loop-number

@@ -1,5 +1,4 @@
-use Rattle.fx_baton.proofs.Words.{sym, subst, arith, BatonPass, IsIdleSeatOf}
-use Rattle.fx_table.proofs.Gathering.{last_of}
+use Rattle.fx_baton.proofs.Words.{sym, subst, arith, BatonPass, IsIdleSeatOf, last_of}
 use Rattle.fx_baton.proofs.SeatsKeepRule.{may_join}
 use Rattle.fx_baton.proofs.table.BatonTable.gather.Goals as goal
 

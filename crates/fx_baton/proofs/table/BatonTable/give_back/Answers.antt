@@ -1,5 +1,4 @@
-use Rattle.fx_baton.proofs.Words.{sym, ap, subst, Contents, IsTurn, HasGivenBack}
-use Rattle.fx_baton.specs.Turns.{table_of_loan, events_of, doing_of}
+use Rattle.fx_baton.proofs.Words.{sym, ap, subst, Contents, IsTurn, HasGivenBack, table_of_loan, events_of, doing_of}
 use Rattle.fx_baton.proofs.Passing.{gives_back}
 use Rattle.fx_baton.proofs.table.BatonTable.give_back.Goals as goal
 

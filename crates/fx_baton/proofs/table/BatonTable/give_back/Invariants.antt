@@ -1,4 +1,4 @@
-use Rattle.fx_baton.specs.Turns.{table_of_loan, events_of, doing_of}
+use Rattle.fx_baton.proofs.Words.{table_of_loan, events_of, doing_of}
 use Rattle.fx_baton.proofs.table.BatonTable.give_back.Given as goal
 
 abbrev pub ghosts-give : goal.ghosts-give

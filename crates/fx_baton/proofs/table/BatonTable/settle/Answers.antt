@@ -1,6 +1,6 @@
 use Rattle.fx_baton.proofs.Words.{subst, arith, Start, IsKept}
 use Rattle.fx_baton.proofs.Closing.{may_observe, settles}
-use Rattle.fx_table.proofs.Tasks.{idle_task}
+use Rattle.fx_table.proofs.FileLemmas.{idle_task}
 use Rattle.fx_baton.proofs.table.BatonTable.settle.Goals as goal
 
 pub load-requires : goal.load-requires

@@ -1,5 +1,5 @@
 use Rattle.fx_chain.proofs.Words.{◌≡◌, ℕ, ◌+◌, ◌-◌, take, drop, ap, ◌∙◌, arith, all_asked}
-use Rattle.fx_chain.proofs.Asking.{asked_part}
+use Rattle.fx_chain.proofs.ChainGoesOn.{asked_part}
 use Rattle.fx_chain.proofs.chain.Chain.members.Goals as goal
 
 pub returns-clause-part : goal.returns-clause-part

@@ -1,5 +1,4 @@
-use Rattle.fx_counted.proofs.Words.{Clear}
-use Rattle.fx_table.proofs.Removing.{cleared_so}
+use Rattle.fx_counted.proofs.Words.{Clear, cleared_so}
 use Rattle.fx_counted.proofs.Calling.{removal_requires, removal_adds}
 use Rattle.fx_counted.proofs.SlotLaws.{cleared}
 use Rattle.fx_counted.proofs.table.CountedTable.clear.Goals as goal

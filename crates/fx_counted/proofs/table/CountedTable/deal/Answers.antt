@@ -1,5 +1,4 @@
-use Rattle.fx_counted.proofs.Words.{◌≡◌, ◌≤◌, [], ◌∙◌, ap, arith, without_first, first_alone, Sat, View}
-use Rattle.fx_table.proofs.Dealing.{one_dealt, all_dealt}
+use Rattle.fx_counted.proofs.Words.{◌≡◌, ◌≤◌, [], ◌∙◌, ap, arith, without_first, first_alone, Sat, View, one_dealt, all_dealt}
 use Rattle.fx_counted.proofs.Seats.{rest_is_dealt, last_is_dealt, is_new_pass, splits_keep}
 use Rattle.fx_counted.proofs.table.CountedTable.deal.Goals as goal
 

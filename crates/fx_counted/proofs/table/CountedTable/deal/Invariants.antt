@@ -1,5 +1,4 @@
-use Rattle.fx_counted.proofs.Words.{◌≡◌, ◌≤◌, ◌-◌, vec_capacity, [], dealt, view_of, IsPassOf}
-use Rattle.fx_table.proofs.Dealing.{AreDealt}
+use Rattle.fx_counted.proofs.Words.{◌≡◌, ◌≤◌, ◌-◌, vec_capacity, [], dealt, view_of, IsPassOf, AreDealt}
 use Rattle.fx_counted.proofs.table.CountedTable.deal.Given as goal
 
 abbrev pub invariant-loop-number : goal.invariant-loop-number

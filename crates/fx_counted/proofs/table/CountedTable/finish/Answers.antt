@@ -1,9 +1,6 @@
 use Rattle.fx_counted.proofs.Words.{◌≡◌, ℕ, List, sym, refl, ap, ◌∙◌, arith, Option, Some, some, get_elem?, slots_items, Closed, read_at, home_place}
-use Rattle.fx_counted.proofs.Words.{node_in, slice_index, slot_place, rules, option_map}
-use Rattle.fx_counted.proofs.Words.{false, get_or-set_other, slots_filled}
-use Rattle.fx_plain.proofs.Cells.{each_set}
-use Rattle.fx_table.proofs.Shells.{file_put}
-use Rattle.fx_table.proofs.HomeComing.{none_came, all_came, none_left, none_named, some_came, none_there}
+use Rattle.fx_counted.proofs.Words.{node_in, slice_index, slot_place, rules, option_map, false, get_or-set_other, slots_filled, each_set}
+use Rattle.fx_table.proofs.Shells.{file_put, none_came, all_came, none_left, none_named, some_came, none_there}
 use Rattle.fx_counted.proofs.HomeComing.{place_at, home_at_end, known_at_end, leaves_at_end}
 use Rattle.fx_counted.proofs.table.CountedTable.finish.Goals.{in-Some+in-Some-take_home, in-Some+in_default-take_home, in_default}
 use Rattle.fx_counted.proofs.table.CountedTable.finish.Goals as goal

@@ -1,6 +1,6 @@
 use Rattle.fx_counted.proofs.Words.{◌≡◌, ◌<◌, ℕ, false, get_or, slots_items, slots_len, IsFull, state_of, IsPrepared, slots_filled}
 use Rattle.std.specs.Mem.Slots.Ownership.{Filled}
-use Rattle.fx_table.proofs.HomeComing.{AreComing}
+use Rattle.fx_table.proofs.Shells.{AreComing}
 use Rattle.fx_counted.proofs.HomeComing.{place_at}
 use Rattle.fx_counted.proofs.table.CountedTable.finish.Given as goal
 

@@ -1,5 +1,4 @@
-use Rattle.fx_counted.proofs.Words.{sym, subst, arith, IsIdleSeatOf, CountedPass}
-use Rattle.fx_table.proofs.Gathering.{last_of}
+use Rattle.fx_counted.proofs.Words.{sym, subst, arith, IsIdleSeatOf, CountedPass, last_of}
 use Rattle.fx_counted.proofs.Seats.{joins_keep}
 use Rattle.fx_counted.proofs.table.CountedTable.gather.Goals as goal
 

@@ -1,5 +1,4 @@
-use Rattle.fx_counted.proofs.Words.{Take}
-use Rattle.fx_table.proofs.Removing.{taken_so}
+use Rattle.fx_counted.proofs.Words.{Take, taken_so}
 use Rattle.fx_counted.proofs.Calling.{removal_requires, removal_adds}
 use Rattle.fx_counted.proofs.SlotLaws.{taken}
 use Rattle.fx_counted.proofs.table.CountedTable.take.Goals as goal

@@ -1,8 +1,8 @@
 use Rattle.fx_lasting.proofs.Words.{Contains, List, [], ◌∷◌, ap, sym, subst, IsIdleSeatOf, view_of, LastingPass, IsPassOfTable}
 use Rattle.std.proofs.lemmas.List.Elements.{All-contains, Contains-append_left}
-use Rattle.fx_table.proofs.Members.{each_all}
-use Rattle.fx_table.proofs.Dealing.{IsReady, fits}
-use Rattle.fx_table.proofs.Gathering.{gathered, last_of}
+use Rattle.fx_table.proofs.SumLemmas.{each_all}
+use Rattle.fx_table.proofs.Chains.{IsReady, fits}
+use Rattle.fx_table.proofs.Seats.{gathered, last_of}
 use Rattle.fx_table.specs.Pass.{IsIdle}
 use Rattle.fx_lasting.proofs.Gathered.{all_idle, closes}
 use Rattle.fx_lasting.proofs.Passing.{idle_seat}

@@ -1,6 +1,6 @@
 use Rattle.fx_lasting.proofs.Words.{◌≡◌, ◌≤◌, [], ◌∙◌, ap, arith, Sat, View}
 use Rattle.fx_lasting.specs.Cuts.{without_first, first_alone}
-use Rattle.fx_table.proofs.Dealing.{one_dealt, all_dealt}
+use Rattle.fx_table.proofs.Chains.{one_dealt, all_dealt}
 use Rattle.fx_lasting.proofs.Calling.{first_of}
 use Rattle.fx_lasting.proofs.Gathered.{rest_is_dealt, last_is_dealt, is_new_pass, shown_so}
 use Rattle.fx_lasting.proofs.Seats.{splits_keep}

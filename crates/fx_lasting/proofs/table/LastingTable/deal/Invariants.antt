@@ -1,5 +1,5 @@
 use Rattle.fx_lasting.proofs.Words.{◌≡◌, ◌≤◌, ◌-◌, vec_capacity, [], dealt, IsPassOf}
-use Rattle.fx_table.proofs.Dealing.{AreDealt}
+use Rattle.fx_table.proofs.Chains.{AreDealt}
 use Rattle.fx_lasting.proofs.Gathered.{shown}
 use Rattle.fx_lasting.proofs.table.LastingTable.deal.Given as goal
 

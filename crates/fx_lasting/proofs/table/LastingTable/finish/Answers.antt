@@ -1,9 +1,8 @@
-use Rattle.fx_lasting.proofs.Words.{◌≡◌, ℕ, List, sym, refl, ap, ◌∙◌, arith, rules, Option, None, some, get_elem?, slots_items, Closed}
-use Rattle.fx_lasting.proofs.Words.{node_in, slot_place, false, get_or-set_other, slots_filled}
+use Rattle.fx_lasting.proofs.Words.{◌≡◌, ℕ, List, sym, refl, ap, ◌∙◌, arith, rules, Option, None, some, get_elem?, slots_items, Closed, node_in}
+use Rattle.fx_lasting.proofs.Words.{slot_place, false, get_or-set_other, slots_filled}
 use Rattle.fx_plain.proofs.Cells.{each_set}
-use Rattle.fx_table.proofs.Members.{read_at}
-use Rattle.fx_table.proofs.Shells.{file_put}
-use Rattle.fx_table.proofs.HomeComing.{none_came, all_came, none_left, none_named, some_came, none_there}
+use Rattle.fx_table.proofs.SumLemmas.{read_at}
+use Rattle.fx_table.proofs.Shells.{file_put, none_came, all_came, none_left, none_named, some_came, none_there}
 use Rattle.fx_lasting.proofs.HomeComing.{node_at, home_at_end, leaves_at_end}
 use Rattle.fx_lasting.proofs.table.LastingTable.finish.Goals.{in-Some+in-Some-take_home, in-Some+in_default-take_home, in_default}
 use Rattle.fx_lasting.proofs.table.LastingTable.finish.Goals as goal

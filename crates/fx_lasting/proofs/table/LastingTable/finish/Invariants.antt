@@ -1,6 +1,6 @@
 use Rattle.fx_lasting.proofs.Words.{◌≡◌, ◌<◌, ℕ, false, get_or, slots_items, slots_len, IsFull, state_of, IsPrepared, slots_filled}
 use Rattle.std.specs.Mem.Slots.Ownership.{Filled}
-use Rattle.fx_table.proofs.HomeComing.{AreComing}
+use Rattle.fx_table.proofs.Shells.{AreComing}
 use Rattle.fx_lasting.proofs.HomeComing.{node_at}
 use Rattle.fx_lasting.proofs.table.LastingTable.finish.Given as goal
 

@@ -1,5 +1,5 @@
 use Rattle.fx_plain.proofs.Words.{sym, arith, node_after_removal}
-use Rattle.fx_plain.proofs.ReservedLists.{changed_over}
+use Rattle.fx_plain.proofs.Emptying.{changed_over}
 use Rattle.fx_plain.proofs.node_list.NodeList.leave.Goals as goal
 
 pub returns : goal.returns

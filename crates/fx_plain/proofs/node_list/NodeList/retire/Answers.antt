@@ -1,5 +1,5 @@
 use Rattle.fx_plain.proofs.Words.{sym, arith, node_after_retirement}
-use Rattle.fx_plain.proofs.ReservedLists.{changed_over}
+use Rattle.fx_plain.proofs.Emptying.{changed_over}
 use Rattle.fx_plain.proofs.node_list.NodeList.retire.Goals as goal
 
 pub returns : goal.returns

@@ -1,5 +1,5 @@
 use Rattle.fx_plain.proofs.Words.{sym, ap, length, arith, Fresh}
-use Rattle.fx_plain.proofs.ReservedLists.{length-with_rest, with_rest-set}
+use Rattle.fx_plain.proofs.Emptying.{length-with_rest, with_rest-set}
 use Rattle.fx_plain.proofs.node_list.NodeList.set_node.Goals as goal
 
 pub returns : goal.returns

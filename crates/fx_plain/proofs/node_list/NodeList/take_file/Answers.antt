@@ -1,5 +1,5 @@
 use Rattle.fx_plain.proofs.Words.{sym, arith, Fresh, Gone}
-use Rattle.fx_plain.proofs.ReservedLists.{written_inside, with_rest-set}
+use Rattle.fx_plain.proofs.Emptying.{written_inside, with_rest-set}
 use Rattle.fx_plain.proofs.node_list.NodeList.take_file.Goals as goal
 
 pub returns-clause-after : goal.returns-clause-after

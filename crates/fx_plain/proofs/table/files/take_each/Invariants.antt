@@ -1,5 +1,4 @@
-use Rattle.fx_plain.proofs.Words.{◌≡◌, ◌+◌, ◌++◌, slots_in_order, slot_at, file_at}
-use Rattle.std.specs.Prelude.{vec_len, vec_capacity}
+use Rattle.fx_plain.proofs.Words.{◌≡◌, ◌+◌, ◌++◌, slots_in_order, slot_at, file_at, vec_len, vec_capacity}
 use Rattle.fx_plain.proofs.Emptying.{IsWorked}
 use Rattle.fx_plain.proofs.table.files.take_each.Given as goal
 

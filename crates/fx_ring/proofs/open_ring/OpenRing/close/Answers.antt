@@ -1,5 +1,5 @@
 use Rattle.fx_ring.proofs.Words.{rules, ◌≡◌, ◌∙◌, [], ◌∷◌, ap, ring_of, OpenRingContents}
-use Rattle.fx_ring.proofs.RingsOpened.{closed_ring}
+use Rattle.fx_ring.proofs.SubmittedRing.{closed_ring}
 use Rattle.fx_ring.proofs.open_ring.OpenRing.close.Goals as goal
 
 pub invariant_of-result : goal.invariant_of-result

@@ -1,5 +1,5 @@
 use Rattle.fx_ring.proofs.Words.{◌∙◌, ap, ring_of, OpenRingContents}
-use Rattle.fx_ring.proofs.RingsOpened.{size_shown}
+use Rattle.fx_ring.proofs.SubmittedRing.{size_shown}
 use Rattle.fx_ring.proofs.open_ring.OpenRing.size.Goals as goal
 
 pub returns : goal.returns

@@ -1,6 +1,6 @@
 use Rattle.fx_ring.proofs.Words.{ap, arith, rules, OpenRingContents, ◌≤◌, All-weaker, all_installs, runs_of, all_asked}
-use Rattle.fx_ring.proofs.Runs.{as_many}
-use Rattle.fx_ring.proofs.RingsOpened.{kept_after, entries_after}
+use Rattle.fx_ring.proofs.CompletionPlaces.{as_many}
+use Rattle.fx_ring.proofs.SubmittedRing.{kept_after, entries_after}
 use Rattle.fx_ring.proofs.open_ring.OpenRing.submit.Goals as goal
 
 pub invariant_of-self : goal.invariant_of-self

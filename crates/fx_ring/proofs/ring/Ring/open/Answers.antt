@@ -1,6 +1,6 @@
 use Rattle.fx_ring.proofs.Words.{◌∙◌, ap, rules, ring_of, IsIdle, PassView}
 use Rattle.fx_ring.proofs.Rings.{given_back_at_rest}
-use Rattle.fx_ring.proofs.RingsOpened.{kept_opened, only_pass, opened_ring}
+use Rattle.fx_ring.proofs.SubmittedRing.{kept_opened, only_pass, opened_ring}
 use Rattle.fx_ring.proofs.ring.Ring.open.Goals as goal
 
 pub invariant_of-result : goal.invariant_of-result

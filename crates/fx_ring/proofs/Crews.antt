@@ -1,13 +1,15 @@
--- What a crew is before it plays: new passes, with room for all.
-use Rattle.fx_ring.proofs.Words.{◌≡◌, ℕ, ◌≤◌, List, [], ◌∷◌, map, flat_map, length, All, sum_by, refl, sym, ap, subst, ◌∙◌, arith}
-use Rattle.fx_ring.proofs.Words.{vec_capacity, length-map, map-map, length-flat_map, All-nil, All-contains, sum_by-cons}
-use Rattle.fx_ring.proofs.Words.{sum_by-append, FileEntry, CloseListView, PassView, new_pass, new_passes, Event, Completed, all_completed, Asked}
-use Rattle.fx_ring.proofs.Words.{runs_of, all_weights, weight_of, Completion, HasRoomFor, HasWorked, HasRoom, worker_state, Outcome, Worker, Contains}
-use Rattle.fx_ring.proofs.Words.{contains_none, contains_map, contains_mapped, each_all, PASS_LOOKS, range_with_len, map-id}
-use Rattle.fx_ring.proofs.Words.{length-map-range_with_len, ◌*◌, sum_by-le, All-weaker, IsShortRun, Chain}
-use Rattle.fx_ring.proofs.Words.{AreCutInto, MOST_MEMBERS}
-use Rattle.fx_ring.proofs.Runs.{as_many, runs_within}
+-- Crews: new ones, and those whose passes have played.
+use Rattle.fx_ring.proofs.Words.{◌≡◌, ℕ, ◌≤◌, List, [], ◌∷◌, map, flat_map, length, All, sum_by, refl, sym, ap, subst, ◌∙◌, arith, vec_capacity}
+use Rattle.fx_ring.proofs.Words.{length-map, map-map, length-flat_map, All-nil, All-contains, sum_by-cons, sum_by-append, FileEntry, CloseListView}
+use Rattle.fx_ring.proofs.Words.{PassView, new_pass, new_passes, Event, Completed, all_completed, Asked, runs_of, all_weights, weight_of, Completion}
+use Rattle.fx_ring.proofs.Words.{HasRoomFor, HasWorked, HasRoom, worker_state, Outcome, Worker, Contains, contains_none, contains_map}
+use Rattle.fx_ring.proofs.Words.{contains_mapped, each_all, PASS_LOOKS, range_with_len, map-id, length-map-range_with_len, ◌*◌, sum_by-le, All-weaker}
+use Rattle.fx_ring.proofs.Words.{IsShortRun, Chain, AreCutInto, MOST_MEMBERS, map-append, Closed, completed_of, state_of_worker, WorkerState}
+use Rattle.fx_ring.proofs.Words.{flat_map-map}
+use Rattle.fx_ring.proofs.CompletionPlaces.{as_many, runs_within}
 use Rattle.fx_chain.proofs.Runs.{are_runs}
+use Rattle.fx_ring.proofs.Parts.{made_of_parts}
+use Rattle.fx_ring.proofs.WorkersTogether.{pass_of, completed_by, closed_by_worker}
 
 -- what holds of all elements holds of what they were made into
 pub all_gathered : {A W : Type 0} (P : A → Type 0) (f : W → A) (ws : List W) (xs : List A) → map f ws ≡ xs → All P xs → All (λ w. P (f w)) ws
@@ -84,3 +86,42 @@ module _ {often : ℕ} {v : PassView} {outcome : Outcome} {requests : List Asked
       let capacity = room.room in
       subst (λ (n : ℕ). HasRoom (runs_of requests) (worker_state (record v { chain = n }) (all_completed outcome.completions.items) outcome.closes)
       (vec_capacity outcome.completions)) (sym new.chain) (record { looks = omega arith; completions = omega arith; closes = omega arith })
+
+-- What a crew has come to, as its passes and outcomes say it once they lie in lists of their own.
+
+abbrev pub completions_of : Outcome → List Completion
+completions_of outcome = outcome.completions.items
+
+abbrev pub files_of : Outcome → List Closed
+files_of outcome = outcome.closes.files
+
+module _ {P : Type 0} (V : P → PassView) where
+  abbrev pub states : List (Worker P) → List WorkerState
+  states ws = map (state_of_worker V) ws
+
+  pub scattered_views : (ws : List (Worker P)) {ps : List P} → ps ≡ map (λ w. w.pass) ws → map (λ p. V p) ps ≡ map pass_of (states ws)
+  scattered_views ws is = ap (map V) is ∙ map-map V (λ w. w.pass) ws ∙ sym (map-map pass_of (state_of_worker V) ws)
+
+  module _ (ws : List (Worker P)) {outcomes : List Outcome} (is : outcomes ≡ map (λ w. w.outcome) ws) where
+    pub completions_joined : all_completed (flat_map completions_of outcomes) ≡ flat_map completed_by (states ws)
+    completions_joined =
+        ap (λ (l : List Outcome). all_completed (flat_map completions_of l)) is
+        ∙ (ap all_completed (flat_map-map completions_of (λ w. w.outcome) ws)
+        ∙ (made_of_parts (λ w. w.outcome.completions.items) (map completed_of) refl (map-append completed_of) ws
+        ∙ sym (flat_map-map completed_by (state_of_worker V) ws)))
+
+    pub files_joined : flat_map files_of outcomes ≡ flat_map closed_by_worker (states ws)
+    files_joined = ap (flat_map files_of) is
+        ∙ (flat_map-map files_of (λ w. w.outcome) ws ∙ sym (flat_map-map closed_by_worker (state_of_worker V) ws))
+
+    pub as_many_completions : sum_by (λ outcome. length outcome.completions.items) outcomes ≡ length (flat_map completed_by (states ws))
+    as_many_completions =
+        omega (
+          arith,
+          length-flat_map completions_of outcomes,
+          length-map (flat_map completions_of outcomes) completed_of,
+          ap length completions_joined,
+        )
+
+    pub as_many_files : sum_by (λ outcome. length outcome.closes.files) outcomes ≡ length (flat_map closed_by_worker (states ws))
+    as_many_files = omega (arith, length-flat_map files_of outcomes, ap length files_joined)
