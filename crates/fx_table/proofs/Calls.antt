@@ -27,10 +27,6 @@ pub numbers_least : {o : Opening} {v w : PassView} {actions : List Action} {doin
     → v.numbers_left ≤ w.numbers_left + used.numbers
 numbers_least {o} {v} {w} {used = used} adds = spends_least o.lasts v.numbers_left used.numbers w.numbers_left adds.numbers_left
 
-spends_nothing : (lasts : Bool) (left : ℕ) → Spends lasts left 0 left
-spends_nothing false left = omega arith
-spends_nothing true left = refl
-
 spends_then : (lasts : Bool) (first middle last used more : ℕ) → Spends lasts first used middle → Spends lasts middle more last
     → Spends lasts first (used + more) last
 spends_then false first middle last used more one two = omega arith
@@ -38,18 +34,7 @@ spends_then true first middle last used more one two = two ∙ one
 
 -- a pass that makes no event adds nothing
 pub adds_nothing : (o : Opening) (v : PassView) → IsFront o v → Adds o v [] v.doing no_use v
-adds_nothing o v front = record {
-  seen = seen_again v.front;
-  front = front;
-  own = refl;
-  now = refl;
-  number = refl;
-  chain = refl;
-  drawn = refl;
-  no_chains_left = refl;
-  numbers_left = spends_nothing o.lasts v.numbers_left;
-  looks_left = spends_nothing o.lasts v.looks_left;
-}
+adds_nothing o v front = grind arith
 
 -- two calls in a row add what each of them adds
 pub adds_then : (o : Opening) (u v w : PassView) (xs ys : List Action) (d e : Doing) (a b : Use) → Adds o u xs d a v → Adds o v ys e b w

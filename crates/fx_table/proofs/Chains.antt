@@ -8,7 +8,6 @@ use Rattle.fx_table.proofs.Words.{All-push, All-contains, chains_of_pass, last_c
 use Rattle.fx_table.proofs.SumLemmas.{contains_none, contains_head, contains_tail, contains_cases, contains_map, bit_here, one_if, bit_else, found_by}
 use Rattle.fx_table.proofs.SumLemmas.{sum_of, sum_le_of}
 use Rattle.std.proofs.lemmas.List.FromFn.{map-range_with_len_more}
-use Rattle.std.proofs.lemmas.Nat.{mod-mul-add}
 use Rattle.fx_table.specs.Turns.{HasDrawnInTurn}
 
 -- an element of a list is counted at least once
@@ -163,10 +162,7 @@ times_more : (c p n k : ℕ) → times c p n (suc k) ≡ cond (eqb (p + k * n) c
 times_more c p n k = sum_by-cons (λ d. cond (eqb d c) 1 0) (p + k * n) (chains_of_pass p n k)
 
 chain_of_its_pass : (p n i : ℕ) → 1 ≤ p → p ≤ n → pass_of_chain n (p + i * n) ≡ p
-chain_of_its_pass p n i low high =
-    let u : ℕ = i * n in
-    let e : (p + u) - 1 ≡ u + (p - 1) = omega (arith, low) in
-    let both : ((p + i * n) - 1) % n ≡ p - 1 = ap (λ (z : ℕ). z % n) e ∙ mod-mul-add i n (p - 1) (omega arith) in omega (arith, both, low)
+chain_of_its_pass p n i low high = grind arith
 
 -- a pass has drawn a chain at most once, and only one of its own
 times_cases : (p n count c : ℕ) → 1 ≤ p → p ≤ n
@@ -188,33 +184,23 @@ times_cases p n (suc k) c low high =
     ])
 
 times_small : (p n count c : ℕ) → 1 ≤ p → p ≤ n → times c p n count ≤ cond (eqb p (pass_of_chain n c)) 1 0
-times_small p n count c low high = elim (times_cases p n count c low high) [
-  | inl none ↦ omega (arith, none)
-  | inr (one, before, is) ↦ omega (arith, one, bit_here (pass_of_chain n c) p is)
-]
+times_small p n count c low high = grind (arith, times_cases)
 
 -- the next number of a pass of n is one of its own
 number_of_its_pass : (n p count : ℕ) → 1 ≤ p → p ≤ n → (left : ℕ) → 1 ≤ left → left ≤ 64
     → pass_of_number n ((256 + 64 * (p + count * n)) - left) ≡ p
-number_of_its_pass n p count low high left one few =
-    let u : ℕ = count * n in
-    let chain : ((256 + 64 * (p + u)) - left - 256) / 64 + 1 - 1 ≡ u + (p - 1) = omega (arith, low, one, few) in
-    let both : (((256 + 64 * (p + count * n)) - left - 256) / 64 + 1 - 1) % n ≡ p - 1 =
-    ap (λ (z : ℕ). z % n) chain ∙ mod-mul-add count n (p - 1) (omega arith) in omega (arith, both, low)
+number_of_its_pass n p count low high left one few = grind arith
 
 -- a pass that has numbers left
 module _ (o : Opening) (v : PassView) (some_left : 0 < v.numbers_left) where
   next_of_chain : (count : ℕ) → HasDrawnInTurn o count v → pass_of_number o.passes (next_number o v) ≡ v.number
   next_of_chain zero t = absurd (omega (arith, t))
-  next_of_chain (suc count) t =
-      rw (t.whole, t.chain) (number_of_its_pass o.passes v.number count t.number.0 t.number.1 v.numbers_left some_left t.few_left)
+  next_of_chain (suc count) t = grind (arith, number_of_its_pass)
 
   -- its next number is one of its own, from 256 on, and the table has it
   pub next_is_its_own : (count : ℕ) → HasDrawnInTurn o count v
       → (pass_of_number o.passes (next_number o v) ≡ v.number) × (256 ≤ next_number o v) × (next_number o v < 256 + 64 * o.chains)
-  next_is_its_own count t =
-      let is : next_number o v ≡ (256 + 64 * v.chain) - v.numbers_left = rw t.whole in
-      (next_of_chain count t, omega (arith, t, is), omega (arith, t, is))
+  next_is_its_own count t = grind (arith, next_of_chain)
 
 -- all passes of a closed table
 module _ (o : Opening) (vs : List PassView) (counts : (v : PassView) → Contains vs v → (count : ℕ) × HasDrawnInTurn o count v) where

@@ -1,7 +1,7 @@
 -- The numbers and places of files, and activities that name files by them.
-use Rattle.fx_table.proofs.Words.{◌≡◌, ◌≢◌, ℕ, true, false, List, sym, refl, ap, ◌∙◌, subst, ◌⊎◌, inl, inr, ⊎_elim, dite, ℕ_discrete, None, State}
-use Rattle.fx_table.proofs.Words.{changed_at, Contents, state_of, Option, Some, with_removed, leaving, is_leaving, IsTable, node_at, slot_at}
-use Rattle.fx_table.proofs.Words.{placed_at, removed_at, file_at, File, changed_here, changed_else, hold_of, retired_of, activity_of, Retired}
+use Rattle.fx_table.proofs.Words.{◌≡◌, ◌≢◌, ℕ, true, false, List, sym, refl, ap, ◌∙◌, ◌⊎◌, inl, inr, ⊎_elim, dite, ℕ_discrete, None, State}
+use Rattle.fx_table.proofs.Words.{changed_at, Contents, state_of, Option, Some, with_removed, leaving, is_leaving, IsTable, node_at, placed_at}
+use Rattle.fx_table.proofs.Words.{removed_at, file_at, File, changed_here, changed_else, hold_of, retired_of, activity_of, Retired}
 use Rattle.fx_plain.specs.declared.node.Node.{Node}
 use Rattle.fx_plain.specs.declared.node.Node.TheVariants.{At}
 use Rattle.fx_table.specs.Files.{HasFile}
@@ -9,6 +9,7 @@ use Rattle.fx_table.specs.declared.values.Doing.TheVariants as doing
 use Rattle.fx_table.specs.declared.values.Hold.{Hold}
 use Rattle.fx_table.specs.declared.values.Task.{Task}
 use Rattle.fx_table.specs.declared.values.Task.TheVariants.{Idle, Holding, Retiring}
+use Rattle.std.proofs.Common.{arith}
 
 pub some_file : (f g : File) → Some f ≡ Some g → f ≡ g
 some_file f g e = cc
@@ -23,11 +24,7 @@ named nodes (Some n) f e = (n, refl, e)
 
 -- the node of a file at a slot is `At` that slot
 pub node_of : (c : Contents) → IsTable c → (slot : ℕ) (f : File) → (state_of c).at slot ≡ Some f → node_at c.nodes f.number ≡ At slot f.identity
-node_of c sound slot f e =
-    let (n, at, placed) = named c.nodes (slot_at c.slots slot) f e in
-    let p = sound.placed slot n at in
-    let is : record { number = n; identity = p.0 } ≡ f = some_file _ f (sym (ap (placed_at n) p.1) ∙ placed) in
-    subst (λ (g : File). node_at c.nodes g.number ≡ At slot g.identity) is p.1
+node_of c sound slot f e = grind arith
 
 -- a file at a slot isn't removed, and isn't leaving
 pub not_removed : (c : Contents) → IsTable c → (slot : ℕ) (f : File) → (state_of c).at slot ≡ Some f → (state_of c).removed f.number ≡ None
@@ -39,8 +36,7 @@ stays_put c sound slot f e = ap is_leaving (node_of c sound slot f e)
 -- a removed file has another number than a file at a slot
 pub apart_from : (c : Contents) → IsTable c → (slot : ℕ) (o : Option File) → o ≡ (state_of c).at slot → (x f : File) → o ≡ Some x
     → (state_of c).removed f.number ≡ Some f → f.number ≢ x.number
-apart_from c sound slot o is x f there out same =
-    none_file f (sym (not_removed c sound slot x (sym is ∙ there)) ∙ (ap (state_of c).removed (sym same) ∙ out))
+apart_from c sound slot o is x f there out same = grind arith
 
 -- a file that is leaving is among the removed ones
 pub leaving_file : (c : Contents) → IsTable c → (f : File) → HasFile (state_of c) f → leaving c f.number ≡ true
@@ -95,8 +91,4 @@ pub retiring_task : (t : Task) (f : File) (retired : Retired) → activity_of t 
     → (t ≡ Retiring f retired.takes) × (retired ≡ retired_of f retired.takes)
 retiring_task Idle f retired is = absurd (cc is)
 retiring_task (Holding g) f retired is = absurd (cc is)
-retiring_task (Retiring g takes) f retired is =
-    let file : g ≡ f = cc in
-    let value : retired_of g takes ≡ retired = cc in
-    let same : takes ≡ retired.takes = ap (λ (x : Retired). x.takes) value in
-    ((λ i. Retiring (file i) (same i)), sym value ∙ (λ i. retired_of (file i) (same i)))
+retiring_task (Retiring g takes) f retired is = grind arith

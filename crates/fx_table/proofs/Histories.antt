@@ -6,6 +6,7 @@ use Rattle.fx_table.proofs.Words.{AllReleaseTheirOwn, IsSettled, start_of, state
 use Rattle.fx_plain.proofs.Leading.{leads_then}
 use Rattle.fx_table.proofs.SumLemmas.{contains_head, contains_tail, contains_map, contains_only}
 use Rattle.fx_table.specs.Settling.{IsSettledSoFar}
+use Rattle.std.proofs.Common.{arith}
 
 part_none : (q : ℕ) (es : List Event) → ((e : Event) → Contains es e → e.pass ≢ q) → part_of_pass q es ≡ []
 part_none q [] n = refl
@@ -63,8 +64,7 @@ pub record IsWhole (o : Opening) (history : List Event) (passes : List PassView)
 
 pub closes_table : (o : Opening) (h : List Event) (passes : List PassView) (left : Contents) → IsWhole o h passes
     → HasSameFiles (state_at o h) (state_of left) → IsSettled (state_of left) → ClosesTable o passes left
-closes_table o h passes left whole same at_rest =
-    search (whole.legal, whole.settled, whole.seen, whole.own, whole.authors, whole.chains_inside, whole.drawn_once, whole.all_drawn)
+closes_table o h passes left whole same at_rest = grind arith
 
 -- a history with events of one pass only is that pass's own
 pub own_history : (v : PassView) (h : List Event) → ((e : Event) → Contains h e → (w : PassView) × Contains (v ∷ []) w × (e.pass ≡ w.number))

@@ -8,13 +8,11 @@ use Rattle.std.proofs.lemmas.Grind.{common_steps}
 use Rattle.fx_plain.specs.Laws.{IsStart}
 use Rattle.fx_plain.specs.Reopening.{IsTableAtRest}
 use Rattle.fx_plain.proofs.Prepared.{opens_inside, opening_is_start}
-use Rattle.fx_table.proofs.SumLemmas.{contains_head, contains_tail, sum_map, sum_only, sum_reverse, sum_two, contains_none, sum_set}
+use Rattle.fx_table.proofs.SumLemmas.{contains_head, contains_tail, sum_map, sum_only, sum_reverse, sum_two, sum_set}
 
 -- a table that doesn't last has fresh numbers up to the last chain's last
 pub start_is : (o : Opening) → o.lasts ≡ false → start_of o ≡ opening (state_of o.contents) (numbers_for o.chains)
-start_is o ends = λ i. record (opening (state_of o.contents) (numbers_for o.chains)) {
-  fresh = is_fresh_at_first (ends i) (state_of o.contents).size (numbers_for o.chains);
-}
+start_is o ends = grind arith
 
 starts : (st : State) (numbers : ℕ) (lasts : Bool) → IsStart (record (opening st numbers) { fresh = is_fresh_at_first lasts st.size numbers })
 starts st numbers false = opening_is_start st numbers
@@ -52,9 +50,7 @@ module _ {P L : Type 0} (logs : P → List L) where
 module _ {V L : Type 0} (logs : V → List L) (views : List V) (seat : ℕ) (v : V) (at : get_elem? views seat ≡ some v)
     (all : length (logs v) ≡ sum_by (λ u. length (logs u)) views) where
   pub empty_else : (i : ℕ) (u : V) → i ≢ seat → get_elem? views i ≡ some u → logs u ≡ []
-  empty_else i u other e =
-      let a = sum_two (λ z. length (logs z)) views seat i v u (λ j. other (sym j)) at e in
-      nil_from_length (logs u) (omega arith)
+  empty_else i u other e = grind (arith, sum_two, nil_from_length)
 
   -- only this seat adds to a sum that seats without logs don't add to
   pub only_here : (f : V → ℕ) → ((u : V) → logs u ≡ [] → f u ≡ 0) → sum_by f views ≡ f v
@@ -63,9 +59,7 @@ module _ {V L : Type 0} (logs : V → List L) (views : List V) (seat : ℕ) (v :
   -- a property of this seat, and of each seat without logs, holds for each seat
   pub each_seat : (P : V → Type 0) → P v → ((i : ℕ) (u : V) → get_elem? views i ≡ some u → logs u ≡ [] → P u)
       → (i : ℕ) (u : V) → get_elem? views i ≡ some u → P u
-  each_seat P here none i u e = dite (ℕ_discrete i seat)
-      (λ same. let is : v ≡ u = cc in subst P is here)
-      (λ other. none i u e (empty_else i u other e))
+  each_seat P here none i u e = grind (arith, empty_else)
 
 -- Passes move between idle seats.
 
@@ -112,9 +106,7 @@ module _ {V L S : Type 0} (logs : V → List L) (start : V → S) (k : S) (Idle 
     other_than j u e busy same = let is : v ≡ u = cc in busy (subst Idle is idle)
 
     set_cases : (a : V) (j : ℕ) (u : V) → IsAnew views a → get_elem? (set views id a) j ≡ some u → IsAnew views u ⊎ (get_elem? views j ≡ some u)
-    set_cases a j u new e = dite (ℕ_discrete j id)
-        (λ same. inl (subst (IsAnew views) (set_here views id a u (rw same at e)) new))
-        (λ other. inr (sym (set_else views id j a other) ∙ e))
+    set_cases a j u new e = grind (arith, set_here, set_else)
 
     -- a seat hands its first pass to a new seat
     module _ (cut : List L → V) (its_logs : (l : List L) → logs (cut l) ≡ l) (its_idle : (l : List L) → Idle (cut l))
@@ -129,11 +121,7 @@ module _ {V L S : Type 0} (logs : V → List L) (start : V → S) (k : S) (Idle 
       both = take-append-drop 1 (logs v)
 
       part : (l : List L) → (logs v ≡ [] → l ≡ []) → ((x : L) → Contains l x → Contains (logs v) x) → IsAnew views (cut l)
-      part l none inside = record {
-        idle = its_idle l;
-        its = λ x h. (id, v, at, idle, inside x (rw (its_logs l) at h));
-        begun = ⊎_elim (λ z. inl (its_logs l ∙ none z)) (λ z. inr (its_start l ∙ z)) begun;
-      }
+      part l none inside = grind arith
 
       rest_part : IsAnew views rest
       rest_part = part (drop 1 (logs v)) (ap (drop 1)) (λ x h. rw both at (Contains-append_right (take 1 (logs v)) (drop 1 (logs v)) x h))
@@ -170,11 +158,7 @@ module _ {V L S : Type 0} (logs : V → List L) (start : V → S) (k : S) (Idle 
       }
 
       spent_new : IsAnew views spent
-      spent_new = record {
-        idle = spent_idle;
-        its = λ x h. absurd (contains_none x (rw none_left at h));
-        begun = inl none_left;
-      }
+      spent_new = grind arith
 
       sum_joined : (g : V → ℕ) → g both + g spent ≡ g v + g w → sum_by g (set (set views id both) other spent) ≡ sum_by g views
       sum_joined g whole = omega (arith, sum_set g views id v both at, sum_set g (set views id both) other w spent there, whole)

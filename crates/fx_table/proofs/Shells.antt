@@ -1,8 +1,8 @@
 -- Files move between a table of one thread and the places of a shared one.
-use Rattle.fx_table.proofs.Words.{◌≡◌, ◌≢◌, ℕ, zero, suc, ◌+◌, ◌<◌, ◌≤◌, List, [], ◌∷◌, ◌++◌, length, sym, refl, ap, ◌∙◌, arith, ◌⊎◌, inl, inr}
-use Rattle.fx_table.proofs.Words.{⊎_elim, None, dite, ℕ_discrete, some, get_elem?, State, Contents, state_of, changed_at, cond, set, subst, Bool}
-use Rattle.fx_table.proofs.Words.{Option, Some, nat_lt, option_map, dec_le, Closed, changed_here, changed_else, IsSettled, identity_of, numbered}
-use Rattle.fx_table.proofs.Words.{slots_in_order, number_of, HasSameFiles, IsShell, IsShellOf, AreBack, file_in_place, lt-ltb, le-ltb, File}
+use Rattle.fx_table.proofs.Words.{◌≡◌, ◌≢◌, ℕ, zero, suc, ◌+◌, ◌<◌, ◌≤◌, List, [], ◌∷◌, ◌++◌, length, sym, refl, ap, ◌∙◌, arith, ◌⊎◌, None, dite}
+use Rattle.fx_table.proofs.Words.{some, get_elem?, State, Contents, state_of, changed_at, cond, set, Bool, Option, Some, nat_lt, option_map, dec_le}
+use Rattle.fx_table.proofs.Words.{Closed, IsSettled, identity_of, numbered, slots_in_order, number_of, HasSameFiles, IsShell, IsShellOf, AreBack}
+use Rattle.fx_table.proofs.Words.{file_in_place, lt-ltb, le-ltb, File}
 use Rattle.std.proofs.Math.ListN.{get_or-eq_default}
 use Rattle.std.proofs.lemmas.List.FromFn.{get_or-map-range_with_len, length-map-range_with_len}
 use Rattle.fx_table.proofs.SumLemmas.{read_at, stands_at}
@@ -55,8 +55,7 @@ pub record Becomes (old : State) (slot : ℕ) (file : Option Closed) (new : Stat
 -- a file was put at an empty slot, under the slot's number
 pub file_put : {a b : State} {slot : ℕ} {file : Closed} → IsSettled a
     → b ≡ record a { at = changed_at a.at slot (Some (numbered slot file)) } → Becomes a slot (Some file) b
-file_put {a} {slot = slot} {file = file} settled is = let new = Some (numbered slot file) in
-    rw is (assumption (ap identity_of (changed_here a.at slot new slot refl), changed_else a.at slot new))
+file_put {a} {slot = slot} {file = file} settled is = grind arith
 
 -- between these slots the files are still away
 pub record IsPartlyBack (shell : State) (file : ℕ → Option Closed) (from to : ℕ) (st : State) : Type 0 where
@@ -67,45 +66,12 @@ pub record IsPartlyBack (shell : State) (file : ℕ → Option Closed) (from to 
   pub settled : IsSettled st
 
 module _ (shell : State) (file : ℕ → Option Closed) where
-  -- none of them, where each other slot has no file
-  pub none_back_yet : IsShell shell → {from to : ℕ} → ((slot : ℕ) → (slot < from) ⊎ (to ≤ slot) → file slot ≡ None)
-      → IsPartlyBack shell file from to shell
-  none_back_yet empty others = record {
-    size = refl;
-    range = refl;
-    away = λ slot _ _. empty.vacant slot;
-    back = λ slot out. ap identity_of (empty.vacant slot) ∙ sym (others slot out);
-    settled = empty.settled;
-  }
-
   pub all_back : {st : State} {from to : ℕ} → to ≤ from → IsPartlyBack shell file from to st → AreBack shell file st
-  all_back {st} {from} done p = let files : (slot : ℕ) → identity_of (st.at slot) ≡ file slot =
-      λ slot. p.back slot (dite (dec_le (slot + 1) from) (λ l. inl (omega (arith, l))) (λ g. inr (omega (arith, g, done)))) in assumption (p, files)
-
-  -- one of them is back, or there was none
-  one_back : {st st' : State} {slot from to from' to' : ℕ} → ((s : ℕ) → from' ≤ s → s < to' → (from ≤ s) × (s < to) × (s ≢ slot))
-      → ((s : ℕ) → s ≢ slot → (s < from') ⊎ (to' ≤ s) → (s < from) ⊎ (to ≤ s)) → Becomes st slot (file slot) st'
-      → IsPartlyBack shell file from to st → IsPartlyBack shell file from' to' st'
-  one_back {st' = st'} {slot = slot} inner outer gets p = record {
-    size = gets.size ∙ p.size;
-    range = gets.range ∙ p.range;
-    away = λ s l u. let i = inner s l u in gets.others s i.2 ∙ p.away s i.0 i.1;
-    back = λ s out. dite (ℕ_discrete s slot)
-        (λ same. ap (λ (n : ℕ). identity_of (st'.at n)) same ∙ (gets.there ∙ ap file (sym same)))
-        (λ ne. ap identity_of (gets.others s ne) ∙ p.back s (outer s ne out));
-    settled = gets.settled;
-  }
-
-  -- the first of them, or the last
-  pub first_back : {st st' : State} {from to : ℕ} → Becomes st from (file from) st' → IsPartlyBack shell file from to st
-      → IsPartlyBack shell file (from + 1) to st'
-  first_back {from = from} {to = to} = one_back (λ s l u. (omega arith, u, λ same. omega arith))
-      (λ s ne out. ⊎_elim (λ (l : s < from + 1). inl (omega (arith, ne))) (λ (g : to ≤ s). inr g) out)
+  all_back {st} {from} done p = grind arith
 
   pub last_back : {st st' : State} {from to : ℕ} → Becomes st to (file to) st' → IsPartlyBack shell file from (to + 1) st
       → IsPartlyBack shell file from to st'
-  last_back {from = from} {to = to} = one_back (λ s l u. (l, omega arith, λ same. omega arith))
-      (λ s ne out. ⊎_elim (λ (l : s < from). inl l) (λ (g : to ≤ s). inr (omega (arith, ne))) out)
+  last_back {from = from} {to = to} = grind arith
 
 -- Files come out of the places of a shared table, and back to a table of one thread, one slot after the other.
 
@@ -139,11 +105,7 @@ module _ (size : ℕ) (place_at : ℕ → Option ℕ) where
         → (slot : ℕ) × (done ≤ slot) × (slot < size) × (place_at slot ≡ Some place)
 
   pub none_came : {shell : State} {xs : List (Option Closed)} → IsShell shell → AreAtHome xs → AreComing shell xs 0 xs shell
-  none_came {shell} {xs} empty home = record {
-    part = none_back_yet shell (file_at xs) empty (λ slot out. none_past xs (omega (arith, out)));
-    left = λ _ _ _ _ _. refl;
-    others = λ place file e. let o = home.others place file e in (o.0, omega arith, o.1, o.2);
-  }
+  none_came {shell} {xs} empty home = grind arith
 
   module _ {shell : State} {xs : List (Option Closed)} {done : ℕ} {now : List (Option Closed)} {st : State} (coming : AreComing shell xs done now st) where
     pub all_came : size ≤ done → AreBack shell (file_at xs) st
@@ -158,41 +120,21 @@ module _ (size : ℕ) (place_at : ℕ → Option ℕ) where
       later {slot} le other = let ne : slot ≢ done = λ same. other (ap place_at same) in omega (arith, le, ne)
 
       not_back : file_at xs done ≡ None → IsPartlyBack shell (file_at xs) (done + 1) size st
-      not_back none = first_back shell (file_at xs) (rw none record {
-        size = refl;
-        range = refl;
-        there = ap identity_of (coming.part.away done (omega arith) inside);
-        others = λ other ne. refl;
-        settled = coming.part.settled;
-      }) coming.part
+      not_back none = grind arith
 
       pub none_named : place_at done ≡ None → AreComing shell xs (done + 1) now st
-      none_named none = record {
-        part = not_back (here_at xs inside ∙ ap (file_of xs) none);
-        left = λ slot place le. coming.left slot place (omega (arith, le));
-        others = λ place file e. let o = coming.others place file e in (o.0, later o.1 (λ same. cc (sym o.3 ∙ (same ∙ none))), o.2, o.3);
-      }
+      none_named none = grind arith
 
       module _ {place : ℕ} {x : Option Closed} {new : List (Option Closed)} (named : place_at done ≡ Some place)
           (there : get_elem? now place ≡ some x) (written : new ≡ set now place None) where
         file_is : file_at xs done ≡ x
-        file_is = here_at xs inside ∙ (ap (file_of xs) named
-            ∙ read_at xs place None (sym (coming.left done place (omega arith) inside named) ∙ there))
+        file_is = grind (arith, read_at)
 
         place_left : {st' : State} → IsPartlyBack shell (file_at xs) (done + 1) size st' → AreComing shell xs (done + 1) new st'
-        place_left part = rw written record {
-          part = part;
-          left = λ slot other le lt is. set_else now place other None (home.apart slot done other place lt inside (λ same. omega arith) is named)
-              ∙ coming.left slot other (omega (arith, le)) lt is;
-          others = λ other file e. dite (ℕ_discrete other place)
-              (λ same. let bad : None ≡ Some file = set_here now place None (Some file) (rw same at e) in absurd (cc bad))
-              (λ ne. let o = coming.others other file (sym (set_else now place other None ne) ∙ e) in
-              (o.0, later o.1 (λ same. ne (let is : Some other ≡ Some place = sym o.3 ∙ (same ∙ named) in cc is)), o.2, o.3));
-        }
+        place_left part = grind (arith, set_else, set_here)
 
         pub some_came : {file : Closed} {st' : State} → x ≡ Some file → Becomes st done (Some file) st' → AreComing shell xs (done + 1) new st'
-        some_came {st' = st'} is gets = place_left (first_back shell (file_at xs)
-            (subst (λ (f : Option Closed). Becomes st done f st') (sym (file_is ∙ is)) gets) coming.part)
+        some_came {st' = st'} is gets = grind (arith, place_left, file_is)
 
         pub none_there : x ≡ None → AreComing shell xs (done + 1) new st
         none_there is = place_left (not_back (file_is ∙ is))
@@ -210,12 +152,7 @@ module _ (size : ℕ) (place_at : ℕ → Option ℕ) (end : State) (place_of : 
 
   module _ (s : AreStored) where
     file_there : (slot place : ℕ) → slot < size → place_at slot ≡ Some place → (f : File) × (end.at slot ≡ Some f) × (place_of f.number ≡ place)
-    file_there slot place l is = go (end.at slot) (sym (s.named slot l) ∙ is)
-      where
-        go : (found : Option File) → option_map place_of (number_of found) ≡ Some place
-            → (f : File) × (found ≡ Some f) × (place_of f.number ≡ place)
-        go None e = absurd (cc e)
-        go (Some f) e = (f, refl, cc e)
+    file_there slot place l is = grind arith
 
     pub at_home : AreAtHome size place_at xs
     at_home = record {

@@ -1,8 +1,8 @@
 -- Sums over lists, and membership in a list.
 use Rattle.fx_table.proofs.Words.{◌≡◌, ◌≢◌, ℕ, zero, suc, ◌+◌, ◌-◌, ◌<◌, ◌≤◌, cond, eqb, List, map, refl, ap, arith, eq-eqb, ne_eqb, ◌⊎◌, inl, inr}
 use Rattle.fx_table.proofs.Words.{count_by, range_with_len, sum_by-cons, dite, ℕ_discrete, changed_at, length, get_elem?, some, some-ne-none}
-use Rattle.fx_table.proofs.Words.{some-injective, [], ◌∷◌, reverse, sym, ◌∙◌, ⊎_elim, Contains, All, set, sum_by, by_equality, Bool, lt-ltb, le-ltb}
-use Rattle.fx_table.proofs.Words.{dec_le, once, slice_index_or, length-map, get_or-map, get_or_default, All-contains_itself, sum}
+use Rattle.fx_table.proofs.Words.{some-injective, [], ◌∷◌, reverse, sym, ◌∙◌, ⊎_elim, Contains, All, set, sum_by, Bool, once, slice_index_or}
+use Rattle.fx_table.proofs.Words.{length-map, get_or-map, get_or_default, All-contains_itself, sum}
 use Rattle.std.proofs.lemmas.List.Sorted.{Contains-permutation, IsPermutation-reverse, IsPermutation-sym, sum_by-IsPermutation}
 use Rattle.std.proofs.lemmas.List.Sums.{sum-map, sum_by-set, get_or-le-sum_by}
 use Rattle.std.proofs.lemmas.Simd.{map-map}
@@ -25,8 +25,7 @@ bit_is p q = dite (ℕ_discrete q p) (λ e. inl (e, bit_here p q e)) (λ e. inr 
 
 pub once_is : (n p : ℕ) → ((0 < p) × (p ≤ n) × (once n p ≡ 1)) ⊎ (((p ≡ 0) ⊎ (n < p)) × (once n p ≡ 0))
 once_is n zero = inr (inl refl, refl)
-once_is n (suc p) = dite (dec_le (suc p) n) (λ l. inl (omega arith, l, ap one_if (lt-ltb p n (omega (arith, l)))))
-    (λ g. inr (inr (omega (arith, g)), ap one_if (le-ltb p n (omega (arith, g)))))
+once_is n (suc p) = grind arith
 
 -- one number more
 pub once_more : (n m p : ℕ) → m ≡ n + 1 → once m p ≡ once n p + one_if (eqb m p)
@@ -138,8 +137,7 @@ module _ {X : Type 0} (f : X → ℕ) where
       (λ some. (x, contains_head x l, omega (arith, some)))
 
   pub sum_zero : (l : List X) → ((x : X) → Contains l x → f x ≡ 0) → sum_by f l ≡ 0
-  sum_zero l each = dite (ℕ_discrete (sum_by f l) 0) (λ none. none)
-      (λ some. let x = found_sum l (omega (arith, some)) in let none = each x.0 x.1 in absurd (omega arith))
+  sum_zero l each = grind (arith, found_sum)
 
   -- a sum that only one element adds to
   pub sum_only : (l : List X) (i : ℕ) (v : X) → get_elem? l i ≡ some v → ((j : ℕ) (u : X) → j ≢ i → get_elem? l j ≡ some u → f u ≡ 0)
@@ -165,5 +163,4 @@ sum_map f g l = sym (sum-map f (map g l)) ∙ ap sum (map-map f g l) ∙ sum-map
 
 -- an element that is counted for its number
 pub found_by : {X : Type 0} (f : X → ℕ) (n : ℕ) (l : List X) → 1 ≤ count_by (λ x. eqb (f x) n) l → (x : X) × Contains l x × (f x ≡ n)
-found_by f n l low = let r = found_sum (λ x. cond {A = ℕ} (eqb (f x) n) 1 0) l low in
-    (r.0, r.1, by_equality (f r.0) n (λ b. 1 ≤ cond {A = ℕ} b 1 0 → f r.0 ≡ n) (λ is one. is) (λ other none. absurd (omega arith)) r.2)
+found_by f n l low = grind (arith, found_sum)

@@ -1,7 +1,6 @@
 -- The names that most proofs of this crate use.
 pub use Rattle.fx_plain.proofs.Cells.{by_equality, changed_here, changed_else}
-pub use Rattle.fx_plain.specs.Contents.{Contents, state_of, leaving, is_leaving, IsTable, node_at, slot_at, placed_at, removed_at, file_at}
-pub use Rattle.fx_plain.specs.Contents.{IsPrepared}
+pub use Rattle.fx_plain.specs.Contents.{Contents, state_of, leaving, is_leaving, IsTable, node_at, placed_at, removed_at, file_at, IsPrepared}
 pub use Rattle.fx_plain.specs.History.{IsLegal, IsSeenBy, held_by, part_of_pass, ◌▷▷◌, ◌▷◌, part_of_chain, held_after, Leads, action_of}
 pub use Rattle.fx_plain.specs.History.{AllReleaseTheirOwn}
 pub use Rattle.fx_plain.specs.State.{State, opening, file_numbered, files_in_order, identities_of, IsSettled}

@@ -1,5 +1,5 @@
-use Rattle.fx_table.proofs.Words.{◌≡◌, ◌<◌, ◌+◌, ℕ, length, List, [], ◌∷◌, ◌++◌, refl, sym, ap, ◌∙◌, arith, None, state_of, length-append}
-use Rattle.fx_table.proofs.Words.{get_or_append_left, get_or_push, Option, Closed, file_in_place}
+use Rattle.fx_table.proofs.Words.{◌≡◌, ◌<◌, ◌+◌, ℕ, length, List, [], ◌∷◌, ◌++◌, ap, ◌∙◌, arith, state_of, length-append, get_or_append_left}
+use Rattle.fx_table.proofs.Words.{get_or_push, Option, Closed, file_in_place}
 use Rattle.fx_table.proofs.Shells.{file_put, last_back}
 use Rattle.fx_table.proofs.shell.put_all.Goals as goal
 
@@ -10,12 +10,10 @@ module _ (all xs ys : List (Option Closed)) (x : Option Closed) (split : xs ≡ 
   one_less = ap length split ∙ length-append ys (x ∷ [])
 
   last_is : file_in_place all (length ys) ≡ x
-  last_is = sym (same (length ys) (let a = one_less in omega arith))
-      ∙ (ap (λ (l : List (Option Closed)). file_in_place l (length ys)) split ∙ get_or_push ys x None (length ys) refl)
+  last_is = grind (arith, one_less, get_or_push)
 
   same_before : (k : ℕ) → k < length ys → file_in_place ys k ≡ file_in_place all k
-  same_before k l = sym (get_or_append_left ys (x ∷ []) None k l) ∙ (ap (λ (z : List (Option Closed)). file_in_place z k) (sym split)
-      ∙ same k (let a = one_less in omega arith))
+  same_before k l = grind (arith, get_or_append_left, one_less)
 
 pub loop-file-preserved-in-Some-file : goal.loop-file-preserved-in-Some-file
 loop-file-preserved-in-Some-file c =
