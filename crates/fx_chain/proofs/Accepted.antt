@@ -5,8 +5,8 @@ use Rattle.fx_chain.proofs.Words.{IsWithinLimits, Operation, Updates, Asked, run
 use Rattle.fx_chain.proofs.Words.{first_fault, or_later, is_long_update, CutFault, MOST_MEMBERS, MAX_CHAINS, inl, map, flat_map, take_at, drop_at}
 use Rattle.fx_chain.proofs.Words.{All-nil, All-cons, All-take, All-drop, IsShortRun, IsChain, members_of, chains_from, chains_of, but_last}
 use Rattle.fx_chain.proofs.Words.{all_installs, CHAIN_NUMBERS, ◌<◌, ◌==◌, ◌||◌, nat_lt, Bool, true, ℤ, if◌then◌else◌, list_any, FileEntry, Opens}
-use Rattle.fx_chain.proofs.Words.{Reads, ◌⊎◌, inr, HasNoFault, IsFirstFault, fault_of, drop-cons, leb-false, or_parts, ENOENT, EBADF, EINVAL, ENXIO}
-use Rattle.fx_chain.proofs.Words.{refusal_of, slot_refusal, target_refusal, list_refusal, Target}
+use Rattle.fx_chain.proofs.Words.{Reads, ◌⊎◌, inr, HasNoFault, IsFirstFault, fault_of, drop-cons, leb-false, ENOENT, EBADF, refusal_of, slot_refusal}
+use Rattle.fx_chain.proofs.Words.{target_refusal, list_refusal, Target}
 use Rattle.fx_chain.specs.declared.fault.CutKind.{CutKind}
 use Rattle.fx_chain.specs.declared.request.TheConstants.{LONGEST_UPDATE}
 use Rattle.fx_chain.proofs.Counted.{AreCounts, IsFine, counted_none, counted_step, fault_behind-counted, fine, all_installs-push, passed}
@@ -97,8 +97,7 @@ all_weights-small (r ∷ rs) within =
 -- the members of a chain are its run
 members_of-run : {requests : List Asked} (before run later : List Asked) → requests ≡ before ++ (run ++ later)
     → members_of requests (record { first = length before; len = length run }) ≡ run
-members_of-run before run later is =
-    rw (is, drop_at before (run ++ later) (length before) refl, take_at run later (length run) refl)
+members_of-run before run later is = grind (arith, drop_at, take_at)
 
 -- the limits of a run
 record Fits (run : List Asked) : Type 0 where
@@ -145,9 +144,7 @@ module _ (requests : List Asked) (accepted : IsAccepted requests) where
   all_chains : (before : List Asked) (runs : List (List Asked)) → requests ≡ before ++ flat_map (λ run. run) runs → IsClosed before
       → All HasMembers runs → All IsLinked runs → All IsOver (but_last runs) → All (IsChain requests) (chains_from (length before) runs)
   all_chains before [] is closed some linked over = All-nil (IsChain requests)
-  all_chains before (run ∷ []) is closed some linked over =
-      All-cons (IsChain requests) (record { first = length before; len = length run }) []
-      (chain_of_run before run [] is closed (All-head HasMembers run [] some) (All-head IsLinked run [] linked)) (All-nil (IsChain requests))
+  all_chains before (run ∷ []) is closed some linked over = grind (arith, chain_of_run, All-head)
   all_chains before (run ∷ next ∷ runs) is closed some linked over =
       let later = flat_map (λ y. y) (next ∷ runs) in
       All-cons (IsChain requests) (record { first = length before; len = length run }) (chains_from (length before + length run) (next ∷ runs))
@@ -188,9 +185,7 @@ opens catalogue size name target none = or_else (has_name name catalogue) (targe
 
 -- a slot that an open fills or a close empties
 pub inside : (size slot : ℕ) → slot_refusal size slot ≡ None → slot < size
-inside size slot none =
-    let some = passed (size == 0) ENXIO _ none in
-    leb-false size slot (passed (nat_le size slot) EINVAL None some.1).0
+inside size slot none = grind arith
 
 -- a slot that a read looks up
 pub reads : (catalogue : List FileEntry) (size slot off len : ℕ) → refusal_of catalogue size (Reads slot off len) ≡ None → slot < size
@@ -203,11 +198,7 @@ pub record IsApplied (entries size off : ℕ) (list : List ℤ) : Type 0 where
   pub good : list_any (is_bad_entry entries) list ≡ false
 
 pub applied : (entries size off : ℕ) (list : List ℤ) → list_refusal entries size off list ≡ None → IsApplied entries size off list
-applied entries size off list none =
-    let some = passed (size == 0) ENXIO _ none in
-    let long = passed (length list == 0 || nat_lt size (off + length list)) EINVAL _ some.1 in
-    let good = passed (list_any (is_bad_entry entries) list) EBADF None long.1 in
-    record { tested = long.0; fits = ltb-false size (off + length list) (or_parts (length list == 0) _ long.0).1; good = good.0 }
+applied entries size off list none = grind arith
 
 -- The fault of a submission is that of its first request with a fault.
 
@@ -223,10 +214,7 @@ last_or_before (y ∷ front) (z ∷ more) behind x r is = elim (last_or_before f
 ]
 
 none_more : (front : List Asked) (x : Asked) → HasNoFault front → fault_behind front x ≡ None → HasNoFault (front ++ x ∷ [])
-none_more front x none here more r behind is = elim (last_or_before front more behind x r is) [
-  | inl last ↦ (λ i. fault_behind (last.0 i) (last.1 i)) ∙ here
-  | inr (rest, parts) ↦ none more r rest parts
-]
+none_more front x none here more r behind is = grind (arith, last_or_before)
 
 first_behind : (front list : List Asked) → HasNoFault front
     → MatchOption (first_fault front list) (HasNoFault (front ++ list)) (IsFirstFault (front ++ list))

@@ -1,10 +1,9 @@
 -- The actions of a player, one after another, and the closes of freed files.
-use Rattle.fx_chain.proofs.Words.{◌≡◌, ℕ, ◌+◌, ◌≤◌, Bool, true, false, List, [], ◌∷◌, ◌++◌, length, refl, sym, ap, subst, append_assoc, append-nil}
-use Rattle.fx_chain.proofs.Words.{arith, Option, Some, None, Action, Look, ◌▷◌, ◌▷▷◌, closes_in, close_of, Operation, Reads, Frees, StepFrees}
-use Rattle.fx_chain.proofs.Words.{MayFree, Opening, PlayerView, ActsSo, PlaysChain, PlaysChainExactly, Asked, Completed, FileEntry, room_of}
-use Rattle.fx_chain.proofs.Words.{weight_of, all_room, all_weights, look_ups_of, ◌∙◌, length-append, inl, inr, is_some, Release, closed_by, PassView}
-use Rattle.fx_chain.proofs.Words.{IsFront, IsIdle, Use, Adds, no_use, both_uses, Retired, MayClose, player, Acts, IsRetirement, IsRelease}
-use Rattle.fx_chain.proofs.Words.{HasLookedUp, File, Doing, Hold, adds_nothing, adds_then}
+use Rattle.fx_chain.proofs.Words.{◌≡◌, ℕ, ◌+◌, ◌≤◌, Bool, true, false, List, [], ◌∷◌, ◌++◌, length, refl, sym, ap, append_assoc, append-nil, arith}
+use Rattle.fx_chain.proofs.Words.{Option, Some, None, Action, Look, ◌▷◌, ◌▷▷◌, closes_in, close_of, Operation, Reads, Frees, StepFrees, MayFree}
+use Rattle.fx_chain.proofs.Words.{Opening, PlayerView, ActsSo, room_of, weight_of, look_ups_of, ◌∙◌, length-append, inl, inr, is_some, Release}
+use Rattle.fx_chain.proofs.Words.{closed_by, PassView, IsFront, IsIdle, Use, Adds, both_uses, Retired, MayClose, player, Acts, IsRetirement}
+use Rattle.fx_chain.proofs.Words.{IsRelease, HasLookedUp, File, Doing, Hold, adds_nothing, adds_then}
 use Rattle.fx_plain.proofs.Leading.{closes_in-then}
 use Rattle.fx_table.specs.declared.values.Doing.TheVariants.{Idle, Holding, Retiring}
 
@@ -47,12 +46,7 @@ may_free {actions} lasts says = record { steps = actions; frees = frees_none las
 pub look_may_free : {Tells : List Action → Type 0} (lasts : Bool) (slot : ℕ) (found freed : Option File) (actions : List Action)
     → (lasts ≡ false → freed ≡ None) → Tells (([] ▷ Look slot found) ▷▷ actions)
     → MayFree lasts Tells ((close_of freed ▷ Look slot found) ▷▷ actions)
-look_may_free lasts slot found freed actions none tells = record {
-  steps = ([] ▷ Look slot found) ▷▷ actions;
-  frees = frees_then lasts ([] ▷ Look slot found) actions (close_of freed ▷ Look slot found) actions (look_frees lasts slot found freed none)
-      (frees_none lasts actions);
-  says = tells;
-}
+look_may_free lasts slot found freed actions none tells = grind (arith, frees_then, look_frees, frees_none)
 
 pub may_free_then : {lasts : Bool} {Says Tells Both : List Action → Type 0} {actions more : List Action} → MayFree lasts Says actions
     → MayFree lasts Tells more → ((xs ys : List Action) → Says xs → Tells ys → Both (xs ▷▷ ys)) → MayFree lasts Both (actions ▷▷ more)
@@ -66,15 +60,7 @@ may_free_then {lasts} {actions} {more} one two so = record {
 so_says : {o : Opening} {p q : PlayerView} {looks numbers files more_files : ℕ} {Says Tells : List Action → Type 0}
     → ActsSo o p looks numbers files Says q → files ≤ more_files → ((xs : List Action) → Says xs → Tells xs)
     → ActsSo o p looks numbers more_files Tells q
-so_says does f so = record {
-  actions = does.actions;
-  used = does.used;
-  acts = does.acts;
-  says = so does.actions does.says;
-  few_looks = does.few_looks;
-  few_numbers = does.few_numbers;
-  few_files = omega (arith, does.few_files, f);
-}
+so_says does f so = grind arith
 
 -- what a request looks up, and its weight, suffice as room
 pub room_at_most : (lasts : Bool) (operation : Operation) → room_of lasts operation ≤ weight_of operation + look_ups_of operation
@@ -90,40 +76,12 @@ pub so_performed : {o : Opening} {p q : PlayerView} {looks numbers : ℕ} {Says 
     → ActsSo o p looks numbers (weight_of operation) Says q → ActsSo o p looks numbers (room_of o.lasts operation) (MayFree o.lasts Says) q
 so_performed {o} operation does = so_says does (weight_in_room o.lasts operation) (λ xs told. may_free o.lasts told)
 
--- a table that doesn't last frees nothing in a look-up, so that each property holds of all actions
-so_exactly : {o : Opening} {p q : PlayerView} {looks numbers files more_files : ℕ} {Says : List Action → Type 0} → o.lasts ≡ false
-    → ActsSo o p looks numbers files (MayFree o.lasts Says) q → files ≤ more_files → ActsSo o p looks numbers more_files Says q
-so_exactly {Says} ends does f = so_says does f
-    (λ xs told. subst Says (sym (subst (λ (lasts : Bool). Frees lasts told.steps xs) ends told.frees)) told.says)
-
--- and needs no room for it
-pub room_exactly : (o : Opening) (requests : List Asked) → o.lasts ≡ false → all_room o.lasts requests ≡ all_weights requests
-room_exactly o requests ends = ap (λ (lasts : Bool). all_room lasts requests) ends
-
-pub plays_exactly : (o : Opening) (catalogue : List FileEntry) (submission chain : ℕ) (requests : List Asked) (p q : PlayerView)
-    (before now : List Completed) → o.lasts ≡ false → PlaysChain o catalogue submission chain requests p before q now
-    → PlaysChainExactly o catalogue submission chain requests p before q now
-plays_exactly o catalogue submission chain requests p q before now ends (completions, is, plays) =
-    (completions, is, so_exactly ends plays (omega (arith, room_exactly o requests ends)))
-
 -- The actions of a player, one after another.
 
 -- no step is needed for what can be said of none
 pub so_nothing : {o : Opening} {p : PlayerView} {looks numbers files : ℕ} (Says : List Action → Type 0)
     → IsFront o p.pass → IsIdle p.pass → Says [] → ActsSo o p looks numbers files Says p
-so_nothing {o} {p} Says front idle said = record {
-  actions = [];
-  used = no_use;
-  acts = record {
-    adds = subst (λ (d : Doing). Adds o p.pass [] d no_use p.pass) idle (adds_nothing o p.pass front);
-    files = sym (append-nil p.closes.files);
-    room = omega arith;
-  };
-  says = said;
-  few_looks = omega arith;
-  few_numbers = omega arith;
-  few_files = omega arith;
-}
+so_nothing {o} {p} Says front idle said = grind (arith, adds_nothing, append-nil)
 
 -- some actions, after which the pass may do anything, and then others
 pub acts_then : {o : Opening} {p u q : PlayerView} {xs : List Action} {doing : Doing} {used : Use}
@@ -153,16 +111,12 @@ pub so_then : {o : Opening} {p q r : PlayerView} {looks numbers files more_looks
     → ((xs ys : List Action) → Says xs → Tells ys → Both (xs ▷▷ ys))
     → looks + more_looks ≤ all_looks → numbers + more_numbers ≤ all_numbers → files + more_files ≤ all_files
     → ActsSo o p all_looks all_numbers all_files Both r
-so_then one two so l n f = acts_then one.acts two (λ ys told. so one.actions ys one.says told)
-    (omega arith) (omega arith) (omega arith)
+so_then one two so l n f = grind (arith, acts_then)
 
 -- a call that closes nothing
 call : {o : Opening} {p : PlayerView} {u : PassView} {step : Action} {doing : Doing} {used : Use} → Adds o p.pass ([] ▷ step) doing used u
     → closed_by step ≡ [] → Acts o p ([] ▷ step) doing used (player u p.closes)
-call {p} {step} adds none =
-    let same : closes_in ([] ▷ step) ≡ [] = none in
-    let count = ap length same in
-    record { adds = adds; files = rw same (sym (append-nil p.closes.files)); room = omega arith }
+call {p} {step} adds none = grind (arith, append-nil)
 
 -- a call that closes nothing, and then other actions
 calls_then : {o : Opening} {p q : PlayerView} {u : PassView} {step : Action} {doing : Doing} {used : Use} {looks numbers files : ℕ}

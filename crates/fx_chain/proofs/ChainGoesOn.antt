@@ -2,9 +2,9 @@
 use Rattle.fx_chain.proofs.Words.{◌≡◌, ℕ, ◌+◌, ◌<◌, ◌≤◌, List, [], ◌∷◌, ◌++◌, length, take, drop, slice_index_or, sym, ap, ◌∙◌, length-map}
 use Rattle.fx_chain.proofs.Words.{length-take-le, map_more, drop_more, drop_all, take_all, take-map, drop-map, asked_of, all_asked, Request, suc}
 use Rattle.fx_chain.proofs.Words.{Bool, true, false, ◌||◌, refl, inl, inr, append_assoc, length-append, arith, MatchBool-at_true, MatchBool-at_false}
-use Rattle.fx_chain.proofs.Words.{append-nil, cases_Bool, sum_by-append, sum_by-cons, MatchBool, FileEntry, Action, ◌▷▷◌, Opening, size_of, Completed}
+use Rattle.fx_chain.proofs.Words.{append-nil, cases_Bool, sum_by-append, sum_by-cons, MatchBool, FileEntry, Action, ◌▷▷◌, Opening, Completed}
 use Rattle.fx_chain.proofs.Words.{next_member, refusal, Explains, AnswersBehind, canceled, severs, Asked, PlayerView, AnswersNext, PlaysMembers}
-use Rattle.fx_chain.proofs.Words.{installs_of, room_of, Place, sum_by, ECANCELED}
+use Rattle.fx_chain.proofs.Words.{Place, sum_by, ECANCELED}
 use Rattle.std.proofs.Math.Bool.{or-false, or_assoc}
 use Rattle.fx_chain.proofs.ActsInTurn.{so_then, may_free_then}
 use Rattle.fx_chain.proofs.Cases.{either_case}
@@ -106,13 +106,7 @@ pub answers_next : (o : Opening) (catalogue : List FileEntry) (place : Place) (r
     (cs : List Completed) (c : Completed) (n : ℕ) → n ≡ place.member + length requests → PlaysMembers o catalogue place requests p cs q
     → AnswersNext o catalogue (record place { member = n }) (any_severs requests cs) r q c next
     → PlaysMembers o catalogue place (requests ++ r ∷ []) p (cs ++ c ∷ []) next
-answers_next o catalogue place requests r cs c n is done own =
-    let count = length-append requests (r ∷ []) in
-    let installs = sum_by-append (λ (x : Asked). installs_of x.operation) requests (r ∷ []) in
-    let room = sum_by-append (λ (x : Asked). room_of o.lasts x.operation) requests (r ∷ []) in
-    so_then done own
-    (λ _ _ a b. may_free_then a b (λ xs ys explained answered. explains_next catalogue (size_of o) place requests r xs ys cs c n is explained answered))
-    (omega arith) (omega arith) (omega arith)
+answers_next o catalogue place requests r cs c n is done own = grind (arith, length-append, sum_by-append, so_then, may_free_then, explains_next)
 
 -- the requests from a place on, as contracts see them
 abbrev pub asked_from : List Request → ℕ → List Asked
@@ -121,5 +115,4 @@ asked_from requests i = all_asked (drop i requests)
 -- their weight is that of the first one plus that of the later ones
 pub weighs_from : (weigh : Asked → ℕ) (requests : List Request) (i : ℕ) (x : Request) → i < length requests → x ≡ slice_index_or requests i x
     → sum_by weigh (asked_from requests i) ≡ weigh (asked_of x) + sum_by weigh (asked_from requests (i + 1))
-weighs_from weigh requests i x inside is =
-    ap (sum_by weigh) (asked_rest requests i x inside is) ∙ sum_by-cons weigh (asked_of x) (asked_from requests (i + 1))
+weighs_from weigh requests i x inside is = grind (arith, asked_rest, sum_by-cons)

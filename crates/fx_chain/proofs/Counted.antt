@@ -1,10 +1,9 @@
 -- The invariant of `check`: the counts of the requests that it has seen.
-use Rattle.fx_chain.proofs.Words.{◌≡◌, ◌≢◌, inl, inr, ℕ, ◌+◌, ◌*◌, ◌<◌, ◌≤◌, ◌==◌, nat_lt, Bool, true, false, ◌&&◌, if◌then◌else◌, List, [], ◌∷◌}
-use Rattle.fx_chain.proofs.Words.{◌++◌, length, refl, sym, ◌∙◌, arith, Option, Some, None, cases_Bool, eqb-false, ltb-false, and_cases, ne_eqb}
-use Rattle.fx_chain.proofs.Words.{cases_eq, sum_by-append, Asked, is_fixed, is_link, runs_of, open_run, installs_of, all_installs, fault_after}
-use Rattle.fx_chain.proofs.Words.{fault_behind, has_bad_flags, is_long_read, is_long_update, MOST_MEMBERS, MAX_CHAINS, CHAIN_NUMBERS, eq-eqb}
+use Rattle.fx_chain.proofs.Words.{◌≡◌, ◌≢◌, ℕ, ◌+◌, ◌*◌, ◌<◌, ◌≤◌, ◌==◌, Bool, true, false, if◌then◌else◌, List, [], ◌∷◌, ◌++◌, length, refl, sym}
+use Rattle.fx_chain.proofs.Words.{◌∙◌, arith, Option, Some, None, sum_by-append, Asked, is_fixed, is_link, runs_of, open_run, installs_of}
+use Rattle.fx_chain.proofs.Words.{all_installs, fault_after, fault_behind, has_bad_flags, is_long_read, is_long_update, MOST_MEMBERS, MAX_CHAINS}
+use Rattle.fx_chain.proofs.Words.{CHAIN_NUMBERS}
 use Rattle.std.proofs.lemmas.List.{length-append}
-use Rattle.fx_chain.specs.declared.fault.CutKind.TheVariants.{BadFlags, LongRead, LongUpdate, ChainTooLong, TooManyFiles, TooManyChains}
 use Rattle.fx_chain.proofs.Runs.{runs-push, open_run-push, open_run-over}
 
 -- the numbers of chains, members and installations after some requests without a fault
@@ -37,24 +36,7 @@ passed true x rest none = cc
 passed false x rest none = (refl, none)
 
 pub fine : (chains members installs : ℕ) (r : Asked) → fault_after chains members installs r ≡ None → IsFine chains members installs r
-fine chains members installs r none =
-    let a = passed (has_bad_flags r.operation (is_fixed r.flags)) BadFlags _ none in
-    let b = passed (is_long_read r.operation) LongRead _ a.1 in
-    let c = passed (is_long_update r.operation) LongUpdate _ b.1 in
-    let d = passed (members == MOST_MEMBERS) ChainTooLong _ c.1 in
-    let e = passed (nat_lt CHAIN_NUMBERS (installs + installs_of r.operation)) TooManyFiles _ d.1 in
-    let f = passed (members == 0 && chains == MAX_CHAINS) TooManyChains _ e.1 in
-    record {
-      flags = a.0;
-      read = b.0;
-      update = c.0;
-      not_full = eqb-false members MOST_MEMBERS d.0;
-      room = ltb-false CHAIN_NUMBERS (installs + installs_of r.operation) e.0;
-      not_last = λ zero_is. elim (and_cases (members == 0) (chains == MAX_CHAINS) f.0) [
-        | inl differs ↦ absurd (eqb-false members 0 differs zero_is)
-        | inr differs ↦ eqb-false chains MAX_CHAINS differs
-      ];
-    }
+fine chains members installs r none = grind arith
 
 pub all_installs-push : (xs : List Asked) (r : Asked) → all_installs (xs ++ r ∷ []) ≡ all_installs xs + installs_of r.operation
 all_installs-push xs r = sum_by-append (λ request. installs_of request.operation) xs (r ∷ []) ∙ omega arith
@@ -74,20 +56,12 @@ record IsBounded (at chains members : ℕ) : Type 0 where
 
 bounded_step : {front : List Asked} {chains members installs : ℕ} {r : Asked} → AreCounts front chains members installs
     → IsFine chains members installs r → (links : Bool) → IsBounded (length front + 1) (chains_after chains members) (or_none links (members + 1))
-bounded_step {front} {chains} {members} is f links = elim (cases_eq members 0) [
-  | inl none ↦ let n = f.not_last none in rw (eq-eqb members 0 none)
-      (elim links as (λ b. IsBounded (length front + 1) (chains + 1) (or_none b (members + 1))) [ true ↦ omega arith | false ↦ omega arith ])
-  | inr some ↦ let i = is.inside (omega arith) in rw (ne_eqb members 0 some)
-      (elim links as (λ b. IsBounded (length front + 1) chains (or_none b (members + 1))) [ true ↦ omega arith | false ↦ omega arith ])
-]
+bounded_step {front} {chains} {members} is f links = grind arith
 
 -- the open run after one more request
 open_run-after : (F : List Asked → ℕ) (front : List Asked) (r : Asked) (n : ℕ) → F (open_run front ++ r ∷ []) ≡ n → F [] ≡ 0
     → or_none (is_link r.flags) n ≡ F (open_run (front ++ r ∷ []))
-open_run-after F front r n more nil = elim (cases_Bool (is_link r.flags)) [
-  | inl links ↦ rw (links, open_run-push front r links) (sym more)
-  | inr ends ↦ rw (ends, open_run-over front r ends) (sym nil)
-]
+open_run-after F front r n more nil = grind (arith, open_run-push, open_run-over)
 
 pub counted_step : {front : List Asked} {chains members installs : ℕ} (r : Asked) → AreCounts front chains members installs
     → fault_after chains members installs r ≡ None

@@ -1,8 +1,8 @@
 -- The entries of an update, by their sign, and how a list of them goes on.
-use Rattle.fx_chain.proofs.Words.{◌≡◌, ℕ, zero, suc, ◌+◌, ◌<◌, Bool, true, false, if◌then◌else◌, ℤ, pos, negsuc, int_le, int_lt, List, [], ◌∷◌, ◌++◌}
-use Rattle.fx_chain.proofs.Words.{length, filter, take, drop, add-one, refl, sym, ap, ◌∙◌, slice_index_or, arith, nat_abs, ltb-true, le-leb}
-use Rattle.fx_chain.proofs.Words.{append-nil, length-take-le, take_more, filter-append, Action, ◌▷▷◌, AppliesEntry, AppliesList, is_bad_entry}
-use Rattle.fx_chain.proofs.Words.{Opening, PlayerView, ActsSo, entry_installs, list_installs, Place, drop-cons}
+use Rattle.fx_chain.proofs.Words.{◌≡◌, ℕ, zero, suc, ◌+◌, ◌<◌, true, false, ℤ, pos, negsuc, int_le, int_lt, List, [], ◌∷◌, ◌++◌, length, filter, take}
+use Rattle.fx_chain.proofs.Words.{drop, refl, sym, ◌∙◌, slice_index_or, arith, nat_abs, ltb-true, le-leb, append-nil, length-take-le, take_more}
+use Rattle.fx_chain.proofs.Words.{filter-append, Action, ◌▷▷◌, AppliesEntry, AppliesList, is_bad_entry, Opening, PlayerView, ActsSo, entry_installs}
+use Rattle.fx_chain.proofs.Words.{list_installs, Place, drop-cons}
 use Rattle.std.proofs.lemmas.List.{append_assoc, length-append}
 use Rattle.fx_chain.proofs.ActsInTurn.{so_then}
 
@@ -21,14 +21,11 @@ installing list = filter (λ entry. int_le (pos 0) entry) list
 
 -- a list with an entry before it, and one with an entry after it
 pub list_installs-cons : (z : ℤ) (list : List ℤ) → list_installs (z ∷ list) ≡ entry_installs z + list_installs list
-list_installs-cons (pos n) list =
-    ap (λ (b : Bool). length (if b then pos n ∷ installing list else installing list)) (le-leb 0 n (omega arith)) ∙ omega arith
+list_installs-cons (pos n) list = grind arith
 list_installs-cons (negsuc n) list = omega arith
 
 pub list_installs-push : (list : List ℤ) (z : ℤ) → list_installs (list ++ z ∷ []) ≡ list_installs list + entry_installs z
-list_installs-push list z =
-    let one = list_installs-cons z [] in
-    ap length (filter-append (λ entry. int_le (pos 0) entry) list (z ∷ [])) ∙ length-append (installing list) (installing (z ∷ [])) ∙ omega arith
+list_installs-push list z = grind (arith, filter-append, length-append)
 
 -- an entry that is neither installed nor emptied leaves its slot
 pub leaves_slot : (place : Place) (in_list slot entries : ℕ) (z : ℤ) → is_bad_entry entries z ≡ false → int_le (pos 0) z ≡ false
@@ -52,9 +49,7 @@ applies_more place in_list slot (x ∷ list) z at to events own at_is to_is (fir
 -- the entries that are left install what this one and the later ones do
 pub installs_left : (list : List ℤ) (i : ℕ) → i < length list → list_installs (drop i list)
     ≡ entry_installs (slice_index_or list i (pos 0)) + list_installs (drop (i + 1) list)
-installs_left list i inside =
-    ap list_installs (drop-cons list i (pos 0) inside) ∙ list_installs-cons (slice_index_or list i (pos 0)) (drop (suc i) list)
-    ∙ ap (λ (n : ℕ). entry_installs (slice_index_or list i (pos 0)) + list_installs (drop n list)) (sym (add-one i))
+installs_left list i inside = grind (arith, drop-cons)
 
 -- the first entries were applied, and then the next one
 pub applies_next : {o : Opening} {p q r : PlayerView} (place : Place) (off : ℕ) (list : List ℤ) (i : ℕ) → i < length list

@@ -2,11 +2,11 @@
 use Rattle.fx_chain.proofs.Words.{◌≡◌, ℕ, zero, suc, ◌+◌, ◌≤◌, ℤ, pos, negsuc, List, [], ◌∷◌, ◌++◌, length, map, ap, ◌∙◌, Option, Some, None, inl}
 use Rattle.fx_chain.proofs.Words.{inr, arith, map-append, sum_by-cons, FileEntry, Action, ◌▷▷◌, MayClose, AppliesEntry, AppliesList, Answers}
 use Rattle.fx_chain.proofs.Words.{Completed, next_member, Explains, severs, canceled, Operation, Opens, Reads, Closes, Updates, Asked, entry_installs}
-use Rattle.fx_chain.proofs.Words.{list_installs, installs_of, all_installs, Place, File, refusal_of, Target}
+use Rattle.fx_chain.proofs.Words.{list_installs, installs_of, all_installs, Place, File, Target}
 use Rattle.fx_plain.specs.Laws.{installed_by}
 use Rattle.fx_plain.specs.Reopening.{Renaming, renamed, renamed_file, renamed_found, numbers_given, with_number_of}
 use Rattle.fx_chain.specs.Answers.{AnswersAtTable, OpensAt, ReadsAt, TakesAt}
-use Rattle.fx_chain.proofs.Cases.{either_case, either_option, same_cases, same_options}
+use Rattle.fx_chain.proofs.Cases.{either_case, same_cases}
 use Rattle.fx_chain.proofs.EntryKinds.{list_installs-cons}
 use Rattle.fx_chain.specs.declared.request.Target.TheVariants.{Slot, Any}
 
@@ -64,8 +64,7 @@ module _ (r : Renaming) where
 
   answers : (catalogue : List FileEntry) (size : ℕ) (place : Place) (operation : Operation) (events : List Action) (c : Completed)
       → Answers catalogue size place operation events c → Answers catalogue size place operation (other events) c
-  answers catalogue size place operation events c =
-      same_options (refusal_of catalogue size operation) (at_table catalogue place operation events c) (λ _. refuses)
+  answers catalogue size place operation events c = grind (arith, at_table)
 
   pub explains : (catalogue : List FileEntry) (size : ℕ) (requests : List Asked) (place : Place) (events : List Action) (completions : List Completed)
       → Explains catalogue size place requests events completions → Explains catalogue size place requests (other events) completions
@@ -86,8 +85,7 @@ abbrev given : List Action → ℕ
 given events = length (numbers_given events)
 
 pub given_one : (a : Action) (l : List ℕ) → length (with_number_of (installed_by a) l) ≡ length (with_number_of (installed_by a) []) + length l
-given_one a l = elim (installed_by a) as (λ x. length (with_number_of x l) ≡ length (with_number_of x []) + length l)
-    [ None ↦ omega arith | Some f ↦ omega arith ]
+given_one a l = grind arith
 
 given_both : (later earlier : List Action) → given (later ++ earlier) ≡ given earlier + given later
 given_both [] earlier = omega arith
@@ -141,8 +139,7 @@ few_at_table catalogue place (Updates off list) events c is = few_by_list list p
 
 few_by_request : (catalogue : List FileEntry) (size : ℕ) (place : Place) (operation : Operation) (events : List Action) (c : Completed)
     → Answers catalogue size place operation events c → given events ≤ installs_of operation
-few_by_request catalogue size place operation events c =
-    either_option (refusal_of catalogue size operation) (λ _. few_at_table catalogue place operation events c) (λ _. few_refused)
+few_by_request catalogue size place operation events c = grind (arith, few_at_table)
 
 pub few_given : (catalogue : List FileEntry) (size : ℕ) (requests : List Asked) (place : Place) (events : List Action) (completions : List Completed)
     → Explains catalogue size place requests events completions → given events ≤ all_installs requests

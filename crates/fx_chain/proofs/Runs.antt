@@ -2,8 +2,8 @@
 use Rattle.fx_chain.proofs.Words.{◌≡◌, ◌<◌, true, false, not, if◌then◌else◌, List, [], ◌∷◌, ◌++◌, length, refl, sym, ap, ◌∙◌, All, arith, inl, inr}
 use Rattle.fx_chain.proofs.Words.{cases_Bool, not-true, flat_map, append-nil, list_all-from_AllPass, All-nil, All-cons, All-head, All-tail, Asked}
 use Rattle.fx_chain.proofs.Words.{is_link, but_last, is_over, AreRuns, AreTheOnlyRuns, in_front, runs_of, open_run, ◌⊎◌, ◌&&◌, subst, ◌+◌, ◌==◌}
-use Rattle.fx_chain.proofs.Words.{list_all, and_right, and_cases, both_ways, ne_eqb, All-push, StandsIn, AllPass-from_list_all, ℕ, ◌≤◌, take, drop}
-use Rattle.fx_chain.proofs.Words.{drop-drop, length-map, length-take-le, chains_from, chains_of, asked_of, all_asked, Chain, Request}
+use Rattle.fx_chain.proofs.Words.{list_all, and_right, ne_eqb, All-push, StandsIn, AllPass-from_list_all, ℕ, ◌≤◌, drop, chains_from, chains_of}
+use Rattle.fx_chain.proofs.Words.{all_asked, Chain, Request}
 use Rattle.std.proofs.lemmas.List.{append_assoc, length-append}
 use Rattle.fx_chain.proofs.ChainGoesOn.{asked_none}
 
@@ -29,12 +29,7 @@ runs_one r = elim (is_link r.flags) as (λ b. (if b then (r ∷ []) ∷ [] else 
 
 -- a linking request before runs
 linked_step : (r : Asked) (rs : List Asked) (runs : List (List Asked)) → is_link r.flags ≡ true → AreRuns rs runs → AreRuns (r ∷ rs) (in_front r runs)
-linked_step r rs [] links are = record {
-  whole = ap (λ xs. r ∷ xs) are.whole;
-  not_empty = All-cons HasMembers (r ∷ []) [] (omega arith) (All-nil _);
-  linked = All-cons IsLinked (r ∷ []) [] (All-nil _) (All-nil _);
-  over = All-nil _;
-}
+linked_step r rs [] links are = grind arith
 linked_step r rs ([] ∷ runs) links are = let no : 0 < 0 = All-head HasMembers [] runs are.not_empty in absurd (omega arith)
 linked_step r rs ((x ∷ xs) ∷ []) links are = record {
   whole = ap (λ ys. r ∷ ys) are.whole;
@@ -52,18 +47,9 @@ linked_step r rs ((x ∷ xs) ∷ run ∷ runs) links are = record {
       (All-tail IsOver (x ∷ xs) (but_last (run ∷ runs)) are.over);
 }
 
-over_step : (r : Asked) (runs : List (List Asked)) → is_link r.flags ≡ false → All IsOver (but_last runs) → All IsOver (but_last ((r ∷ []) ∷ runs))
-over_step r [] ends over = All-nil _
-over_step r (run ∷ runs) ends over = All-cons IsOver (r ∷ []) (but_last (run ∷ runs)) (ap not ends) over
-
 -- a run of one request before runs
 ended_step : (r : Asked) (rs : List Asked) (runs : List (List Asked)) → is_link r.flags ≡ false → AreRuns rs runs → AreRuns (r ∷ rs) ((r ∷ []) ∷ runs)
-ended_step r rs runs ends are = record {
-  whole = ap (λ ys. r ∷ ys) are.whole;
-  not_empty = All-cons HasMembers (r ∷ []) runs (omega arith) are.not_empty;
-  linked = All-cons IsLinked (r ∷ []) runs (All-nil _) are.linked;
-  over = over_step r runs ends are.over;
-}
+ended_step r rs runs ends are = grind arith
 
 -- the runs of a list are runs
 pub are_runs : (requests : List Asked) → AreRuns requests (runs_of requests)
@@ -107,14 +93,9 @@ pub open_run-all : (requests : List Asked) → AllLink requests → open_run req
 open_run-all [] link = refl
 open_run-all (r ∷ rs) link = rw (list_all-from_AllPass (λ it. is_link it.flags) (r ∷ rs) link)
 
-in_front-some : (x : Asked) (runs : List (List Asked)) → 0 < length (in_front x runs)
-in_front-some x [] = omega arith
-in_front-some x (run ∷ runs) = omega arith
-
 -- no list has no runs but the empty one
 pub runs-some : (x : Asked) (xs : List Asked) → 0 < length (runs_of (x ∷ xs))
-runs-some x xs = elim (is_link x.flags) as
-    (λ b. 0 < length (if b then in_front x (runs_of xs) else (x ∷ []) ∷ runs_of xs)) [ true ↦ in_front-some x (runs_of xs) | false ↦ omega arith ]
+runs-some x xs = grind arith
 
 -- A run and its last request, and the open run after runs that are over.
 
@@ -184,12 +165,7 @@ record Ends (front : List Asked) : Type 0 where
 
 one_more : (x : Asked) (xs closed : List Asked) → list_all (λ r. is_link r.flags) (x ∷ xs) ≡ false → xs ≡ closed ++ open_run xs → IsClosed closed
     → AllLink (open_run xs) → IsClosed (x ∷ closed)
-one_more x xs closed differs parts (inl none) linked = elim (and_cases (is_link x.flags) (list_all (λ r. is_link r.flags) xs) differs) [
-  | inl ends ↦ inr (rw none (ap not ends))
-  | inr some ↦
-      let all : xs ≡ open_run xs = parts ∙ ap (λ ys. ys ++ open_run xs) none in
-      absurd (both_ways _ some (list_all-from_AllPass (λ r. is_link r.flags) xs (subst AllLink (sym all) linked)))
-]
+one_more x xs closed differs parts (inl none) linked = grind (arith, list_all-from_AllPass)
 one_more x xs closed differs parts (inr over) linked = inr (is_over-append (x ∷ []) closed over)
 
 ends_of : (front : List Asked) → Ends front
@@ -291,14 +267,6 @@ runs-push front r =
 -- the chains that were made, and those of the requests that are left, are the chains of the submission
 abbrev pub IsCut : List Request → List Chain → ℕ → Type 0
 IsCut requests made first = made ++ chains_from first (runs_of (all_asked (drop first requests))) ≡ chains_of (runs_of (all_asked requests))
-
--- the first run of what is left makes the next chain
-pub cut_next : (requests rest : List Request) (made : List Chain) (first len : ℕ) → rest ≡ drop first requests → len ≤ length rest
-    → runs_of (all_asked rest) ≡ all_asked (take len rest) ∷ runs_of (all_asked (drop len rest))
-    → IsCut requests made first → IsCut requests (made ++ record { first = first; len = len } ∷ []) (first + len)
-cut_next requests rest made first len is inside run so =
-    let count : length (all_asked (take len rest)) ≡ len = length-map (take len rest) asked_of ∙ length-take-le len rest inside in
-    rw (append_assoc, ← drop-drop len first requests, ← is) (rw (← is, run, count) at so)
 
 -- at the end all chains were made
 pub cut_all : (requests : List Request) (made : List Chain) (first : ℕ) → length requests ≤ first → IsCut requests made first

@@ -2,7 +2,7 @@
 pub use Rattle.fx_base.specs.Catalogue.{FileEntry, bytes_at}
 pub use Rattle.fx_base.specs.declared.open_file.Closed.{Closed}
 pub use Rattle.fx_chain.specs.Accepted.{IsAccepted, IsChain, IsShortRun, IsWithinLimits, members_of}
-pub use Rattle.fx_chain.specs.Answers.{Answers, AppliesEntry, AppliesList, MayClose, Refuses, is_bad_entry}
+pub use Rattle.fx_chain.specs.Answers.{Answers, AppliesEntry, AppliesList, MayClose, is_bad_entry}
 pub use Rattle.fx_chain.specs.Chains.{chains_from, chains_of}
 pub use Rattle.fx_chain.specs.Completed.{Completed, all_completed, completed_of, next_member, refusal}
 pub use Rattle.fx_chain.specs.Contexts.{PlayerActs, IsSamePlayer, player_view}
@@ -11,7 +11,7 @@ pub use Rattle.fx_chain.specs.Faults.{HasNoFault, IsFirstFault, fault_after, fau
 pub use Rattle.fx_chain.specs.Faults.{is_long_update, or_later}
 pub use Rattle.fx_chain.specs.Freed.{Frees, MayFree, StepFrees, all_room, look_ups_of, room_of}
 pub use Rattle.fx_chain.specs.Operation.{Asked, Closes, Opens, Operation, Reads, Updates, all_asked, asked_of, is_fixed, is_link, operation_of}
-pub use Rattle.fx_chain.specs.Performs.{Acts, ActsSo, AnswersNext, PlayerView, PlaysChain, PlaysChainExactly, PlaysMembers, player}
+pub use Rattle.fx_chain.specs.Performs.{Acts, ActsSo, AnswersNext, PlayerView, PlaysMembers, player}
 pub use Rattle.fx_chain.specs.Removals.{IsLookUp, IsRelease, IsRetirement, HasLookedUp}
 pub use Rattle.fx_chain.specs.Runs.{AreRuns, AreTheOnlyRuns, StandsIn, but_last, in_front, is_over, open_run, runs_of}
 pub use Rattle.fx_chain.specs.Weights.{all_installs, all_weights, entry_installs, installs_of, list_installs, weight_of}
@@ -23,26 +23,26 @@ pub use Rattle.fx_chain.specs.declared.request.Request.{Request}
 pub use Rattle.fx_plain.specs.History.{close_of, closed_by, closes_in, ◌▷▷◌, ◌▷◌}
 pub use Rattle.fx_plain.specs.declared.event.Action.{Action}
 pub use Rattle.fx_plain.specs.declared.event.Action.TheVariants.{Clear, Look, Put, Release, Take}
-pub use Rattle.fx_table.specs.Calls.{Adds, Cleared, Placed, Taken, Use, both_uses, new_file, no_use, one_look, one_number, LookedAfter, PlacedFile}
+pub use Rattle.fx_table.specs.Calls.{Adds, Cleared, Taken, Use, both_uses, no_use, one_look, one_number, LookedAfter, PlacedFile}
 pub use Rattle.fx_table.specs.Opening.{Opening, size_of}
 pub use Rattle.fx_table.specs.Pass.{IsFront, IsIdle, PassView}
 pub use Rattle.fx_table.specs.declared.limits.TheConstants.{CHAIN_NUMBERS, MAX_CHAINS}
 pub use Rattle.fx_table.specs.declared.values.Retired.{Retired}
-pub use Rattle.std.proofs.Common.{All, Bool, Err, List, None, Ok, Option, Result, Some, [], add-one, ap, append_assoc, arith, drop, false, filter}
+pub use Rattle.std.proofs.Common.{All, Bool, Err, List, None, Ok, Option, Result, Some, [], ap, append_assoc, arith, drop, false, filter}
 pub use Rattle.std.proofs.Common.{if◌then◌else◌, inl, inr, int_le, int_lt, is_some, length, length-append, map, nat_abs, nat_lt, negsuc, not, of_z}
 pub use Rattle.std.proofs.Common.{pos, refl, rules, slice_index_or, subst, suc, sym, take, to_z, true, vec_capacity, vec_len, w32, zero, ℕ, ℤ, ◌&&◌}
 pub use Rattle.std.proofs.Common.{◌*◌, ◌++◌, ◌+◌, ◌-◌, ◌<◌, ◌==◌, ◌||◌, ◌∙◌, ◌∷◌, ◌≡◌, ◌≢◌, ◌≤◌, ◌⊎◌, MatchOption}
-pub use Rattle.std.proofs.lemmas.Bool.{MatchBool-at_false, MatchBool-at_true, and_cases, and_from, and_right, both_ways, cases_Bool, cases_eq}
-pub use Rattle.std.proofs.lemmas.Bool.{eqb-false, le-leb, lt-leb, ltb-false, ltb-true, ne_eqb, not-true, leb-false, or_parts, eq-eqb}
+pub use Rattle.std.proofs.lemmas.Bool.{MatchBool-at_false, MatchBool-at_true, and_right, cases_Bool, le-leb, ltb-false, ltb-true, ne_eqb, not-true}
+pub use Rattle.std.proofs.lemmas.Bool.{leb-false}
 pub use Rattle.std.proofs.lemmas.Int.{to_z-of_z, to_z_pos}
-pub use Rattle.std.proofs.lemmas.List.{append-nil, drop-drop, drop-map, drop_all, drop_at, drop_more, length-map, length-take-le, map-append}
-pub use Rattle.std.proofs.lemmas.List.{map_more, take-append-drop, take-map, take_all, take_at, take_more}
+pub use Rattle.std.proofs.lemmas.List.{append-nil, drop-map, drop_all, drop_at, drop_more, length-map, length-take-le, map-append, map_more}
+pub use Rattle.std.proofs.lemmas.List.{take-append-drop, take-map, take_all, take_at, take_more}
 pub use Rattle.std.proofs.lemmas.List.Elements.{All-cons, All-drop, All-head, All-nil, All-push, All-tail, All-take, All-weaker, filter-append}
 pub use Rattle.std.proofs.lemmas.List.Sums.{AllPass-from_list_all, list_all-from_AllPass, sum_by-append, sum_by-cons}
 pub use Rattle.std.specs.Bool.{MatchBool}
 pub use Rattle.std.specs.List.{flat_map, list_all, list_any, sum_by}
 pub use Rattle.std.proofs.Math.Seq.{drop-cons}
-pub use Rattle.fx_base.specs.declared.errno.Errno.TheVariants.{ENOENT, EBADF, EINVAL, ENXIO, ECANCELED}
+pub use Rattle.fx_base.specs.declared.errno.Errno.TheVariants.{ENOENT, EBADF, ECANCELED}
 pub use Rattle.fx_chain.specs.Refusal.{refusal_of, slot_refusal, target_refusal, list_refusal}
 pub use Rattle.fx_chain.specs.declared.request.Target.{Target}
 pub use Rattle.fx_plain.specs.declared.event.File.{File}

@@ -1,15 +1,10 @@
-use Rattle.fx_chain.proofs.Words.{◌+◌, ◌≤◌, length, map, All, refl, ap, ◌∙◌, arith, length-map, All-weaker, IsChain, members_of, asked_of, all_asked}
-use Rattle.fx_chain.proofs.Words.{Chain}
+use Rattle.fx_chain.proofs.Words.{◌+◌, ◌≤◌, length, map, All, ap, ◌∙◌, arith, length-map, All-weaker, IsChain, members_of, asked_of, all_asked, Chain}
 use Rattle.fx_chain.proofs.Accepted.{accepted-length, accepted-runs, accepted-chains, members-are-runs}
 use Rattle.fx_chain.proofs.Runs.{cut_all}
 use Rattle.fx_chain.proofs.chain.cut.Goals as goal
 
 pub loop-first-init : goal.loop-first-init
-loop-first-init c = record {
-  short = let same = length-map c.args.requests.now asked_of in let few = accepted-length (all_asked c.args.requests.now) c.requires in omega arith;
-  inside = omega arith;
-  cut = rw c.new-chains.ensures.items refl;
-}
+loop-first-init c = grind (arith, length-map, accepted-length)
 
 pub returns : goal.returns
 returns c =

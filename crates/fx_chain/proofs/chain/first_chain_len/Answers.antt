@@ -1,7 +1,7 @@
-use Rattle.fx_chain.proofs.Words.{◌≡◌, ◌+◌, ◌++◌, ◌∷◌, length, take, drop, sym, ap, ◌∙◌, arith, length-map, map-append, take-append-drop, All-push}
-use Rattle.fx_chain.proofs.Words.{asked_of, all_asked, runs_of}
+use Rattle.fx_chain.proofs.Words.{◌≡◌, ◌+◌, ◌++◌, take, drop, sym, ap, ◌∙◌, arith, map-append, take-append-drop, All-push, asked_of, all_asked}
+use Rattle.fx_chain.proofs.Words.{runs_of}
 use Rattle.fx_chain.proofs.ChainGoesOn.{asked_more, asked_all, asked_none}
-use Rattle.fx_chain.proofs.Runs.{AllLink, HasMembers, Links, first_run, one_run, but_last-links, but_last-push, is_over-push}
+use Rattle.fx_chain.proofs.Runs.{Links, first_run, one_run, but_last-links, but_last-push, is_over-push}
 use Rattle.fx_chain.proofs.chain.first_chain_len.Goals as goal
 
 pub loop-i-preserved : goal.loop-i-preserved
@@ -26,10 +26,4 @@ returns-then-not-links-clause-run c =
     (rw more (is_over-push front (asked_of x) (sym c.links.ensures ∙ c.if-not-links.true)))
 
 pub returns-clause-run : goal.returns-clause-run
-returns-clause-run c =
-    let requests = c.args.requests.now in
-    let asked = all_asked requests in
-    let some : HasMembers asked = let same = length-map requests asked_of in let more = c.requires in omega arith in
-    let linked : AllLink asked = rw (asked_all requests c.loop-i.i c.loop-i-test.false) at c.loop-i.invariant in
-    one_run asked some (but_last-links asked linked)
-    ∙ (λ k. sym (asked_all requests (length requests) (omega arith)) k ∷ runs_of (sym (asked_none requests (length requests) (omega arith)) k))
+returns-clause-run c = grind (arith, asked_all, one_run, but_last-links, asked_none)

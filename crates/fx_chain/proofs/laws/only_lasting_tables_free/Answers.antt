@@ -1,6 +1,5 @@
-use Rattle.fx_chain.proofs.ActsInTurn.{plays_exactly, room_exactly}
 use Rattle.fx_chain.proofs.laws.only_lasting_tables_free.Goals as goal
+use Rattle.std.proofs.Common.{arith}
 
 pub returns : goal.returns
-returns c o catalogue submission chain requests p q before now ends =
-    (room_exactly o requests ends, plays_exactly o catalogue submission chain requests p q before now ends)
+returns c o catalogue submission chain requests p q before now ends = grind arith

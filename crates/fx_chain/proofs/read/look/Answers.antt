@@ -12,11 +12,7 @@ module _ (o : Opening) (p q : PlayerView) (slot : ℕ) (freed : Option File) (no
   where
     looks_up : {found : Option File} {doing : Doing} → Adds o p.pass (close_of freed ▷ Look slot found) doing one_look q.pass
         → HasLookedUp o p slot found doing q
-    looks_up adds = record {
-      freed = freed;
-      none = none;
-      acts = record { adds = adds; files = rw append-nil files; room = rw append-nil room };
-    }
+    looks_up adds = grind arith
 
     is_look_up : (found : Result Hold LookFault) {result : Option Hold} → result ≡ result_ok found → 0 < p.pass.looks_left
         → LookedAfter o p.pass (close_of freed) slot found q.pass → IsLookUp o p slot result q

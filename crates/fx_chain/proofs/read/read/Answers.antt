@@ -1,4 +1,4 @@
-use Rattle.fx_chain.proofs.Words.{rules, ◌≡◌, length, pos, to_z, w32, ap, ◌∙◌, inl, inr, refl, arith, to_z_pos, bytes_at}
+use Rattle.fx_chain.proofs.Words.{rules, ◌≡◌, length, pos, to_z, w32, ap, ◌∙◌, inr, arith, to_z_pos, bytes_at}
 use Rattle.fx_chain.proofs.ActsInTurn.{so_nothing, looks_at_none, looks_and_releases, may_free}
 use Rattle.fx_chain.proofs.read.read.Goals as goal
 
@@ -7,8 +7,7 @@ returns-then-is_err-clause-read g c =
     search (rules, so_nothing, may_free, (g.met.T.SharedTable g.world.𝓛 g.world.𝓜 g.world.𝓡 ((λ s x. x), (λ x. x), (λ x. x), λ x. x)).fronts)
 
 pub returns-in_default-clause-read : goal.returns-in_default-clause-read
-returns-in_default-clause-read g c =
-    looks_at_none c.args.off c.args.len (rw c.in_default.is at c.look.ensures.looked) (inr (inl (refl, c.refusal-in_default.ensures)))
+returns-in_default-clause-read g c = grind (arith, looks_at_none)
 
 pub returns-clause-read : goal.returns-clause-read
 returns-clause-read g c =
