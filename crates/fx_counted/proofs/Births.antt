@@ -1,11 +1,10 @@
 -- A birth keeps the rule, and so does a rest.
-use Rattle.fx_counted.proofs.Words.{◌≡◌, ◌≢◌, ℕ, ◌+◌, ◌*◌, ◌<◌, ◌≤◌, List, [], ◌∷◌, set, length, sym, refl, ap, ◌∙◌, subst, arith, Option, Some, None}
-use Rattle.fx_counted.proofs.Words.{inr, some, none, get_elem?, takes, gives, rest, step, set_here, set_else, Closed, File, changed_at, no_use}
-use Rattle.fx_counted.proofs.Words.{next_number, born, Home, NodeAgrees, OwnerAgrees, WorkAgrees, PlacesNext, word_of, place_of, opening_of, chain_in}
-use Rattle.fx_counted.proofs.Words.{chain_numbers, first_log, pass_of, IsNumber, state_after_all, end_in, next_in, held_in, placing, holding, Phase}
-use Rattle.fx_counted.proofs.Words.{spare, placed, closed, owner, file_in, Stepped, View, Idle, Placing, Holding, Emptying, looks, mul-le-mul_left}
-use Rattle.fx_counted.proofs.Words.{BirthsKeep, RestsKeep, Births, Rests, inl, Between, Work, changed_here, changed_else, length-set, Agrees, Shared}
-use Rattle.fx_counted.proofs.Words.{◌⊎◌}
+use Rattle.fx_counted.proofs.Words.{◌≡◌, ◌≢◌, ℕ, ◌+◌, ◌<◌, ◌≤◌, List, [], ◌∷◌, set, length, sym, refl, ap, ◌∙◌, subst, arith, Option, None, inr, some}
+use Rattle.fx_counted.proofs.Words.{none, get_elem?, takes, gives, rest, step, set_here, set_else, Closed, File, changed_at, no_use, next_number}
+use Rattle.fx_counted.proofs.Words.{born, Home, NodeAgrees, OwnerAgrees, WorkAgrees, PlacesNext, word_of, place_of, opening_of, first_log, pass_of}
+use Rattle.fx_counted.proofs.Words.{IsNumber, state_after_all, end_in, next_in, held_in, placing, holding, Phase, spare, placed, closed, owner}
+use Rattle.fx_counted.proofs.Words.{file_in, Stepped, View, Idle, Placing, Holding, Emptying, looks, mul-le-mul_left, BirthsKeep, RestsKeep, Births}
+use Rattle.fx_counted.proofs.Words.{Rests, inl, Between, Work, changed_here, changed_else, length-set, Agrees, Shared, ◌⊎◌}
 use Rattle.fx_counted.proofs.Steps.{grows_none, each_changed, busy, does_now, Turn, turn_of, word_at, its_log, its_work, by_turn, went, tells_none}
 use Rattle.fx_counted.proofs.Steps.{one_same, near, far, MayTurn, node_agrees, in_phase}
 use mathlib.Core.Option as maybe
@@ -36,8 +35,7 @@ module _ (turn : Turn) where
   -- nobody holds the file of a number without one
   pub unheld : (q : ℕ) → file_in (r.phase q) ≡ None → (j : ℕ) (u : View) (f : File) → get_elem? st.views j ≡ some u → u.work ≡ Between (Holding f)
       → f.number ≡ q → ⊥
-  unheld q empty j u f there holds same = let e = subst (WorkAgrees v.start r.phase j) holds (r.each_view j u there).work in
-      let z : None ≡ Some f.identity = sym empty ∙ (ap (λ (m : ℕ). file_in (r.phase m)) (sym same) ∙ e.1) in cc z
+  unheld q empty j u f there holds same = grind arith
 
   -- a step on the place of a number without a file, which adds no event
   home_step : {q : ℕ} (its : IsNumber v.start q) {ph ph' : Phase} (word' : ℕ) (lies : maybe.Option (Option Closed)) (d : Work)
@@ -77,9 +75,7 @@ module _ (turn : Turn) where
 
     -- a number that is left to the pass is one of the table
     its_b : IsNumber v.start b
-    its_b = let o = its_log turn in
-        let within : v.start.numbers * chain_in x ≤ chain_numbers v.start = mul-le-mul_left v.start.numbers o.chain in
-        inr (omega (arith, o.left_inside, o.few_left), omega (arith, end_is, within))
+    its_b = grind (arith, mul-le-mul_left)
 
     is_spare : r.phase b ≡ spare x.number
     is_spare = let o = its_log turn in let p = ap placing idle in o.spares b (omega arith) end_is
@@ -95,9 +91,7 @@ module _ (turn : Turn) where
     birth_tells : (carried homes : List (ℕ × Option Closed))
         → Stepped (v, carried) [] no_use (Placing (next_number (opening_of v.start) (pass_of v))) v.change
         (went turn r.history (Placing b) v.change, homes)
-    birth_tells carried homes = subst (λ (n : ℕ). Stepped (v, carried) [] no_use (Placing n) v.change
-        (went turn r.history (Placing b) v.change, homes))
-        (λ i. next_in v.start (first_log (sym one i))) (tells_none turn carried homes v.change its_b)
+    birth_tells carried homes = grind (arith, its_b)
 
   -- a rest, of a number whose file is closed, or which was placed in vain
   rest_of : {q : ℕ} → (v.work ≡ Emptying q) ⊎ (v.work ≡ Placing q) → Agrees v.start (changed_to q 0 (some None) (Between Idle))

@@ -1,13 +1,12 @@
 -- Several steps in a row, the pass after them, and the conditions of a call's steps.
-use Rattle.fx_counted.proofs.Words.{◌≡◌, ◌≤◌, ℕ, ◌+◌, ◌*◌, List, [], ◌∷◌, inl, sym, ap, ◌∙◌, subst, arith, Some, TableId, ◌▷◌, Action, Close, Use}
-use Rattle.fx_counted.proofs.Words.{no_use, Adds, IsFront, File, Goes, HasPlace, HasPass, place_of, Sat, opening_of, pass_of, doing_in, chain_in}
-use Rattle.fx_counted.proofs.Words.{first_log, view_of, is_idle, IsPassOf, IsInside, Stepped, TakesOut, LetsGo, CountedPass, Change, Outside, Log}
-use Rattle.fx_counted.proofs.Words.{Start, Work, Idle, Holding, Retiring, Emptying, refl, activity_of, ◌▷▷◌, both_uses, IsAtWork, IsBetweenCalls}
-use Rattle.fx_counted.proofs.Words.{Between, steps_of, true, ◌<◌, inr, range_of, full_word_of, InRange, HasNode, ⊎_elim, chain_numbers, slot_of}
-use Rattle.fx_counted.proofs.Words.{slot_place, node_place, IsNumber, opening_of_table, CountedTable, size_of, ◌-◌, ne_eqb, Option, None, dite}
-use Rattle.fx_counted.proofs.Words.{ℕ_discrete, number_of, name_in, node_in, Names, named, named_suc, Bool, none, Closed, retiring, IsPassOfTable}
-use Rattle.fx_counted.proofs.Words.{Removes, begun, Seat, View, Agrees, IsIdle, step, Allows, adds_then, hold_of, retired_of, Hold, Retired}
-use Rattle.fx_table.proofs.FileLemmas.{idle_task, holding_task, retiring_task}
+use Rattle.fx_counted.proofs.Words.{◌≡◌, ◌≤◌, ℕ, ◌+◌, ◌*◌, List, [], sym, ap, ◌∙◌, subst, arith, Some, TableId, ◌▷◌, Action, Close, Use, no_use, Adds}
+use Rattle.fx_counted.proofs.Words.{File, Goes, HasPlace, HasPass, Sat, opening_of, pass_of, doing_in, first_log, view_of, is_idle, IsPassOf, Stepped}
+use Rattle.fx_counted.proofs.Words.{TakesOut, LetsGo, CountedPass, Change, Outside, Log, Start, Work, Idle, Holding, Retiring, refl, activity_of}
+use Rattle.fx_counted.proofs.Words.{◌▷▷◌, both_uses, IsAtWork, IsBetweenCalls, Between, steps_of, true, ◌<◌, range_of, full_word_of, InRange, HasNode}
+use Rattle.fx_counted.proofs.Words.{chain_numbers, slot_of, slot_place, node_place, IsNumber, opening_of_table, CountedTable, size_of, Option, None}
+use Rattle.fx_counted.proofs.Words.{number_of, name_in, node_in, Names, named, named_suc, Bool, none, Closed, retiring, IsPassOfTable, Removes, begun}
+use Rattle.fx_counted.proofs.Words.{Seat, View, Agrees, IsIdle, step, Allows, adds_then, hold_of, retired_of, Hold, Retired}
+use Rattle.fx_table.proofs.FileLemmas.{idle_task}
 use Rattle.fx_table.specs.declared.values.Task.{Task}
 use Rattle.fx_counted.proofs.Places.{few_numbers, inside, apart}
 use Rattle.fx_counted.proofs.SlotLaws.{IsRemoval, removes_keep}
@@ -47,48 +46,14 @@ module _ {id : TableId} {k : Start} {p : CountedPass} (q : CountedPass) (fits : 
   new_is : first_log q.seat.me.0.logs ≡ new
   new_is = ap first_log goes.one.1
 
-  old_is : first_log p.seat.me.0.logs ≡ old
-  old_is = ap first_log fits.seated.one
-
-  same_chain : chain_in new ≡ chain_in old
-  same_chain = sym (ap chain_in new_is) ∙ (goes.adds.chain ∙ ap chain_in old_is)
-
   numbers : new.numbers_left + a.numbers ≡ old.numbers_left
-  numbers = let e = goes.adds.numbers_left in let f = ap (λ (x : Log). x.numbers_left) new_is in
-      let g = ap (λ (x : Log). x.numbers_left) old_is in omega arith
+  numbers = grind arith
 
   -- a pass that knows what it has used up
   pub still_pass : q.seat.table_id ≡ p.seat.table_id → q.seat.me.1 ≡ [] → IsBetweenCalls w → q.chain ≡ p.chain
       → q.no_chains_left ≡ p.no_chains_left → q.numbers_left + a.numbers ≡ p.numbers_left → q.looks_left + a.looks ≡ p.looks_left
       → q.idle ≡ is_idle w → IsPassOf id k q
-  still_pass table places rests chain told left looks_left idle = record {
-    table = table ∙ fits.table;
-    places = places;
-    log = new;
-    seated = let s = fits.seated in let chains = s.chain in let few = s.few_left in let inside = s.left_inside in
-        let e = same_chain in let l = numbers in let f = ap (λ (c : ℕ). k.numbers * c) same_chain in
-        let chain : chain_in new ≤ k.chains = omega arith in let few_left : new.numbers_left ≤ 64 = omega arith in
-        let left_inside : new.numbers_left ≤ k.numbers * chain_in new = omega arith in assumption (
-          goes.one.1,
-          goes.start ∙ s.start,
-          rw fits.seated.start at goes.adds.front,
-          subst IsBetweenCalls (sym goes.work) rests,
-          subst (λ (z : Start × Work). IsInside z.0 z.1) (λ i. (s.start i, sym goes.work i)) goes.inside,
-          goes.change,
-          chain,
-          few_left,
-          left_inside,
-        );
-    knows = let o = fits.knows in record {
-      chain = chain ∙ (o.chain ∙ sym same_chain);
-      no_chains_left = told ∙ (o.no_chains_left
-          ∙ sym (sym (ap (λ (x : Log). x.no_chains_left) new_is) ∙ (goes.adds.no_chains_left ∙ ap (λ (x : Log). x.no_chains_left) old_is)));
-      numbers_left = let e = numbers in let f = o.numbers_left in omega arith;
-      looks_left = let e = goes.adds.looks_left in let f = ap (λ (x : Log). x.looks_left) new_is in
-          let g = ap (λ (x : Log). x.looks_left) old_is in let left = o.looks_left in omega arith;
-      idle = idle ∙ ap is_idle (sym goes.work);
-    };
-  }
+  still_pass table places rests chain told left looks_left idle = grind arith
 
 -- the work of a pass between two calls
 work_between : (w : Work) → IsBetweenCalls w → (t : Task) × (w ≡ Between t)
@@ -108,13 +73,11 @@ module _ {id : TableId} {k : Start} {p : CountedPass} (fits : IsPassOf id k p) w
 
   pub its_hold : {f : File} {hold : Hold} → (view_of p).doing ≡ doing.Holding f hold
       → (p.seat.me.0.work ≡ Between (Holding f)) × (hold ≡ hold_of f)
-  its_hold {f} {hold} is = let t = holding_task its_task.0 f hold (sym shows ∙ is) in
-      (its_task.1 ∙ ap (λ (t : Task). Between t) t.0, t.1)
+  its_hold {f} {hold} is = grind arith
 
   pub its_removal : {f : File} {retired : Retired} → (view_of p).doing ≡ doing.Retiring f retired
       → (p.seat.me.0.work ≡ Between (Retiring f retired.takes)) × (retired ≡ retired_of f retired.takes)
-  its_removal {f} {retired} is = let t = retiring_task its_task.0 f retired (sym shows ∙ is) in
-      (its_task.1 ∙ ap (λ (t : Task). Between t) t.0, t.1)
+  its_removal {f} {retired} is = grind arith
 
 -- the pass of a seat
 pub its_pass : {id : TableId} {k : Start} {p : CountedPass} (fits : IsPassOf id k p) → HasPass k p.seat.me fits.log
@@ -123,13 +86,7 @@ its_pass fits = (fits.seated.start, fits.seated.one)
 -- the pass has the place of a file that is closed
 pub out_place : {k : Start} {m m' : Sat} {xs : List Action} {f : File} {x : Log} → HasPass k m x → m.1 ≡ [] → TakesOut m xs f m'
     → HasPlace k f.number (Some f.identity) m'
-out_place {k} {m} {m'} {xs} {f} its empty out = let s = out.stepped in record {
-  log = s.one.0;
-  pass = (s.start ∙ its.0, s.one.1);
-  known = subst (λ (z : Start). IsInside z (Emptying f.number)) its.0 s.inside;
-  work = inl s.work;
-  place = out.carried ∙ λ i. (place_of (its.0 i) f.number, Some f.identity) ∷ empty i;
-}
+out_place {k} {m} {m'} {xs} {f} its empty out = grind arith
 
 -- the file of a pass is taken out: its close, and the step in which its place goes home
 pub out_and_home : {m m' m'' : Sat} {xs : List Action} {f : File} → TakesOut m xs f m'
@@ -143,18 +100,10 @@ let_go {m} {m'} {xs} outside went = subst (λ (c : Change). Goes m xs no_use (Be
 -- a pass is still at work after some steps
 pub still_at_work : {k : Start} {m m' : Sat} {x : Log} {xs : List Action} {a : Use} {w : Work} {c : Change} {n : ℕ} → HasPass k m x
     → Goes m xs a w c n m' → IsAtWork k m'
-still_at_work {k} {m} {m'} its goes = record {
-  log = goes.one.0;
-  pass = (goes.start ∙ its.0, goes.one.1);
-  front = subst (λ (z : Start). IsFront (opening_of z) (pass_of m'.0)) its.0 goes.adds.front;
-  inside = subst (λ (z : Start × Work). IsInside z.0 z.1) (λ i. (its.0 i, sym goes.work i)) goes.inside;
-}
+still_at_work {k} {m} {m'} its goes = grind arith
 
 use_alone : (a : Use) → both_uses (both_uses no_use a) no_use ≡ a
-use_alone a = λ i. record {
-  numbers = (let e : 0 + a.numbers + 0 ≡ a.numbers = omega arith in e) i;
-  looks = (let e : 0 + a.looks + 0 ≡ a.looks = omega arith in e) i;
-}
+use_alone a = grind arith
 
 -- a step between a begin and an end, if there are such
 pub goes_around : {m m' m'' m₃ : Sat} {action : Action} {a : Use} {w w' : Work} {c c' : Change} → Goes m [] no_use w c 1 m'
@@ -176,8 +125,7 @@ pub its_number : (t : CountedTable) (n : ℕ) → IsNumber t.table.shared.key n 
 its_number t n has = rw (t.same_size, its_numbers t) has
 
 pub has_node : (t : CountedTable) {n : ℕ} → IsNumber t.table.shared.key n → HasNode t.size 65472 n
-has_node t {n} has = let few = few_numbers t.bounds.3 t.bounds.0 in ⊎_elim (λ (l : n < t.size). inl l)
-    (λ (b : (256 ≤ n) × (n < 256 + t.numbers * t.chains)). inr (b.0, omega (arith, b.1, few))) (its_number t n has)
+has_node t {n} has = grind (arith, few_numbers)
 
 -- its word is one of the table
 pub node_inside : (t : CountedTable) {n i : ℕ} → IsNumber t.table.shared.key n → i ≡ node_place t.size n → i < t.table.shared.table_id.words
@@ -189,8 +137,7 @@ slot_at t {slot} is = ap slot_of is ∙ (apart t.size (t.numbers * t.chains) t.f
 
 -- a slot of the range is one of the table
 pub in_size : (t : CountedTable) (slot : ℕ) → InRange t.table.shared.key slot true → slot < size_of (opening_of_table t)
-in_size t slot r =
-    omega (arith, t.range_inside, t.same_size, ap (λ (z : ℕ × ℕ). z.0) t.same_range, ap (λ (z : ℕ × ℕ). z.1) t.same_range, r.1)
+in_size t slot r = grind arith
 
 -- the word that says that the range is full
 pub full_of : (t : CountedTable) {k : Start} → k ≡ t.table.shared.key → full_word_of t.range_len ≡ full_word_of (range_of (opening_of k)).1
@@ -203,8 +150,7 @@ node_is word (Some f) e = named_suc (name_in word) f.number e.0
 
 -- a word that names nothing
 pub no_name : (word : ℕ) → node_in word ≡ None → name_in word ≡ 0
-no_name word is = dite (ℕ_discrete (name_in word) 0) (λ e. e)
-    (λ some. let bad : Some (name_in word - 1) ≡ None = rw (ne_eqb (name_in word) 0 some) at is in absurd (cc bad))
+no_name word is = grind arith
 
 -- The conditions of a removal, and the events that it adds.
 module _ (act : ℕ → Option File → Action) (t : CountedTable) {p : CountedPass} (fits : IsPassOfTable t p) {slot i : ℕ}

@@ -1,11 +1,11 @@
 -- A draw keeps the rule.
 use Rattle.fx_counted.proofs.Words.{sum_by, ◌≡◌, ◌≢◌, ℕ, ◌+◌, ◌*◌, ◌%◌, ◌^◌, ◌<◌, ◌≤◌, Bool, true, false, cond, nat_lt, List, [], ◌∷◌, set, length}
-use Rattle.fx_counted.proofs.Words.{sym, refl, ap, ◌∙◌, subst, arith, eqb, lt-ltb, le-ltb, get_or-set_other, get_or-set_same, Option, ◌⊎◌, inl, inr}
+use Rattle.fx_counted.proofs.Words.{sym, refl, ap, ◌∙◌, subst, arith, eqb, lt-ltb, le-ltb, get_or-set_other, get_or-set_same, Option, ◌⊎◌, inl}
 use Rattle.fx_counted.proofs.Words.{⊎_elim, dite, none, ℕ_discrete, dec_le, keeps, step, Closed, numbers_up_to, sum_by-cons, sum_set, sum_at}
-use Rattle.fx_counted.proofs.Words.{sum_le_at, OwnerAgrees, lengths, PlacesNext, WorkAgrees, DrawsCount, word_of, control_place, draw_place}
-use Rattle.fx_counted.proofs.Words.{slot_place, opening_of, chain_in, shown, first_log, drawn_of, told_of, once, placing, Phase, unborn, spare, owner}
-use Rattle.fx_counted.proofs.Words.{file_in, Log, View, Idle, mul-add, mul-le-mul_left, Draws, DrawsKeep, first_or, DrawTells, next_in, end_in}
-use Rattle.fx_counted.proofs.Words.{chain_given, Between, one_if, times, bit_here, once_is, once_more, length-set, count_by-le-length, bit_else}
+use Rattle.fx_counted.proofs.Words.{sum_le_at, OwnerAgrees, PlacesNext, WorkAgrees, DrawsCount, word_of, control_place, draw_place, slot_place}
+use Rattle.fx_counted.proofs.Words.{opening_of, chain_in, shown, first_log, drawn_of, told_of, once, placing, Phase, unborn, spare, owner, file_in}
+use Rattle.fx_counted.proofs.Words.{Log, View, Idle, mul-add, mul-le-mul_left, Draws, DrawsKeep, first_or, DrawTells, next_in, end_in, chain_given}
+use Rattle.fx_counted.proofs.Words.{Between, one_if, times, bit_here, once_is, once_more, length-set, count_by-le-length, bit_else}
 use Rattle.fx_counted.proofs.Steps.{owner_same, grows_none, Turn, turn_of, word_at, now, its_log, step_kept, by_turn, Made, near, far, slot_same}
 use Rattle.fx_counted.proofs.Steps.{control_same, NodeIn}
 use Rattle.fx_counted.proofs.Ending.{drawn, told}
@@ -17,10 +17,7 @@ given_out lo hi p phase n = cond (nat_lt n lo) (phase n) (cond (nat_lt n hi) (sp
 
 given_either : (lo hi p : ℕ) (phase : ℕ → Phase) (n : ℕ) → ((lo ≤ n) × (n < hi) × (given_out lo hi p phase n ≡ spare p))
     ⊎ (((lo ≤ n) → (n < hi) → ⊥) × (given_out lo hi p phase n ≡ phase n))
-given_either lo hi p phase n = dite (dec_le lo n)
-    (λ a. dite (dec_le (n + 1) hi) (λ b. inl (a, omega (arith, b), rw (le-ltb n lo a, lt-ltb n hi (omega (arith, b))) refl))
-    (λ f. inr (λ _ b. f (omega arith), rw (le-ltb n lo a, le-ltb n hi (omega (arith, f))) refl)))
-    (λ f. inr (λ a _. f a, rw (lt-ltb n lo (omega (arith, f))) refl))
+given_either lo hi p phase n = grind arith
 
 -- the chain that was drawn last is among those that were drawn
 chain_drawn : (l : List ℕ) → 0 < first_or 0 l → 1 ≤ times (first_or 0 l) l
@@ -50,9 +47,7 @@ module _ (turn : Turn) where
 
   -- few passes get `None`, so the word doesn't overflow
   word_is : (found + 1) % 2 ^ 64 ≡ found + 1
-  word_is = let a = sum_le_at told_of lengths st.views (λ j u e. count_by-le-length (λ y. y.no_chains_left) u.logs) in let b = r.whole in let f = r.shape.passes in
-      let told : sum_by told_of st.views ≤ 16 = omega arith in
-      let b = d.counts in let c = d.few in let e = r.shape.chains in omega (arith, told, b, c, e)
+  word_is = grind (arith, sum_le_at, count_by-le-length)
 
   module _ (idle : v.work ≡ Between Idle) (untold : x.no_chains_left ≡ false) (carried : List (ℕ × Option Closed)) (slots : ℕ) where
     -- the result of a draw
@@ -144,8 +139,7 @@ module _ (turn : Turn) where
       hi = numbers_up_to v.start.numbers (found + 1)
 
       nobody_told : sum_by told_of st.views ≡ 0
-      nobody_told = dite (ℕ_discrete (sum_by told_of st.views) 0) (λ e. e) (λ ne. let a = d.all (omega (arith, ne)) in
-          let b = d.counts in absurd (omega arith))
+      nobody_told = grind arith
 
       given_is : d.given ≡ found
       given_is = let a = nobody_told in let b = d.counts in omega arith
@@ -161,12 +155,7 @@ module _ (turn : Turn) where
       phase' = given_out lo hi x.number r.phase
 
       phases : (n : ℕ) → (r.phase n ≡ phase' n) ⊎ ((r.phase n ≡ unborn) × (phase' n ≡ spare x.number))
-      phases n = ⊎_elim (λ t. inr (
-        d.unused n (omega (arith, t.0, given_numbers))
-            (let all : v.start.numbers * (found + 1) ≤ v.start.numbers * v.start.chains = mul-le-mul_left v.start.numbers (omega arith) in
-            omega (arith, t.1, all)),
-        t.2,
-      )) (λ t. inl (sym t.1)) (given_either lo hi x.number r.phase n)
+      phases n = grind (arith, mul-le-mul_left)
 
       next_drawn : Drawn
       next_drawn = let w = w ((found + 1) ∷ x.drawn) x.no_chains_left v.start.numbers phase' in let t = sum_set told_of st.views id v w here in

@@ -1,9 +1,8 @@
 -- The control word: its count of full slots, and the steps that change no slot and no number.
-use Rattle.fx_counted.proofs.Words.{full_all, full_else, full_few, full_here, full_one}
-use Rattle.fx_counted.proofs.Words.{◌≡◌, ◌≢◌, ℕ, zero, suc, ◌+◌, ◌<◌, ◌≤◌, List, set, sym, refl, ap, ◌⊎◌, inl, inr, arith, Option, IsSome}
-use Rattle.fx_counted.proofs.Words.{subst, dite, some, ℕ_discrete, get_elem?, changed_at, File, sum_set, in_change, added, removed_by, changes_of}
-use Rattle.fx_counted.proofs.Words.{added_of, removed_of, if_full, full_in, ControlCounts, turned, Change, Outside, Same, View, changed}
-use Rattle.fx_counted.proofs.Words.{length, ◌∙◌, held_by, State, Event, range_of, Agrees, looks, all_looks, word_of, control_place}
+use Rattle.fx_counted.proofs.Words.{full_all, full_else, full_few, full_here, ◌≡◌, ◌≢◌, ℕ, zero, suc, ◌+◌, ◌<◌, ◌≤◌, List, set, sym, refl, ap, ◌⊎◌}
+use Rattle.fx_counted.proofs.Words.{inl, inr, arith, Option, IsSome, subst, dite, some, ℕ_discrete, get_elem?, changed_at, File, sum_set, in_change}
+use Rattle.fx_counted.proofs.Words.{added, removed_by, changes_of, added_of, removed_of, if_full, full_in, ControlCounts, turned, Change, Outside}
+use Rattle.fx_counted.proofs.Words.{Same, View, length, ◌∙◌, held_by, State, Event, range_of, Agrees, looks, all_looks, word_of, control_place}
 use Rattle.fx_counted.proofs.Words.{draw_place, slot_place, opening_of, IsNumber, state_after_all, Log, Start, Work, sum_by, ◌-◌, ◌/◌, ◌%◌, ◌^◌, []}
 use Rattle.fx_counted.proofs.Words.{◌∷◌, get_or-set_other, get_or-set_same, none, some-injective, some-ne-none, keeps, step, sum_by-cons, Closed}
 use Rattle.fx_counted.proofs.Words.{Full, no_use, event_of, sum_at, sum_le_at, one_change, full_word_of, WorkAgrees, lengths, shown, IsInside}
@@ -19,21 +18,13 @@ abbrev pub Stands : ℕ × ℕ → ℕ → Change → Type 0
 Stands range s change = (((range.0 ≤ s) × (s < range.0 + range.1)) × (change ≡ Same))
     ⊎ (((s < range.0) ⊎ (range.0 + range.1 ≤ s)) × (change ≡ Outside))
 
-changed_so : (old new : ℕ) → old ≤ 1 → new ≤ 1
-    → (in_change (changed old new) ≡ 1) × (added (changed old new) + old ≡ removed_by (changed old new) + new)
-changed_so zero zero a b = (refl, refl)
-changed_so (suc o) zero a b = (refl, omega arith)
-changed_so _ _ a b = (refl, omega arith)
-
 -- the difference that a pass then has to report equals the change in the range
 turned_counts : (at : ℕ → Option File) (range : ℕ × ℕ) (s : ℕ) (old new : Option File) (c : Change) → at s ≡ old → Stands range s c
     → (in_change (turned c (if_full old) (if_full new)) ≡ in_change c)
     × (full_in (changed_at at s new) range.0 range.1 + added c + removed_by (turned c (if_full old) (if_full new))
     ≡ full_in at range.0 range.1 + removed_by c + added (turned c (if_full old) (if_full new)))
-turned_counts at range s old new Same was (inl inside) = let n = changed_so (if_full old) (if_full new) (full_one old) (full_one new) in
-    let g = full_here at s new range.0 range.1 inside.0.0 inside.0.1 in let p : if_full (at s) ≡ if_full old = ap if_full was in (n.0, omega arith)
-turned_counts at range s old new Outside was (inr outside) =
-    let g = full_else at s new range.0 range.1 (λ i l bad. omega (arith, outside.0)) in (refl, omega arith)
+turned_counts at range s old new Same was (inl inside) = grind (arith, full_here)
+turned_counts at range s old new Outside was (inr outside) = grind (arith, full_else)
 turned_counts at range s old new _ was (inl inside) = absurd (cc inside.1)
 turned_counts at range s old new _ was (inr outside) = absurd (cc outside.1)
 
@@ -135,8 +126,7 @@ module _ (k : Start) (s : Shared) (r : Agrees k s) where
       go (z ∷ l) is = let a = at_most_one u.change in let b = ap (length {A = Log}) is in omega arith
 
   pub few_full : full_in (state_after_all k r.history).at (range_of (opening_of k)).0 (range_of (opening_of k)).1 ≤ 256
-  few_full = let a = full_few (state_after_all k r.history).at (range_of (opening_of k)).0 (range_of (opening_of k)).1 in
-      let b = r.shape.range in let c = r.shape.slots in omega arith
+  few_full = grind (arith, full_few)
 
   pub few_removed : sum_by removed_of s.views ≤ sum_by changes_of s.views
   few_removed = sum_le_at removed_of changes_of s.views (λ j u e. (at_most_one u.change).2)
@@ -202,12 +192,7 @@ module _ (turn : Turn) where
 
   module _ (fits : word < 18446744073709551616) where
     begin_counts : v.change ≡ Outside → ControlCounts at_now range (set st.views id (went turn r.history v.work Same)) ((word + one_change) % 2 ^ 64)
-    begin_counts out = let w = went turn r.history v.work Same in
-        let a = sum_set changes_of st.views id v w here in let b = sum_set added_of st.views id v w here in
-        let d = sum_set removed_of st.views id v w here in
-        let a' = ap in_change out in let b' = ap added out in let d' = ap removed_by out in let s = few_others in
-        let u = r.control.upper in let l = r.control.lower in let sum : (word + 4294967296) % 2 ^ 64 ≡ word + 4294967296 = omega arith in
-        record { upper = omega arith; lower = omega arith }
+    begin_counts out = grind (arith, sum_set, few_others)
 
     -- the difference is reported: `amount` is 2^32 minus the difference
     end_counts : (h' : List Event) (amount : ℕ) → in_change v.change ≡ 1 → amount + added v.change ≡ one_change + removed_by v.change

@@ -1,20 +1,15 @@
 -- The end, when one seat has all passes, and all are idle: the state is settled, and the events of all passes are one
 -- history.
-use Rattle.fx_counted.proofs.Words.{sum_zero_at, numbers_for, ◌≡◌, ℕ, suc, ◌+◌, ◌<◌, ◌≤◌, map, length, sym, ap, ◌∙◌, arith, ◌⊎◌, inl, inr, ⊎_elim}
-use Rattle.fx_counted.proofs.Words.{Option, Some, None, sum_by, dite, some, dec_le, get_elem?, Closed, State, IsSettled, numbered, File, start_of}
-use Rattle.fx_counted.proofs.Words.{Does, OwnerAgrees, lengths, Agrees, place_of, Shared, opening_of, slots_of, chain_numbers, IsNumber}
-use Rattle.fx_counted.proofs.Words.{state_after_all, held_of, told_of, once, holding, Phase, placed, seated, leaving, retired, emptied, Log, Start}
-use Rattle.fx_counted.proofs.Words.{View, Work, Idle, action_of, Between, one_if, times, inside_behind, opens_inside, only_here}
+use Rattle.fx_counted.proofs.Words.{sum_zero_at, numbers_for, ◌≡◌, ℕ, ◌<◌, ◌≤◌, map, length, sym, ap, ◌∙◌, arith, ◌⊎◌, ⊎_elim, Option, Some, None}
+use Rattle.fx_counted.proofs.Words.{sum_by, some, get_elem?, Closed, State, IsSettled, numbered, File, start_of, Does, OwnerAgrees, lengths, Agrees}
+use Rattle.fx_counted.proofs.Words.{place_of, Shared, opening_of, slots_of, IsNumber, state_after_all, held_of, told_of, once, holding, Phase, placed}
+use Rattle.fx_counted.proofs.Words.{seated, leaving, retired, emptied, Log, Start, View, Work, Idle, action_of, Between, one_if, times, inside_behind}
+use Rattle.fx_counted.proofs.Words.{opens_inside, only_here}
 use Rattle.fx_counted.proofs.Frames.{same_shape}
 use Rattle.fx_counted.proofs.Keeping.{NodeIn, in_phase, seat_in}
 
 is_number : (k : Start) (n : ℕ) → IsNumber k n ⊎ (IsNumber k n → ⊥)
-is_number k n = dite (dec_le (suc n) (slots_of k))
-    (λ low. inl (inl low))
-    (λ not_slot. dite (dec_le 256 n)
-    (λ high. dite (dec_le (suc n) (256 + chain_numbers k)) (λ inside. inl (inr (high, inside)))
-    (λ out. inr (λ has. omega (arith, not_slot, out, has))))
-    (λ small. inr (λ has. omega (arith, not_slot, small, has))))
+is_number k n = grind arith
 
 -- no pass does anything
 module _ {k : Start} {s : Shared} (r : Agrees k s) (all_idle : (i : ℕ) (u : View) → get_elem? s.views i ≡ some u → u.work ≡ Between Idle) where
@@ -71,9 +66,7 @@ module _ {k : Start} {s : Shared} (r : Agrees k s) (all_idle : (i : ℕ) (u : Vi
   -- files at different slots have different numbers
   pub one_slot : {slot other : ℕ} {f g : File} → slot < slots_of k → other < slots_of k → end.at slot ≡ Some f → end.at other ≡ Some g
       → f.number ≡ g.number → slot ≡ other
-  one_slot {slot} {other} {f} {g} l m there here same =
-      let a = seat_in k s r l there in let b = seat_in k s r m here in
-      let e : seated slot f.identity ≡ seated other g.identity = sym a.2 ∙ (ap r.phase same ∙ b.2) in cc e
+  one_slot {slot} {other} {f} {g} l m there here same = grind arith
 
   pub none_outside_end : {slot : ℕ} → slots_of k ≤ slot → end.at slot ≡ None
   none_outside_end {slot} past = inside_behind (start_of (opening_of k)) (map action_of r.history) r.legal.leads.0

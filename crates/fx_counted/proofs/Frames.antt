@@ -1,13 +1,12 @@
 -- Legal histories, and the frame of a step of one seat.
 use Rattle.fx_counted.proofs.Words.{◌≡◌, ◌≢◌, ℕ, ◌+◌, ◌≤◌, List, [], ◌∷◌, sym, refl, ap, ◌∙◌, arith, Some, None, dite, ℕ_discrete, held_by, Event}
 use Rattle.fx_counted.proofs.Words.{Action, Look, start_of, range_of, looks, all_looks, opening_of, slots_of, state_after_all, Start, ReleasesItsOwn}
-use Rattle.fx_counted.proofs.Words.{IsLegal, looks_after, look_in, map, action_of, changed_here, changed_else, next_in, end_in, placing, ◌<◌}
-use Rattle.fx_counted.proofs.Words.{Contains, sum_of, sum_by, set, subst, eqb, some, some-injective, get_elem?, set_here, set_else, File, numbered}
-use Rattle.fx_counted.proofs.Words.{sum_two, sum_set, Does, OwnerAgrees, WorkAgrees, ViewAgrees, Agrees, Shared, logs_of, Phase, spare, placed}
-use Rattle.fx_counted.proofs.Words.{leaving, emptied, owner, file_in, Log, View, Work, Idle, Placing, Holding, Retiring, Emptying, Between, stands_at}
-use Rattle.fx_counted.proofs.Words.{one_if, bit_here, once_is, Option, Closed, State, SlotAgrees, Home, NodeAgrees, in_change, added, removed_by}
-use Rattle.fx_counted.proofs.Words.{changes_of, added_of, removed_of, full_in, ControlCounts, DrawsCount, told_of, unborn, seated, retired, closed}
-use Rattle.fx_counted.proofs.Words.{takes_in, born, IsSeated, IsGone, times, Grows}
+use Rattle.fx_counted.proofs.Words.{IsLegal, looks_after, look_in, map, action_of, next_in, end_in, placing, ◌<◌, Contains, sum_of, sum_by, set}
+use Rattle.fx_counted.proofs.Words.{subst, eqb, some, some-injective, get_elem?, set_here, set_else, File, numbered, sum_two, sum_set, Does}
+use Rattle.fx_counted.proofs.Words.{OwnerAgrees, WorkAgrees, ViewAgrees, Agrees, Shared, logs_of, Phase, spare, placed, leaving, emptied, owner}
+use Rattle.fx_counted.proofs.Words.{file_in, Log, View, Work, Idle, Placing, Holding, Retiring, Emptying, Between, stands_at, one_if, bit_here}
+use Rattle.fx_counted.proofs.Words.{once_is, Option, Closed, State, SlotAgrees, Home, NodeAgrees, full_in, ControlCounts, DrawsCount, told_of, unborn}
+use Rattle.fx_counted.proofs.Words.{seated, retired, closed, IsGone, times, Grows}
 use Rattle.fx_plain.specs.Step.{Allows}
 use Rattle.fx_plain.proofs.Leading.{same_shape as shape_of_state}
 
@@ -24,9 +23,7 @@ same_shape k h = shape_of_state (start_of (opening_of k)) (map action_of h)
 
 looks_step : {f : ℕ → ℕ} {all : ℕ} → ((n : ℕ) → f n ≤ all) → (a : Action) (n : ℕ) → looks_after f a n ≤ all + look_in a
 looks_step few (Look slot None) n = let m = few n in omega arith
-looks_step {f} few (Look slot (Some g)) n = dite (ℕ_discrete n g.number)
-    (λ (e : n ≡ g.number). let m = few g.number in let is = changed_here f g.number (f g.number + 1) n e in omega arith)
-    (λ e. let m = few n in let is = changed_else f g.number (f g.number + 1) n e in omega arith)
+looks_step {f} few (Look slot (Some g)) n = grind arith
 looks_step few _ n = let m = few n in omega arith
 
 -- the looks of one file are at most all looks
@@ -52,8 +49,7 @@ stays_same id p phase = record { owned = λ n a b. refl; spared = λ n q is othe
 
 module _ (id p j : ℕ) (other : j ≢ id) (phase phase' : ℕ → Phase) (stays : Stays id p phase phase') where
   same_for : {n : ℕ} {ph : Phase} → phase n ≡ ph → owner ph ≡ j + 1 → phase' n ≡ ph
-  same_for {n} {ph} is own = stays.owned n (λ z. let e : owner (phase n) ≡ owner ph = ap owner is in
-      omega arith) (λ z. other (let e : owner (phase n) ≡ owner ph = ap owner is in omega arith)) ∙ is
+  same_for {n} {ph} is own = grind arith
 
   work_stays : (k : Start) (d : Work) → ((f : File) → d ≡ Between (Holding f)
       → file_in (phase' f.number) ≡ file_in (phase f.number)) → WorkAgrees k phase j d → WorkAgrees k phase' j d
@@ -82,8 +78,7 @@ of_one f {l} {x} one = let e : sum_by f l ≡ 0 + f x = ap (sum_by f) one in ome
 -- a total over all passes, where the one pass of a seat counts for as much as before
 pub total_same : (f : Log → ℕ) (views : List View) (id : ℕ) {v : View} (w : View) {x y : Log} → get_elem? views id ≡ some v → v.logs ≡ x ∷ []
     → w.logs ≡ y ∷ [] → f y ≡ f x → sum_by (λ (u : View). sum_by f u.logs) (set views id w) ≡ sum_by (λ (u : View). sum_by f u.logs) views
-total_same f views id {v} w here one one' same = let t = sum_set (λ (u : View). sum_by f u.logs) views id v w here in
-    let a = of_one f one in let b = of_one f one' in omega arith
+total_same f views id {v} w here one one' same = grind (arith, sum_set)
 
 -- a pass that one view has is in no other one
 pub not_there : {k : Start} {st : Shared} → Agrees k st → {id j : ℕ} {v u : View} {x : Log}
@@ -130,20 +125,11 @@ module _ (k : Start) (h h' : List Event) (phase phase' : ℕ → Phase) (slot : 
   SameFile = (f : File) → (state_after_all k h).at slot ≡ Some f → phase f.number ≡ seated slot f.identity
       → (looks h' f.number ≡ looks h f.number) × (phase' f.number ≡ phase f.number)
 
-  seat_same : (word : ℕ) → SameFile → (found : Option File) → (state_after_all k h).at slot ≡ found
-      → IsSeated k (looks h) phase slot word found → IsSeated k (looks h') phase' slot word found
-  seat_same word same None is o = tt
-  seat_same word same (Some f) is o = let q = same f is o.2 in (o.0, o.1 ∙ sym q.0, q.1 ∙ o.2)
-
 -- a slot whose word and file stay
 pub slot_same : {k : Start} {h h' : List Event} {phase phase' : ℕ → Phase} {slot word word' : ℕ} → word' ≡ word
     → (state_after_all k h').at slot ≡ (state_after_all k h).at slot → all_looks h ≤ all_looks h' → SameFile k h h' phase phase' slot
     → SlotAgrees k h phase slot word → SlotAgrees k h' phase' slot word'
-slot_same {k} {h} {h'} {phase} {phase'} {slot} {word} same_word same_file more same so = record {
-  names = rw (same_word, same_file) so.names;
-  seat = rw (same_word, same_file) (seat_same k h h' phase phase' slot word same ((state_after_all k h).at slot) refl so.seat);
-  takes = let t = so.takes in let e = ap takes_in same_word in omega arith;
-}
+slot_same {k} {h} {h'} {phase} {phase'} {slot} {word} same_word same_file more same so = grind arith
 
 -- a number whose state has not changed
 module _ (st st' : State) (n l l' word word' : ℕ) (home home' : Home) (fresh : st'.fresh n ≡ st.fresh n) (removed : st'.removed n ≡ st.removed n)
@@ -153,33 +139,19 @@ module _ (st st' : State) (n l l' word word' : ℕ) (home home' : Home) (fresh :
 
   pub node_same : (ph : Phase) → ((s : ℕ) (f : Closed) → ph ≡ seated s f → st.at s ≡ Some (numbered n f) → st'.at s ≡ st.at s)
       → NodeAgrees st n l word home ph → NodeAgrees st' n l' word' home' ph
-  node_same (seated s f) at o = let a = o.counts in let b = o.inside in
-      let counts : word' + l' ≡ born + st'.holds n = omega arith in let inside : s < st'.size = omega arith in
-      assumption (counts, homed ∙ o.at_home, inside, at s f refl o.there ∙ o.there, removed ∙ o.not_removed)
-  node_same (leaving j t f) at o = let a = o.counts in let counts : word' + l' ≡ born + st'.holds n = omega arith in
-      assumption (counts, homed ∙ o.at_home, o.all_takes ∙ sym looked, removed ∙ o.removed)
-  node_same (retired f) at o = let a = o.some_hold in let some_hold : 0 < word' = omega arith in
-      assumption (worded ∙ (o.counts ∙ sym holds), homed ∙ o.at_home, some_hold, removed ∙ o.removed)
+  node_same (seated s f) at o = grind arith
+  node_same (leaving j t f) at o = grind arith
+  node_same (retired f) at o = grind arith
   node_same (emptied j) at o = gone_same o
   node_same closed at o = gone_same o
-  node_same _ at o = assumption (
-    worded ∙ o.counts,
-    homed ∙ o.at_home,
-    fresh ∙ o.fresh,
-    looked ∙ o.no_looks,
-    holds ∙ o.no_holds,
-    removed ∙ o.not_removed,
-  )
+  node_same _ at o = grind arith
 
 module _ (views : List View) (id : ℕ) (v w : View) (here : get_elem? views id ≡ some v) where
   -- the control word, where no slot of the range and no change does
   pub control_same : {at at' : ℕ → Option File} {range : ℕ × ℕ} {word word' : ℕ}
       → full_in at' range.0 range.1 ≡ full_in at range.0 range.1 → word' ≡ word → w.change ≡ v.change
       → ControlCounts at range views word → ControlCounts at' range (set views id w) word'
-  control_same full same change ok =
-      let a = sum_set changes_of views id v w here in let b = sum_set added_of views id v w here in let c = sum_set removed_of views id v w here in
-      let d = ap in_change change in let e = ap added change in let f = ap removed_by change in
-      let u = ok.upper in let l = ok.lower in rw same record { upper = omega arith; lower = omega arith }
+  control_same full same change ok = grind (arith, sum_set)
 
   -- the draw word, where no chain was drawn
   pub draws_same : {chains numbers : ℕ} {phase phase' : ℕ → Phase} {word word' : ℕ} {x y : Log} → v.logs ≡ x ∷ []

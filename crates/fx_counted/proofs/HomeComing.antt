@@ -1,11 +1,11 @@
 -- The files at the settled end of a table whose passes are all idle: they are in the places of their numbers.
 use Rattle.fx_counted.proofs.Words.{◌≡◌, ℕ, ◌+◌, ◌-◌, ◌<◌, suc, sym, refl, ap, ◌∙◌, arith, inl, inr, Option, Some, None, dite, dec_le, List, subst}
 use Rattle.fx_counted.proofs.Words.{Closed, State, Contents, state_of, AreBack, slice_index, some, get_elem?, node_in, slot_place, home_place}
-use Rattle.fx_counted.proofs.Words.{homes_for, stands_at, some-injective, number_of, File, Names, Agrees, HasNode, slots_of, chain_numbers, IsNumber}
+use Rattle.fx_counted.proofs.Words.{homes_for, stands_at, some-injective, number_of, File, Agrees, HasNode, slots_of, chain_numbers, IsNumber}
 use Rattle.fx_counted.proofs.Words.{state_after_all, CountedTable, Start, View, Idle, Final, Seen, AllAreIdle, Leaves, Between, option_map}
 use Rattle.fx_counted.proofs.Words.{ℕ_discrete, numbered}
 use Rattle.fx_table.proofs.Shells.{AreAtHome, AreStored, at_home, file_at, files_are}
-use Rattle.fx_counted.proofs.Calling.{has_node, node_is}
+use Rattle.fx_counted.proofs.Calling.{has_node}
 use Rattle.fx_counted.proofs.Ending.{home_file, file_home, one_slot, none_outside_end}
 use Rattle.fx_counted.proofs.Frames.{same_shape}
 use Rattle.fx_counted.proofs.Places.{apart, low_home, high_home}
@@ -33,8 +33,7 @@ module _ (t : CountedTable) {id : ℕ} {v : View} {words : List ℕ} (xs : List 
   all_idle = idle final.0 r final.1.1
 
   number_is : {slot : ℕ} → slot < size → node_in (slice_index words (slot_place slot)) ≡ number_of (end.at slot)
-  number_is {slot} l = node_is (slice_index words (slot_place slot)) (end.at slot)
-      (subst (λ (ws : List ℕ). Names (slice_index ws (slot_place slot)) (end.at slot)) final.2 (r.each_slot slot l).names)
+  number_is {slot} l = grind arith
 
   -- the number whose file would lie there
   by_place : {place : ℕ} → place < homes_for size (chain_numbers k) → (n : ℕ) × IsNumber k n × (home_place size n ≡ place)

@@ -3,12 +3,12 @@ use Rattle.fx_counted.proofs.Words.{Contains, contains_head, contains_only, ◌�
 use Rattle.fx_counted.proofs.Words.{ap, ◌∙◌, subst, arith, get_or, Option, None, Some, File, inr, eq-eqb, eqb, some, get_elem?, Closed, part_of_pass}
 use Rattle.fx_counted.proofs.Words.{Event, Action, Use, range_of, event_of, sum_set, sum_at, SlotAgrees, NodeAgrees, OwnerAgrees, WorkAgrees}
 use Rattle.fx_counted.proofs.Words.{LogAgrees, ViewAgrees, lengths, Agrees, ControlCounts, looks, all_looks, DrawsCount, control_place, draw_place}
-use Rattle.fx_counted.proofs.Words.{slot_place, node_place, home_place, Shared, opening_of, slots_of, IsNumber, state_after_all, Sat, shown}
-use Rattle.fx_counted.proofs.Words.{first_log, logs_of, looks_of, held_of, Phase, IsInside, Stepped, Change, Log, View, Work, stepped, Act, Valid}
-use Rattle.fx_counted.proofs.Words.{carried_after, HasPass, held_by, held_in, PlacesNext, placing, next_in, end_in, spare, HasShape, Start, no_use}
-use Rattle.fx_counted.proofs.Words.{◌▷◌, IsSeenBy, ◌*◌, chain_in, one_if, Allows, IsSeated, ◌≢◌, Between, Holding, file_in, at_set, ⊎_elim}
-use Rattle.fx_counted.proofs.Words.{get_or-set_other, get_or-set_same, Bool, changed_at, full_in, PlacesAreInside, PlacesAreApart, chain_numbers}
-use Rattle.fx_counted.proofs.Words.{owner, retired, ◌⊎◌, length-set, dite, ℕ_discrete, unborn, Grows, grows_none, grows_one, part_mine, each_changed}
+use Rattle.fx_counted.proofs.Words.{slot_place, node_place, home_place, Shared, opening_of, slots_of, IsNumber, state_after_all, Sat, shown, logs_of}
+use Rattle.fx_counted.proofs.Words.{looks_of, held_of, Phase, IsInside, Stepped, Change, Log, View, Work, stepped, Act, Valid, carried_after, HasPass}
+use Rattle.fx_counted.proofs.Words.{held_by, held_in, PlacesNext, placing, next_in, end_in, spare, HasShape, Start, no_use, ◌▷◌, one_if, Allows}
+use Rattle.fx_counted.proofs.Words.{IsSeated, ◌≢◌, Between, Holding, file_in, at_set, ⊎_elim, get_or-set_other, get_or-set_same, Bool, changed_at}
+use Rattle.fx_counted.proofs.Words.{full_in, PlacesAreInside, PlacesAreApart, chain_numbers, owner, retired, ◌⊎◌, length-set, unborn, Grows}
+use Rattle.fx_counted.proofs.Words.{grows_none, grows_one, part_mine, each_changed}
 use Rattle.fx_counted.proofs.Frames.{IsHistory, Stays, view_stays, not_there, of_one, total_same, busy, owner_stays, slot_same, node_same}
 use Rattle.fx_counted.proofs.Frames.{control_same, draws_same, SameFile}
 use Rattle.fx_counted.proofs.Places.{inside, apart}
@@ -94,9 +94,7 @@ module _ (turn : Turn) where
       → PlacesNext v.start (logged x h' left looks_left) d
       → ((n : ℕ) → next_in v.start (logged x h' left looks_left) + placing d ≤ n → n < end_in v.start x → phase' n ≡ spare x.number)
       → LogAgrees v.start h' phase' d (logged x h' left looks_left)
-  log_now {h'} {left} fewer held next spares = let o = its_log in let a = o.few_left in let b = o.left_inside in
-      let seen : IsSeenBy h' h' = ([], refl) in let few_left : left ≤ 64 = omega arith in
-      let left_inside : left ≤ v.start.numbers * chain_in x = omega arith in assumption (o, seen, few_left, left_inside)
+  log_now {h'} {left} fewer held next spares = grind (arith, its_log)
 
   module _ (y : Log) (d : Work) (c : Change) (h' : List Event) (phase' : ℕ → Phase) (words' : List ℕ) (homes' : Homes) where
     abbrev views' : List View
@@ -163,18 +161,7 @@ module _ (turn : Turn) where
       → part_of_pass x.number h' ≡ map (event_of (shown x v.work)) actions ++ part_of_pass x.number r.history
       → left + used.numbers ≡ x.numbers_left → looks_left + used.looks ≡ x.looks_left → IsInside v.start d
       → Stepped (v, carried) actions used d c (now v (logged x h' left looks_left) d c, homes)
-  tells carried homes h' left looks_left d c actions used grows legal own numbers looked inside = record {
-    one = (logged x h' left looks_left, refl);
-    adds = rw one (assumption (
-      grows.seen x.front its_log.seen,
-      own ∙ ap (λ (l : List Event). map (event_of (shown x v.work)) actions ++ l) its_log.own,
-    ));
-    work = refl;
-    inside = inside;
-    change = refl;
-    start = refl;
-    steps = let e = ap (λ (l : List Log). (first_log l).steps) one in omega arith;
-  }
+  tells carried homes h' left looks_left d c actions used grows legal own numbers looked inside = grind arith
 
   -- a step that takes no action, and one that takes this one
   pub tells_none : (carried homes : List (ℕ × Option Closed)) {d : Work} (c : Change) → IsInside v.start d
@@ -319,12 +306,7 @@ module _ (turn : Turn) (s : ℕ) (inside : s < slots_of turn.v.start) (word' : �
       → ((i : ℕ) → i < slots_of v.start → i ≢ s
       → ((state_after_all v.start h').at i ≡ (state_after_all v.start r.history).at i) × SameFile v.start r.history h' r.phase phase' i)
       → (i : ℕ) → i < slots_of v.start → SlotAgrees v.start h' phase' i (word_at words_now (slot_place i))
-  slots_now slot more others i l = dite (ℕ_discrete i s) (λ same. rw (same, get_or-set_same st.words (slot_place s) word' 0 wide) slot)
-      (λ other. let o = others i l other in
-      slot_same (read_else (slot_place i) (λ same. other ((far turn).slots i s same))) o.0 more o.1 (r.each_slot i l))
-    where
-      wide : slot_place s < length st.words
-      wide = let a = r.shape.words in let b = (near turn).slot s inside in omega arith
+  slots_now slot more others i l = grind (arith, get_or-set_same, read_else)
 
   pub node_now : (h' : List Event) (homes' : Homes) (ph : Phase) {n : ℕ} → IsNumber v.start n → NodeIn v.start st.words homes' h' n ph
       → NodeIn v.start words_now homes' h' n ph

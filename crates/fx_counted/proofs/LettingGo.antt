@@ -7,9 +7,9 @@ use Rattle.fx_counted.proofs.Words.{TakesOut, LetsGo, Sat, Idle, Holding, Emptyi
 use Rattle.fx_counted.proofs.Words.{subst, dite, ℕ_discrete, step, retire_amount_of, WorkAgrees, held_in, leaving, retired, owner, Retiring}
 use Rattle.fx_counted.proofs.Words.{RetiresKeep, Retires, inr, inl, ◌⊎◌, ⊎_elim, Release, sum_at, seated, eqb, ReleasesKeep, Releases, one_if}
 use Rattle.fx_counted.proofs.Words.{one_less_at, born}
-use Rattle.fx_counted.proofs.Steps.{busy, does_now, Grows, IsHistory, grows_more, legal_more, held_mine, part_mine, each_changed, looks_few, Homes}
-use Rattle.fx_counted.proofs.Steps.{MayTurn, Turn, its_log, tells, Made, went, OneNumber, NodeStep, node_agrees, in_phase, grows_none, turn_of}
-use Rattle.fx_counted.proofs.Steps.{its_work, by_turn, one_same, owner_stays, grows_one, NodeIn}
+use Rattle.fx_counted.proofs.Steps.{busy, does_now, Grows, IsHistory, grows_more, legal_more, held_mine, part_mine, looks_few, Homes, MayTurn, Turn}
+use Rattle.fx_counted.proofs.Steps.{its_log, tells, Made, went, OneNumber, NodeStep, node_agrees, in_phase, turn_of, its_work, by_turn, owner_stays}
+use Rattle.fx_counted.proofs.Steps.{grows_one, NodeIn}
 use Rattle.fx_counted.proofs.Births.{word_now, home_now, roomy, else_place}
 
 -- A pass is done with a file, which stays open, or is closed and taken out.
@@ -52,10 +52,7 @@ module _ {turn : Turn} {f : File} {its : IsNumber turn.v.start f.number} {h₁ :
   less = minus (word_now turn q)
 
   spares_stay : (ph : Phase) (n : ℕ) → next_in v.start x + 0 ≤ n → n < end_in v.start x → changed_at r.phase q ph n ≡ spare x.number
-  spares_stay ph n low high = let p = g.places in let its_own = (its_log turn).spares n (omega arith) high in
-      each_changed (λ m z. z ≡ spare x.number) r.phase (λ same.
-      let bad : None ≡ Some f.identity = sym (ap file_in its_own) ∙ (ap (λ (m : ℕ). file_in (r.phase m)) same ∙ g.open_file) in absurd (cc bad))
-      (λ other. its_own)
+  spares_stay ph n low high = grind arith
 
   -- the file stays open
   pub stays_open : (ph : Phase) → MayTurn turn q ph → file_in ph ≡ file_in (r.phase q)
@@ -67,11 +64,7 @@ module _ {turn : Turn} {f : File} {its : IsNumber turn.v.start f.number} {h₁ :
       (went turn h₁ (Between Idle) v.change, keeps, tt, node_agrees turn q its less st.homes h₁ ph (Between Idle) step, tells_so)
 
   pub lets_go : LetsGo (v, carried) xs (went turn h₁ (Between Idle) v.change, carried)
-  lets_go = record {
-    stepped = tells turn carried carried h₁ x.numbers_left x.looks_left (Between Idle) v.change xs no_use g.grows g.legal g.own
-        (omega arith) (omega arith) tt;
-    carried = refl;
-  }
+  lets_go = grind arith
 
   -- nobody holds the removed file any more
   module _ (home : home_now turn q ≡ some (some (Some f.identity))) (removed : now.removed q ≡ Some f) (unheld : now.holds q ≡ 0)
@@ -150,19 +143,7 @@ module _ (turn : Turn) (f : File) (t : ℕ) (works : turn.v.work ≡ Between (Re
 
   -- there is no action if the file stays open
   retirement_lets_go : IsLetGo turn f leaves.0 r.history []
-  retirement_lets_go =
-      let holds : (m : ℕ) → (state_after_all v.start r.history).holds m + held_of m v ≡ (state_after_all v.start r.history).holds m + 0 =
-      λ m. let b = ap (holding m) works in omega arith in
-      let free : (m : ℕ) → m ≢ f.number → busy v.work ≢ m + 1 = λ m other bad. let b = ap busy works in other (omega arith) in assumption (
-        grows_none x.number r.history,
-        r.legal,
-        one_same v f.number r.history,
-        (its_log turn).held ∙ ap held_in works,
-        holds,
-        free,
-        ap placing works,
-        ap file_in leaves.1,
-      )
+  retirement_lets_go = grind arith
 
   retiring_same : {g : File} {u : ℕ} → v.work ≡ Between (Retiring g u) → f ≡ g
   retiring_same its = cc (sym works ∙ its)
@@ -248,16 +229,8 @@ module _ (turn : Turn) (f : File) (works : turn.v.work ≡ Between (Holding f)) 
       let e : less_one word ≡ word - 1 = sub_wraps (omega arith) fits (omega arith) in
       let counts : less_one word + looks r.history f.number ≡ born + new.holds f.number = omega arith in
       inl (λ last. omega arith, assumption (n, counts))
-  by_phase fits (leaving j t g) is has = let n = in_phase v.start st r holds_it.0 is in let a = n.counts in
-      let c = few_looks turn f.number in let h = held_now in let z = one_less in
-      let e : less_one word ≡ word - 1 = sub_wraps (omega arith) fits (omega arith) in
-      let counts : less_one word + looks r.history f.number ≡ born + new.holds f.number = omega arith in
-      inl (λ last. omega arith, assumption (n, counts))
-  by_phase fits (retired g) is has = let n = in_phase v.start st r holds_it.0 is in let a = n.counts in
-      let b = n.some_hold in let h = held_now in let z = one_less in let same : g ≡ f.identity = cc has in
-      let e : less_one word ≡ word - 1 = sub_wraps (omega arith) fits (omega arith) in dite (ℕ_discrete word 1)
-      (λ last. inr (last, omega arith, is ∙ ap retired same, rw (← same) n.at_home, rw (← same) n.removed, omega arith))
-      (λ more. inl (more, record { counts = omega arith; at_home = n.at_home; some_hold = omega arith; removed = n.removed }))
+  by_phase fits (leaving j t g) is has = grind (arith, few_looks, held_now)
+  by_phase fits (retired g) is has = grind arith
   by_phase fits _ is has = absurd (cc has)
 
   holding_same : {g : File} → v.work ≡ Between (Holding g) → f ≡ g

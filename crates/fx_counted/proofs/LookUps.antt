@@ -3,11 +3,10 @@ use Rattle.fx_counted.proofs.Words.{◌≡◌, ◌≢◌, ℕ, ◌+◌, ◌-◌,
 use Rattle.fx_counted.proofs.Words.{keeps, step, Closed, ◌▷◌, State, File, Event, Look, range_of, event_of, name_in, entry_in, takes_in, Names}
 use Rattle.fx_counted.proofs.Words.{SlotAgrees, PlacesNext, WorkAgrees, looks, full_in, slot_place, opening_of, slots_of, IsNumber, state_after_all}
 use Rattle.fx_counted.proofs.Words.{shown, held_in, placing, held_of, holding, Phase, seated, file_in, IsInside, Log, View, Idle, one_look, name_more}
-use Rattle.fx_counted.proofs.Words.{entry_more, takes_more, LooksKeep, Looks, holds_now, Between, bit_here, one_more_at, length-set, bit_else}
-use Rattle.fx_counted.proofs.Words.{IsSeated}
+use Rattle.fx_counted.proofs.Words.{entry_more, takes_more, LooksKeep, Looks, holds_now, Between, one_more_at, length-set, IsSeated}
 use Rattle.fx_counted.proofs.Steps.{busy, stays_same, owner_stays, IsHistory, grows_one, legal_more, held_mine, part_mine, same_shape, step_kept}
-use Rattle.fx_counted.proofs.Steps.{Turn, turn_of, word_at, now, logged, its_log, tells, by_turn, Made, log_now, far, node_same, control_same, NodeIn}
-use Rattle.fx_counted.proofs.Steps.{in_phase, seat_in, slots_now, node_now, control_now, draws_now, words_now}
+use Rattle.fx_counted.proofs.Steps.{Turn, turn_of, word_at, now, logged, its_log, tells, by_turn, Made, log_now, far, control_same, NodeIn, seat_in}
+use Rattle.fx_counted.proofs.Steps.{slots_now, node_now, control_now, draws_now, words_now}
 
 module _ (turn : Turn) (idle : turn.v.work ≡ Between Idle) (some_left : 0 < turn.x.looks_left) (s : ℕ) (inside : s < slots_of turn.v.start)
     (fits : word_at turn.st.words (slot_place s) < 18446744073709551616) where
@@ -58,18 +57,13 @@ module _ (turn : Turn) (idle : turn.v.work ≡ Between Idle) (some_left : 0 < tu
 
   seat_now : (file : Option File) → old.at s ≡ file → IsSeated v.start (looks (h' file)) r.phase s word' file
   seat_now None is = tt
-  seat_now (Some f) is = let seat = seat_in v.start st r inside is in (
-    seat.0,
-    takes_now ∙ (let a = seat.1 in let b = looks_are (Some f) f.number in let e = bit_here f.number f.number refl in omega arith),
-    seat.2,
-  )
+  seat_now (Some f) is = grind arith
 
   -- a number whose file is not at the slot was not found
   not_found : (file : Option File) → old.at s ≡ file → {n : ℕ} {ph : Phase} → r.phase n ≡ ph → ((g : Closed) → ph ≢ seated s g)
       → holding n (holds_now file) ≡ 0
   not_found None is at not_seated = refl
-  not_found (Some f) is {n} at not_seated = bit_else n f.number
-      (λ same. not_seated f.identity (sym at ∙ (ap r.phase (sym same) ∙ (seat_in v.start st r inside is).2)))
+  not_found (Some f) is {n} at not_seated = grind arith
 
   module _ (file : Option File) (is : old.at s ≡ file) where
     abbrev y : Log
@@ -85,19 +79,8 @@ module _ (turn : Turn) (idle : turn.v.work ≡ Between Idle) (some_left : 0 < tu
     legal = legal_more v.start r.legal (let z = (same_shape v.start r.history).0 in omega arith, sym is) tt
 
     node_after : {n : ℕ} → IsNumber v.start n → (ph : Phase) → r.phase n ≡ ph → NodeIn v.start st.words st.homes (h' file) n ph
-    node_after {n} has (seated i g) at = let o = in_phase v.start st r has at in let a = looks_are file n in
-        let b = ap (λ (z : State). z.holds n) (state_is file) in let c = o.counts in record {
-          counts = omega arith;
-          at_home = o.at_home;
-          inside = let l = o.inside in let e = ap (λ (z : State). z.size) (state_is file) in omega arith;
-          there = ap (λ (z : State). z.at i) (state_is file) ∙ o.there;
-          not_removed = ap (λ (z : State). z.removed n) (state_is file) ∙ o.not_removed;
-        }
-    node_after {n} has ph at = let none_found = not_found file is at (λ g bad. cc bad) in
-        node_same old new n (looks r.history n) (looks (h' file) n) _ _ _ _
-        (ap (λ (z : State). z.fresh n) (state_is file)) (ap (λ (z : State). z.removed n) (state_is file))
-        (let a = ap (λ (z : State). z.holds n) (state_is file) in omega arith) (let a = looks_are file n in omega arith) refl refl
-        (ap (λ (z : State). z.size) (state_is file)) ph (λ i g is there. ap (λ (z : State). z.at i) (state_is file)) (in_phase v.start st r has at)
+    node_after {n} has (seated i g) at = grind arith
+    node_after {n} has ph at = grind arith
 
     looked : (slots : ℕ) (carried : List (ℕ × Option Closed))
         → Made turn carried (slot_place s) (λ word. (word + 1) % 2 ^ 64) (Looks (step slots (slot_place s) 1 0 none) (v, carried))

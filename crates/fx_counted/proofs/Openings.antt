@@ -5,11 +5,11 @@ use Rattle.fx_counted.proofs.Words.{Retiring, Between, IsSeated, mul-le-mul_righ
 use Rattle.fx_counted.proofs.Words.{file_numbered, full_in, first_at, control_place, draw_place, slot_place, words_for, word_for, node_for}
 use Rattle.fx_counted.proofs.Words.{control_word_of, [], ◌∷◌, dite, some, get_elem?, Closed, state_of, identity_of, length-map-range_with_len, dec_le}
 use Rattle.fx_counted.proofs.Words.{MAX_CHAINS, chain_numbers, AreFirstWords, AreFirstHomes, home_place, homes_for, home_for, OpensWith, MAX_PASSES}
-use Rattle.fx_counted.proofs.Words.{first_file, node_place, Bool, nat_lt, cond, map, eqb, lt-ltb, le-ltb, inl, inr, ⊎_elim, count_by, sum_by-cons}
-use Rattle.fx_counted.proofs.Words.{some-injective, some-ne-none, numbered, numbers_for, range_of, born, takes_in, name_made, entry_made, takes_made}
-use Rattle.fx_counted.proofs.Words.{SlotAgrees, NodeAgrees, OwnerAgrees, LogAgrees, ViewAgrees, new_logs, word_of, place_of, opening_of, slots_of}
-use Rattle.fx_counted.proofs.Words.{IsNumber, state_after_all, new_log, Phase, unborn, seated, closed, Log, View, Idle, ◌&&◌, length-map, at_map}
-use Rattle.fx_counted.proofs.Words.{first_view, contains_map, sum_zero, one_if, once_is, counted_once, range_with_len, full_few, not, numbered_anew}
+use Rattle.fx_counted.proofs.Words.{first_file, node_place, Bool, nat_lt, cond, map, eqb, lt-ltb, le-ltb, inr, ⊎_elim, count_by, sum_by-cons}
+use Rattle.fx_counted.proofs.Words.{some-injective, some-ne-none, numbered, numbers_for, range_of, born, SlotAgrees, NodeAgrees, OwnerAgrees}
+use Rattle.fx_counted.proofs.Words.{LogAgrees, ViewAgrees, new_logs, word_of, place_of, opening_of, slots_of, IsNumber, state_after_all, new_log}
+use Rattle.fx_counted.proofs.Words.{Phase, unborn, seated, closed, Log, View, Idle, ◌&&◌, length-map, at_map, first_view, contains_map, sum_zero}
+use Rattle.fx_counted.proofs.Words.{one_if, once_is, counted_once, range_with_len, full_few, not, numbered_anew}
 use Rattle.fx_counted.specs.Bounds.{AreBounded, slot_word_in, node_word_in}
 use Rattle.fx_counted.proofs.ControlSteps.{few_changes, few_full, few_added, few_removed}
 use Rattle.fx_counted.proofs.Frames.{looks_few}
@@ -124,24 +124,7 @@ module _ (k : Start) (words : List ℕ) (homes : List (Option Closed)) (o : Open
   its_number slot f is = numbered_anew ((state_of (opening_of k).contents).at slot) slot f is
 
   slot_opens : (slot : ℕ) → slot < slots_of k → SlotAgrees k [] (first_phase k) slot (slice_index words (slot_place slot))
-  slot_opens slot l = record {
-    names = rw (o.slot_words slot l) (names (first_file k slot) refl);
-    seat = rw (o.slot_words slot l) (seat (first_file k slot) refl);
-    takes = let a = o.slot_words slot l in let b = none (first_file k slot) in let c = ap takes_in a in omega arith;
-  }
-    where
-      names : (found : Option File) → first_file k slot ≡ found → Names (word_for found) found
-      names None is = refl
-      names (Some f) is = let small = o.entries slot f is in (name_made f.number f.identity.entry small, entry_made f.number f.identity.entry small)
-
-      none : (found : Option File) → takes_in (word_for found) ≡ 0
-      none None = refl
-      none (Some f) = takes_made f.number f.identity.entry
-
-      seat : (found : Option File) → first_file k slot ≡ found → IsSeated k (λ _. 0) (first_phase k) slot (word_for found) found
-      seat None is = tt
-      seat (Some f) is = let e = its_number slot f is in
-          (inl (omega arith), takes_made f.number f.identity.entry, ap (first_phase k) e ∙ (low_phase l ∙ ap (phase_for slot) is))
+  slot_opens slot l = grind arith
 
   abbrev Node : ℕ → Phase → Type 0
   Node n ph = NodeAgrees s n 0 (slice_index words (word_of k n)) (get_elem? (map some homes) (place_of k n)) ph
@@ -173,12 +156,7 @@ module _ (k : Start) (words : List ℕ) (homes : List (Option Closed)) (o : Open
       }
 
   owner_opens : (n : ℕ) → OwnerAgrees (first_view k ∷ []) n (first_phase k n)
-  owner_opens n = dite (dec_le (suc n) (slots_of k)) (λ l. subst (OwnerAgrees (first_view k ∷ []) n) (sym (low_phase l)) (low (first_file k n)))
-      (λ g. subst (OwnerAgrees (first_view k ∷ []) n) (sym (high_phase (omega (arith, g)))) tt)
-    where
-      low : (found : Option File) → OwnerAgrees (first_view k ∷ []) n (phase_for n found)
-      low None = tt
-      low (Some f) = tt
+  owner_opens n = grind arith
 
   view_opens : (j : ℕ) (v : View) → get_elem? (first_view k ∷ []) j ≡ some v → ViewAgrees k [] (first_phase k) j v
   view_opens zero v e = subst (ViewAgrees k [] (first_phase k) 0) (some-injective (first_view k) v e) record {

@@ -1,8 +1,7 @@
 -- Places are inside, and apart; and, at the end, places as they were worked out by hand, for tables of 2 slots and of 256, with
 -- as many numbers as one chain has and as all chains have.
-use Rattle.fx_counted.proofs.Words.{◌≡◌, ℕ, ◌+◌, ◌-◌, ◌*◌, ◌<◌, ◌≤◌, Bool, cond, ap, arith, lt-ltb, le-ltb, ⊎_elim, node_place, mul-le-mul_right}
-use Rattle.fx_counted.proofs.Words.{home_place, HasNode, PlacesAreInside, PlacesAreApart, inl, inr, ◌⊎◌, refl, slot_place, words_for, homes_for}
-use Rattle.fx_counted.proofs.Words.{control_place, draw_place}
+use Rattle.fx_counted.proofs.Words.{◌≡◌, ℕ, ◌+◌, ◌-◌, ◌*◌, ◌<◌, ◌≤◌, Bool, cond, ap, arith, lt-ltb, le-ltb, node_place, mul-le-mul_right, home_place}
+use Rattle.fx_counted.proofs.Words.{HasNode, PlacesAreInside, PlacesAreApart, ◌⊎◌, refl, slot_place, words_for, homes_for, control_place, draw_place}
 
 module _ (size : ℕ) where
   pub low_node : {n : ℕ} → n < size → node_place size n ≡ 17 + 8 * n
@@ -21,36 +20,17 @@ module _ (size : ℕ) where
     -- a number of a slot, or of a chain
     node_is : (n : ℕ) → HasNode size numbers n → ((n < size) × (node_place size n ≡ 17 + 8 * n))
         ⊎ ((256 ≤ n) × (n < 256 + numbers) × (node_place size n ≡ 16 + 8 * size + (n - 256)))
-    node_is n has = ⊎_elim (λ (l : n < size). inl (l, low_node l))
-        (λ (h : (256 ≤ n) × (n < 256 + numbers)). inr (h.0, h.1, high_node n (omega (arith, h.0)))) has
+    node_is n has = grind arith
 
     home_is : (n : ℕ) → HasNode size numbers n → ((n < size) × (home_place size n ≡ n))
         ⊎ ((256 ≤ n) × (n < 256 + numbers) × (home_place size n ≡ size + (n - 256)))
-    home_is n has = ⊎_elim (λ (l : n < size). inl (l, low_home l))
-        (λ (h : (256 ≤ n) × (n < 256 + numbers)). inr (h.0, h.1, high_home n (omega (arith, h.0)))) has
+    home_is n has = grind arith
 
     pub inside : PlacesAreInside size numbers
-    inside = record {
-      control = omega arith;
-      draw = omega arith;
-      slot = λ slot l. omega arith;
-      node = λ n has. omega (arith, node_is n has);
-      home = λ n has. omega (arith, home_is n has);
-    }
+    inside = grind arith
 
     pub apart : PlacesAreApart size numbers
-    apart = record {
-      slots = λ slot other e. omega arith;
-      nodes = λ n m has its differ same. omega (arith, node_is n has, node_is m its);
-      homes = λ n m has its differ same. omega (arith, home_is n has, home_is m its);
-      node_and_slot = λ n slot small has same. omega (arith, node_is n has);
-      node_and_control = λ n has same. omega (arith, node_is n has);
-      node_and_draw = λ n has same. omega (arith, node_is n has);
-      slot_and_control = λ slot same. absurd (omega arith);
-      slot_and_draw = λ slot same. absurd (omega arith);
-      control_and_draw = λ same. absurd (omega arith);
-      slot_back = λ slot. omega arith;
-    }
+    apart = grind arith
 
 -- chains that have few numbers each have few together
 pub few_numbers : {numbers chains : ℕ} → numbers ≤ 64 → chains ≤ 1023 → numbers * chains ≤ 65472

@@ -1,9 +1,10 @@
 -- A pass that looks for a free slot: what its steps leave, one after another.
-use Rattle.fx_counted.proofs.Words.{◌≡◌, ℕ, ◌+◌, Bool, [], ◌∷◌, sym, ap, ◌∙◌, subst, ◌≢◌, ne_eqb, eq-eqb, Some, dite, none, ℕ_discrete, step, rest}
-use Rattle.fx_counted.proofs.Words.{Closed, ◌▷◌, numbered, Allocate, Full, no_use, one_number, Goes, place_of, slot_of, Sat, StillPlaces}
-use Rattle.fx_counted.proofs.Words.{HasAllocated, Tries, Stepped, Exchanges, Change, Outside, Same, More, Start, Work, Idle, Placing, nat_eq}
-use Rattle.fx_counted.proofs.Words.{IsPlacing, HasFoundAllFull, List, Action, Use, ◌▷▷◌, both_uses, Between, Proceeds}
-use Rattle.fx_counted.proofs.Calling.{goes_one, goes_then, still_at_work}
+use Rattle.fx_counted.proofs.Words.{◌≡◌, ℕ, ◌+◌, [], ◌∷◌, sym, ap, ◌∙◌, subst, ◌≢◌, Some, none, step, rest, Closed, ◌▷◌, numbered, Allocate, Full}
+use Rattle.fx_counted.proofs.Words.{no_use, one_number, Goes, place_of, slot_of, Sat, StillPlaces, HasAllocated, Tries, Stepped, Exchanges, Change}
+use Rattle.fx_counted.proofs.Words.{Outside, Same, More, Start, Work, Idle, Placing, nat_eq, IsPlacing, HasFoundAllFull, List, Action, Use, ◌▷▷◌}
+use Rattle.fx_counted.proofs.Words.{both_uses, Between, Proceeds}
+use Rattle.fx_counted.proofs.Calling.{goes_one, goes_then}
+use Rattle.std.proofs.Common.{arith}
 
 -- one step more, and some more
 proceeds_one : {m m' : Sat} {xs : List Action} {a : Use} {w : Work} {c : Change} → Stepped m xs a w c m' → Proceeds m xs a w c m'
@@ -30,18 +31,12 @@ full_then a b = (proceeds_then a.0 b.0, b.1 ∙ a.1)
 -- the pass goes on placing the file
 pub still_placing : {k : Start} {m m' : Sat} {n : ℕ} {file : Closed} {c : Change} → IsPlacing k n file m → StillPlaces n c m m'
     → IsPlacing k n file m'
-still_placing p s = record {
-  at = still_at_work p.at.pass s.0.1;
-  work = s.0.1.work;
-  place = s.1 ∙ p.place;
-}
+still_placing p s = grind arith
 
 -- the test that the word is as it was loaded
 tries_by : {m m' : Sat} {n slot : ℕ} {file : Closed} {a b : ℕ} → (a ≡ b → HasAllocated n file slot More m m')
     → (a ≢ b → StillPlaces n Same m m') → Tries n file slot m (nat_eq a b) m'
-tries_by {m} {m'} {n} {slot} {file} {a} {b} won lost = dite (ℕ_discrete a b)
-    (λ same. subst (λ (z : Bool). Tries n file slot m z m') (sym (eq-eqb a b same)) (won same))
-    (λ other. subst (λ (z : Bool). Tries n file slot m z m') (sym (ne_eqb a b other)) (lost other))
+tries_by {m} {m'} {n} {slot} {file} {a} {b} won lost = grind arith
 
 -- a load that finds a free slot, and an exchange
 pub exchange_tried : {k : Start} {m m' m'' : Sat} {n slot i slots found old new : ℕ} {file : Closed} → IsPlacing k n file m

@@ -1,14 +1,14 @@
 -- Swaps, loads and exchanges keep the rule.
 use Rattle.fx_counted.proofs.Words.{◌≡◌, ◌≢◌, ℕ, ◌-◌, ◌<◌, ◌^◌, Bool, List, [], ◌∷◌, false, sym, refl, ap, ◌∙◌, subst, arith, eqb, Option, Some, None}
 use Rattle.fx_counted.proofs.Words.{inl, none, keeps, gives, rest, stepped, step, Closed, ◌▷◌, changed_at, numbered, File, Action, Put, Clear, Take}
-use Rattle.fx_counted.proofs.Words.{Allocate, one_number, name_in, slot_word_of, Names, WorkAgrees, Agrees, HasPass, MayChange, place_of, slot_place}
-use Rattle.fx_counted.proofs.Words.{Sat, slots_of, state_after_all, Stepped, Exchanges, GoesOn, turned, Change, Same, Log, Start, View, Idle, Placing}
+use Rattle.fx_counted.proofs.Words.{Allocate, one_number, name_in, slot_word_of, WorkAgrees, Agrees, HasPass, MayChange, place_of, slot_place, Sat}
+use Rattle.fx_counted.proofs.Words.{slots_of, state_after_all, Stepped, Exchanges, GoesOn, turned, Change, Same, Log, Start, View, Idle, Placing}
 use Rattle.fx_counted.proofs.Words.{event_of, shown, set-get_or, exchanged, ClearsKeep, TakesKeep, InstallsKeep, LoadsKeep, ExchangesKeep, Installs}
 use Rattle.fx_counted.proofs.Words.{Removes, Between, Allows, IsInRange}
 use Rattle.fx_counted.proofs.Steps.{in_phase, legal_more, same_shape, Turn, turn_of, word_at, now, logged, its_work, by_turn, went, Made, far}
 use Rattle.fx_counted.proofs.Steps.{control_same}
 use prog.Atomic.{either}
-use Rattle.fx_counted.proofs.ControlSteps.{no_event, calm_agrees, goes_on}
+use Rattle.fx_counted.proofs.ControlSteps.{calm_agrees, goes_on}
 use Rattle.fx_counted.proofs.Swaps.{Effect, in_size, names_old, removal_agrees, removal_tells, installation_agrees, installation_tells, removed_view}
 use Rattle.fx_counted.proofs.Swaps.{installed_view}
 
@@ -97,15 +97,7 @@ module _ (turn : Turn) (i : ℕ) where
   still = went turn r.history v.work v.change
 
   read_agrees : Agrees v.start (stepped st i (word_at st.words i) id [] still keeps)
-  read_agrees = rw (set-get_or st.words i 0)
-      (calm_agrees turn r.history v.change st.words record {
-        quiet = no_event turn;
-        words = refl;
-        slots = λ s. refl;
-        nodes = λ n has. refl;
-        drawn = refl;
-        control = control_same st.views id v still here refl refl refl r.control;
-      })
+  read_agrees = grind (arith, set-get_or, calm_agrees, control_same)
 
 pub loads_keep : LoadsKeep
 loads_keep k slots id i m x has same = by_turn slots (λ _. Unit {0}) (λ _. i) (λ word. word) (λ i. GoesOn Same (step slots i 0 0 none) m)
@@ -144,8 +136,7 @@ module _ (turn : Turn) (slots s n old_word : ℕ) (file : Closed) (carried : Lis
 
   no_file : word ≡ old_word → (found : Option File) → (state_after_all v.start r.history).at s ≡ found → found ≡ None
   no_file is None at = refl
-  no_file is (Some f) at = let names = subst (Names word) at ((r.each_slot s within).names) in
-      absurd (let a = ap name_in is in let b = names.0 in omega arith)
+  no_file is (Some f) at = grind arith
 
   lost : word ≢ old_word → Goal word
   lost other = (
@@ -164,12 +155,7 @@ module _ (turn : Turn) (slots s n old_word : ℕ) (file : Closed) (carried : Lis
     a = Allocate s (numbered n file)
 
     allocated : Effect turn s within None at_none a (Some (numbered n file)) (changed_at (state_after_all v.start r.history).fresh n false)
-    allocated = let its = subst (WorkAgrees v.start r.phase id) works (its_work turn) in
-        let o = in_phase v.start st r its.0 its.1 in
-        let z = (same_shape v.start r.history).1 in let p = ap (λ (p : ℕ × ℕ). p.0) z in let q = ap (λ (p : ℕ × ℕ). p.1) z in
-        let low = in_range.0 in let high = in_range.1 in
-        let legal = legal_more v.start r.legal (in_size turn s within, (omega arith, omega arith), at_none, o.fresh) tt in
-        record { legal = legal; state = refl; looked = refl; all = omega arith; held = refl }
+    allocated = grind (arith, same_shape)
 
     abbrev w : View
     w = now v (logged x (event_of (shown x v.work) a ∷ r.history) (x.numbers_left - 1) x.looks_left) (Between Idle) (turned v.change 0 1)

@@ -10,7 +10,7 @@ use Rattle.fx_counted.proofs.Words.{Work, Idle, Placing, Retiring, Between, keep
 use Rattle.fx_counted.proofs.Steps.{in_phase, seat_in, busy, owner_stays, does_now, IsHistory, grows_one, part_mine, held_mine, each_changed}
 use Rattle.fx_counted.proofs.Steps.{same_shape, Turn, Homes, word_at, now, logged, its_log, its_work, log_now, tells, went, tells_one, node_same}
 use Rattle.fx_counted.proofs.Steps.{NodeIn, step_kept, slots_now, node_now, control_now, draws_now, words_now}
-use Rattle.fx_counted.proofs.Births.{roomy, else_place, unheld}
+use Rattle.fx_counted.proofs.Births.{else_place, unheld}
 use Rattle.fx_counted.proofs.ControlSteps.{Stands, control_swap}
 
 -- the phases after a file has left its slot for the seat id
@@ -120,19 +120,10 @@ module _ (turn : Turn) (s : ℕ) (inside : s < slots_of turn.v.start) where
 
         module _ (p : Swap) where
           old_node : {f : File} → old ≡ Some f → Node homes' f.number (leaving id (takes_in found) f.identity)
-          old_node {f} is = let its = seat_in v.start st r inside (was ∙ is) in let n = in_phase v.start st r its.0 its.2 in
-              let h = ap (λ (z : State). z.holds f.number) p.does.state in record {
-                counts = let a = n.counts in omega arith;
-                at_home = p.old_home f is ∙ n.at_home;
-                all_takes = its.1;
-                removed = ap (λ (z : State). z.removed f.number) p.does.state
-                    ∙ (ap (λ (o : Option File). with_removed state.removed o f.number) is
-                    ∙ changed_here state.removed f.number (Some f) f.number refl);
-              }
+          old_node {f} is = grind arith
 
           out_here : {f : File} → old ≡ Some f → phase' f.number ≡ leaving id (takes_in found) f.identity
-          out_here {f} is = ap (λ (o : Option File). gone_out id o (takes_in found) phase₁ f.number) is
-              ∙ changed_here phase₁ f.number (leaving id (takes_in found) f.identity) f.number refl
+          out_here {f} is = grind arith
 
           else_phase : {n : ℕ} → NotOf n old → phase' n ≡ phase₁ n
           else_phase {n} other = out_else id old (takes_in found) phase₁ other
@@ -261,13 +252,7 @@ module _ (turn : Turn) (s : ℕ) (inside : s < slots_of turn.v.start) where
           installed_view = now v (logged x h' (x.numbers_left - 1) x.looks_left) d c₁
 
           node_here : Node homes₁ n (seated s file)
-          node_here = let o = in_phase v.start st r its.0 its.1 in let h = ap (λ (z : State). z.holds n) does.state in record {
-            counts = let a = o.counts in let b = o.no_looks in let c = o.no_holds in omega arith;
-            at_home = set_here st.homes (place_of v.start n) (some (Some file)) (roomy turn its.0);
-            inside = let z = in_size in let q = ap (λ (z : State). z.size) does.state in omega arith;
-            there = ap (λ (z : State). z.at s) does.state ∙ changed_here state.at s (Some (numbered n file)) s refl;
-            not_removed = ap (λ (z : State). z.removed n) does.state ∙ (removed_else state.removed old apart_old ∙ o.not_removed);
-          }
+          node_here = grind (arith, set_here, in_size)
 
           node_else : {m : ℕ} → IsNumber v.start m → m ≢ n → NotOf m old → Node homes₁ m (r.phase m)
           node_else {m} has other apart = node_same state after m (looks r.history m) (looks r.history m) _ _ _ _

@@ -1,5 +1,5 @@
 -- The names that these proofs cite, passed on from one place. Declares nothing.
-pub use Rattle.atomic_table.proofs.Lists.{at_index, at_last, at_longer, at_map, at_set, exchanged, set_again, set_else, set_here}
+pub use Rattle.atomic_table.proofs.Lists.{at_map, at_set, exchanged, set_again, set_else, set_here}
 pub use Rattle.atomic_table.specs.Seated.{TableId}
 pub use Rattle.atomic_table.specs.Table.{Act, Allows, Final, Seen, Valid, carried_after, gives, keeps, rest, step, stepped, takes}
 pub use Rattle.atomic_table.specs.declared.shared.Seat.{Seat}
@@ -28,22 +28,22 @@ pub use Rattle.fx_counted.specs.Phases.{Phase, closed, emptied, file_in, leaving
 pub use Rattle.fx_counted.specs.Searching.{HasAllocated, HasFoundAllFull, IsPlacing, Proceeds, StillPlaces, Tries}
 pub use Rattle.fx_counted.specs.Tables.{IsBetweenCalls, IsPassOf, IsPassOfTable, is_idle, opening_of_table, view_of}
 pub use Rattle.fx_counted.specs.Tells.{Births, DrawTells, Exchanges, GoesOn, Installs, IsInside, LetsGo, Looks, Releases, Removes, Rests, Retires}
-pub use Rattle.fx_counted.specs.Tells.{SaysFull, Stepped, TakesOut, chain_given, changed, holds_now, turned}
+pub use Rattle.fx_counted.specs.Tells.{SaysFull, Stepped, TakesOut, chain_given, holds_now, turned}
 pub use Rattle.fx_counted.specs.declared.pass.CountedPass.{CountedPass}
 pub use Rattle.fx_counted.specs.declared.table.CountedTable.{CountedTable}
 pub use Rattle.fx_counted.specs.declared.view.Change.{Change}
-pub use Rattle.fx_counted.specs.declared.view.Change.TheVariants.{Less, More, Outside, Same}
+pub use Rattle.fx_counted.specs.declared.view.Change.TheVariants.{More, Outside, Same}
 pub use Rattle.fx_counted.specs.declared.view.Log.{Log}
 pub use Rattle.fx_counted.specs.declared.view.Start.{Start}
 pub use Rattle.fx_counted.specs.declared.view.View.{View}
 pub use Rattle.fx_counted.specs.declared.view.Work.{Work}
 pub use Rattle.fx_counted.specs.declared.view.Work.TheVariants.{Between, Emptying, Placing}
-pub use Rattle.fx_plain.proofs.Cells.{by_equality, changed_else, changed_here, each_set}
+pub use Rattle.fx_plain.proofs.Cells.{changed_else, changed_here, each_set}
 pub use Rattle.fx_plain.specs.Contents.{Contents, IsPrepared, state_of}
-pub use Rattle.fx_plain.specs.History.{IsLegal, IsSeenBy, ReleasesItsOwn, action_of, held_after, held_by, part_of_pass, ◌▷▷◌, ◌▷◌}
-pub use Rattle.fx_plain.specs.State.{IsSettled, State, file_numbered, files_in_order, identities_of}
+pub use Rattle.fx_plain.specs.History.{IsLegal, ReleasesItsOwn, action_of, held_after, held_by, part_of_pass, ◌▷▷◌, ◌▷◌}
+pub use Rattle.fx_plain.specs.State.{IsSettled, State, file_numbered}
 pub use Rattle.fx_plain.specs.Step.{changed_at, with_removed}
-pub use Rattle.fx_plain.specs.Table.{identity_of, number_of, numbered, slots_in_order}
+pub use Rattle.fx_plain.specs.Table.{identity_of, number_of, numbered}
 pub use Rattle.fx_plain.specs.declared.event.Action.{Action}
 pub use Rattle.fx_plain.specs.declared.event.Action.TheVariants.{Allocate, Clear, Close, Full, Look, Put, Release, Take}
 pub use Rattle.fx_plain.specs.declared.event.Event.{Event}
@@ -52,14 +52,14 @@ pub use Rattle.fx_table.proofs.SumLemmas.{contains_head, contains_map, contains_
 pub use Rattle.fx_table.proofs.SumLemmas.{contains_reversed, each_all, read_at, stands_at, bit_else, bit_here, counted_once, once_is, once_more}
 pub use Rattle.fx_table.proofs.SumLemmas.{one_if, one_less_at, one_more_at, times, found_by, found_sum, sum_at, sum_le_at, sum_map, sum_of, sum_set}
 pub use Rattle.fx_table.proofs.SumLemmas.{sum_two, sum_zero, sum_zero_at}
-pub use Rattle.fx_table.proofs.FullSlots.{full_all, full_else, full_few, full_here, full_one}
+pub use Rattle.fx_table.proofs.FullSlots.{full_all, full_else, full_few, full_here}
 pub use Rattle.fx_table.specs.FullSlots.{first_at, full_in, if_full}
-pub use Rattle.fx_table.specs.Shells.{AreBack, AreFirstHomes, file_in_place}
+pub use Rattle.fx_table.specs.Shells.{AreBack, AreFirstHomes}
 pub use Rattle.fx_table.specs.Calls.{Adds, Draws, Use, both_uses, no_use, one_look, one_number}
 pub use Rattle.fx_table.specs.Closing.{ClosesTable, times_drawn}
 pub use Rattle.fx_table.specs.Numbers.{numbers_for, numbers_up_to, once}
-pub use Rattle.fx_table.specs.Opening.{HasSameFiles, IsGivenBack, range_of, size_of, start_of}
-pub use Rattle.fx_table.specs.Pass.{IsFront, IsIdle, PassView, event_of, new_pass, next_number, retired_of, hold_of}
+pub use Rattle.fx_table.specs.Opening.{HasSameFiles, range_of, size_of, start_of}
+pub use Rattle.fx_table.specs.Pass.{IsIdle, PassView, event_of, new_pass, next_number, retired_of, hold_of}
 pub use Rattle.fx_table.specs.Settling.{IsSettledSoFar}
 pub use Rattle.fx_table.specs.Tasks.{activity_of, retiring}
 pub use Rattle.fx_table.specs.declared.limits.TheConstants.{MAX_CHAINS, MAX_PASSES}
@@ -70,17 +70,16 @@ pub use Rattle.fx_words.specs.Words.{born, control_word_of, end_amount_of, entry
 pub use Rattle.fx_words.specs.Words.{retire_amount_of, slot_word_of, takes_in}
 pub use Rattle.std.proofs.Common.{All, Bool, IsSome, List, None, Option, Some, [], ap, arith, cond, drop, eq-eqb, eqb, false, get_or}
 pub use Rattle.std.proofs.Common.{get_or-set_other, get_or-set_same, inl, inr, le-ltb, length, length-append, length-set, lt-ltb, map, nat_eq, nat_lt}
-pub use Rattle.std.proofs.Common.{ne_eqb, refl, reverse, rules, set, slice_index, subst, suc, sym, take, true, vec_capacity, zero, ℕ, ⊎_elim, ◌%◌}
-pub use Rattle.std.proofs.Common.{◌&&◌, ◌*◌, ◌++◌, ◌+◌, ◌-◌, ◌/◌, ◌<◌, ◌^◌, ◌∙◌, ◌∷◌, ◌≡◌, ◌≢◌, ◌≤◌, ◌⊎◌, not}
-pub use Rattle.std.proofs.Math.ListN.{get_or-eq_default}
+pub use Rattle.std.proofs.Common.{refl, reverse, rules, set, slice_index, subst, suc, sym, take, true, vec_capacity, zero, ℕ, ⊎_elim, ◌%◌, ◌&&◌, ◌*◌}
+pub use Rattle.std.proofs.Common.{◌++◌, ◌+◌, ◌-◌, ◌/◌, ◌<◌, ◌^◌, ◌∙◌, ◌∷◌, ◌≡◌, ◌≢◌, ◌≤◌, ◌⊎◌, not}
 pub use Rattle.std.proofs.Math.Nat.{mul-add, mul-le-mul_left, mul-le-mul_right}
-pub use Rattle.std.proofs.lemmas.List.{append-nil, get_or_append_left, get_or_default, get_or_push, length-map, length-reverse, set-get_or}
+pub use Rattle.std.proofs.lemmas.List.{append-nil, length-map, length-reverse, set-get_or}
 pub use Rattle.std.proofs.lemmas.List.Elements.{All-contains, Contains-append_left}
 pub use Rattle.std.proofs.lemmas.List.FromFn.{length-map-range_with_len}
 pub use Rattle.std.proofs.lemmas.List.Sums.{count_by-le-length, sum_by-append, sum_by-cons}
 pub use Rattle.std.specs.List.{range_with_len}
 pub use Rattle.std.specs.Mem.Slots.{IsFull, slots_filled, slots_items, slots_len}
-pub use Rattle.std.specs.Prelude.{Contains, Err, Ok, OnOk, Result, count_by, is_some, option_map, slice_index_or, sum_by, ℤ}
+pub use Rattle.std.specs.Prelude.{Contains, count_by, is_some, option_map, sum_by, ℤ}
 pub use lib.ListN.{get_elem?}
 pub use mathlib.Core.Logic.{dite}
 pub use mathlib.Core.Option.{none, some, some-injective, some-ne-none}

@@ -3,11 +3,7 @@ use Rattle.fx_counted.proofs.Seats.{rest_is_dealt, last_is_dealt, is_new_pass, s
 use Rattle.fx_counted.proofs.table.CountedTable.deal.Goals as goal
 
 pub split_seat-one-requires : goal.split_seat-one-requires
-split_seat-one-requires c = let i = c.loop-number.invariant in (
-  i.table,
-  omega (arith, c.args.self.now.words),
-  splits_keep _ _ c.loop-number.seat.me.0 (ap (λ (m : Sat). m.0.work) i.me) (ap (λ (m : Sat). m.0.change) i.me),
-)
+split_seat-one-requires c = grind (arith, splits_keep)
 
 pub loop-number-preserved : goal.loop-number-preserved
 loop-number-preserved c =

@@ -1,6 +1,6 @@
-use Rattle.fx_counted.proofs.Words.{◌≡◌, ℕ, List, sym, refl, ap, ◌∙◌, arith, Option, Some, some, get_elem?, slots_items, Closed, read_at, home_place}
-use Rattle.fx_counted.proofs.Words.{node_in, slice_index, slot_place, rules, option_map, false, get_or-set_other, slots_filled, each_set}
-use Rattle.fx_table.proofs.Shells.{file_put, none_came, all_came, none_left, none_named, some_came, none_there}
+use Rattle.fx_counted.proofs.Words.{◌≡◌, ℕ, List, refl, ap, ◌∙◌, arith, Option, Some, some, get_elem?, slots_items, read_at, home_place, node_in}
+use Rattle.fx_counted.proofs.Words.{slice_index, slot_place, rules, option_map, false, get_or-set_other, slots_filled, each_set}
+use Rattle.fx_table.proofs.Shells.{file_put, none_came, all_came, none_named, some_came, none_there}
 use Rattle.fx_counted.proofs.HomeComing.{place_at, home_at_end, known_at_end, leaves_at_end}
 use Rattle.fx_counted.proofs.table.CountedTable.finish.Goals.{in-Some+in-Some-take_home, in-Some+in_default-take_home, in_default}
 use Rattle.fx_counted.proofs.table.CountedTable.finish.Goals as goal
@@ -8,13 +8,11 @@ use Rattle.fx_counted.proofs.table.CountedTable.finish.Goals as goal
 -- the number that a slot's word names, and its place
 named_by : (slot : ℕ) {ws now : List ℕ} {place word : ℕ} {n : Option ℕ} → now ≡ ws → place ≡ slot_place slot
     → get_elem? now place ≡ some word → n ≡ node_in word → node_in (slice_index ws (slot_place slot)) ≡ n
-named_by slot {ws} {now} {place} same is there named =
-    ap node_in (read_at ws (slot_place slot) 0 (ap (get_elem? ws) (sym is) ∙ (ap (λ (l : List ℕ). get_elem? l place) (sym same) ∙ there))) ∙ sym named
+named_by slot {ws} {now} {place} same is there named = grind (arith, read_at)
 
 placed_by : (size slot : ℕ) {ws now : List ℕ} {place word n home : ℕ} → now ≡ ws → place ≡ slot_place slot
     → get_elem? now place ≡ some word → Some n ≡ node_in word → home ≡ home_place size n → place_at size ws slot ≡ Some home
-placed_by size slot same is there named at =
-    ap (option_map (home_place size)) (named_by slot same is there named) ∙ ap (λ (z : ℕ). Some z) (sym at)
+placed_by size slot same is there named at = grind (arith, named_by)
 
 pub loop-slot-init : goal.loop-slot-init
 loop-slot-init c = record {
@@ -73,9 +71,7 @@ loop-place-preserved c = let i = c.loop-place.invariant in let o = c.in-None.ens
 }
 
 pub unreachable-requires : goal.unreachable-requires
-unreachable-requires c =
-    absurd (none_left c.args.self.size _ c.loop-slot.invariant.coming (omega (arith, c.loop-slot-test.false)) _
-    (ap (λ (xs : List (Option Closed)). get_elem? xs c.loop-place.place) (sym c.loop-place.invariant.items) ∙ c.in_default-home.ensures.value))
+unreachable-requires c = grind arith
 
 pub returns : goal.returns
 returns c =

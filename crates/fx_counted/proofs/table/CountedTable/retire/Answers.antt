@@ -1,7 +1,6 @@
-use Rattle.fx_counted.proofs.Words.{ℕ, sym, ◌<◌, ◌≡◌, [], refl, ap, ◌∙◌, arith, subst, Some, ◌▷◌, Close, File, no_use, Retired, retired_of}
-use Rattle.fx_counted.proofs.Words.{retire_amount_of, Goes, node_place, HasPlace, pass_of, state_after_all, IsInside, TakesOut, Change, Start, Idle}
-use Rattle.fx_counted.proofs.Words.{Retiring, Between}
-use Rattle.fx_counted.proofs.Calling.{node_inside, its_pass, its_removal, adds_so, still_pass, let_go, out_place, out_and_home}
+use Rattle.fx_counted.proofs.Words.{◌≡◌, [], refl, ap, ◌∙◌, arith, subst, Some, ◌▷◌, Close, File, no_use, Retired, retired_of, retire_amount_of, Goes}
+use Rattle.fx_counted.proofs.Words.{node_place, HasPlace, pass_of, state_after_all, IsInside, TakesOut, Change, Idle, Retiring, Between}
+use Rattle.fx_counted.proofs.Calling.{node_inside, its_pass, its_removal, adds_so, still_pass, let_go, out_and_home}
 use Rattle.fx_counted.proofs.LettingGo.{retires_keep}
 use Rattle.fx_counted.proofs.table.CountedTable.retire.Goals.{After-fetch_sub-found}
 use Rattle.fx_counted.proofs.table.CountedTable.retire.Goals as goal
@@ -29,21 +28,10 @@ module _ (c : After-fetch_sub-found) where
 
   place : c.fetch_sub-found.result ≡ c.retire_amount-amount.result
       → HasPlace c.args.self.now.table.shared.key c.args.retired.node (Some file.identity) c.fetch_sub-found.new.seat.me
-  place is = subst (λ (n : ℕ). HasPlace c.args.self.now.table.shared.key n (Some file.identity) c.fetch_sub-found.new.seat.me)
-      (sym (ap (λ (r : Retired). r.node) its.1)) (out_place (its_pass c.requires.fits) c.requires.fits.places (closes is))
+  place is = grind (arith, closes)
 
 pub returns-then-found-amount : goal.returns-then-found-amount
-returns-then-found-amount c =
-    let a = (goal.at.returns-then-found-amount c).After-fetch_sub-found in let fits = c.requires.fits in
-    let (f, doing) = c.requires.removed in let went = c.fetch_sub-found.ensures.2.waits f _ (its a).0 c.if-found-amount.true in
-    let goes = let_go fits.seated.change went.0 in
-    let held = subst (λ (z : Start). 0 < (state_after_all z (pass_of c.fetch_sub-found.new.seat.me.0).front).holds f.number)
-    fits.seated.start went.1 in
-    record {
-      fits = still_pass _ fits goes c.fetch_sub-found.ensures.0 (went.0.carried ∙ fits.places) tt refl refl (omega arith) (omega arith) refl;
-      retired = (f, doing, (held, adds_so fits goes));
-      steps = let few = goes.steps in omega arith;
-    }
+returns-then-found-amount c = grind (arith, let_go, state_after_all, pass_of, still_pass, adds_so)
 
 pub take_out-requires-clause-place : goal.take_out-requires-clause-place
 take_out-requires-clause-place c =
