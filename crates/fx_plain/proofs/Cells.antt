@@ -1,24 +1,18 @@
 -- Places of a list where one was written, and their counts.
 use Rattle.fx_plain.proofs.Words.{◌≡◌, ◌≢◌, ℕ, zero, suc, replicate, ◌<◌, Bool, true, false, List, length, refl, sym, ap, ◌∙◌, slice_index_or}
-use Rattle.fx_plain.proofs.Words.{slice_set, subst, ◌==◌, if◌then◌else◌, inl, inr, get_or-set_same, get_or-set_other, eqb-true, cases_lt}
-use Rattle.fx_plain.proofs.Words.{get_or-eq_default, changed_at, IsSome, Option, Some, None, Closed, Contents, IsTable, state_of, slot_at, node_at}
-use Rattle.fx_plain.proofs.Words.{file_at, placed_at, leaving, removed_at, is_fresh, is_leaving, is_retired, identity_in, Fresh, At, Leaving, Retired}
-use Rattle.fx_plain.proofs.Words.{Gone, Node, ◌≤◌, arith, File, ◌+◌, eq-eqb, ne_eqb}
-use Rattle.std.proofs.lemmas.Bool.Decides.{not_from_Decides, Decides-eqb}
+use Rattle.fx_plain.proofs.Words.{slice_set, subst, ◌==◌, if◌then◌else◌, inl, inr, get_or-set_same, get_or-set_other, cases_lt, get_or-eq_default}
+use Rattle.fx_plain.proofs.Words.{changed_at, IsSome, Option, Some, None, Closed, Contents, IsTable, state_of, slot_at, node_at, file_at, placed_at}
+use Rattle.fx_plain.proofs.Words.{leaving, removed_at, is_fresh, is_leaving, is_retired, identity_in, Fresh, At, Leaving, Retired, Gone, Node, ◌≤◌}
+use Rattle.fx_plain.proofs.Words.{arith, File, ◌+◌, eq-eqb, ne_eqb}
 
 -- either two numbers are equal, and the test says so, or they are not
 pub by_equality : (q k : ℕ) (P : Bool → Type 0) → (q ≡ k → P true) → (q ≢ k → P false) → P (q == k)
-by_equality q k P same other =
-    elim (q == k) as (λ b. (q == k) ≡ b → P b) [
-      | true ↦ λ e. same (eqb-true q k e)
-      | false ↦ λ e. other (not_from_Decides _ (Decides-eqb q k) e)
-    ] refl
+by_equality q k P same other = grind arith
 
 module _ {X Y : Type 0} (g : ℕ → X → Y) (xs : List X) {k : ℕ} (v d : X) (inside : k < length xs) where
   -- a read of the list yields the new value at the place that was written
   pub written : (λ q. g q (slice_index_or (slice_set xs k v) q d)) ≡ changed_at (λ p. g p (slice_index_or xs p d)) k (g k v)
-  written = λ i q. by_equality q k (λ b. g q (slice_index_or (slice_set xs k v) q d) ≡ if b then g k v else g q (slice_index_or xs q d))
-      (λ same. rw (same, get_or-set_same xs k v d inside) refl) (λ other. ap (g q) (get_or-set_other xs k q v d other)) i
+  written = grind (arith, get_or-set_same, get_or-set_other)
 
 module _ {Y : Type 0} (f : ℕ → Y) (k : ℕ) where
   -- the place that was written, and each other one
@@ -39,9 +33,7 @@ inside_of xs k d differs = elim (cases_lt k (length xs)) [ inl lt ↦ lt | inr l
 -- a property of the written element, and of each other one as it was, holds for each element
 pub each_set : {X : Type 0} (P : ℕ → X → Type 0) (xs : List X) (k : ℕ) (v d : X) → k < length xs → P k v
     → (m : ℕ) → (m ≢ k → P m (slice_index_or xs m d)) → P m (slice_index_or (slice_set xs k v) m d)
-each_set P xs k v d inside here m others = by_equality m k (λ _. P m (slice_index_or (slice_set xs k v) m d))
-    (λ same. subst (λ (j : ℕ). P j (slice_index_or (slice_set xs k v) j d)) (sym same) (subst (P k) (sym (get_or-set_same xs k v d inside)) here))
-    (λ other. subst (P m) (sym (get_or-set_other xs k m v d other)) (others other))
+each_set P xs k v d inside here m others = grind (arith, get_or-set_same, get_or-set_other)
 
 -- each element of a list of equal values, and each read past its end
 pub read_default : {X : Type 0} (n i : ℕ) (d : X) → slice_index_or (replicate n d) i d ≡ d
@@ -55,8 +47,7 @@ pub inside_of-At : (nodes : List Node) (n : ℕ) {slot : ℕ} {file : Closed} �
 inside_of-At nodes n is = inside_of nodes n Gone (λ (gone : node_at nodes n ≡ Gone). cc)
 
 pub inside_told : (told : Node → Bool) (nodes : List Node) (n : ℕ) → told Gone ≡ false → told (node_at nodes n) ≡ true → n < length nodes
-inside_told told nodes n none is = inside_of nodes n Gone (λ (gone : node_at nodes n ≡ Gone).
-    let e : false ≡ true = sym none ∙ ap told (sym gone) ∙ is in cc)
+inside_told told nodes n none is = grind (arith, inside_of)
 
 -- a node has a file, at a slot or removed
 pub has_file-At : (nodes : List Node) (n : ℕ) {slot : ℕ} {file : Closed} → node_at nodes n ≡ At slot file → IsSome (identity_in (node_at nodes n))
@@ -86,8 +77,7 @@ file_same old new (Some m) same = ap (placed_at m) (same m refl)
 
 pub same_file : {c : Contents} (n : ℕ) (v : Node) → IsTable c → IsOff (node_at c.nodes n) → (slot : ℕ)
     → file_at (slice_set c.nodes n v) (slot_at c.slots slot) ≡ file_at c.nodes (slot_at c.slots slot)
-same_file {c} n v t off slot = file_same c.nodes (slice_set c.nodes n v) (slot_at c.slots slot) (λ m is. let at = t.placed slot m is in
-    get_or-set_other c.nodes n m v Gone (λ (same : m ≡ n). off slot at.0 (ap (node_at c.nodes) (sym same) ∙ at.1)))
+same_file {c} n v t off slot = grind (arith, get_or-set_other)
 
 pub state_of-holds : (c : Contents) {n : ℕ} (h : ℕ) → n < length c.holds
     → state_of (record c { holds = slice_set c.holds n h }) ≡ record (state_of c) { holds = changed_at (state_of c).holds n h }
@@ -123,15 +113,6 @@ named n (Some f) = if f.number == n then 1 else 0
 
 pub named_same : (f : File) (n : ℕ) → f.number ≡ n → named n (Some f) ≡ 1
 named_same f n is = grind arith
-
-pub named_at_most_one : (n : ℕ) (found : Option File) → named n found ≤ 1
-named_at_most_one n None = omega arith
-named_at_most_one n (Some f) = grind arith
-
--- a count that is not 0 is of a file of the number
-pub named_file : (n : ℕ) (found : Option File) → 0 < named n found → (f : File) × (found ≡ Some f) × (f.number ≡ n)
-named_file n None some_there = absurd (omega arith)
-named_file n (Some f) some_there = (f, refl, grind arith)
 
 -- Sums of a function over the numbers below a bound.
 abbrev pub sum_below : (ℕ → ℕ) → ℕ → ℕ

@@ -1,5 +1,5 @@
 -- The files of the slots are closed, one slot after another.
-use Rattle.fx_plain.proofs.Words.{◌≡◌, ◌≢◌, ℕ, suc, ◌+◌, ◌-◌, ◌<◌, ◌≤◌, List, [], ◌∷◌, ◌++◌, length, length-append, replicate, sym, ap, subst, ◌∙◌}
+use Rattle.fx_plain.proofs.Words.{◌≡◌, ◌≢◌, ℕ, suc, ◌+◌, ◌-◌, ◌<◌, ◌≤◌, List, [], ◌∷◌, ◌++◌, length, length-append, replicate, sym, ap, ◌∙◌}
 use Rattle.fx_plain.proofs.Words.{slice_index_or, slice_set, append_assoc, IsSome, arith, inl, inr, length-set, length-replicate, get_or_append_left}
 use Rattle.fx_plain.proofs.Words.{cases_lt, get_or-eq_default, node_at, identity_in, Fresh, Gone, with_rest, Node, set-set, get_or-append-add}
 use Rattle.fx_plain.proofs.Words.{set-append_left, get_or-replicate, get_or_default, zero, add-one, refl, Option, Some, None, option_to_list, File}
@@ -10,8 +10,7 @@ use Rattle.fx_plain.proofs.OwnNumbers.{IsLeft, left_without, named_same}
 
 module _ {X : Type 0} (rest : X) (len : ℕ) (xs : List X) where
   pub length-with_rest : length xs ≤ len → length (with_rest rest len xs) ≡ len
-  length-with_rest few = let a = length-append xs (replicate (len - length xs) rest) in
-      let b : length (replicate (len - length xs) rest) ≡ len - length xs = length-replicate (len - length xs) rest in omega arith
+  length-with_rest few = grind (arith, length-append, length-replicate)
 
   -- a written element is read as it was written
   pub read_written : {n : ℕ} (d : X) → n < length xs → slice_index_or (with_rest rest len xs) n d ≡ slice_index_or xs n d
@@ -27,8 +26,7 @@ module _ {X : Type 0} (rest : X) (len : ℕ) (xs : List X) where
 
   -- a write of what was written is a write of the whole list
   pub with_rest-set : {n : ℕ} (x : X) → n < length xs → with_rest rest len (slice_set xs n x) ≡ slice_set (with_rest rest len xs) n x
-  with_rest-set {n} x inside = ap (λ (k : ℕ). slice_set xs n x ++ replicate (len - k) rest) (length-set xs n x)
-      ∙ sym (set-append_left xs (replicate (len - length xs) rest) n x inside)
+  with_rest-set {n} x inside = grind (arith, length-set, set-append_left)
 
   -- one more of the rest may be written at any time
   pub with_rest-push : length xs < len → with_rest rest len (xs ++ rest ∷ []) ≡ with_rest rest len xs
@@ -42,26 +40,17 @@ module _ {X : Type 0} (rest : X) (len : ℕ) (xs : List X) where
 -- an element that is neither the rest nor the default was written
 inside_written : {X : Type 0} (rest d : X) {len : ℕ} (xs : List X) (n : ℕ) → length xs ≤ len → slice_index_or (with_rest rest len xs) n d ≢ rest
     → slice_index_or (with_rest rest len xs) n d ≢ d → n < length xs
-inside_written rest d {len} xs n few no_rest no_default = elim (cases_lt n (length xs)) [
-  | inl lt ↦ lt
-  | inr behind ↦ elim (cases_lt n len) [
-    | inl lt ↦ absurd (no_rest (read_rest rest len xs d behind lt))
-    | inr past ↦ let size = length-with_rest rest len xs few in absurd (no_default (get_or-eq_default (with_rest rest len xs) d (omega arith)))
-  ]
-]
+inside_written rest d {len} xs n few no_rest no_default = grind (arith, read_rest, length-with_rest, get_or-eq_default)
 
 -- a node with a file was written
 pub written_inside : {len : ℕ} (xs : List Node) (n : ℕ) → length xs ≤ len → IsSome (identity_in (node_at (with_rest Fresh len xs) n)) → n < length xs
-written_inside xs n few has = inside_written Fresh Gone xs n few
-    (λ is. let none : IsSome (identity_in Fresh) = subst (λ (node : Node). IsSome (identity_in node)) is has in cc none)
-    (λ is. let none : IsSome (identity_in Gone) = subst (λ (node : Node). IsSome (identity_in node)) is has in cc none)
+written_inside xs n few has = grind (arith, inside_written)
 
 -- a write at a node with a file of what the node becomes is a write of the whole list
 pub changed_over : (f : Node → Node) {len : ℕ} (xs : List Node) (n : ℕ) → length xs ≤ len → IsSome (identity_in (node_at (with_rest Fresh len xs) n))
     → with_rest Fresh len (slice_set (slice_set xs n Gone) n (f (node_at xs n)))
     ≡ slice_set (with_rest Fresh len xs) n (f (node_at (with_rest Fresh len xs) n))
-changed_over f {len} xs n few has = let inside = written_inside xs n few has in
-    rw (set-set, read_written Fresh len xs Gone inside) (with_rest-set Fresh len xs (f (node_at xs n)) inside)
+changed_over f {len} xs n few has = grind (arith, written_inside, set-set, read_written, with_rest-set)
 
 -- The files of the slots are closed, one slot after another.
 
@@ -98,9 +87,6 @@ module _ (slots : List (Option ℕ)) (first nodes : List Node) (s : ℕ) (placed
   -- the file that is taken is the one of the slot, and the one that is closed is the next in order
   pub next_taken : file_named nodes (slot_at slots s) ≡ identity_of (file_at first (slot_at slots s))
   next_taken = named_same slots first nodes s placed left ∙ named_is (slot_at slots s) refl
-
-  pub next_listed : option_to_list (file_named nodes (slot_at slots s)) ≡ identities_of (file_at first (slot_at slots s))
-  next_listed = ap option_to_list next_taken ∙ listed (file_at first (slot_at slots s))
 
   worked_without : (x : Option ℕ) → slot_at slots s ≡ x → IsWorked slots first nodes s → IsWorked slots first (nodes_without nodes x) (s + 1)
   worked_without None is w = record { len = w.len; left = λ u m le at. w.left u m (omega arith) at; same = w.same; opened = w.opened }

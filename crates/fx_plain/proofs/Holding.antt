@@ -1,13 +1,12 @@
 -- A file gets a hold, loses one, or is retired.
-use Rattle.fx_plain.proofs.Words.{◌≡◌, ◌≢◌, ℕ, ◌+◌, ◌-◌, ◌<◌, ◌≤◌, ◌^◌, ◌==◌, ◌&&◌, not, Bool, true, false, if◌then◌else◌, [], length, refl, sym, ap}
-use Rattle.fx_plain.proofs.Words.{◌∙◌, slice_index, slice_index_or, slice_set, Option, Some, None, arith, length-set, get_or-set_same}
-use Rattle.fx_plain.proofs.Words.{get_or-set_other, Closed, File, Look, Release, Steps, changed_at, after, Leads, close_of, ◌▷▷◌, Contents, IsTable}
-use Rattle.fx_plain.proofs.Words.{IsCounted, state_of, slot_at, node_at, file_at, placed_at, leaving, removed_at, is_fresh, is_leaving, is_retired}
-use Rattle.fx_plain.proofs.Words.{identity_in, node_after_retirement, removed_count_of, At, Leaving, Retired, Gone, numbered, identity_of}
-use Rattle.fx_plain.proofs.Words.{closed_by_retirement, EndsHold, Node, get_or-le-sum_by, sum_by-set, ◌▷◌, closed_by_release, All-from_get_or}
-use Rattle.fx_plain.proofs.Words.{sum_by-le}
-use Rattle.fx_plain.proofs.Cells.{by_equality, each_set, unchanged, written, inside_of, IsOff, inside_of-At, inside_told, leaving_is, retired_is}
-use Rattle.fx_plain.proofs.Cells.{state_of-holds, state_of-nodes, leaving-nodes, same_file}
+use Rattle.fx_plain.proofs.Words.{◌≡◌, ◌≢◌, ℕ, ◌+◌, ◌-◌, ◌<◌, ◌≤◌, ◌^◌, ◌==◌, Bool, true, false, if◌then◌else◌, [], length, refl, sym, ap, ◌∙◌}
+use Rattle.fx_plain.proofs.Words.{slice_index, slice_index_or, slice_set, Option, Some, None, arith, length-set, get_or-set_same, get_or-set_other}
+use Rattle.fx_plain.proofs.Words.{Closed, File, Look, Release, Steps, changed_at, after, Leads, close_of, ◌▷▷◌, Contents, IsTable, IsCounted}
+use Rattle.fx_plain.proofs.Words.{state_of, slot_at, node_at, file_at, placed_at, leaving, removed_at, is_fresh, is_leaving, is_retired, identity_in}
+use Rattle.fx_plain.proofs.Words.{node_after_retirement, removed_count_of, At, Leaving, Retired, Gone, numbered, identity_of, closed_by_retirement}
+use Rattle.fx_plain.proofs.Words.{EndsHold, Node, get_or-le-sum_by, sum_by-set, ◌▷◌, closed_by_release, All-from_get_or, sum_by-le}
+use Rattle.fx_plain.proofs.Cells.{each_set, unchanged, written, inside_of, IsOff, inside_of-At, inside_told, leaving_is, retired_is, state_of-holds}
+use Rattle.fx_plain.proofs.Cells.{state_of-nodes, leaving-nodes, same_file}
 
 -- the file at a slot
 pub at_is : (c : Contents) {slot number : ℕ} {file : Closed} → slot_at c.slots slot ≡ Some number → node_at c.nodes number ≡ At slot file
@@ -81,9 +80,7 @@ keeps_node {c} {n} v t off inside still unfresh = record {
 -- the counts, where a node's file is gone
 closed_counted : {c : Contents} {n full held removed : ℕ} → IsCounted c full held removed → n < length c.nodes
     → removed_count_of (node_at c.nodes n) ≡ 1 → IsCounted (closed_at c n) full held (removed - 1)
-closed_counted {c} {n} k inside one =
-    let changed = sum_by-set removed_count_of c.nodes n Gone Gone inside in let r = k.all_removed in
-    record { full_slots = k.full_slots; all_holds = k.all_holds; small_holds = k.small_holds; all_removed = omega arith }
+closed_counted {c} {n} k inside one = grind (arith, sum_by-set)
 
 module _ {c : Contents} (n : ℕ) (t : IsTable c) (going : leaving c n ≡ true) where
   pub was_leaving : (file : Closed) × (node_at c.nodes n ≡ Leaving file)
@@ -141,13 +138,6 @@ module _ {c : Contents} (n : ℕ) (t : IsTable c) (going : leaving c n ≡ true)
         record { full_slots = k.full_slots; all_holds = k.all_holds; small_holds = k.small_holds; all_removed = omega arith },
       )
 
-none_by_release : (n : ℕ) (last : Bool) (node : Node) → is_retired node ≡ false
-    → (if last && not (is_leaving node) then removed_at n node else None) ≡ None
-none_by_release n last (Retired file) unretired = cc
-none_by_release n true (Leaving file) unretired = refl
-none_by_release n false _ unretired = refl
-none_by_release n true _ unretired = refl
-
 -- one hold is released
 module _ {c : Contents} (n : ℕ) (t : IsTable c) (some_hold : 0 < slice_index c.holds n) where
   less_inside : n < length c.holds
@@ -176,14 +166,10 @@ module _ {c : Contents} (n : ℕ) (t : IsTable c) (some_hold : 0 < slice_index c
   }
 
   pub more_releases : {left : ℕ} → left + 1 ≡ slice_index c.holds n → left ≢ 0 → EndsHold c (held_less c n) n None
-  more_releases was some_left =
-      stays (by_equality (slice_index c.holds n) 1 (λ b. (if b && not (leaving c n) then (state_of c).removed n else None) ≡ None)
-      (λ one. absurd (omega arith)) (λ other. refl)) (less_keeps (λ _. omega arith))
+  more_releases was some_left = grind (arith, stays, less_keeps)
 
   pub open_releases : is_retired (node_at c.nodes n) ≡ false → EndsHold c (held_less c n) n None
-  open_releases unretired =
-      stays (none_by_release n (slice_index c.holds n == 1) (node_at c.nodes n) unretired)
-      (less_keeps (λ (closed : is_retired (node_at c.nodes n) ≡ true). let e : false ≡ true = sym unretired ∙ closed in cc))
+  open_releases unretired = grind (arith, stays, less_keeps)
 
   module _ (last : slice_index c.holds n ≡ 1) (closed : is_retired (node_at c.nodes n) ≡ true) where
     was_retired : (file : Closed) × (node_at c.nodes n ≡ Retired file)

@@ -4,7 +4,7 @@ use Rattle.fx_plain.proofs.Words.{Closed, State, Allows, after, changed_at, with
 use Rattle.fx_plain.proofs.Words.{File, Event, Action, Look, Put, Clear, Take, Allocate, Close, All, IsLegal, ◌+◌, ◌≤◌, true, false, ◌++◌, length}
 use Rattle.fx_plain.proofs.Words.{arith, IsSettled, nil_from_length, IsAtSlot, IsInstalled, installed_by, IsClosed, IsStart, closed_of, closes_of}
 use Rattle.fx_plain.proofs.Words.{IsStillThere, IsClosedOnce, All-append, All-cons, All-nil}
-use Rattle.fx_plain.proofs.Cells.{by_equality, named, named_same, named_file, term_found}
+use Rattle.fx_plain.proofs.Cells.{by_equality, named, named_same, term_found}
 use Rattle.fx_plain.proofs.LawHolds.{bit, present, placed, placed_one, tally, tally_after, tally_all, tally_start}
 
 -- properties of each file at a slot, and of each removed file by its number
@@ -21,9 +21,7 @@ module _ (P : File → Type 0) (Q : ℕ → File → Type 0) (both : (f : File) 
     more_removed : {slot : ℕ} (found : Option File) → slot < st.size → found ≡ st.at slot → (n : ℕ) (f : File)
         → with_removed st.removed found n ≡ Some f → Q n f
     more_removed None lt is n f = all.removed n f
-    more_removed {slot} (Some g) lt is n f = by_equality n g.number (λ b. (if b then Some g else st.removed n) ≡ Some f → Q n f)
-        (λ same found. let e : g ≡ f = cc in subst (λ (k : ℕ). Q k f) (sym (same ∙ ap (λ (x : File). x.number) e))
-        (both f (all.at_slots slot lt f (sym is ∙ found)))) (λ _. all.removed n f)
+    more_removed {slot} (Some g) lt is n f = grind arith
 
     emptied : {slot : ℕ} {found : Option File} → slot < st.size → found ≡ st.at slot → HoldsOfFiles (after st (Take slot found))
     emptied {slot} {found} lt is = record { at_slots = at_changed slot {x = None} (λ f is. cc); removed = more_removed found lt is }
@@ -33,11 +31,7 @@ module _ (P : File → Type 0) (Q : ℕ → File → Type 0) (both : (f : File) 
     holds_after (Clear slot found) may new = emptied may.0 may.1
     holds_after (Take slot found) may new = emptied may.0 may.1
     holds_after (Allocate slot f) may new = record { at_slots = at_changed slot new; removed = all.removed }
-    holds_after (Close g) may new = record {
-      at_slots = all.at_slots;
-      removed = λ n f. by_equality n g.number (λ b. ◌≡◌ {A = Option File} (if b then None else st.removed n) (Some f) → Q n f) (λ _ is. cc)
-          (λ _. all.removed n f);
-    }
+    holds_after (Close g) may new = grind arith
     holds_after (Look slot None) may new = all
     holds_after _ may new = record { at_slots = all.at_slots; removed = all.removed }
 
@@ -107,11 +101,6 @@ used_after st (Put slot new replaced) n used = grind arith
 used_after st (Allocate slot new) n used = grind arith
 used_after st _ n used = used
 
--- a step that closes a file of this number closes this file
-only_close : (f : File) (st : State) (a : Action) → IsOnly f st → Allows st a → (closed_of f.number a ≡ []) ⊎ (closed_of f.number a ≡ f ∷ [])
-only_close f st (Close g) only may = let there = only.removed g.number g may.0 in grind arith
-only_close f st _ only may = inl refl
-
 -- the file is in the table and no file of its number was closed, or it isn't and was closed
 abbrev IsOneOf : File → ℕ → List File → Type 0
 IsOneOf f there closed = ((there ≡ 1) × (closed ≡ [])) ⊎ ((there ≡ 0) × (closed ≡ f ∷ []))
@@ -124,23 +113,14 @@ record IsFollowed (f : File) (st : State) (closed : List File) : Type 0 where
 
 moved_on : {f : File} {there : ℕ} (left : ℕ) {closed now : List File} → IsOneOf f there closed → left + length now ≡ there
     → (now ≡ []) ⊎ (now ≡ f ∷ []) → IsOneOf f left (closed ++ now)
-moved_on left (inl open_still) count (inl none_now) = let e = ap length none_now in
-    inl (omega (arith, open_still.0), rw (open_still.1, none_now) refl)
-moved_on left (inl open_still) count (inr one_now) = let e = ap length one_now in
-    inr (omega (arith, open_still.0), rw (open_still.1, one_now) refl)
-moved_on left (inr gone) count (inl none_now) = let e = ap length none_now in
-    inr (omega (arith, gone.0), rw (gone.1, none_now) refl)
+moved_on left (inl open_still) count (inl none_now) = grind arith
+moved_on left (inl open_still) count (inr one_now) = grind arith
+moved_on left (inr gone) count (inl none_now) = grind arith
 moved_on left (inr gone) count (inr one_now) = let e = ap length one_now in absurd (omega (arith, gone.0))
 
 followed_after : {f : File} {st : State} {closed : List File} (a : Action) → IsFollowed f st closed → Allows st a
     → IsFollowed f (after st a) (closed ++ closed_of f.number a)
-followed_after {f} {st} a before may = record {
-  used = used_after st a f.number before.used;
-  only = holds_after (Same f) (SameAt f) (λ _ p. p) before.only a may (λ new is same.
-      let clash : false ≡ true = sym before.used ∙ ap st.fresh (sym same) ∙ (installed_now st a may is).0 in cc);
-  one_of = moved_on (tally f.number (after st a)) before.one_of
-      (tally_after st a f.number may (omega (arith, before.one_of))) (only_close f st a before.only may);
-}
+followed_after {f} {st} a before may = grind (arith, tally_after)
 
 followed_from_start : (f : File) {st : State} → IsStart st → IsAtSlot st f → IsFollowed f st []
 followed_from_start f {st} start (slot, lt, is) =
@@ -183,14 +163,10 @@ followed {start} (e ∷ h) f begins may (inr (inr now)) =
 
 module _ {f : File} {end : State} {closed : List File} (settled : IsSettled end) (end_of : IsFollowed f end closed) where
   all_placed : tally f.number end ≡ placed f.number end.at end.size
-  all_placed = let no_fresh : bit (end.fresh f.number) ≡ 0 = ap bit end_of.used in
-      let none_waits : present (end.removed f.number) ≡ 0 = ap present (settled.closed f.number) in omega arith
+  all_placed = grind arith
 
   still_there : tally f.number end ≡ 1 → IsAtSlot end f
-  still_there one =
-      let (slot, lt, some_there) = term_found (λ s. named f.number (end.at s)) end.size (omega (arith, all_placed)) in
-      let (g, is, same) = named_file f.number (end.at slot) some_there in
-      (slot, lt, is ∙ ap Some (end_of.only.at_slots slot lt g is same))
+  still_there one = grind (arith, term_found)
 
   no_more_there : tally f.number end ≡ 0 → IsAtSlot end f → ⊥
   no_more_there no_slot (slot, lt, is) =

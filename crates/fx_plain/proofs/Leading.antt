@@ -3,6 +3,7 @@ use Rattle.fx_plain.proofs.Words.{◌≡◌, ℕ, List, [], ◌∷◌, ◌++◌,
 use Rattle.fx_plain.proofs.Words.{subst, append_assoc, Closed, Action, Look, Allows, ◌▷▷◌, Leads, closes_in, closed_by, append-nil}
 use Rattle.fx_plain.specs.History.{held_by, AllReleaseTheirOwn}
 use Rattle.fx_plain.specs.Reopening.{LegalBehind}
+use Rattle.std.proofs.Common.{arith}
 
 -- the state after two histories
 state_behind : (start : State) (h more : List Event)
@@ -24,10 +25,7 @@ released_behind h [] none all = tt
 released_behind h (e ∷ more) none all = (released_behind h more none all.0, rw (held_behind h more e.pass (none e.pass)) at all.1)
 
 pub legal_behind : LegalBehind
-legal_behind start end h more none legal = record {
-  leads = (allowed_behind start h more legal.leads.0, legal.leads.1 ∙ state_behind start h more);
-  releases = released_behind h more none legal.releases;
-}
+legal_behind start end h more none legal = grind (arith, allowed_behind, state_behind, released_behind)
 
 -- Histories that go on from one another.
 

@@ -1,11 +1,11 @@
 -- A later part of a history, with the numbers that a newly opened table uses.
 use Rattle.fx_plain.proofs.Words.{◌≡◌, ◌≢◌, ◌⊎◌, ℕ, zero, suc, ◌<◌, Bool, true, false, List, [], ◌∷◌, length, refl, sym, ap, ◌∙◌, Option, Some, None}
-use Rattle.fx_plain.proofs.Words.{if◌then◌else◌, ◌==◌, arith, inl, inr, File, ◌+◌, ◌-◌, ◌≤◌, not, ◌&&◌, nat_lt, map, cases_lt, lt-ltb, le-ltb, State}
-use Rattle.fx_plain.proofs.Words.{IsSettled, opening, file_numbered, AllowsAll, state_after, action_of, Event, Action, IsLegal, identity_of}
-use Rattle.fx_plain.proofs.Words.{number_of, Put, Allocate, true_from_ne_false, IsStart, installed_by}
+use Rattle.fx_plain.proofs.Words.{if◌then◌else◌, ◌==◌, arith, inl, inr, File, ◌+◌, ◌-◌, ◌≤◌, not, ◌&&◌, nat_lt, map, lt-ltb, State, IsSettled}
+use Rattle.fx_plain.proofs.Words.{opening, file_numbered, AllowsAll, state_after, action_of, Event, Action, IsLegal, identity_of, number_of, Put}
+use Rattle.fx_plain.proofs.Words.{Allocate, IsStart, installed_by}
 use Rattle.fx_plain.proofs.Cells.{by_equality}
 use Rattle.fx_plain.proofs.LawFiles.{installed_now, used_after}
-use Rattle.fx_plain.proofs.Renaming.{IsOneToOne, IsNamed, read_at, renamed_state, IsRenamable, InstallsNamed, legal_renamed}
+use Rattle.fx_plain.proofs.Renaming.{IsOneToOne, IsNamed, renamed_state, IsRenamable, InstallsNamed, legal_renamed}
 use Rattle.fx_plain.specs.Reopening.{Renaming, renamed_found, renamed_event, numbers_given, with_number_of, HasOtherNumbers, IsTableAtRest}
 
 -- The place of a number in a list of distinct ones, from the last one on, and the slot that has the file of a number.
@@ -99,8 +99,7 @@ module _ (start : State) where
   ]
 
   fresh_before : (h : List Action) (n : ℕ) → (state_after start h).fresh n ≡ true → start.fresh n ≡ true
-  fresh_before h n fresh = true_from_ne_false (start.fresh n) (λ used.
-      let clash : false ≡ true = sym (used_behind start h n used) ∙ fresh in cc)
+  fresh_before h n fresh = grind (arith, used_behind)
 
   pub was_fresh : (h : List Action) → AllowsAll start h → (n : ℕ) → IsIn n (numbers_given h) → start.fresh n ≡ true
   was_fresh [] may n is = absurd is
@@ -119,16 +118,8 @@ module _ (start : State) where
     )
   ] refl
 
--- if nothing is read under an old number, nothing is read under a new one
-read_none : {X Y : Type 0} (g : X → Y) (none : Y) (f : ℕ → X) → ((n : ℕ) → g (f n) ≡ none) → (x : Option ℕ) → read_at g none f x ≡ none
-read_none g none f nothing None = refl
-read_none g none f nothing (Some n) = nothing n
-
 settled_still : (r : Renaming) (fresh : ℕ → Bool) (st : State) → IsSettled st → IsSettled (renamed_state r fresh st)
-settled_still r fresh st settled = record {
-  unheld = λ n. read_none (λ k. k) 0 st.holds settled.unheld (r.back n);
-  closed = λ n. read_none (renamed_found r) None st.removed (λ k. rw (settled.closed k) refl) (r.back n);
-}
+settled_still r fresh st settled = grind arith
 
 -- a slot's file gets the slot's number, and a new file a number after those of the slots
 abbrev pub number_by : ℕ → List ℕ → ℕ → Option ℕ → ℕ
@@ -146,21 +137,16 @@ module _ (chain : ℕ → ℕ) (start : State) (new : List ℕ) where
   back_low : {k : ℕ} → k < start.size → by_order.back k ≡ number_of (start.at k)
   back_low {k} lt = rw (lt-ltb k start.size lt) refl
 
-  back_high : {k : ℕ} → start.size ≤ k → by_order.back k ≡ number_at (k - start.size) new
-  back_high {k} le = rw (le-ltb k start.size le) refl
-
   module _ (begins : IsStart start) (fresh : (n : ℕ) → IsIn n new → start.fresh n ≡ true) (distinct : AreDistinct new) where
     of_slot : {slot : ℕ} {f : File} → slot < start.size → start.at slot ≡ Some f → (x : Option ℕ) → slot_of start.at start.size f.number ≡ x
         → number_by start.size new f.number x ≡ slot
     of_slot {slot} {f} lt is None none = absurd (no_slot_found start.at start.size f.number none slot lt is refl)
-    of_slot {slot} {f} lt is (Some s) found = let there = slot_found start.at start.size f.number found in
-        begins.distinct s slot there.1 f there.0 lt there.2 is there.3
+    of_slot {slot} {f} lt is (Some s) found = grind (arith, slot_found)
 
     of_new : (n : ℕ) → start.fresh n ≡ true → (x : Option ℕ) → slot_of start.at start.size n ≡ x
         → number_by start.size new n x ≡ start.size + place_of n new
     of_new n is None none = refl
-    of_new n is (Some s) found = let there = slot_found start.at start.size n found in
-        let clash : false ≡ true = sym (begins.used s there.1 there.0 there.2) ∙ ap start.fresh there.3 ∙ is in absurd (cc clash)
+    of_new n is (Some s) found = grind (arith, slot_found)
 
     number_of_new : (n : ℕ) → start.fresh n ≡ true → by_order.number n ≡ start.size + place_of n new
     number_of_new n is = of_new n is (slot_of start.at start.size n) refl
@@ -169,63 +155,36 @@ module _ (chain : ℕ → ℕ) (start : State) (new : List ℕ) where
     named_slot {f} lt is = ap by_order.back (of_slot lt is (slot_of start.at start.size f.number) refl) ∙ back_low lt ∙ ap number_of is
 
     pub named_new : (n : ℕ) → IsIn n new → IsNamed by_order n
-    named_new n there =
-        let back : by_order.back (start.size + place_of n new) ≡ number_at (start.size + place_of n new - start.size) new = back_high (omega arith) in
-        let same : start.size + place_of n new - start.size ≡ place_of n new = omega arith in
-        ap by_order.back (number_of_new n (fresh n there)) ∙ back ∙ ap (λ (k : ℕ). number_at k new) same ∙ number_at_place n new there
+    named_new n there = grind (arith, number_of_new, number_at_place)
 
     from_slot : {k old : ℕ} → k < start.size → (x : Option File) → start.at k ≡ x → number_of x ≡ Some old → by_order.number old ≡ k
     from_slot lt None is same = absurd (cc same)
-    from_slot {old} lt (Some f) is same = let e : f.number ≡ old = cc same in
-        ap by_order.number (sym e) ∙ of_slot lt is (slot_of start.at start.size f.number) refl
+    from_slot {old} lt (Some f) is same = grind (arith, of_slot)
 
     pub one_to_one : IsOneToOne by_order
-    one_to_one k old is = elim (cases_lt k start.size) [
-      | inl lt ↦ from_slot lt (start.at k) refl (sym (back_low lt) ∙ is)
-      | inr le ↦ let there = sym (back_high le) ∙ is in
-          let place = place_of_number (k - start.size) new distinct there in
-          number_of_new old (fresh old (number_at_in (k - start.size) new there)) ∙ (let e = place in omega (arith, e, le))
-    ]
+    one_to_one k old is = grind (arith, from_slot, place_of_number, number_of_new, number_at_in)
 
     -- a fresh number that leads back is one of the new ones
     is_new : {n : ℕ} → start.fresh n ≡ true → IsNamed by_order n → IsIn n new
-    is_new {n} is named = let at = number_of_new n is in
-        let back : by_order.back (by_order.number n) ≡ number_at (by_order.number n - start.size) new = back_high (omega (arith, at)) in
-        number_at_in (by_order.number n - start.size) new (sym back ∙ named)
+    is_new {n} is named = grind (arith, number_at_in)
 
     module _ {numbers : ℕ} (enough : start.size + length new ≤ numbers) (past : (slot : ℕ) → start.size ≤ slot → start.at slot ≡ None) where
       fresh_then : (n : ℕ) → IsNamed by_order n → start.fresh n ≡ true
           → (not (nat_lt (by_order.number n) start.size) && nat_lt (by_order.number n) numbers) ≡ true
-      fresh_then n named is =
-          let at = number_of_new n is in let below = place_below n new (is_new is named) in
-          let low : start.size ≤ by_order.number n = omega (arith, at) in
-          let high : by_order.number n < numbers = omega (arith, at, below, enough) in
-          rw (le-ltb (by_order.number n) start.size low, lt-ltb (by_order.number n) numbers high) refl
+      fresh_then n named is = grind (arith, number_of_new, place_below, is_new)
 
       at_inside : (slot : ℕ) {f : File} → start.at slot ≡ Some f → slot < start.size
-      at_inside slot {f} is = elim (cases_lt slot start.size) [
-        | inl lt ↦ lt
-        | inr le ↦ let clash : None ≡ Some f = sym (past slot le) ∙ is in absurd (cc clash)
-      ]
+      at_inside slot {f} is = grind arith
 
       pub renamable : IsRenamable by_order (opening start numbers).fresh start
-      renamable = record {
-        at = λ slot f is. named_slot (at_inside slot is) is;
-        held = λ n some. let none = begins.settled.unheld n in absurd (omega (arith, some, none));
-        removed = λ n f is. let clash : None ≡ Some f = sym (begins.settled.closed n) ∙ is in absurd (cc clash);
-        stays_fresh = fresh_then;
-      }
+      renamable = grind (arith, named_slot, fresh_then)
 
       found_anew : (slot : ℕ) (x : Option File) → start.at slot ≡ x → renamed_found by_order x ≡ file_numbered x slot
       found_anew slot None is = refl
       found_anew slot (Some f) is = rw (of_slot (at_inside slot is) is (slot_of start.at start.size f.number) refl) refl
 
       pub opened : renamed_state by_order (opening start numbers).fresh start ≡ opening start numbers
-      opened = let still = settled_still by_order (opening start numbers).fresh start begins.settled in λ i. record (opening start numbers) {
-        at = λ slot. found_anew slot (start.at slot) refl i;
-        removed = λ n. still.closed n i;
-        holds = λ n. still.unheld n i;
-      }
+      opened = grind (arith, found_anew)
 
 given_more : (x : Option File) (l : List ℕ) (n : ℕ) → IsIn n l → IsIn n (with_number_of x l)
 given_more None l n is = is

@@ -1,11 +1,10 @@
 -- Each file moves to the node of its slot's number, one slot after another, and slots outside the span have such numbers.
 use Rattle.fx_plain.proofs.Words.{◌≡◌, ◌≢◌, ℕ, ◌<◌, ◌≤◌, List, length, sym, ◌∙◌, arith, slice_set, Option, Some, None, length-set, get_or-set_other}
 use Rattle.fx_plain.proofs.Words.{slot_at, SlotSpan, IsOutside, HaveOwnOutside, ◌+◌, [], ◌∷◌, ◌++◌, refl, ap, set-set, get_or_append_left, Closed}
-use Rattle.fx_plain.proofs.Words.{AllPlaced, IsFiled, subst, node_at, file_named, identity_in, opening_slot, moved_node, nodes_without, file_count_of, At}
-use Rattle.fx_plain.proofs.Words.{Gone, sum_by, Node, sum_by-set, set-get_or, HaveOwnNumbers}
-use Rattle.fx_plain.proofs.Cells.{each_set, by_equality, inside_of-At}
+use Rattle.fx_plain.proofs.Words.{AllPlaced, IsFiled, subst, node_at, file_named, identity_in, opening_slot, moved_node, nodes_without, file_count_of}
+use Rattle.fx_plain.proofs.Words.{At, Gone, sum_by, Node, sum_by-set, set-get_or, HaveOwnNumbers}
+use Rattle.fx_plain.proofs.Cells.{each_set, inside_of-At}
 use Rattle.std.proofs.Math.Seq.{get_or-append_seam}
-use Rattle.fx_plain.proofs.Removals.{other_number}
 
 module _ (slots : List (Option ℕ)) {slot : ℕ} (x : Option ℕ) (inside : slot < length slots) where
   -- in a span that has the slot now
@@ -23,14 +22,6 @@ module _ (slots : List (Option ℕ)) {slot : ℕ} (x : Option ℕ) (inside : slo
     own = λ u n at out. each_set (λ k y. y ≡ Some n → n ≡ k) slots slot x None inside (mine n) u (λ other at. own.own u n at out) at;
   }
 
--- no slot has a file
-pub own_of_none : (slots : List (Option ℕ)) (span : SlotSpan) → span.end ≤ length slots → ((s : ℕ) → slot_at slots s ≡ None)
-    → HaveOwnOutside slots span
-own_of_none slots span few none = record {
-  inside = few;
-  own = λ u n at out. let e : None ≡ Some n = sym (none u) ∙ at in absurd (cc e);
-}
-
 -- Each file moves to the node of its slot's number, one slot after another.
 file_named_same : (old new : List Node) (x : Option ℕ) → ((n : ℕ) → x ≡ Some n → node_at new n ≡ node_at old n) → file_named new x ≡ file_named old x
 file_named_same old new None same = refl
@@ -47,9 +38,7 @@ module _ (slots : List (Option ℕ)) (first nodes : List Node) (s : ℕ) (placed
   -- one slot more was done
   pub left_without : (x : Option ℕ) → slot_at slots s ≡ x → IsLeft slots first (nodes_without nodes x) (s + 1)
   left_without None is = λ u number le at. left u number (omega arith) at
-  left_without (Some m) is = λ u number le at.
-      let apart : u ≢ s = omega arith in
-      get_or-set_other nodes m number Gone Gone (other_number slots first placed apart is at) ∙ left u number (omega arith) at
+  left_without (Some m) is = grind (arith, get_or-set_other)
 
 pub length-without : (nodes : List Node) (x : Option ℕ) → length (nodes_without nodes x) ≡ length nodes
 length-without nodes None = refl
@@ -80,23 +69,17 @@ opened_next {first} {slots} {s} before inside =
 -- one node more was appended
 pub moved_next : (moved : List Node) {s : ℕ} {node : Node} (expected : ℕ → Node) → length moved ≡ s → node ≡ expected s
     → ((u : ℕ) → u < s → node_at moved u ≡ expected u) → {u : ℕ} → u < s + 1 → node_at (moved ++ node ∷ []) u ≡ expected u
-moved_next moved {s} {node} expected len is before {u} lt = by_equality u s (λ _. node_at (moved ++ node ∷ []) u ≡ expected u)
-    (λ same. ap (node_at (moved ++ node ∷ [])) (same ∙ sym len) ∙ get_or-append_seam moved node [] Gone ∙ is ∙ ap expected (sym same))
-    (λ other. let below : u < length moved = omega arith in get_or_append_left moved (node ∷ []) Gone u below ∙ before u (omega arith))
+moved_next moved {s} {node} expected len is before {u} lt = grind (arith, get_or-append_seam, get_or_append_left)
 
 -- one slot more was done in the list of nodes that is there
 module _ (slots : List (Option ℕ)) (first nodes : List Node) {s : ℕ} (placed : AllPlaced slots first) (left : IsLeft slots first nodes s)
     (own : HaveOwnNumbers slots) (inside : s < length slots) where
   pub left_settled : (v : Node) → IsLeft slots first (slice_set (nodes_without nodes (slot_at slots s)) s v) (s + 1)
-  left_settled v = λ u m le at.
-      let apart : m ≢ s = λ (same : m ≡ s). let e : m ≡ u = own u m at (omega arith) in absurd (omega arith) in
-      get_or-set_other (nodes_without nodes (slot_at slots s)) s m v Gone apart
-      ∙ left_without slots first nodes s placed left (slot_at slots s) refl u m le at
+  left_settled v = grind (arith, get_or-set_other)
 
   earlier_stays : (x : Option ℕ) → slot_at slots s ≡ x → (u : ℕ) → u < s → node_at (nodes_without nodes x) u ≡ node_at nodes u
   earlier_stays None is u lt = refl
-  earlier_stays (Some n) is u lt = get_or-set_other nodes n u Gone Gone
-      (λ (same : u ≡ n). let e : n ≡ s = own s n is (omega arith) in absurd (omega arith))
+  earlier_stays (Some n) is u lt = grind (arith, get_or-set_other)
 
   -- a property of the nodes of the slots before `s`, and of the node of `s`, holds for each of them
   pub each_settled : (P : ℕ → Node → Type 0) (v : Node) → s < length nodes → P s v → ((u : ℕ) → u < s → P u (node_at nodes u))
@@ -109,8 +92,7 @@ module _ (slots : List (Option ℕ)) (first nodes : List Node) {s : ℕ} (placed
   pub later_stays : (v : Node) (x : Option ℕ) → slot_at slots s ≡ x → {u : ℕ} → s + 1 ≤ u → u < length slots
       → node_at (slice_set (nodes_without nodes x) s v) u ≡ node_at nodes u
   later_stays v None is {u} le lt = get_or-set_other nodes s u v Gone (λ (same : u ≡ s). absurd (omega arith))
-  later_stays v (Some n) is {u} le lt = get_or-set_other (nodes_without nodes (Some n)) s u v Gone (λ (same : u ≡ s). absurd (omega arith))
-      ∙ get_or-set_other nodes n u Gone Gone (λ (same : u ≡ n). let e : n ≡ s = own s n is (omega arith) in absurd (omega arith))
+  later_stays v (Some n) is {u} le lt = grind (arith, get_or-set_other)
 
 -- a slot that has its own number already
 module _ (slots : List (Option ℕ)) (nodes : List Node) {s : ℕ} (at : slot_at slots s ≡ Some s) where
@@ -121,10 +103,7 @@ module _ (slots : List (Option ℕ)) (nodes : List Node) {s : ℕ} (at : slot_at
 -- the node that a slot's file moved to
 pub filed_by_move : (slots : List (Option ℕ)) (nodes : List Node) (s : ℕ) {node : Node} → node ≡ moved_node (file_named nodes (slot_at slots s)) s
     → IsFiled slots nodes s node
-filed_by_move slots nodes s is = record {
-  file = λ n named. rw named at is;
-  vacant = λ none. rw (is, none) (record { used = refl; none_removed = refl });
-}
+filed_by_move slots nodes s is = grind arith
 
 -- files in nodes, after more nodes were added
 module _ (slots : List (Option ℕ)) (old new : List Node) (placed : AllPlaced slots old)

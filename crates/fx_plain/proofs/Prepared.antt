@@ -1,11 +1,10 @@
 -- Prepared tables, in which passes begin, and settled ones, which stay at rest.
 use Rattle.fx_plain.proofs.Words.{◌≡◌, ℕ, ◌&&◌, not, nat_lt, ap, subst, sym, ◌∙◌, None, Some, File, Option, IsSettled, State, opening, refl}
-use Rattle.fx_plain.proofs.Words.{file_numbered, identity_of, arith, numbered, ◌<◌, ◌≤◌, ◌^◌, true, false, List, length, replicate, slice_index, inl}
-use Rattle.fx_plain.proofs.Words.{inr, length-replicate, cases_lt, get_or-eq_default, Closed, Contents, IsTable, IsCounted, state_of, slot_at}
-use Rattle.fx_plain.proofs.Words.{node_at, file_at, removed_at, is_fresh, is_retired, IsRenumbered, IsVacant, moved_node, identity_in, opening_slot}
-use Rattle.fx_plain.proofs.Words.{sum, removed_count_of, Fresh, At, Gone, Node, lt-ltb, le-ltb, ◌≢◌, zero, suc, ◌+◌, [], ◌∷◌, map, if◌then◌else◌}
-use Rattle.fx_plain.proofs.Words.{Allows, AllowsAll, after, state_after, changed_at, action_of, Event, Action, Put, Clear, Take, Allocate, Look}
-use Rattle.fx_plain.proofs.Words.{IsLegal, IsStart, option_map, false_from_ne_true}
+use Rattle.fx_plain.proofs.Words.{file_numbered, identity_of, arith, ◌<◌, ◌≤◌, ◌^◌, true, false, List, length, replicate, slice_index}
+use Rattle.fx_plain.proofs.Words.{length-replicate, get_or-eq_default, Closed, Contents, IsTable, IsCounted, state_of, slot_at, node_at, file_at}
+use Rattle.fx_plain.proofs.Words.{removed_at, is_fresh, is_retired, IsRenumbered, IsVacant, opening_slot, sum, removed_count_of, Fresh, At, Gone}
+use Rattle.fx_plain.proofs.Words.{Node, lt-ltb, le-ltb, ◌≢◌, zero, suc, ◌+◌, [], ◌∷◌, if◌then◌else◌, Allows, AllowsAll, after, state_after}
+use Rattle.fx_plain.proofs.Words.{changed_at, Event, Action, Put, Clear, Take, Allocate, Look, IsLegal, IsStart, false_from_ne_true}
 use Rattle.std.proofs.lemmas.Grind.{common_steps}
 use Rattle.fx_plain.proofs.Cells.{inside_of, read_default, by_equality, named, named_same, sum_below, sum_grows}
 use Rattle.fx_plain.proofs.Settled.{no_holds, none_removed, quiet_is, sum_of_nothings, sum_by-replicate}
@@ -28,19 +27,9 @@ opening_is_start st numbers = grind (arith, common_steps)
 pub settled_at_opening : (st new : State) (numbers : ℕ) → new ≡ opening st numbers → IsSettled new
 settled_at_opening st new numbers is = subst IsSettled (sym is) (record { unheld = λ _. refl; closed = λ _. refl })
 
--- tables with the same files, their numbers aside, open alike
-by_identity : (x : Option File) (slot : ℕ) → file_numbered x slot ≡ option_map (numbered slot) (identity_of x)
-by_identity None slot = refl
-by_identity (Some f) slot = refl
-
 pub opens_alike : (one other : State) → one.size ≡ other.size → one.range ≡ other.range
     → ((slot : ℕ) → identity_of (one.at slot) ≡ identity_of (other.at slot)) → (numbers : ℕ) → opening one numbers ≡ opening other numbers
-opens_alike one other size range files numbers = λ i. record (opening one numbers) {
-  size = size i;
-  range = range i;
-  at = λ slot. (by_identity (one.at slot) slot ∙ ap (option_map (numbered slot)) (files slot) ∙ sym (by_identity (other.at slot) slot)) i;
-  fresh = λ number. not (nat_lt number (size i)) && nat_lt number numbers;
-}
+opens_alike one other size range files numbers = grind arith
 
 -- The state of a table that was prepared.
 opening_own : (slot : ℕ) {number : ℕ} (x : Option ℕ) → opening_slot x slot ≡ Some number → number ≡ slot
@@ -52,25 +41,10 @@ module _ {c : Contents} {slots : List (Option ℕ)} {nodes : List Node} {numbers
   abbrev pub prepared : Contents
   prepared = record { slots = slots; range = c.range; nodes = nodes; holds = holds; numbers = numbers }
 
-  -- the node of a slot's own number has its file
-  own_node : {u m : ℕ} → u < length c.slots → slot_at c.slots u ≡ Some m → node_at nodes u ≡ moved_node (identity_in (node_at c.nodes m)) u
-  own_node {u} {m} inside is = (r.files.filed u inside).file m is
-
-  -- no node of a slot's own number has a removed file
-  low_vacant : {n : ℕ} → n < length c.slots → (x : Option ℕ) → slot_at c.slots n ≡ x → IsVacant (node_at nodes n)
-  low_vacant {n} low None is = (r.files.filed n low).vacant is
-  low_vacant {n} low (Some m) is = rw (own_node low is, (t.placed n m is).1) (record { used = refl; none_removed = refl })
-
   -- a property of each kind of node holds for each node
   each_node : (P : ℕ → Node → Type 0) → ((n : ℕ) (node : Node) → n < length c.slots → IsVacant node → P n node)
       → ((n : ℕ) → length c.slots ≤ n → n < numbers → P n Fresh) → ((n : ℕ) → numbers ≤ n → P n Gone) → (n : ℕ) → P n (node_at nodes n)
-  each_node P low mid high n = elim (cases_lt n (length c.slots)) [
-    | inl lt ↦ low n (node_at nodes n) lt (low_vacant lt (slot_at c.slots n) refl)
-    | inr ge ↦ elim (cases_lt n numbers) [
-      | inl lt ↦ rw (r.fresh n ge lt) (mid n ge lt)
-      | inr past ↦ let len = r.size in let behind : length nodes ≤ n = omega arith in rw (get_or-eq_default nodes Gone behind) (high n past)
-    ]
-  ]
+  each_node P low mid high n = grind (arith, get_or-eq_default)
 
   none_waits : (n : ℕ) → removed_at n (node_at nodes n) ≡ None
   none_waits = each_node (λ n node. removed_at n node ≡ None)
@@ -82,40 +56,22 @@ module _ {c : Contents} {slots : List (Option ℕ)} {nodes : List Node} {numbers
       (λ n ge lt. rw (le-ltb n (length c.slots) ge, lt-ltb n numbers lt) refl)
       (λ n ge. let past : length c.slots ≤ n = omega arith in rw (le-ltb n (length c.slots) past, le-ltb n numbers ge) refl)
 
-  named_node : {u : ℕ} → u < length c.slots → (x : Option ℕ) → slot_at c.slots u ≡ x
-      → file_at nodes (opening_slot x u) ≡ file_numbered (file_at c.nodes x) u
-  named_node inside None is = refl
-  named_node {u} inside (Some m) is = rw (own_node inside is, (t.placed u m is).1) refl
-
   at_is : (u : ℕ) → file_at nodes (slot_at slots u) ≡ file_numbered (file_at c.nodes (slot_at c.slots u)) u
-  at_is u = elim (cases_lt u (length c.slots)) [
-    | inl lt ↦ ap (file_at nodes) (r.files.named u lt) ∙ named_node lt (slot_at c.slots u) refl
-    | inr ge ↦ let same = r.files.same_size in let behind : length slots ≤ u = omega arith in
-        rw (get_or-eq_default slots None behind, get_or-eq_default c.slots None ge) refl
-  ]
+  at_is u = grind (arith, get_or-eq_default)
 
   no_hold : (n : ℕ) → slice_index holds n ≡ 0
   no_hold n = rw unheld (read_default numbers n 0)
 
   pub state_of-fields : state_of prepared ≡ opening (state_of c) numbers
-  state_of-fields = λ i. record {
-    size = r.files.same_size i;
-    range = c.range;
-    at = λ u. at_is u i;
-    removed = λ n. none_waits n i;
-    holds = λ n. no_hold n i;
-    fresh = λ n. fresh_is n i;
-  }
+  state_of-fields = grind (arith, at_is, none_waits, no_hold, fresh_is)
 
   named_placed : {u k : ℕ} → u < length c.slots → (x : Option ℕ) → slot_at c.slots u ≡ x → opening_slot x u ≡ Some k
       → (file : Closed) × (node_at nodes k ≡ At u file)
   named_placed inside None is same = cc
-  named_placed {u} {k} inside (Some m) is same = let there = t.placed u m is in let e : u ≡ k = cc in
-      (there.0, rw (sym e, own_node inside is, there.1) refl)
+  named_placed {u} {k} inside (Some m) is same = grind arith
 
   slot_inside : (u : ℕ) {k : ℕ} → slot_at slots u ≡ Some k → u < length c.slots
-  slot_inside u {k} is = let lt = inside_of slots u None (λ (gone : slot_at slots u ≡ None). let e : Some k ≡ None = sym is ∙ gone in cc) in
-      let same = r.files.same_size in omega arith
+  slot_inside u {k} is = grind (arith, inside_of)
 
   pub own_number : (u : ℕ) {k : ℕ} → slot_at slots u ≡ Some k → k ≡ u
   own_number u is = opening_own u (slot_at c.slots u) (sym (r.files.named u (slot_inside u is)) ∙ is)
@@ -193,11 +149,7 @@ inside_behind start [] may none = none
 inside_behind start (a ∷ h) may none = inside_after (state_after start h) a may.1 (inside_behind start h may.0 none)
 
 pub stays_at_rest : (start end : State) (h : List Event) → IsTableAtRest start → IsLegal start h end → IsSettled end → IsTableAtRest end
-stays_at_rest start end h rest legal settled = record {
-  start = begins_by_tally (λ n. let few = tally_start start n rest.start in let all = tally_all start h n few legal.leads.0 in
-      let same = ap (tally n) legal.leads.1 in omega arith) settled;
-  inside = subst HasNonePast (sym legal.leads.1) (inside_behind start (map action_of h) legal.leads.0 rest.inside);
-}
+stays_at_rest start end h rest legal settled = grind (arith, begins_by_tally, tally_start, tally_all, inside_behind)
 
 pub opens_inside : (plain : Contents) (numbers : ℕ) → HasNonePast (opening (state_of plain) numbers)
 opens_inside plain numbers slot le = ap (λ (x : Option ℕ). file_numbered (file_at plain.nodes x) slot) (get_or-eq_default plain.slots None le)

@@ -6,7 +6,7 @@ use Rattle.fx_plain.proofs.Words.{file_at, placed_at, leaving, removed_at, is_fr
 use Rattle.fx_plain.proofs.Words.{removed_count_of, At, Leaving, Gone, numbered, LetsLeave, sum_by, Node, IsSettled, get_or-le-sum_by, sum_by-set}
 use Rattle.fx_plain.proofs.Words.{number_of, more_leaving, sum_by-le}
 use Rattle.fx_plain.proofs.Cells.{each_set, written, unchanged, inside_of-At, inside_told, fresh_is, file_same}
-use Rattle.fx_plain.proofs.Settled.{not_removed, IsQuiet, quiet_is}
+use Rattle.fx_plain.proofs.Settled.{IsQuiet, quiet_is}
 
 abbrev pub removed_of : List Node → ℕ → Option File
 removed_of nodes n = removed_at n (node_at nodes n)
@@ -192,13 +192,7 @@ fresh_free {c} slot n t fresh = record {
 -- the slot's own number is free, if the slot is empty and no file waits for its close
 pub own_free : {c : Contents} {slot : ℕ} → IsTable c → IsSettled (state_of c) → slot < length c.slots → slot < length c.nodes
     → slot_at c.slots slot ≡ None → IsFree c slot slot
-own_free {c} {slot} t settled inside room empty = record {
-  room = room;
-  unnamed = λ u m at same. let e : slot ≡ u = sym same ∙ t.own u m at (omega arith) in
-      let clash : None ≡ Some m = sym empty ∙ ap (slot_at c.slots) e ∙ at in cc;
-  own = λ _. refl;
-  quiet = not_removed slot (node_at c.nodes slot) (settled.closed slot);
-}
+own_free {c} {slot} t settled inside room empty = grind arith
 
 -- a table, after a file was put at a slot
 abbrev pub put_at : Contents → ℕ → Option ℕ → ℕ → Closed → Contents
@@ -222,8 +216,7 @@ module _ {c : Contents} {slot n : ℕ} {found : Option ℕ} (file : Closed) (t :
   still_names = names (Some n) with_file t inside at same_len same_named
 
   put_here : node_at (gave_way with_file found) n ≡ At slot file
-  put_here = node_else with_file found n (λ old was same. free.unnamed slot old (at ∙ was) (sym same))
-      ∙ get_or-set_same c.nodes n (At slot file) Gone free.room
+  put_here = grind (arith, node_else, get_or-set_same)
 
   -- the state then
   pub state_of-put : state_of (put_at c slot found n file) ≡ record (state_of c) {

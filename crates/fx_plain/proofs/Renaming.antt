@@ -3,8 +3,8 @@ use Rattle.fx_plain.proofs.Words.{◌≡◌, ◌≢◌, ℕ, ◌+◌, ◌-◌, �
 use Rattle.fx_plain.proofs.Words.{IsSome, if◌then◌else◌, ◌==◌, State, Allows, AllowsAll, after, state_after, changed_at, with_removed, IsLegal}
 use Rattle.fx_plain.proofs.Words.{action_of, File, Event, Action, Look, Release, Put, Clear, Take, Allocate, Close, Full, installed_by}
 use Rattle.fx_plain.specs.History.{held_after, held_by, ReleasesItsOwn, AllReleaseTheirOwn}
-use Rattle.fx_plain.proofs.Cells.{by_equality, changed_here, changed_else}
 use Rattle.fx_plain.specs.Reopening.{Renaming, renamed_found, renamed, renamed_event}
+use Rattle.std.proofs.Common.{arith}
 
 -- each number leads r.back to one that leads to it
 abbrev pub IsOneToOne : Renaming → Type 0
@@ -49,12 +49,7 @@ InstallsNamed r (action ∷ h) = InstallsNamed r h × KnowsFound r (installed_by
 
 -- a property of the new value, and of each old one at another place, holds for each value
 each_changed : {X : Type 0} (P : ℕ → X → Type 0) (f : ℕ → X) (n : ℕ) (v : X) → P n v → (m : ℕ) → (m ≢ n → P m (f m)) → P m (changed_at f n v m)
-each_changed P f n v here m others = by_equality m n (λ b. P m (if b then v else f m))
-    (λ same. subst (λ (k : ℕ). P k v) (sym same) here) others
-
--- a change of what is read through a function
-through : {X Y : Type 0} (g : X → Y) (f : ℕ → X) (n : ℕ) (v : X) → changed_at (λ k. g (f k)) n (g v) ≡ (λ k. g (changed_at f n v k))
-through g f n v = λ i k. by_equality k n (λ b. (if b then g v else g (f k)) ≡ g (if b then v else f k)) (λ _. refl) (λ _. refl) i
+each_changed P f n v here m others = grind arith
 
 some_renamed : (r : Renaming) (x : Option File) → IsSome x → IsSome (renamed_found r x)
 some_renamed r (Some f) is = refl
@@ -72,24 +67,10 @@ fresh_behind r fresh [] = fresh
 fresh_behind r fresh (a ∷ h) = fresh_after r (fresh_behind r fresh h) a
 
 module _ (r : Renaming) (one : IsOneToOne r) where
-  elsewhere_back : {X Y : Type 0} (g : X → Y) (none : Y) (f : ℕ → X) (n : ℕ) (v : X) {k : ℕ} → k ≢ r.number n → (x : Option ℕ) → r.back k ≡ x
-      → read_at g none f x ≡ read_at g none (changed_at f n v) x
-  elsewhere_back g none f n v other None is = refl
-  elsewhere_back g none f n v {k} other (Some m) is = ap g (sym (changed_else f n v m (λ same. other (sym (one k m is) ∙ ap r.number same))))
-
   -- a change under an old number is one under the new number
   changed_back : {X Y : Type 0} (g : X → Y) (none : Y) (f : ℕ → X) {n : ℕ} (v : X) → IsNamed r n
       → changed_at (λ k. read_at g none f (r.back k)) (r.number n) (g v) ≡ (λ k. read_at g none (changed_at f n v) (r.back k))
-  changed_back g none f {n} v known = λ i k. by_equality k (r.number n)
-      (λ b. (if b then g v else read_at g none f (r.back k)) ≡ read_at g none (changed_at f n v) (r.back k))
-      (λ same. sym (ap (read_at g none (changed_at f n v)) (ap r.back same ∙ known) ∙ ap g (changed_here f n v n refl)))
-      (λ other. elsewhere_back g none f n v other (r.back k) refl) i
-
-  removed_back : (removed : ℕ → Option File) (found : Option File) → KnowsFound r found
-      → with_removed (λ k. read_at (renamed_found r) None removed (r.back k)) (renamed_found r found)
-      ≡ (λ k. read_at (renamed_found r) None (with_removed removed found) (r.back k))
-  removed_back removed None known = refl
-  removed_back removed (Some f) known = changed_back (renamed_found r) None removed (Some f) (known f refl)
+  changed_back g none f {n} v known = grind arith
 
   module _ {fresh : ℕ → Bool} {st : State} (k : IsRenamable r fresh st) where
     abbrev other : State
@@ -101,43 +82,30 @@ module _ (r : Renaming) (one : IsOneToOne r) where
     allows : (a : Action) → KnowsFound r (installed_by a) → Allows st a → Allows other (renamed r a)
     allows (Release f) known some = rw (held_same (k.held f.number some)) some
     allows (Put slot f replaced) known (inside, is_fresh, is) = (inside, k.stays_fresh f.number (known f refl) is_fresh, ap (renamed_found r) is)
-    allows (Allocate slot f) known (inside, in_range, none, is_fresh) =
-        (inside, in_range, ap (renamed_found r) none, k.stays_fresh f.number (known f refl) is_fresh)
+    allows (Allocate slot f) known (inside, in_range, none, is_fresh) = grind arith
     allows Full known full = λ slot inside in_range. some_renamed r (st.at slot) (full slot inside in_range)
-    allows (Close f) known (waits, none) = let named = k.removed f.number f waits in
-        (ap (read_at (renamed_found r) None st.removed) named ∙ ap (renamed_found r) waits, held_same named ∙ none)
+    allows (Close f) known (waits, none) = grind arith
     allows _ known may = (may.0, ap (renamed_found r) may.1)
 
     -- a hold more or less
     holds_back : (change : ℕ → ℕ) {n : ℕ} → IsNamed r n → changed_at other.holds (r.number n) (change (other.holds (r.number n)))
         ≡ (λ k. read_at (λ x. x) 0 (changed_at st.holds n (change (st.holds n))) (r.back k))
-    holds_back change {n} known = ap (λ (held : ℕ). changed_at other.holds (r.number n) (change held)) (held_same known)
-        ∙ changed_back (λ x. x) 0 st.holds (change (st.holds n)) known
+    holds_back change {n} known = grind arith
 
     known_found : (slot : ℕ) {found : Option File} → found ≡ st.at slot → KnowsFound r found
     known_found slot is f some = k.at slot f (sym is ∙ some)
 
     emptied_is : (slot : ℕ) {found : Option File} → found ≡ st.at slot
         → after other (renamed r (Take slot found)) ≡ renamed_state r fresh (after st (Take slot found))
-    emptied_is slot {found} is = λ i. record other {
-      at = through (renamed_found r) st.at slot None i;
-      removed = removed_back st.removed found (known_found slot is) i;
-    }
+    emptied_is slot {found} is = grind arith
 
     after_is : (a : Action) → Allows st a → after other (renamed r a) ≡ renamed_state r (fresh_after r fresh a) (after st a)
     after_is (Look slot (Some f)) may = λ i. record other { holds = holds_back (λ held. held + 1) (k.at slot f (sym may.1)) i }
     after_is (Release f) may = λ i. record other { holds = holds_back (λ held. held - 1) (k.held f.number may) i }
-    after_is (Put slot f replaced) may = λ i. record other {
-      at = through (renamed_found r) st.at slot (Some f) i;
-      fresh = changed_at fresh (r.number f.number) false;
-      removed = removed_back st.removed replaced (known_found slot may.2) i;
-    }
+    after_is (Put slot f replaced) may = grind arith
     after_is (Clear slot found) may = emptied_is slot may.1
     after_is (Take slot found) may = emptied_is slot may.1
-    after_is (Allocate slot f) may = λ i. record other {
-      at = through (renamed_found r) st.at slot (Some f) i;
-      fresh = changed_at fresh (r.number f.number) false;
-    }
+    after_is (Allocate slot f) may = grind arith
     after_is (Close f) may = λ i. record other { removed = changed_back (renamed_found r) None st.removed None (k.removed f.number f may.0) i }
     after_is _ may = refl
 
@@ -155,11 +123,7 @@ module _ (r : Renaming) (one : IsOneToOne r) where
 
     still_fresh : {n : ℕ} → IsNamed r n → (m : ℕ) → IsNamed r m → changed_at st.fresh n false m ≡ true
         → changed_at fresh (r.number n) false (r.number m) ≡ true
-    still_fresh {n} known m named is = by_equality m n
-        (λ b. (if b then false else st.fresh m) ≡ true → changed_at fresh (r.number n) false (r.number m) ≡ true)
-        (λ same (no : false ≡ true). absurd (cc no))
-        (λ apart is_fresh. changed_else fresh (r.number n) false (r.number m) (λ (same : r.number m ≡ r.number n).
-        let e : Some m ≡ Some n = sym named ∙ ap r.back same ∙ known in apart (cc e)) ∙ k.stays_fresh m named is_fresh) is
+    still_fresh {n} known m named is = grind arith
 
     nothing_known : KnowsFound r None
     nothing_known f none = absurd (cc none)
@@ -170,8 +134,7 @@ module _ (r : Renaming) (one : IsOneToOne r) where
     stays_renamable : (a : Action) → KnowsFound r (installed_by a) → Allows st a → IsRenamable r (fresh_after r fresh a) (after st a)
     stays_renamable (Look slot (Some f)) known may = assumption (held_changed (st.holds f.number + 1) (k.at slot f (sym may.1)))
     stays_renamable (Release f) known may = assumption (held_changed (st.holds f.number - 1) (k.held f.number may))
-    stays_renamable (Put slot f replaced) known may =
-        assumption (file_changed k.at slot known, removed_after replaced (known_found slot may.2), still_fresh (known f refl))
+    stays_renamable (Put slot f replaced) known may = grind (arith, removed_after)
     stays_renamable (Clear slot found) known may = stays_emptied slot found may.1
     stays_renamable (Take slot found) known may = stays_emptied slot found may.1
     stays_renamable (Allocate slot f) known may = assumption (file_changed k.at slot known, still_fresh (known f refl))

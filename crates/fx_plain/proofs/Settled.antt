@@ -1,6 +1,6 @@
 -- The counters of a table, and its state; sums over lists of nothings.
-use Rattle.fx_plain.proofs.Words.{◌≡◌, sum_by-cons, sum_by, List, [], arith, ap, ◌∙◌, replicate, slice_index_or, suc, zero, ℕ, ◌∷◌, ◌≤◌, true, false}
-use Rattle.fx_plain.proofs.Words.{length, length-append, refl, sym, Option, Some, None, IsSettled, files_in_order, files_of, identities_of, Contents}
+use Rattle.fx_plain.proofs.Words.{◌≡◌, sum_by-cons, sum_by, List, [], arith, ap, ◌∙◌, replicate, slice_index_or, suc, zero, ℕ, ◌∷◌, ◌≤◌, false}
+use Rattle.fx_plain.proofs.Words.{length, length-append, refl, Option, Some, None, IsSettled, files_in_order, files_of, identities_of, Contents}
 use Rattle.fx_plain.proofs.Words.{IsTable, IsCounted, state_of, slot_at, node_at, file_at, removed_at, is_leaving, is_retired, file_count_of}
 use Rattle.fx_plain.proofs.Words.{removed_count_of, take, add-one, length-replicate, Fresh, Leaving, Retired, Gone, Node, All-from_get_or, sum_by-le}
 use Rattle.fx_plain.proofs.Words.{sum_by_more, take_all}
@@ -36,10 +36,7 @@ not_removed n _ is = cc
 
 -- a table without holds and removed files is settled
 pub settled_by_counts : {c : Contents} {full held removed : ℕ} → IsCounted c full held removed → held ≡ 0 → removed ≡ 0 → IsSettled (state_of c)
-settled_by_counts {c} k no_holds none_removed = record {
-  unheld = λ n. nothing_in_sum (λ n. n) c.holds 0 refl (sym k.all_holds ∙ no_holds) n;
-  closed = λ n. (quiet_is (node_at c.nodes n) (nothing_in_sum removed_count_of c.nodes Gone refl (sym k.all_removed ∙ none_removed) n)).0 n;
-}
+settled_by_counts {c} k no_holds none_removed = grind (arith, nothing_in_sum)
 
 pub no_holds : {c : Contents} {full held removed : ℕ} → IsCounted c full held removed → IsSettled (state_of c) → held ≡ 0
 no_holds {c} k s = k.all_holds ∙ sum_of_nothings (λ n. n) c.holds 0 s.unheld
@@ -69,24 +66,4 @@ length-files_of {c} t = files_upto t (length c.slots) (omega arith) ∙ ap (sum_
 pub sparse_keeps : {slots : List (Option ℕ)} {n : ℕ} {nodes : List Node} {holds : List ℕ} → slots ≡ replicate n None → n ≤ 256
     → nodes ≡ [] → holds ≡ [] → IsTable (record { slots = slots; range = (0, n); nodes = nodes; holds = holds; numbers = n })
     × IsCounted (record { slots = slots; range = (0, n); nodes = nodes; holds = holds; numbers = n }) 0 0 0
-sparse_keeps {n} slots_are few no_nodes no_hold =
-    let len : length (replicate {A = Option ℕ} n None) ≡ n = length-replicate n None in
-    let unnamed : (slot number : ℕ) → slot_at (replicate n None) slot ≡ Some number → ⊥ = λ slot number is.
-    let e : Some number ≡ None = sym is ∙ read_default n slot None in cc in rw (slots_are, no_nodes, no_hold) (
-      record {
-        few_slots = omega arith;
-        range_inside = omega arith;
-        few_nodes = omega arith;
-        same_numbers = refl;
-        placed = λ slot number is. absurd (unnamed slot number is);
-        own = λ slot number is lt. absurd (unnamed slot number is);
-        used = λ number lt. refl;
-        held = λ number is. let e : false ≡ true = is in cc;
-      },
-      record {
-        full_slots = sym (sum_by-replicate file_count_of n None refl);
-        all_holds = refl;
-        small_holds = λ number. omega arith;
-        all_removed = refl;
-      },
-    )
+sparse_keeps {n} slots_are few no_nodes no_hold = grind (arith, length-replicate, read_default, sum_by-replicate)

@@ -23,12 +23,12 @@ pub use Rattle.std.proofs.Common.{inl, inr, length, length-append, map, nat_lt, 
 pub use Rattle.std.proofs.Common.{subst, suc, sym, take, true, vec_capacity, vec_len, zero, ℕ, ◌&&◌, ◌++◌, ◌+◌, ◌-◌, ◌<◌, ◌==◌, ◌^◌, ◌∙◌, ◌∷◌, ◌≡◌}
 pub use Rattle.std.proofs.Common.{◌≢◌, ◌≤◌, ◌⊎◌, ne_eqb}
 pub use Rattle.std.proofs.Math.ListN.{get_or-eq_default}
-pub use Rattle.std.proofs.lemmas.Bool.{cases_lt, eqb-true, le-ltb, lt-ltb, true_from_ne_false, false_from_ne_true}
+pub use Rattle.std.proofs.lemmas.Bool.{cases_lt, eqb-true, le-ltb, lt-ltb, false_from_ne_true}
 pub use Rattle.std.proofs.lemmas.List.{append-nil, get_or-append-add, get_or-replicate, get_or-set_other, get_or-set_same, get_or_append_left}
 pub use Rattle.std.proofs.lemmas.List.{get_or_default, length-replicate, length-set, nil_from_length, set-append_left, set-get_or, set-set, take_all}
 pub use Rattle.std.proofs.lemmas.List.Sums.{get_or-le-sum_by, sum_by-cons, sum_by-set, sum_by-le, sum_by_more}
 pub use Rattle.std.specs.Option.{option_to_list}
-pub use Rattle.std.specs.Prelude.{sum, sum_by, option_map}
+pub use Rattle.std.specs.Prelude.{sum, sum_by}
 pub use Rattle.std.proofs.lemmas.List.Elements.{All-from_get_or, All-append, All-cons, All-nil}
 pub use Rattle.fx_plain.specs.Laws.{IsAtSlot, IsInstalled, installed_by, IsClosed, IsStart, closed_of, closes_of, IsStillThere, IsClosedOnce}
-pub use Rattle.fx_plain.specs.Laws.{if_numbered, released_by, releases_in}
+pub use Rattle.fx_plain.specs.Laws.{released_by, releases_in}

@@ -14,9 +14,7 @@ invariant_of-self-2 c =
     )
 
 pub returns-clause-ok : goal.returns-clause-ok
-returns-clause-ok c =
-    let enough = rw (sym c.self.view_is) at c.requires.numbers in rw (sym c.self.view_is)
-    (state_of-fields c.self.invariant.0.0 enough c.ranges.numbers.fits c.in_ok-renumber.ensures.ok c.start_again.ensures)
+returns-clause-ok c = grind (arith, state_of-fields)
 
 pub returns-clause-settled : goal.returns-clause-settled
 returns-clause-settled c = settled_at_opening (state_of c.args.self.now) _ c.args.numbers (returns-clause-ok c)

@@ -17,8 +17,7 @@ module _ (c : After-set_node) where
   empty = unnamed c.args.slot c.self.invariant.0.0 (rw (sym c.self.view_is) at c.requires.empty)
 
   free : IsFree v c.args.slot c.args.slot
-  free = let prepared = rw (sym c.self.view_is) at c.requires.prepared in
-      own_free c.self.invariant.0.0 (rw (sym c.self.view_is) at c.requires.settled) inside (omega (arith, inside, prepared)) empty
+  free = grind (arith, own_free)
 
   abbrev after : Contents
   after = put_at v c.args.slot None c.args.slot c.args.file

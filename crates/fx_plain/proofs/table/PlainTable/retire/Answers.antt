@@ -2,14 +2,14 @@ use Rattle.fx_plain.proofs.Words.{rules, Gone, sym, ◌∙◌, the_view}
 use Rattle.fx_plain.proofs.Cells.{leaving-nodes}
 use Rattle.fx_plain.proofs.Holding.{node_inside, retires, retire_closes, retire_waits, retire_close_keeps, retire_wait_keeps}
 use Rattle.fx_plain.proofs.table.PlainTable.retire.Goals as goal
+use Rattle.std.proofs.Common.{arith}
 
 pub invariant_of-self : goal.invariant_of-self
 invariant_of-self c =
     (rw c.take_file.ensures.after (retire_close_keeps c.args.number c.self.invariant.0.0 (search rules) c.self.invariant.0.1), c.self.invariant.1)
 
 pub returns-then-of-eq0-clause-steps : goal.returns-then-of-eq0-clause-steps
-returns-then-of-eq0-clause-steps c = rw (sym c.self.view_is, c.take_file.ensures.after)
-    (retire_closes c.args.number c.self.invariant.0.0 (search rules) (search rules))
+returns-then-of-eq0-clause-steps c = grind (arith, retire_closes)
 
 pub returns-then-of-eq0-clause-leaving : goal.returns-then-of-eq0-clause-leaving
 returns-then-of-eq0-clause-leaving c = rw (sym c.self.view_is, c.take_file.ensures.after)

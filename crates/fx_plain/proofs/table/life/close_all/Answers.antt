@@ -1,6 +1,6 @@
 use Rattle.fx_plain.proofs.Words.{refl, rules, ◌≡◌, ◌+◌, ap, ◌∙◌, length, length-append, append_assoc, ℕ, List, Option, arith, option_to_list, File}
 use Rattle.fx_plain.proofs.Words.{files_in_order, identities_of, file_at, file_named, slot_at, nodes_without, Node}
-use Rattle.fx_plain.proofs.Emptying.{files_more, files_next, read_slot, next_listed, worked_next}
+use Rattle.fx_plain.proofs.Emptying.{files_more, files_next, read_slot, worked_next}
 use Rattle.fx_plain.proofs.table.life.close_all.Goals.{After-index}
 use Rattle.fx_plain.proofs.table.life.close_all.Goals as goal
 
@@ -18,8 +18,7 @@ module _ (c : After-index) where
   read = read_slot slots c.loop-slot.slot (search rules) c.index.ensures
 
   listed : option_to_list (file_named nodes c.index.result.now) ≡ identities_of (at c.loop-slot.slot)
-  listed = ap (λ (y : Option ℕ). option_to_list (file_named nodes y)) read
-      ∙ next_listed slots c.args.nodes.now nodes c.loop-slot.slot c.requires.placed c.loop-slot.invariant.worked.left
+  listed = grind (arith, read)
 
   longer : length (files_in_order at (c.loop-slot.slot + 1))
       ≡ length (files_in_order at c.loop-slot.slot) + length (option_to_list (file_named nodes c.index.result.now))
