@@ -61,9 +61,7 @@ accesses_of-order_in (e ∷ h) =
 
 pub accesses_of_chain-append : (chain : ℕ) (xs ys : List ChainAccess)
     → accesses_of_chain chain (xs ++ ys) ≡ accesses_of_chain chain xs ++ accesses_of_chain chain ys
-accesses_of_chain-append chain xs ys =
-    ap (λ (l : List ChainAccess). map access_of l) (filter-append (λ x. x.chain == chain) xs ys)
-    ∙ map-append access_of (filter (λ x. x.chain == chain) xs) (filter (λ x. x.chain == chain) ys)
+accesses_of_chain-append chain xs ys = grind (arith, filter-append, map-append)
 
 -- a chain's accesses are those of its part of the history
 pub accesses_of_chain-order_in : (chain : ℕ) (h : List Event)
@@ -82,12 +80,7 @@ accesses_of_chain-order_in chain (e ∷ h) =
 pub of_chain : (x : ChainAccess) (order : List ChainAccess) (chain : ℕ)
     → ((x.chain ≡ chain) × (accesses_of_chain chain (x ∷ order) ≡ x.access ∷ accesses_of_chain chain order))
     ⊎ ((x.chain ≡ chain → ⊥) × (accesses_of_chain chain (x ∷ order) ≡ accesses_of_chain chain order))
-of_chain x order chain =
-    let own = filter (λ (y : ChainAccess). y.chain == chain) order in
-    by_equality x.chain chain
-    (λ b. ((x.chain ≡ chain) × (accesses_of (cond b (x ∷ own) own) ≡ x.access ∷ accesses_of_chain chain order))
-    ⊎ ((x.chain ≡ chain → ⊥) × (accesses_of (cond b (x ∷ own) own) ≡ accesses_of_chain chain order)))
-    (λ same. inl (same, refl)) (λ other. inr (other, refl))
+of_chain x order chain = grind arith
 
 pub own_first : (x : ChainAccess) (order : List ChainAccess) → accesses_of_chain x.chain (x ∷ order) ≡ x.access ∷ accesses_of_chain x.chain order
 own_first x order = elim (of_chain x order x.chain) [ inl same ↦ same.1 | inr other ↦ absurd (other.0 refl) ]
@@ -111,8 +104,7 @@ PermitsAll-append table (x ∷ xs) ys first second = (first.0, PermitsAll-append
 
 pub identities-changed_at : (at : ℕ → Option File) (slot : ℕ) (x : Option File)
     → (λ k. identity_of (changed_at at slot x k)) ≡ changed_at (λ k. identity_of (at k)) slot (identity_of x)
-identities-changed_at at slot x = λ i k.
-    by_equality k slot (λ b. identity_of (if b then x else at k) ≡ (if b then identity_of x else identity_of (at k))) (λ _. refl) (λ _. refl) i
+identities-changed_at at slot x = grind arith
 
 -- the choice at the place itself
 pub at_itself : {X : Type 0} (k : ℕ) (x y : X) → (if k == k then x else y) ≡ x
@@ -210,12 +202,7 @@ record Accounts (left : ℕ → Option File) (removed closed : List Closed) : Ty
 
 -- if nothing is removed or closed
 kept : {left : ℕ → Option File} (removed closed : List Closed) → Accounts left removed closed → Accounts left (removed ++ []) (closed ++ [])
-kept removed closed a = record {
-  waiting = a.waiting;
-  found = a.found;
-  apart = a.apart;
-  same_files = rw (append-nil removed, append-nil closed) a.same_files;
-}
+kept removed closed a = grind (arith, append-nil)
 
 -- if a file leaves its slot
 leaves : {left : ℕ → Option File} (removed closed : List Closed) (f : File) → left f.number ≡ None → Accounts left removed closed
@@ -287,8 +274,4 @@ none_waits (f ∷ waiting) settled found =
 pub removed_is_closed : {start end : State} (h : List Event) → IsStart start → AllowsAll start (map action_of h)
     → end ≡ state_after start (map action_of h) → IsSettled end
     → IsPermutation (files_removed_in (accesses_in (map action_of h))) (closes_in (map action_of h))
-removed_is_closed h begins may is settled =
-    let all = accounts_along h begins may in
-    let none : all.waiting ≡ [] = none_waits all.waiting (subst IsSettled is settled).closed all.found in
-    subst (IsPermutation (files_removed_in (accesses_in (map action_of h))))
-    (ap (λ (l : List File). closes_in (map action_of h) ++ map identity l) none ∙ append-nil (closes_in (map action_of h))) all.same_files
+removed_is_closed h begins may is settled = grind (arith, accounts_along, none_waits, append-nil)

@@ -122,10 +122,7 @@ own_weaker l weaker own = (λ s f has. weaker f (own.0 s f has), own.1)
 
 pub own_both : {P Q R : Closed → Type 0} (xs ys : List (ℕ × Closed)) → ((f : Closed) → P f → R f) → ((f : Closed) → Q f → R f)
     → ((f g : Closed) → P f → Q g → f.mark ≢ g.mark) → Own P xs → Own Q ys → Own R (xs ++ ys)
-own_both xs ys left right apart first behind = (
-  λ s f has. ⊎_elim (λ one. left f (first.0 s f one)) (λ later. right f (behind.0 s f later)) (has_either xs ys s f has),
-  once_then xs ys first.1 behind.1 (λ s o f g one later. apart f g (first.0 s f one) (behind.0 o g later)),
-)
+own_both xs ys left right apart first behind = grind (arith, has_either, once_then)
 
 slot_of : {slot s : ℕ} {file f : Closed} → Has ((slot, file) ∷ []) s f → s ≡ slot
 slot_of (inl here) = λ i. (sym here i).0

@@ -1,10 +1,10 @@
 -- The accesses and completions of the first member, and of the first chain.
 use Rattle.fx_order.proofs.Words.{◌≡◌, ◌-◌, ◌≤◌, List, [], ◌∷◌, length, take, drop, suc, sym, ap, subst, ◌∙◌, arith, slice_index_or, All, All-tail}
-use Rattle.fx_order.proofs.Words.{take-length, ◌↔◌, ℕ, ◌+◌, Bool, false, IsTrue, ◌++◌, refl, min, AllByRecursion, either_way, MatchBool, when_false}
-use Rattle.fx_order.proofs.Words.{take-append-drop, length-append, take-append_seam, drop-append_seam, FileEntry, Completed, next_member, canceled}
-use Rattle.fx_order.proofs.Words.{severs, Asked, Place, Access, IsChainDone, IsRequestDone, All-head, ◌<◌, by_equality, first_member}
-use Rattle.fx_order.proofs.Words.{accesses_of_chain, ChainAccess, AreChainsDone, map, length-map, take-map, drop-map, members_of, all_completed}
-use Rattle.fx_order.proofs.Words.{completed_of, all_asked, asked_of, Chain, Completion, Request}
+use Rattle.fx_order.proofs.Words.{take-length, ◌↔◌, ℕ, ◌+◌, Bool, false, IsTrue, ◌++◌, min, AllByRecursion, either_way, MatchBool, take-append-drop}
+use Rattle.fx_order.proofs.Words.{length-append, take-append_seam, drop-append_seam, FileEntry, Completed, next_member, canceled, severs, Asked}
+use Rattle.fx_order.proofs.Words.{Place, Access, IsChainDone, IsRequestDone, All-head, ◌<◌, by_equality, first_member, accesses_of_chain, ChainAccess}
+use Rattle.fx_order.proofs.Words.{AreChainsDone, map, length-map, take-map, drop-map, members_of, all_completed, completed_of, all_asked, asked_of}
+use Rattle.fx_order.proofs.Words.{Chain, Completion, Request}
 use Rattle.fx_chain.proofs.ChainGoesOn.{canceled_count}
 
 pub first_and_rest : {X : Type 0} (xs : List X) (d : X) → 1 ≤ length xs → xs ≡ slice_index_or xs 0 d ∷ take (length xs - 1) (drop 1 xs)
@@ -21,10 +21,7 @@ first_is xs x some is = first_and_rest xs x some ∙ ap (λ y. y ∷ take (lengt
 
 -- the first part of a list of a known length
 pub front_is : {X : Type 0} (xs ys zs : List X) (n : ℕ) → zs ≡ xs ++ ys → length xs ≡ n → (take n zs ≡ xs) × (drop n zs ≡ ys)
-front_is xs ys zs n is count = (
-  (λ i. take (sym count i) (is i)) ∙ take-append_seam xs ys,
-  (λ i. drop (sym count i) (is i)) ∙ drop-append_seam xs ys,
-)
+front_is xs ys zs n is count = grind (arith, take-append_seam, drop-append_seam)
 
 -- a property of each element of both parts
 pub both_parts : {X : Type 0} (P : X → Type 0) (xs ys : List X) → AllByRecursion P (xs ++ ys) → AllByRecursion P xs × AllByRecursion P ys
@@ -59,10 +56,7 @@ module _ (catalogue : List FileEntry) (size : ℕ) (place : Place) (request : As
   pub member_goes_on : (own others : List Access) (n : ℕ) → n ≡ min made (length accesses) → own ≡ take n accesses → others ≡ drop n accesses → IsMade
       → severs request c ≡ false → IsRequestDone catalogue size place request.operation own c → (b : Bool)
       → (IsTrue b ↔ IsChainDone catalogue size (next_member place) requests others cs) → IsTrue b ↔ IsDone
-  member_goes_on own others n least front back counts cut done b same = (
-    λ yes. (own, others, c, cs, sym (take-append-drop n accesses) ∙ (λ i. sym front i ++ sym back i), refl, done, rw cut (same.0 yes)),
-    λ x. same.1 (rw (back, least) (when_false _ _ cut (member_parts counts x).1)),
-  )
+  member_goes_on own others n least front back counts cut done b same = grind (arith, take-append-drop, member_parts)
 
 -- a chain has as many completions as members
 pub length-done : (catalogue : List FileEntry) (size : ℕ) (place : Place) (requests : List Asked) (accesses : List Access) (cs : List Completed)
@@ -110,10 +104,7 @@ module _ (catalogue : List FileEntry) (size submission chain : ℕ) (run : List 
       let front = front_is x.0 x.1 cs (length run) x.2 own in (rw front.0 x.3, rw front.1 x.4)
 
   pub too_few : length cs < length run → AreDone → ⊥
-  too_few few x =
-      let own = length-done catalogue size (first_member submission chain) run (accesses_of_chain chain order) x.0 x.3 in
-      let whole = ap length x.2 ∙ length-append x.0 x.1 in
-      absurd (omega arith)
+  too_few few x = grind (arith, length-done, length-append)
 
   module _ (accesses : List Access) (own others : List Completed) (are : accesses ≡ accesses_of_chain chain order)
       (front : own ≡ take (length run) cs) (back : others ≡ drop (length run) cs) where
@@ -122,10 +113,7 @@ module _ (catalogue : List FileEntry) (size submission chain : ℕ) (run : List 
 
     pub goes_on : IsChainDone catalogue size (first_member submission chain) run accesses own → (b : Bool)
         → (IsTrue b ↔ AreChainsDone catalogue size submission (chain + 1) runs order others) → IsTrue b ↔ AreDone
-    goes_on first b same = (
-      λ yes. (own, others, sym (take-append-drop (length run) cs) ∙ (λ i. sym front i ++ sym back i), rw (sym are) first, same.0 yes),
-      λ x. same.1 (rw back (parts_of x).1),
-    )
+    goes_on first b same = grind (arith, take-append-drop, parts_of)
 
 -- the completions of a chain's members, and the later ones
 pub own_completed : (members : List Request) (completions own : List Completion) → own ≡ take (length members) completions
@@ -140,8 +128,7 @@ others_completed members completions others back = rw (back, length-map members 
 pub first_run : (asked : List Asked) (chains : List Chain) (d : Chain) (members : List Request) → 1 ≤ length chains
     → all_asked members ≡ members_of asked (slice_index_or chains 0 d)
     → map (members_of asked) chains ≡ all_asked members ∷ map (members_of asked) (take (length chains - 1) (drop 1 chains))
-first_run asked chains d members some run =
-    ap (map (members_of asked)) (first_and_rest chains d some) ∙ (λ i. sym run i ∷ map (members_of asked) (take (length chains - 1) (drop 1 chains)))
+first_run asked chains d members some run = grind (arith, first_and_rest)
 
 pub few_completions : (catalogue : List FileEntry) (size submission chain : ℕ) (asked : List Asked) (chains : List Chain) (d : Chain)
     → 1 ≤ length chains → (members : List Request) → all_asked members ≡ members_of asked (slice_index_or chains 0 d) → (order : List ChainAccess)

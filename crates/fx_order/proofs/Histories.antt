@@ -3,11 +3,11 @@ use Rattle.fx_order.proofs.Words.{◌≡◌, ℕ, ◌+◌, ◌<◌, ◌≤◌, �
 use Rattle.fx_order.proofs.Words.{All-contains, arith, All, Contains, append-nil, map-append, All-head, All-tail, Contains-append_cases}
 use Rattle.fx_order.proofs.Words.{filter-append, Event, Action, State, IsSettled, action_of, part_of_chain, AllowsAll, Leads, AllReleaseTheirOwn}
 use Rattle.fx_order.proofs.Words.{state_after, closes_in, by_equality, Table, PermitsAll, access_of, accesses_of, accesses_of_chain, files_removed_in}
-use Rattle.fx_order.proofs.Words.{table_after, Access, ChainAccess, leads_then, closes_in-then, contains_none, ⊎_elim, All-map, ◌*◌, either_case}
-use Rattle.fx_order.proofs.Words.{length, length-append, sum_by, sum_by-cons, FileEntry, IsAccepted, members_of, Completed, next_member, severs}
-use Rattle.fx_order.proofs.Words.{first_member, Asked, runs_of, Place, IsChainDone, AreChainsDone, chains_of, installs_of, all_installs}
-use Rattle.fx_order.proofs.Words.{accepted-chains, members-are-runs, lt-ltb, le-ltb, Closed, opening, state_of, numbers_for, RingContents, RingState}
-use Rattle.fx_order.proofs.Words.{HasClosed, ring_of, IsOneHistory, Reported, IsOneOrder, table_of, sum_by-le}
+use Rattle.fx_order.proofs.Words.{table_after, Access, ChainAccess, leads_then, closes_in-then, ⊎_elim, All-map, ◌*◌, either_case, length}
+use Rattle.fx_order.proofs.Words.{length-append, sum_by, sum_by-cons, FileEntry, IsAccepted, members_of, Completed, next_member, severs, first_member}
+use Rattle.fx_order.proofs.Words.{Asked, runs_of, Place, IsChainDone, AreChainsDone, chains_of, installs_of, all_installs, accepted-chains}
+use Rattle.fx_order.proofs.Words.{members-are-runs, lt-ltb, le-ltb, Closed, opening, state_of, numbers_for, RingContents, RingState, HasClosed}
+use Rattle.fx_order.proofs.Words.{ring_of, IsOneHistory, Reported, IsOneOrder, table_of, sum_by-le}
 use Rattle.fx_order.proofs.Accesses.{of_all, of_author, shown, shown-opening}
 use Rattle.fx_order.proofs.RequestSteps.{AllDo, Done, by, done, installs, all_chains_explained}
 use Rattle.fx_order.proofs.Ordered.{IsWithin, ring_after, same_outline}
@@ -82,16 +82,7 @@ module _ (chains : ℕ) (st : State) (number : ℕ) (x : ChainAccess) (order : L
 pub made : (chains : ℕ) (order : List ChainAccess) (st : State) (number : ℕ) → IsSettled st
     → ((n : ℕ) → number ≤ n → n < number + installs_in (accesses_of order) → st.fresh n ≡ true)
     → All (λ x. IsWithin chains x.chain) order → PermitsAll (shown st) (accesses_of order) → Made chains st order
-made chains [] st number settled fresh within may = record {
-  history = [];
-  allowed = tt;
-  releases = λ before all. all;
-  shows = refl;
-  settled = settled;
-  authors = λ e has. absurd (contains_none e has);
-  parts = λ chain. refl;
-  closes = refl;
-}
+made chains [] st number settled fresh within may = grind arith
 made chains (x ∷ order) st number settled fresh within may =
     let one : Done st number x.access = done st number settled x.access (λ some. fresh number (omega arith) (omega arith)) may.0 in
     one_more chains st number x order (All-head (λ y. IsWithin chains y.chain) x order within) one

@@ -1,13 +1,12 @@
 -- The ring that a report of a submission leads to, and the tables that show a ring.
-use Rattle.fx_order.proofs.Words.{◌≡◌, ℕ, ◌<◌, ◌≤◌, List, [], ◌∷◌, refl, ap, ◌∙◌, arith, Option, Some, None, FileEntry, if◌then◌else◌, Closed, State}
-use Rattle.fx_order.proofs.Words.{vacant, numbered, ring_with, ring_with_slots, file_at, changed_at, identity_of, by_equality, RingContents}
-use Rattle.fx_order.proofs.Words.{RingState, ring_of, Table, Puts, Clears, Takes, Allocates, PermitsAll, table_after, Access, get_or-eq_default, inl}
-use Rattle.fx_order.proofs.Words.{inr, ⊎_elim, ◌+◌, length, sym, subst, All, not_yet, same_from_decides, IsDistinct-IsPermutation}
-use Rattle.fx_order.proofs.Words.{apart_from_distinct, get_or_from_slice_get, slice_get_within, IsDistinct, Contains, slice_get, slice_index_or}
-use Rattle.fx_order.proofs.Words.{All-map, Contains-permutation, IsPermutation-sym, IsCatalogue, Submitted, IsAccepted, members_of, chains_of}
-use Rattle.fx_order.proofs.Words.{first_member, Asked, runs_of, accepted-chains, members-are-runs, IsRing, Reported, files_removed_in, accesses_of}
-use Rattle.fx_order.proofs.Words.{accesses_of_chain, AreKnown, IsOfNext, IsOneOrder, IsOrderOf, table_of, ChainAccess, cases_lt, false≢true}
-use Rattle.fx_order.proofs.Words.{Decides-like, ring_so}
+use Rattle.fx_order.proofs.Words.{◌≡◌, ℕ, ◌<◌, ◌≤◌, List, [], ◌∷◌, refl, ap, ◌∙◌, arith, Option, Some, None, FileEntry, Closed, State, vacant}
+use Rattle.fx_order.proofs.Words.{numbered, ring_with, ring_with_slots, file_at, changed_at, identity_of, RingContents, RingState, ring_of, Table}
+use Rattle.fx_order.proofs.Words.{Puts, Clears, Takes, Allocates, PermitsAll, table_after, Access, get_or-eq_default, inl, inr, ⊎_elim, ◌+◌, length}
+use Rattle.fx_order.proofs.Words.{sym, subst, All, not_yet, same_from_decides, IsDistinct-IsPermutation, apart_from_distinct, get_or_from_slice_get}
+use Rattle.fx_order.proofs.Words.{slice_get_within, IsDistinct, Contains, slice_get, slice_index_or, All-map, Contains-permutation, IsPermutation-sym}
+use Rattle.fx_order.proofs.Words.{IsCatalogue, Submitted, IsAccepted, members_of, chains_of, first_member, Asked, runs_of, accepted-chains}
+use Rattle.fx_order.proofs.Words.{members-are-runs, IsRing, Reported, files_removed_in, accesses_of, accesses_of_chain, AreKnown, IsOfNext}
+use Rattle.fx_order.proofs.Words.{IsOneOrder, IsOrderOf, table_of, ChainAccess, cases_lt, false≢true, Decides-like, ring_so}
 use Rattle.fx_ring.specs.OpenRings.{table_with_files}
 use Rattle.std.specs.Prelude.{option_map}
 use Rattle.fx_order.specs.declared.ring_slots.RingSlots.{RingSlots}
@@ -42,8 +41,7 @@ none_past_table c slot past = ap (λ (number : Option ℕ). identity_of (file_at
 
 none_past_change : {size slot : ℕ} {at : ℕ → Option Closed} (x : Option Closed) → slot < size → NonePast size at
     → NonePast size (changed_at at slot x)
-none_past_change {slot} {at} x within none other past =
-    by_equality other slot (λ b. (if b then x else at other) ≡ None) (λ same. absurd (omega arith)) (λ _. none other past)
+none_past_change {slot} {at} x within none other past = grind arith
 
 pub none_past_accesses : (accesses : List Access) (table : Table) → PermitsAll table accesses → NonePast table.size table.at
     → NonePast table.size (table_after table accesses).at
@@ -190,5 +188,4 @@ each_closed_file_is_known old requests report left is accepted o =
 
 pub no_file_that_stays_is_closed : (old : RingState) (requests : List Asked) (report : Reported) (left : RingState) → IsRing old
     → IsOneOrder old requests report left → (slot : ℕ) (file : Closed) → left.at slot ≡ Some file → Contains report.closes.files file → ⊥
-no_file_that_stays_is_closed old requests report left is o slot file at =
-    left_stays old requests report is o.order o.is slot file (sym (ap (λ (r : RingState). r.at slot) o.after) ∙ at)
+no_file_that_stays_is_closed old requests report left is o slot file at = grind (arith, left_stays)

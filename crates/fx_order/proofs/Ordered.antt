@@ -1,11 +1,11 @@
 -- The order of a history: its accesses, one after another.
 use Rattle.fx_order.proofs.Words.{◌≡◌, ℕ, ◌+◌, ◌<◌, List, [], ◌∷◌, ◌++◌, length, take, sym, ap, ◌∙◌, slice_index_or, Option, zero, suc, arith}
-use Rattle.fx_order.proofs.Words.{append-nil, map-append, take_more, option_to_list, Closed, Table, Permits, PermitsAll, table_with, table_after}
-use Rattle.fx_order.proofs.Words.{file_removed_by, files_removed_in, access_of, accesses_of, ChainAccess, Access, ◌≤◌, map, refl, subst, All}
-use Rattle.fx_order.proofs.Words.{Contains, IsPermutation, opening_is_start, All-nil, All-append, IsPermutation-trans, Event, Action, State, opening}
-use Rattle.fx_order.proofs.Words.{state_of, action_of, closes_in, numbers_for, Asked, runs_of, RingContents, RingState, ring_of, IsOneHistory}
-use Rattle.fx_order.proofs.Words.{Reported, Looks, IsOneOrder, table_of, contains_head, contains_tail, All-map, length-map, FileEntry, members_of}
-use Rattle.fx_order.proofs.Words.{Chain, ring_left, ring_of_slots, table_of_slots, Slots, IsTrue, false, ◌↔◌, false≢true}
+use Rattle.fx_order.proofs.Words.{map-append, take_more, option_to_list, Closed, Table, Permits, PermitsAll, table_with, table_after, file_removed_by}
+use Rattle.fx_order.proofs.Words.{files_removed_in, access_of, accesses_of, ChainAccess, Access, ◌≤◌, map, refl, subst, All, Contains, IsPermutation}
+use Rattle.fx_order.proofs.Words.{opening_is_start, All-nil, All-append, IsPermutation-trans, Event, Action, State, opening, state_of, action_of}
+use Rattle.fx_order.proofs.Words.{closes_in, numbers_for, Asked, runs_of, RingContents, RingState, ring_of, IsOneHistory, Reported, Looks, IsOneOrder}
+use Rattle.fx_order.proofs.Words.{table_of, contains_head, contains_tail, All-map, length-map, FileEntry, members_of, Chain, ring_left, ring_of_slots}
+use Rattle.fx_order.proofs.Words.{table_of_slots, Slots, IsTrue, false, ◌↔◌, false≢true}
 use Rattle.fx_order.proofs.Accesses.{PermitsAll-append, table_after-append, shown, accesses_by, accesses_in, order_in, by_chain, accesses_of-order_in}
 use Rattle.fx_order.proofs.Accesses.{permitted_along, shown-opening, files_removed_in-append, removed_is_closed}
 use Rattle.fx_order.proofs.RequestSteps.{all_explained}
@@ -20,16 +20,11 @@ module _ (order : List ChainAccess) (i : ℕ) (d : ChainAccess) (within : i < le
   pub make_one : (start at next : Table) → PermitsAll start (accesses_of (take i order)) → at ≡ table_after start (accesses_of (take i order))
       → Permits at x → next ≡ table_with at x
       → PermitsAll start (accesses_of (take (i + 1) order)) × (next ≡ table_after start (accesses_of (take (i + 1) order)))
-  make_one start at next before is may made = rw accesses_more (
-    PermitsAll-append start (accesses_of (take i order)) (x ∷ []) before (rw is at may, tt),
-    made ∙ ((λ j. table_with (is j) x) ∙ sym (table_after-append start (accesses_of (take i order)) (x ∷ []))),
-  )
+  make_one start at next before is may made = grind (arith, accesses_more, PermitsAll-append, table_after-append)
 
   pub more_removed : {before now : List Closed} {found : Option Closed} → before ≡ files_removed_in (accesses_of (take i order))
       → found ≡ file_removed_by x → now ≡ before ++ option_to_list found → now ≡ files_removed_in (accesses_of (take (i + 1) order))
-  more_removed so_far is grown =
-      rw (accesses_more, files_removed_in-append (accesses_of (take i order)) (x ∷ []), append-nil (option_to_list (file_removed_by x)))
-      (grown ∙ (λ j. so_far j ++ option_to_list (is j)))
+  more_removed so_far is grown = grind (arith, accesses_more, files_removed_in-append)
 
 -- each access of an order is permitted at its place
 permitted_at : (start : Table) (order : List ChainAccess) (i : ℕ) (d : ChainAccess) → i < length order → PermitsAll start (accesses_of order)
@@ -103,9 +98,7 @@ each_history_is_an_order old new requests report h =
 pub ring_left_is : (catalogue : List FileEntry) (old new : Slots) (submissions registrations : ℕ) (order : List ChainAccess)
     → table_of_slots new ≡ table_after (table_of_slots old) (accesses_of order)
     → ring_of_slots catalogue new (submissions + 1) registrations ≡ ring_left order (ring_of_slots catalogue old submissions registrations)
-ring_left_is catalogue old new submissions registrations order made =
-    ap (ring_after (ring_of_slots catalogue old submissions registrations) (submissions + 1))
-    (made ∙ same_outline (table_of_slots old) (accesses_of order))
+ring_left_is catalogue old new submissions registrations order made = grind (arith, same_outline)
 
 -- there are as many chains as runs
 pub as_many : (asked : List Asked) (cut : List Chain) (n : ℕ) → n ≡ length cut → map (members_of asked) cut ≡ runs_of asked

@@ -1,8 +1,8 @@
 -- The files that accesses place at slots, the files at the slots then, and the removed ones.
 use Rattle.fx_order.proofs.Words.{◌≡◌, ◌≢◌, ◌⊎◌, inl, inr, ⊎_elim, ℕ, ◌<◌, List, [], ◌∷◌, ◌++◌, Contains, refl, sym, ap, ◌∙◌, append_assoc, arith}
-use Rattle.fx_order.proofs.Words.{IsAt, with_file, Option, Some, None, if◌then◌else◌, option_to_list, Contains-append_right, Closed, by_equality}
-use Rattle.fx_order.proofs.Words.{contains_none, contains_head, contains_cases, Table, Looks, Puts, Clears, Takes, Allocates, Permits, PermitsAll}
-use Rattle.fx_order.proofs.Words.{table_with, table_after, file_removed_by, files_removed_in, Access}
+use Rattle.fx_order.proofs.Words.{IsAt, with_file, Option, Some, None, option_to_list, Contains-append_right, Closed, contains_none, contains_head}
+use Rattle.fx_order.proofs.Words.{contains_cases, Table, Looks, Puts, Clears, Takes, Allocates, Permits, PermitsAll, table_with, table_after}
+use Rattle.fx_order.proofs.Words.{file_removed_by, files_removed_in, Access}
 use Rattle.fx_order.proofs.Accesses.{at_itself}
 
 -- the file that an access places, with its slot
@@ -48,10 +48,7 @@ Removes (access ∷ accesses) file = (file_removed_by access ≡ Some file) ⊎ 
 -- a file that is at a slot after a write was there, and the write was elsewhere, or it is the written one
 written : (t : Table) {slot : ℕ} {new : Option Closed} {s : ℕ} {f : Closed} → (with_file t slot new).at s ≡ Some f
     → ((s ≢ slot) × (t.at s ≡ Some f)) ⊎ ((s ≡ slot) × (new ≡ Some f))
-written t {slot} {new} {s} {f} =
-    by_equality s slot
-    (λ b. ◌≡◌ {A = Option Closed} (if b then new else t.at s) (Some f) → ((s ≢ slot) × (t.at s ≡ Some f)) ⊎ ((s ≡ slot) × (new ≡ Some f)))
-    (λ same is. inr (same, is)) (λ other is. inl (other, is))
+written t {slot} {new} {s} {f} = grind arith
 
 is_placed : {slot : ℕ} {file : Closed} {s : ℕ} {f : Closed} → (s ≡ slot) × (Some file ≡ Some f) → Has ((slot, file) ∷ []) s f
 is_placed {file} {f} here = let e : file ≡ f = cc (here.1) in inl (λ i. (sym here.0 i, e i))
@@ -74,9 +71,7 @@ left_from t (x ∷ xs) s f is = ⊎_elim (λ now. ⊎_elim (λ was. inl was) (λ
 -- a file at a slot is there after a write, or the write removed it
 kept : (t : Table) (slot : ℕ) (removed new : Option Closed) (s : ℕ) (f : Closed) → removed ≡ t.at slot → t.at s ≡ Some f
     → ((with_file t slot new).at s ≡ Some f) ⊎ (removed ≡ Some f)
-kept t slot removed new s f found was =
-    by_equality s slot (λ b. (◌≡◌ {A = Option Closed} (if b then new else t.at s) (Some f)) ⊎ (removed ≡ Some f))
-    (λ same. inr (found ∙ (ap t.at (sym same) ∙ was))) (λ _. inl was)
+kept t slot removed new s f found was = grind arith
 
 -- a file at a slot is there after an access, or the access removed it
 step_kept : (t : Table) (x : Access) {s : ℕ} {f : Closed} → Permits t x → t.at s ≡ Some f → ((table_with t x).at s ≡ Some f) ⊎ (file_removed_by x ≡ Some f)
@@ -115,12 +110,7 @@ pub record IsEmptied (t : Table) (x : Access) (g : Closed) : Type 0 where
 emptied_at : {t : Table} {x : Access} {slot : ℕ} {removed new : Option Closed} {g : Closed} → IsAt t slot removed → removed ≡ Some g
     → ((s : ℕ) (f : Closed) → (table_with t x).at s ≡ Some f → (with_file t slot new).at s ≡ Some f)
     → ((s : ℕ) (f : Closed) → (s ≡ slot) × (new ≡ Some f) → Has (placed_by x) s f) → IsEmptied t x g
-emptied_at {t} {slot} {new} may is left puts = record {
-  slot = slot;
-  inside = may.0;
-  was = sym may.1 ∙ is;
-  behind = λ s f now. ⊎_elim (λ o. inl o) (λ h. inr (puts s f h)) (written t (left s f now));
-}
+emptied_at {t} {slot} {new} may is left puts = grind arith
 
 pub emptied : (t : Table) (x : Access) (g : Closed) → Permits t x → file_removed_by x ≡ Some g → IsEmptied t x g
 emptied t (Puts slot file removed) g may is = emptied_at may is (λ s f now. now) (λ s f h. is_placed h)

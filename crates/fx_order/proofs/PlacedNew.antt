@@ -151,8 +151,7 @@ PlaceSame one other = placed one ≡ placed other
 
 -- accesses in two parts that place the same
 same_parts : {one other : List Access} (x y z w : List Access) → one ≡ x ++ y → other ≡ z ++ w → PlaceSame x z → PlaceSame y w → PlaceSame one other
-same_parts x y z w is are first second =
-    ap placed is ∙ (placed-append x y ∙ ((λ i. first i ++ second i) ∙ (sym (placed-append z w) ∙ sym (ap placed are))))
+same_parts x y z w is are first second = grind (arith, placed-append)
 
 -- lists whose first parts are as long have the same parts
 same_halves : {X : Type 0} (xs : List X) {ys : List X} (us : List X) {vs : List X} → length xs ≡ length us → xs ++ ys ≡ us ++ vs

@@ -1,13 +1,12 @@
 -- A request's accesses and completion, by its operation and its entries. A new kind of request adds its cases here.
 use Rattle.fx_order.proofs.Words.{◌≡◌, ℕ, zero, suc, ◌+◌, ◌<◌, ℤ, pos, negsuc, int_le, Bool, false, if◌then◌else◌, List, [], ◌∷◌, ◌++◌, length, refl}
-use Rattle.fx_order.proofs.Words.{sym, ap, ◌∙◌, arith, nat_tests, length-append, Some, slice_get, filter, leb-false, list_any, or_parts, Submitted}
-use Rattle.fx_order.proofs.Words.{Closed, Place, installed, is_bad_entry, list_installs, list_installs-cons, Access, IsEntryDone, AreEntriesDone, inl}
-use Rattle.fx_order.proofs.Words.{inr, positions_from, Option, append-nil, append_assoc, take, take_more, slice_index_or, ◌≤◌, subst, None, FileEntry}
-use Rattle.fx_order.proofs.Words.{IsCatalogue, name_at, Errno, EBADF, ENFILE, ENOMEM, either_option, both_options, refusal_of, Operation, Opens}
-use Rattle.fx_order.proofs.Words.{Reads, Closes, Updates, Completed, completed, refusal, Any, Slot, Looks, Puts, Takes, Allocates, FindsFull, gives}
-use Rattle.fx_order.proofs.Words.{IsOpenDone, IsReadDone, IsCloseDone, IsUpdateDone, IsDoneAtTable, IsRequestDone, InstallsAt, installs_of}
-use Rattle.fx_order.proofs.Words.{is_long_update, LONGEST_UPDATE, ltb-false, slice_get_within, positions_of, add-zero, zero-add, cases_Bool}
-use Rattle.fx_order.proofs.Words.{cond_both, length-take-le, int_eq, applied}
+use Rattle.fx_order.proofs.Words.{sym, ap, ◌∙◌, arith, length-append, Some, slice_get, filter, leb-false, list_any, or_parts, Submitted, Closed}
+use Rattle.fx_order.proofs.Words.{Place, installed, is_bad_entry, list_installs, list_installs-cons, Access, IsEntryDone, AreEntriesDone, inl, inr}
+use Rattle.fx_order.proofs.Words.{positions_from, Option, append-nil, append_assoc, take, take_more, slice_index_or, ◌≤◌, subst, None, FileEntry}
+use Rattle.fx_order.proofs.Words.{IsCatalogue, name_at, Errno, EBADF, ENFILE, ENOMEM, refusal_of, Operation, Opens, Reads, Closes, Updates, Completed}
+use Rattle.fx_order.proofs.Words.{completed, refusal, Any, Slot, Looks, Puts, Takes, Allocates, FindsFull, gives, IsOpenDone, IsReadDone, IsCloseDone}
+use Rattle.fx_order.proofs.Words.{IsUpdateDone, IsDoneAtTable, IsRequestDone, InstallsAt, installs_of, is_long_update, LONGEST_UPDATE}
+use Rattle.fx_order.proofs.Words.{slice_get_within, positions_of, add-zero, zero-add, cases_Bool, length-take-le, int_eq, applied}
 use Rattle.fx_order.proofs.Apart.{Own, own_both, own_none, own_one, own_weaker}
 use Rattle.fx_order.proofs.Placed.{placed, placed-append}
 use Rattle.fx_base.proofs.Entries.{entry_named}
@@ -20,10 +19,7 @@ entry_made : (place : Place) (in_list slot : ℕ) (entry : ℤ) (list : List ℤ
     → length (done_ones (entry ∷ list)) ≡ length own + length (done_ones list)
 entry_made place in_list slot (pos entry) list own x = let one = ap length x.1 in omega arith
 entry_made place in_list slot (negsuc zero) list own x = let one = ap length x.1 in omega arith
-entry_made place in_list slot (negsuc (suc n)) list own x =
-    let none = ap length x in
-    let skip : int_le (negsuc 0) (negsuc (suc n)) ≡ false = grind (arith, nat_tests) in
-    ap (λ (b : Bool). length (if b then negsuc (suc n) ∷ done_ones list else done_ones list)) skip ∙ omega arith
+entry_made place in_list slot (negsuc (suc n)) list own x = grind arith
 
 pub entries_made : (place : Place) (in_list slot : ℕ) (list : List ℤ) (accesses : List Access) → AreEntriesDone place in_list slot list accesses
     → length accesses ≡ length (done_ones list)
@@ -134,8 +130,7 @@ module _ (place : Place) (P : List Access → Completed → Type 0) (own : List 
   pub unless_refused : (catalogue : List FileEntry) (size : ℕ) (operation : Operation) → ((errno : Errno) → P [] (refusal place errno))
       → (refusal_of catalogue size operation ≡ None → IsDoneAtTable catalogue place operation own c → P own c)
       → IsRequestDone catalogue size place operation own c → P own c
-  unless_refused catalogue size operation refused done =
-      either_option (refusal_of catalogue size operation) done (λ errno. same [] (refusal place errno) (refused errno))
+  unless_refused catalogue size operation refused done = grind arith
 
   pub puts : (entry slot : ℕ) → ((removed : Option Closed) → P (Puts slot (installed place 0 entry) removed ∷ []) (completed place (pos 0) []))
       → IsOpenDone place entry (Slot slot) own c → P own c
@@ -172,16 +167,11 @@ module _ (catalogue : List FileEntry) (place : Place) where
   are_made (Opens name Any) own c x = allocates place (AreMade (Opens name Any)) own c x.0 (λ _. refl) refl x.2
   are_made (Reads slot off len) own c x = reads place (AreMade (Reads slot off len)) own c catalogue slot off len refl refl (λ _. refl) x
   are_made (Closes slot) own c x = closes place (AreMade (Closes slot)) own c slot refl (λ _. refl) x
-  are_made (Updates off list) own c x =
-      updates place (AreMade (Updates off list)) own c off list (λ are. entries_made place 0 off list own are ∙ sym (length-positions 0 list)) x
+  are_made (Updates off list) own c x = grind (arith, entries_made, length-positions)
 
   pub few_made : (size : ℕ) (operation : Operation) (own : List Access) (c : Completed) → IsRequestDone catalogue size place operation own c
       → length own ≤ length (positions_of operation)
-  few_made size operation own c = unless_refused place (λ l _. length l ≤ length (positions_of operation)) own c catalogue size operation
-      (λ _. omega arith) (λ _ x.
-      let made = are_made operation own c x in
-      cond_both (int_eq c.res (negsuc 11)) 0 (length (positions_of operation)) (λ n. length own ≡ n → length own ≤ length (positions_of operation))
-      (λ _ none. omega arith) (λ _ all. omega arith) made)
+  few_made size operation own c = grind (arith, are_made)
 
   -- the completion is an error, the bytes of a file, or a number
   module _ (size : ℕ) (Q : Completed → Type 0) (own : List Access) (c : Completed) (failed : (errno : Errno) → Q (refusal place errno))
@@ -195,8 +185,7 @@ module _ (catalogue : List FileEntry) (place : Place) where
     at_table_so (Reads slot off len) accepted x =
         reads place (λ _. Q) own c catalogue slot off len (failed ENOMEM) (failed EBADF) (λ file. given file off len) x
     at_table_so (Closes slot) accepted x = closes place (λ _. Q) own c slot (failed EBADF) (λ _. number 0 (omega arith)) x
-    at_table_so (Updates off list) accepted x =
-        let fits = (applied (length catalogue) size off list accepted).fits in updates place (λ _. Q) own c off list (λ _. number (length list) (omega arith)) x
+    at_table_so (Updates off list) accepted x = grind arith
 
     pub completion_so : (operation : Operation) → IsRequestDone catalogue size place operation own c → Q c
     completion_so operation = unless_refused place (λ _. Q) own c catalogue size operation failed (at_table_so operation)
@@ -224,15 +213,11 @@ module _ (catalogue : List FileEntry) (size : ℕ) (place : Place) where
 
   placed_so : (operation : Operation) (own : List Access) (c : Completed) → IsDoneAtTable catalogue place operation own c
       → (entry : ℕ) × IsEntryOf catalogue operation entry × So entry operation own c
-  placed_so (Opens name (Slot slot)) own c x =
-      (x.0, x.1, puts place (So x.0 (Opens name (Slot slot))) own c x.0 slot (λ _. (refl, refl)) x.2)
-  placed_so (Opens name Any) own c x =
-      (x.0, x.1, allocates place (So x.0 (Opens name Any)) own c x.0 (λ _. (refl, refl)) (refl, refl) x.2)
-  placed_so (Reads slot off len) own c x =
-      (0, tt, reads place (So 0 (Reads slot off len)) own c catalogue slot off len (refl, refl) (refl, refl) (λ _. (refl, refl)) x)
+  placed_so (Opens name (Slot slot)) own c x = grind arith
+  placed_so (Opens name Any) own c x = grind arith
+  placed_so (Reads slot off len) own c x = grind arith
   placed_so (Closes slot) own c x = (0, tt, closes place (So 0 (Closes slot)) own c slot (refl, refl) (λ _. (refl, refl)) x)
-  placed_so (Updates off list) own c x =
-      (0, tt, updates place (So 0 (Updates off list)) own c off list (λ are. (refl, list_places place 0 off list own are)) x)
+  placed_so (Updates off list) own c x = grind (arith, list_places)
 
   -- by the completion alone, if no name is twice in the catalogue
   same_files : IsCatalogue catalogue → (operation : Operation) (e f : ℕ) → IsEntryOf catalogue operation e → IsEntryOf catalogue operation f
@@ -243,12 +228,7 @@ module _ (catalogue : List FileEntry) (size : ℕ) (place : Place) where
 
   pub placed_same : IsCatalogue catalogue → (operation : Operation) (one other : List Access) (c : Completed)
       → IsRequestDone catalogue size place operation one c → IsRequestDone catalogue size place operation other c → placed one ≡ placed other
-  placed_same is operation one other c = both_options (refusal_of catalogue size operation)
-      (λ x y.
-      let p = placed_so operation one c x in
-      let q = placed_so operation other c y in
-      p.2.1 ∙ (same_files is operation p.0 q.0 p.1 q.1 c.res ∙ sym q.2.1))
-      (λ _ p q. ap placed (p.0 ∙ sym q.0))
+  placed_same is operation one other c = grind (arith, placed_so)
 
   -- no more than the request's need of numbers
   few_of : (entry : ℕ) (operation : Operation) (n : ℕ) → length (files_of entry operation n) ≤ installs_of operation
@@ -263,22 +243,15 @@ module _ (catalogue : List FileEntry) (size : ℕ) (place : Place) where
 
   pub few_placed : (operation : Operation) (own : List Access) (c : Completed) → IsRequestDone catalogue size place operation own c
       → length (placed own) ≤ installs_of operation
-  few_placed operation own c = unless_refused place (λ l _. length (placed l) ≤ installs_of operation) own c catalogue size operation
-      (λ _. omega arith) (λ _ x.
-      let p = placed_so operation own c x in
-      let is = ap length p.2.1 in
-      let few = few_so p.0 operation c.res in
-      omega arith)
+  few_placed operation own c = grind (arith, placed_so, few_so)
 
   abbrev entries : ℕ
   entries = length catalogue
 
   own_of : (operation : Operation) (entry n : ℕ) → IsEntryOf catalogue operation entry → refusal_of catalogue size operation ≡ None
       → Own (λ f. (at : ℕ) × InstallsAt operation at × IsMarked entries place at f) (files_of entry operation n)
-  own_of (Opens name (Slot slot)) entry n named accepted =
-      own_one (0, refl, record { mark = refl; inside = entry_named catalogue entry name named; untagged = refl })
-  own_of (Opens name Any) entry n named accepted =
-      own_one (0, refl, record { mark = refl; inside = entry_named catalogue entry name named; untagged = refl })
+  own_of (Opens name (Slot slot)) entry n named accepted = grind (arith, entry_named)
+  own_of (Opens name Any) entry n named accepted = grind (arith, entry_named)
   own_of (Updates off list) entry n named accepted =
       own_weaker _ (λ f l. (l.at, (l.file, l.number), rw zero-add at l.is)) (list_own place entries 0 off list (applied entries size off list accepted).good)
   own_of operation entry n named accepted = own_none
@@ -294,8 +267,7 @@ module _ (catalogue : List FileEntry) (size : ℕ) (place : Place) where
 
   own_so : (operation : Operation) (entry : ℕ) (c : Completed) → IsEntryOf catalogue operation entry → refusal_of catalogue size operation ≡ None
       → c.place ≡ place → (res : ℤ) → c.res ≡ res → Own (IsInstalled operation c) (files_so entry operation res)
-  own_so operation entry c named accepted here (pos n) is =
-      own_weaker _ (λ f x. record { at = x.0; listed = x.1; is = x.2; here = here; res = n; accepted = is }) (own_of operation entry n named accepted)
+  own_so operation entry c named accepted here (pos n) is = grind (arith, own_of)
   own_so operation entry c named accepted here (negsuc n) is = own_none
 
   -- each file that a request places is one of its own
@@ -309,6 +281,5 @@ module _ (catalogue : List FileEntry) (size : ℕ) (place : Place) where
 -- a list of the greatest length has no later position
 pub listed_short : (operation : Operation) (at : ℕ) → is_long_update operation ≡ false → InstallsAt operation at → at < LONGEST_UPDATE
 listed_short (Opens name target) at short is = omega arith
-listed_short (Updates off list) at short is =
-    let within = slice_get_within list at (pos is.0) is.1 in let all = ltb-false LONGEST_UPDATE (length list) short in omega arith
+listed_short (Updates off list) at short is = grind (arith, slice_get_within)
 listed_short operation at short is = absurd is

@@ -2,15 +2,15 @@
 -- adds its cases here.
 use Rattle.fx_order.proofs.Words.{◌≡◌, ℕ, ◌+◌, ◌-◌, ◌<◌, ◌≤◌, ◌==◌, true, false, List, [], ◌∷◌, ◌++◌, length, map, refl, sym, ◌∙◌, arith, Option}
 use Rattle.fx_order.proofs.Words.{Some, None, ReleasesItsOwn, IsSome, if◌then◌else◌, option_to_list, Closed, File, Event, Action, Look, Release, Put}
-use Rattle.fx_order.proofs.Words.{Clear, Take, Allocate, Full, Close, State, IsSettled, ◌▷◌, ◌▷▷◌, state_after, AllowsAll, AllReleaseTheirOwn}
-use Rattle.fx_order.proofs.Words.{held_by, close_of, closes_in, identity_of, by_equality, Looks, Puts, Clears, Takes, Allocates, FindsFull, Permits}
+use Rattle.fx_order.proofs.Words.{Clear, Take, Allocate, Full, State, IsSettled, ◌▷◌, ◌▷▷◌, state_after, AllowsAll, AllReleaseTheirOwn, held_by}
+use Rattle.fx_order.proofs.Words.{close_of, closes_in, identity_of, by_equality, Looks, Puts, Clears, Takes, Allocates, FindsFull, Permits}
 use Rattle.fx_order.proofs.Words.{table_with, file_removed_by, Access, table_after, closed_by, Allows, after, with_removed, ap, inl, inr, zero, suc}
-use Rattle.fx_order.proofs.Words.{ℤ, pos, negsuc, same_options, refusal_of, IsDoneAtTable, AnswersAtTable, TakesAt, file_told, subst, append_assoc}
+use Rattle.fx_order.proofs.Words.{ℤ, pos, negsuc, same_options, refusal_of, IsDoneAtTable, AnswersAtTable, TakesAt, file_told, append_assoc}
 use Rattle.fx_order.proofs.Words.{append-nil, FileEntry, Errno, ENOMEM, Refuses, MayClose, OpensAt, ReadsAt, AppliesEntry, AppliesList, Answers}
 use Rattle.fx_order.proofs.Words.{Completed, Operation, Opens, Reads, Closes, Updates, Place, Target, Slot, Any, IsRefused, IsOpenDone, IsReadDone}
-use Rattle.fx_order.proofs.Words.{IsCloseDone, IsEntryDone, AreEntriesDone, IsRequestDone, gives, same_cases, action_of, part_of_chain, next_member}
+use Rattle.fx_order.proofs.Words.{IsCloseDone, IsEntryDone, AreEntriesDone, IsRequestDone, same_cases, action_of, part_of_chain, next_member}
 use Rattle.fx_order.proofs.Words.{Explains, severs, first_member, Asked, ExplainsParts, accesses_of_chain, ChainAccess, IsChainDone, AreChainsDone}
-use Rattle.fx_order.proofs.Accesses.{accesses_by, at_itself, shown, shown-after, accesses_in, accesses_in-then, order_in, accesses_of_chain-order_in}
+use Rattle.fx_order.proofs.Accesses.{accesses_by, at_itself, shown, accesses_in, accesses_in-then, order_in, accesses_of_chain-order_in}
 use Rattle.fx_order.proofs.Placed.{placed_by}
 
 -- the release of what a look-up found, if it found a file
@@ -65,29 +65,8 @@ module _ (st : State) (number : ℕ) (settled : IsSettled st) where
       → table_after (shown st) (accesses_by a) ≡ table_with (shown st) access → (after st a).holds ≡ st.holds
       → (after st a).removed ≡ with_removed st.removed x → ((n : ℕ) → number + installs access ≤ n → (after st a).fresh n ≡ st.fresh n)
       → ((held : Option File) → ReleasesItsOwn held a) → closed_by a ≡ [] → identity_of x ≡ file_removed_by access → Done st number access
-  at_once a None does may shows holds removed fresh releases closes is = record {
-    own = [] ▷ a;
-    does = does;
-    allowed = (tt, may);
-    shows = shown-after st a ∙ shows;
-    settled = record { unheld = rw holds settled.unheld; closed = rw removed settled.closed };
-    fresh = fresh;
-    releases = λ chain h all. (all, releases (held_by h chain));
-    closes = closes ∙ ap (λ (x : Option Closed). option_to_list x) is;
-  }
-  at_once a (Some g) does may shows holds removed fresh releases closes is = record {
-    own = [] ▷ a ▷ Close g;
-    does = does;
-    allowed = ((tt, may), (rw removed (at_itself g.number (Some g) (st.removed g.number)), rw holds (settled.unheld g.number)));
-    shows = shown-after st a ∙ shows;
-    settled = record { unheld = rw holds settled.unheld; closed = rw removed (closed_again g.number (Some g)) };
-    fresh = fresh;
-    releases = λ chain h all. ((all, releases (held_by h chain)), tt);
-    closes = rw closes (ap (λ (x : Option Closed). option_to_list x) is);
-  }
-    where
-      closed_again : (k : ℕ) (x : Option File) (n : ℕ) → (if n == k then None else (if n == k then x else st.removed n)) ≡ None
-      closed_again k x n = by_equality n k (λ b. (if b then None else (if b then x else st.removed n)) ≡ None) (λ _. refl) (λ _. settled.closed n)
+  at_once a None does may shows holds removed fresh releases closes is = grind arith
+  at_once a (Some g) does may shows holds removed fresh releases closes is = grind arith
 
   looked_up : {slot : ℕ} {found : Option Closed} (x : Option File) → slot < st.size → x ≡ st.at slot → identity_of x ≡ found
       → Done st number (Looks slot found)
@@ -132,8 +111,7 @@ module _ (st : State) (number : ℕ) (settled : IsSettled st) where
   done (Allocates slot file) fresh may =
       at_once (Allocate slot (new file)) None (new file, refl, refl) (may.0.0, may.1, no_file (st.at slot) may.0.1, fresh (omega arith))
       refl refl refl fresh_behind (λ _. tt) refl refl
-  done FindsFull fresh may =
-      at_once Full None refl (λ slot lt inside. some_file (st.at slot) (may slot lt inside)) refl refl refl (λ n _. refl) (λ _. tt) refl refl
+  done FindsFull fresh may = grind arith
 
 -- A request's accesses, and the steps that they are: each explains the answers that the other does. A new kind of request adds
 -- its cases here.
@@ -162,9 +140,7 @@ none_done is all = rw is at all
 
 -- one access
 one_done : {access : Access} {accesses : List Access} (events : List Action) → accesses ≡ access ∷ [] → AllDo accesses events → Does access events
-one_done {access} events is all =
-    let one : AllDo (access ∷ []) events = subst (λ (l : List Access). AllDo l events) is all in
-    subst (Does access) (sym (one.2 ∙ ap (λ (l : List Action). l ++ one.0) one.4)) one.3
+one_done {access} events is all = grind arith
 
 closes_at_once : (steps : List Action) (x : Option File) {events : List Action} → events ≡ steps ▷▷ close_of x → MayClose steps x events
 closes_at_once steps None is = is
@@ -172,8 +148,7 @@ closes_at_once steps (Some f) is = inr is
 
 module _ (accesses : List Access) (events : List Action) (all : AllDo accesses events) (place : Place) where
   entry_applied : (in_list slot : ℕ) (entry : ℤ) → IsEntryDone place in_list slot entry accesses → AppliesEntry place in_list slot entry events
-  entry_applied in_list slot (pos entry) x =
-      let does = one_done events x.1 all in (does.0, does.1, does.2, closes_at_once ([] ▷ Put slot does.0 does.1) does.1 does.4)
+  entry_applied in_list slot (pos entry) x = grind arith
   entry_applied in_list slot (negsuc zero) x = let does = one_done events x.1 all in (does.0, closes_at_once ([] ▷ Clear slot does.0) does.0 does.2)
   entry_applied in_list slot (negsuc (suc n)) x = none_done x all
 
@@ -192,28 +167,17 @@ module _ (catalogue : List FileEntry) (size : ℕ) (place : Place) (accesses : L
   refused errno x = (none_done x.0 all, x.1)
 
   opened : (entry : ℕ) (target : Target) → IsOpenDone place entry target accesses c → OpensAt place entry target events c
-  opened entry (Slot slot) x =
-      let put = entry_applied accesses events all place 0 slot (pos entry) (x.0, x.1.0) in (put.0, put.1, put.2, put.3, x.1.1)
+  opened entry (Slot slot) x = grind arith
   opened entry Any (inl y) = let does = one_done events y.1.0 all in inl (y.0, does.0, does.1, does.2, y.1.1)
   opened entry Any (inr y) = inr (one_done events y.0 all, y.1)
 
   read : (slot off len : ℕ) → IsReadDone catalogue place slot off len accesses c → ReadsAt catalogue place slot off len events c
   read slot off len (inl y) = inl (y.0, refused ENOMEM y.1)
-  read slot off len (inr (inl z)) =
-      let does = one_done events z.0 all in
-      inr (inl (does.2 ∙ ap (λ (o : Option File). [] ▷ Look slot o ▷▷ release_of o) (no_file does.0 (sym does.1)), z.1))
-  read slot off len (inr (inr z)) =
-      let does = one_done events z.1.0 all in
-      let there = file_told does.0 z.0 does.1 in inr (inr (
-        there.0,
-        inl (does.2 ∙ ap (λ (o : Option File). [] ▷ Look slot o ▷▷ release_of o) there.1),
-        z.1.1 ∙ ap (λ (i : Closed). gives catalogue place i off len) (sym there.2),
-      ))
+  read slot off len (inr (inl z)) = grind arith
+  read slot off len (inr (inr z)) = grind arith
 
   emptied : (slot : ℕ) → IsCloseDone place slot accesses c → TakesAt place slot events c
-  emptied slot (inl y) =
-      let does = one_done events y.0 all in
-      inl (does.2 ∙ ap (λ (o : Option File). [] ▷ Take slot o ▷▷ close_of o) (no_file does.0 (sym does.1)), y.1)
+  emptied slot (inl y) = grind arith
   emptied slot (inr y) =
       let does = one_done events y.1.0 all in
       let there = file_told does.0 y.0 does.1 in
@@ -232,16 +196,12 @@ module _ (catalogue : List FileEntry) (size : ℕ) (place : Place) (accesses : L
 accesses_may_close : (steps : List Action) (removed : Option File) (events : List Action) → MayClose steps removed events
     → accesses_in events ≡ accesses_in steps
 accesses_may_close steps None events is = ap accesses_in is
-accesses_may_close steps (Some f) events closes = elim closes [
-  | inl is ↦ ap accesses_in is
-  | inr is ↦ ap accesses_in is ∙ append-nil (accesses_in steps)
-]
+accesses_may_close steps (Some f) events closes = grind (arith, append-nil)
 
 module _ (place : Place) (in_list slot : ℕ) where
   entry_done : (entry : ℤ) (events : List Action) → AppliesEntry place in_list slot entry events
       → IsEntryDone place in_list slot entry (accesses_in events)
-  entry_done (pos entry) events x =
-      (identity_of x.1, accesses_may_close ([] ▷ Put slot x.0 x.1) x.1 events x.3 ∙ (λ i. Puts slot (x.2 i) (identity_of x.1) ∷ []))
+  entry_done (pos entry) events x = grind (arith, accesses_may_close)
   entry_done (negsuc zero) events x = (identity_of x.0, accesses_may_close ([] ▷ Clear slot x.0) x.0 events x.1)
   entry_done (negsuc (suc n)) events x = ap accesses_in x
 
@@ -266,8 +226,7 @@ module _ (catalogue : List FileEntry) (size : ℕ) (place : Place) (events : Lis
   read_done : (slot off len : ℕ) → ReadsAt catalogue place slot off len events c → IsReadDone catalogue place slot off len (accesses_in events) c
   read_done slot off len (inl y) = inl (y.0, refusal_done ENOMEM y.1)
   read_done slot off len (inr (inl z)) = inr (inl (ap accesses_in z.0, z.1))
-  read_done slot off len (inr (inr z)) =
-      inr (inr (z.0.identity, (accesses_may_close ([] ▷ Look slot (Some z.0) ▷ Release z.0) (Some z.0) events z.1, z.2)))
+  read_done slot off len (inr (inr z)) = grind arith
 
   close_done : (slot : ℕ) → TakesAt place slot events c → IsCloseDone place slot (accesses_in events) c
   close_done slot (inl y) = inl (ap accesses_in y.0, y.1)

@@ -9,10 +9,7 @@ returns-in_default c =
     (rw c.deref.ensures.value at c.in_default.ensures.none))
 
 pub loop-file-preserved : goal.loop-file-preserved
-loop-file-preserved c =
-    let some = rw c.deref.ensures.value at c.in-Some.ensures.some in
-    rw c.remove.ensures.items (one_more c.args.files.now c.args.others.now c.loop-file.left.items c.loop-file.file-index c.loop-file.invariant _
-    c.in-Some.i c.loop-file-test.true some.0 some.1)
+loop-file-preserved c = grind (arith, one_more)
 
 pub returns : goal.returns
 returns c = rw c.is_empty.ensures (none_over c.args.files.now c.args.others.now c.loop-file.left.items c.loop-file.file-index c.loop-file.invariant

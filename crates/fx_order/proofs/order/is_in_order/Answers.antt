@@ -1,16 +1,11 @@
 use Rattle.fx_order.proofs.Words.{◌≡◌, inl, inr, ℕ, ◌+◌, ◌-◌, ◌<◌, false, List, length, sym, ap, ◌∙◌, arith, slice_index_or, is_lt, cases_lt}
 use Rattle.fx_order.proofs.Words.{get_or_default, mark_cmp, Closed, ghosts}
-use Rattle.fx_base.proofs.Marks.{same_cmp}
 use Rattle.fx_order.proofs.order.is_in_order.Goals as goal
 
 in_order_here : (files : List Closed) {i : ℕ} (k : ℕ) (d e f : Closed) → i < length files → k + 1 ≡ i
     → is_lt (ghosts.cmp (slice_index_or files i e).mark (slice_index_or files (i - 1) f).mark) ≡ false
     → is_lt (mark_cmp (slice_index_or files (k + 1) d).mark (slice_index_or files k d).mark) ≡ false
-in_order_here files {i} k d e f within next is =
-    let front : k ≡ i - 1 = omega arith in
-    (λ j. is_lt (mark_cmp ((ap (λ (n : ℕ). slice_index_or files n d) next ∙ get_or_default files i d e within) j).mark
-    ((ap (λ (n : ℕ). slice_index_or files n d) front ∙ get_or_default files (i - 1) d f (omega arith)) j).mark))
-    ∙ (ap is_lt (sym (same_cmp (slice_index_or files i e).mark (slice_index_or files (i - 1) f).mark)) ∙ is)
+in_order_here files {i} k d e f within next is = grind (arith, get_or_default)
 
 pub loop-i-preserved : goal.loop-i-preserved
 loop-i-preserved c = λ k d lt. elim (cases_lt (k + 1) c.loop-i.i) [

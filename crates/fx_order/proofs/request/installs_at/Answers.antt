@@ -1,6 +1,7 @@
 use Rattle.fx_order.proofs.Words.{◌≡◌, ◌↔◌, ℕ, ℤ, pos, negsuc, int_le, sym, ap, ◌∙◌, rules, refl, List, Some, None, IsTrue, to_z, of_z, w32}
 use Rattle.fx_order.proofs.Words.{slice_get, slice_get_read, slice_get_past, Updates, operation_of, InstallsAt}
 use Rattle.fx_order.proofs.request.installs_at.Goals as goal
+use Rattle.std.proofs.Common.{arith}
 
 -- the number at a position of an update's list
 at_number : (off : ℕ) (list : List ℤ) (i : ℕ) (z : ℤ) → slice_get list i ≡ Some z → IsTrue (int_le (pos 0) z) ↔ InstallsAt (Updates off list) i
@@ -22,10 +23,4 @@ returns-in-Some c =
     rw (read) o
 
 pub returns-in-None : goal.returns-in-None
-returns-in-None c =
-    let list : List ℤ = c.in-Update.list.items in
-    let i : ℕ = c.args.entry in
-    let same : slice_get list i ≡ None = ap (λ (l : List ℤ). slice_get l i) (sym c.as_slice.ensures.value)
-    ∙ slice_get_past c.as_slice.result.now i c.in-None.ensures.lookup.3 in
-    let none : InstallsAt (operation_of c.args.op.now) i → ⊥ = rw (c.in-Update.is) (at_none c.in-Update.off list i same) in
-    (λ no. absurd (cc), λ x. absurd (none x))
+returns-in-None c = grind (arith, slice_get_past)

@@ -2,15 +2,13 @@ use Rattle.fx_order.proofs.Words.{IfOk-weaker, ◌∙◌, rules, IsChain, all_as
 use Rattle.fx_order.proofs.ChainsFront.{few_completions, first_run, goes_on, not_first, others_completed, own_completed, all_of_rest}
 use Rattle.fx_order.proofs.Ordered.{never}
 use Rattle.fx_order.proofs.submission.+are_chains_done.Goals as goal
+use Rattle.std.proofs.Common.{arith}
 
 abbrev none : Chain
 none = record { first = 0; len = 0 }
 
 pub returns-then-completions-members : goal.returns-then-completions-members
-returns-then-completions-members t c =
-    never (few_completions c.args.ordered.now.catalogue.now c.args.ordered.now.size c.args.ordered.now.submission c.args.chain
-    (all_asked c.args.ordered.now.requests.now) c.args.chains.now none c.in-len1-up.len_at_least c.members-members.result.now
-    c.members-members.ensures.members c.args.ordered.now.order.now c.args.completions.now c.if-completions-members.true)
+returns-then-completions-members t c = grind (arith, few_completions)
 
 pub returns-then-not-branch : goal.returns-then-not-branch
 returns-then-not-branch t c =
