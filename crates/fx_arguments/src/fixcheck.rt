@@ -1,5 +1,5 @@
 //! The command line of `fixcheck`.
-use crate::refusal::Refusal;
+use crate::Refusal;
 use clap::{Arg, ArgAction, ArgMatches, Command, value_parser};
 use std::alloc::{AllocError, Global};
 use std::convert::AsStr;
@@ -37,12 +37,6 @@ Exit status:
   5  an allocation failed
   6  the text is undecided, or there may be more answers or texts";
 
-/// The default of `--states`.
-const STATES: u32 = 1_000_000;
-
-/// The default of `--memory`.
-const MEMORY: u32 = 1_024;
-
 /// The largest `--memory`: a TiB.
 const MOST_MEMORY: i64 = 1_048_576;
 
@@ -74,50 +68,42 @@ pub struct Settings<'a> {
     pub asked: Asked<'a>,
 }
 
-fn states_argument<'a>(alloc: Global) -> Arg<'a> {
-    Arg::new(alloc, "states")
-        .long("states")
+fn option<'a>(alloc: Global, name: &'a str) -> Arg<'a> {
+    Arg::new(alloc, name).long(name)
+}
+
+fn flag<'a>(alloc: Global, name: &'a str) -> Arg<'a> {
+    option(alloc, name).action(ArgAction::SetTrue)
+}
+
+// Adds the options that limit a search.
+fn with_limits<'a>(alloc: Global, command: Command<'a>) -> Result<Command<'a>, AllocError> {
+    let states = option(alloc, "states")
         .value_name("N")
         .value_parser(value_parser!(u32))
         .default_value("1000000")
-        .help("Largest number of states of a part of a submission; with more it is undecided")
-}
-
-fn memory_argument<'a>(alloc: Global) -> Arg<'a> {
-    Arg::new(alloc, "memory")
-        .long("memory")
+        .help("Largest number of states of a part of a submission; with more it is undecided");
+    let memory = option(alloc, "memory")
         .value_name("MIB")
         .value_parser(value_parser!(u32).range(1..=MOST_MEMORY))
         .default_value("1024")
-        .help("Largest number of MiB of these states; with more it is undecided")
+        .help("Largest number of MiB of these states; with more it is undecided");
+    command.arg(states)?.arg(memory)
 }
 
-fn history_argument<'a>(alloc: Global) -> Arg<'a> {
-    Arg::new(alloc, "history")
-        .long("history")
-        .action(ArgAction::SetTrue)
-        .help("Prints instead of the orders a whole legal history that gives the text")
-}
-
-fn keep_going_argument<'a>(alloc: Global) -> Result<Arg<'a>, AllocError> {
-    Arg::new(alloc, "keep-going")
-        .long("keep-going")
-        .action(ArgAction::SetTrue)
+// Adds the options that choose the question, and the form of its answer.
+fn with_questions<'a>(alloc: Global, command: Command<'a>) -> Result<Command<'a>, AllocError> {
+    let history = flag(alloc, "history").help(
+        "Prints instead of the orders a whole legal history that gives the text",
+    );
+    let keep_going = flag(alloc, "keep-going")
         .help("Goes on after a break from the ring that the text shows, and prints every break")
         .conflicts_with("may")?
-        .conflicts_with("all")
-}
-
-fn may_argument<'a>(alloc: Global) -> Arg<'a> {
-    Arg::new(alloc, "may")
-        .long("may")
-        .action(ArgAction::SetTrue)
-        .help("Lists the answers of the request whose place, as 1.1.2, follows instead of TEXT")
-}
-
-fn all_argument<'a>(alloc: Global) -> Result<Arg<'a>, AllocError> {
-    Arg::new(alloc, "all")
-        .long("all")
+        .conflicts_with("all")?;
+    let may = flag(alloc, "may").help(
+        "Lists the answers of the request whose place, as 1.1.2, follows instead of TEXT",
+    );
+    let all = option(alloc, "all")
         .value_name("N")
         .value_parser(value_parser!(u32))
         .num_args(0..=1)
@@ -125,37 +111,26 @@ fn all_argument<'a>(alloc: Global) -> Result<Arg<'a>, AllocError> {
         .default_missing_value("100")
         .help("Lists every text of the script, the first N of them; by default 100")
         .conflicts_with("may")?
-        .conflicts_with("history")
-}
-
-fn script_argument<'a>(alloc: Global) -> Arg<'a> {
-    Arg::new(alloc, "script")
-        .value_name("SCRIPT")
-        .required(true)
-        .help("The script, or - for standard input")
-}
-
-fn text_argument<'a>(alloc: Global) -> Result<Arg<'a>, AllocError> {
-    Arg::new(alloc, "text")
-        .value_name("TEXT")
-        .help("The text, or - for standard input; with --may the place of a request")
-        .required_unless_present("all")?
-        .required_unless_present("may")
+        .conflicts_with("history")?;
+    command.arg(history)?.arg(keep_going)?.arg(may)?.arg(all)
 }
 
 fn command<'a>(alloc: Global) -> Result<Command<'a>, AllocError> {
-    Command::new(alloc, "fixcheck")
+    let command = Command::new(alloc, "fixcheck")
         .version(VERSION)
         .about(ABOUT)
-        .after_help(STATUSES)
-        .arg(states_argument(alloc))?
-        .arg(memory_argument(alloc))?
-        .arg(history_argument(alloc))?
-        .arg(keep_going_argument(alloc)?)?
-        .arg(may_argument(alloc))?
-        .arg(all_argument(alloc)?)?
-        .arg(script_argument(alloc))?
-        .arg(text_argument(alloc)?)
+        .after_help(STATUSES);
+    let script = Arg::new(alloc, "script")
+        .value_name("SCRIPT")
+        .required(true)
+        .help("The script, or - for standard input");
+    let text = Arg::new(alloc, "text")
+        .value_name("TEXT")
+        .help("The text, or - for standard input; with --may the place of a request")
+        .required_unless_present("all")?
+        .required_unless_present("may")?;
+    let command = with_questions(alloc, with_limits(alloc, command)?)?;
+    command.arg(script)?.arg(text)
 }
 
 // Returns the question, by the words after the options, which must be those that the options take.
@@ -186,9 +161,10 @@ fn asked_in<'a>(
 pub fn settings_in<'a, S: AsStr>(alloc: Global, words: &'a [S]) -> Result<Settings<'a>, Refusal> {
     let matches = command(alloc)?.try_get_matches_from(words)?;
     let script = matches.get_str("script").unwrap_or("-");
+    // the numbers have defaults
     Ok(Settings {
-        states: matches.get_one("states").unwrap_or(STATES),
-        memory: matches.get_one("memory").unwrap_or(MEMORY),
+        states: matches.get_one("states").unwrap_or_default(),
+        memory: matches.get_one("memory").unwrap_or_default(),
         history: matches.get_flag("history"),
         keep_going: matches.get_flag("keep-going"),
         script,

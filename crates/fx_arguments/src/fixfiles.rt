@@ -2,7 +2,7 @@
 ghost use Rattle.std.specs.Prelude.{◌≤◌, IfOk};
 ghost use Rattle.fx_table.specs.declared.limits.TheConstants.{MAX_PASSES};
 
-use crate::refusal::{Refusal, words};
+use crate::{Refusal, words};
 use clap::{Arg, ArgMatches, Command, Error, value_parser};
 use std::alloc::{AllocError, Global};
 use std::convert::AsStr;
@@ -69,31 +69,25 @@ pub struct Settings {
     pub table: Table,
 }
 
-fn workers_argument<'a>(alloc: Global) -> Arg<'a> {
-    Arg::new(alloc, "workers")
+fn command<'a>(alloc: Global) -> Result<Command<'a>, AllocError> {
+    let workers = Arg::new(alloc, "workers")
         .long("workers")
         .value_name("N")
         .value_parser(value_parser!(u32).range(1..=16))
         .default_value("1")
-        .help("How many threads play a submission, 1 to 16")
-}
-
-fn table_argument<'a>(alloc: Global) -> Arg<'a> {
-    Arg::new(alloc, "table")
+        .help("How many threads play a submission, 1 to 16");
+    let table = Arg::new(alloc, "table")
         .long("table")
         .value_name("NAME")
         .value_parser(TABLES)
         .default_value("words")
-        .help("Which table they share: `words` has no lock, `baton` is guarded by one word")
-}
-
-fn command<'a>(alloc: Global) -> Result<Command<'a>, AllocError> {
+        .help("Which table they share: `words` has no lock, `baton` is guarded by one word");
     Command::new(alloc, "fixfiles")
         .about(ABOUT)
         .after_help(SCRIPTS_AND_STATUSES)
         .override_usage("fixfiles [OPTIONS] < SCRIPT")
-        .arg(workers_argument(alloc))?
-        .arg(table_argument(alloc))
+        .arg(workers)?
+        .arg(table)
 }
 
 // Returns the number of workers, which has a default and was checked to be in its range.
