@@ -6,7 +6,7 @@ use Rattle.check_texts.proofs.Words.{ring_with_slots, stages_of, HasEachNextStag
 use Rattle.check_texts.proofs.Words.{Grows, bytes_decides, list_any, map-append, string_bytes, ◌||◌, append_assoc, instruction_of, concat}
 use Rattle.check_texts.proofs.Words.{length-append, length-map, All-contains, Contains-append_cases, Contains-append_left, Contains-append_right}
 use Rattle.check_texts.proofs.Words.{Contains-push, Contains-push_cases, contains_cases, contains_head, contains_only, contains_tail, each_all}
-use Rattle.check_texts.proofs.Words.{PrintsEnd, EndsAs, AreBare, AreDistinct, AreTextsOf, CountsUpTo, GoesBy, HasWays, IsBare, IsBehind, IsWay}
+use Rattle.check_texts.proofs.Words.{PrintsEnd, AreBare, AreDistinct, AreTextsOf, CountsUpTo, GoesBy, HasWays, IsBare, IsBehind, IsWay}
 use Rattle.check_texts.proofs.Words.{ways_behind, Global, String, string_eq, min, not, ◌-◌, ◌^◌, AreExits, AreWaysBy, IsRest, IsRestOf, bare}
 use Rattle.check_texts.proofs.Words.{commands_in, texts_in, Layer, none_rings}
 use Rattle.std.specs.Borrow.{Bor}
@@ -170,7 +170,10 @@ rest_of_exits catalogue command commands exits {rest = rest} same whole are by =
   texts = by.texts;
 }
 
--- the end of the script
+-- the end of the script: the text of a play that has come so far
+abbrev pub EndsAs : Stage → List ℕ → Type 0
+EndsAs last text = (end : List ℕ) × PrintsEnd last.ring end × (text ≡ last.printed ++ end)
+
 pub rest_of_end : (catalogue : List FileEntry) (rest : KeptWays) (s : Stage) (text : List ℕ) → ring_with_slots catalogue rest.ring ≡ s.ring
     → s.printed ≡ [] → EndsAs s text → ((other : List ℕ) → EndsAs s other → other ≡ text) → rest.ways ≡ 1
     → ((t : List ℕ) → Contains (texts_in rest.endings.items) t → t ≡ text)

@@ -29,10 +29,10 @@ pub use Rattle.fx_table.proofs.SumLemmas.{contains_map, contains_mapped, contain
 pub use Rattle.fx_table.proofs.SumLemmas.{contains_tail}
 pub use Rattle.check_texts.specs.Rings.{AreStagesFrom, Grows, HasEachFrom, HasEachLast, HasEachNextStage, HasEachSaidFrom, LeadsRing, LeadsAll}
 pub use Rattle.check_texts.specs.Rings.{MayEnd, MayLeadAllTo, MayLeadTo, MaySay, Stage, count_after, count_after_all, kept_text, said_in, stage}
-pub use Rattle.check_texts.specs.Rings.{stage_of, stage_reported, stages_of, AreSaidFrom, IsAskedIn, EndsAs, AreRings}
+pub use Rattle.check_texts.specs.Rings.{stage_of, stage_reported, stages_of, AreSaidFrom, IsAskedIn, AreRings}
 pub use Rattle.check_texts.specs.Texts.{FoundMemory, IsReportFound, IsTextFound, MayAnswerIn, PrintsAllFound, HasFound}
-pub use Rattle.check_texts.specs.declared.reached.Reached.{Reached}
-pub use Rattle.check_texts.specs.declared.saying.Said.{Said}
+pub use Rattle.check_texts.specs.declared.walk.Reached.{Reached}
+pub use Rattle.check_texts.specs.declared.request_answers.Said.{Said}
 pub use Rattle.std.proofs.Common.{Bool, List, None, Option, Some, [], ap, arith, drop, false, if◌then◌else◌, inl, inr, length, map, nat_le, refl}
 pub use Rattle.std.proofs.Common.{slice_get, slice_index_or, string_bytes, subst, suc, sym, take, true, zero, ℕ, ⊎_elim, ◌++◌, ◌+◌, ◌<◌, ◌||◌, ◌∙◌}
 pub use Rattle.std.proofs.Common.{◌∷◌, ◌≡◌, ◌≤◌, ◌⊎◌, ◌^◌, Global, String}

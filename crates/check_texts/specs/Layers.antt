@@ -8,7 +8,7 @@ use Rattle.fx_order.specs.declared.ring_slots.RingSlots.{RingSlots}
 use Rattle.check_texts.specs.Rings.{HasEachNextStage, MayLeadTo, Stage, stages_of}
 use Rattle.fx_ring.specs.Ring.{RingContents, ring_of}
 use Rattle.check_texts.specs.Ways.{AreDistinct, AreTextsOf, AreWays, CountsUpTo, GoesBy}
-use Rattle.check_texts.specs.declared.reached.Reached.{Reached}
+use Rattle.check_texts.specs.declared.walk.Reached.{Reached}
 use Rattle.check_texts.specs.declared.layers.Exits.{Exits}
 use Rattle.check_texts.specs.declared.layers.Layer.{Layer}
 use Rattle.check_texts.specs.declared.rests.TextEnd.{TextEnd}

@@ -12,13 +12,13 @@ use Rattle.fx_ring.specs.Ring.{IsRing, RingContents, RingState, ring_of}
 use Rattle.fx_ring.specs.Submission.{Reported, reported}
 use Rattle.fx_language.specs.Instruction.{Instruction, SubmitsAll, instructions_of}
 use Rattle.fx_order.specs.Slots.{ring_with_slots}
-use Rattle.fx_script.specs.Play.{Prints, PrintsEnd}
+use Rattle.fx_script.specs.Play.{Prints}
 use Rattle.fx_script.specs.Text.{report_text}
 use Rattle.check_lines.specs.Calls.{count_behind}
 use Rattle.check_texts.specs.Texts.{FoundMemory, IsReportFound, PrintsAllFound}
-use Rattle.check_texts.specs.declared.asking.Inquiry.{Inquiry}
-use Rattle.check_texts.specs.declared.saying.Said.{Said}
-use Rattle.check_texts.specs.declared.reached.Reached.{Reached}
+use Rattle.check_texts.specs.declared.walk.Inquiry.{Inquiry}
+use Rattle.check_texts.specs.declared.request_answers.Said.{Said}
+use Rattle.check_texts.specs.declared.walk.Reached.{Reached}
 
 -- the count of accepted submissions behind a command
 abbrev pub count_after : ℕ → Instruction → ℕ
@@ -124,11 +124,6 @@ stage_reported keeps old possible = record {
   printed = kept_text keeps
       (old.printed ++ report_text old.ring.catalogue (reported possible.report));
 }
-
--- a play that has come so far, to the end of its script, has this text
-abbrev pub EndsAs : Stage → List ℕ → Type 0
-EndsAs last text =
-    (end : List ℕ) × PrintsEnd last.ring end × (text ≡ last.printed ++ end)
 
 -- a ring of this state may answer so at the place, in front of these commands
 pub record MaySay (old : RingState) (asked : List Asked) (behind : List Instruction) (place : Place)

@@ -3,14 +3,11 @@
 use Rattle.std.specs.Prelude.{◌≡◌, ℕ, ◌≤◌, ◌<◌, ◌^◌, ◌-◌, List, [], ◌∷◌, ◌++◌, Bool, Contains}
 use Rattle.std.specs.Prelude.{IsTrue, length, map}
 use Rattle.std.specs.List.{concat}
-use Rattle.fx_base.specs.Catalogue.{FileEntry}
 use Rattle.fx_language.specs.Instruction.{Instruction}
 use Rattle.fx_language.specs.Script.{Meaning}
-use Rattle.fx_order.specs.Slots.{ring_with_slots}
 use Rattle.fx_ring.specs.Ring.{IsRing, RingContents, RingState, ring_of}
 use Rattle.fx_script.specs.Play.{IsNewRing, PrintsEnd}
 use Rattle.check_texts.specs.Rings.{LeadsRing, Stage}
-use Rattle.check_texts.specs.declared.reached.Reached.{Reached}
 
 -- the commands print these, one after another, and then the end of the script prints the last
 abbrev pub GoesBy : RingContents → List Instruction → List (List ℕ) → Type 0
@@ -77,7 +74,3 @@ IsBare s = IsRing s.ring × (s.printed ≡ [])
 
 abbrev pub AreBare : List Stage → Type 0
 AreBare stages = (s : Stage) → Contains stages s → IsBare s
-
--- the ring of an exit, without what was printed
-abbrev pub IsBareOf : List FileEntry → Reached → Stage → Type 0
-IsBareOf catalogue exit s = (s.ring ≡ ring_with_slots catalogue exit.ring) × (s.printed ≡ [])

@@ -2,15 +2,13 @@
 ghost use Rattle.std.specs.Prelude.{◌≡◌, All, IfOk, List, OnOk, true};
 ghost use Rattle.fx_base.specs.Catalogue.{FileEntry};
 ghost use Rattle.fx_language.specs.Instruction.{instruction_of, instructions_of};
-ghost use Rattle.check_texts.specs.Rings.{AreRings, Grows, stage_of, stages_of};
+ghost use Rattle.check_texts.specs.Rings.{AreRings, stages_of};
 ghost use Rattle.check_texts.specs.Layers.{AreExits, IsLayer, commands_in};
-ghost use Rattle.check_texts.specs.Ways.{AreBare, IsBare, IsBareOf};
+ghost use Rattle.check_texts.specs.Ways.{AreBare};
 
 use crate::next::push_next;
-use crate::reached::Reached;
 use crate::rings::start;
-use crate::setting::WalkSetting;
-use crate::spent::Spent;
+use crate::walk::{Reached, Spent, WalkSetting};
 use check_lines::copy_of;
 use check_outcomes::push_file;
 use fx_base::NoMemory;
@@ -66,27 +64,7 @@ fn key_of(alloc: Global, ring: &RingSlots) -> Result<Vec<u32>, NoMemory> {
     Ok(key)
 }
 
-// Puts the ring of an exit among others, unless it is there. Returns its number, of which nothing is proved.
-fn number_of(alloc: Global, bare: &mut Bare, exit: &Reached) -> Result<usize, NoMemory>
-    ensures { OnOk result ((catalogue : List FileEntry)
-        → Grows (IsBareOf catalogue exit.now) (stages_of catalogue bare.old.rings.items)
-        (stages_of catalogue bare.new.rings.items)) }
-{
-    let key = key_of(alloc, &exit.ring)?;
-    let (number, is_new) = bare.keys.insert_full(key)?;
-    if !is_new {
-        return Ok(number);
-    }
-    let ring = copy_of(alloc, &exit.ring)?;
-    bare.rings.push(Reached {
-        ring,
-        printed: String::new(alloc),
-        past: None,
-    })?;
-    Ok(number)
-}
-
-// Puts the rings of exits among others. Returns their numbers.
+// Puts the rings of exits among others, unless they are there. Returns their numbers, of which nothing is proved.
 fn numbers_of(alloc: Global, bare: &mut Bare, exits: &[Reached]) -> Result<Vec<usize>, NoMemory>
     ensures { OnOk result ((catalogue : List FileEntry)
         → AreRings (stages_of catalogue exits.now)
@@ -95,34 +73,20 @@ fn numbers_of(alloc: Global, bare: &mut Bare, exits: &[Reached]) -> Result<Vec<u
 {
     let mut numbers = Vec::new(alloc);
     for exit in exits {
-        numbers.push(number_of(alloc, bare, exit)?)?;
+        let key = key_of(alloc, &exit.ring)?;
+        let (number, is_new) = bare.keys.insert_full(key)?;
+        numbers.push(number)?;
+        if !is_new {
+            continue;
+        }
+        let ring = copy_of(alloc, &exit.ring)?;
+        bare.rings.push(Reached {
+            ring,
+            printed: String::new(alloc),
+            past: None,
+        })?;
     }
     Ok(numbers)
-}
-
-// Returns the exits of a ring by a command. Their numbers are left out.
-fn exits_at(
-    setting: &WalkSetting<'_>,
-    spent: &mut Spent,
-    from: &Reached,
-    command: &Command,
-) -> Result<Exits, NoMemory>
-    requires told { setting.now.keeps ≡ true }
-    requires bare { IsBare (stage_of setting.now.catalogue.now from.now) }
-    ensures exits { IfOk result (AreExits setting.now.catalogue.now (instruction_of command.now)) }
-    ensures rings { IfOk result (λ exits.
-        AreRings (stages_of setting.now.catalogue.now exits.to.items)) }
-{
-    let alloc = setting.alloc;
-    let mut to = Vec::new(alloc);
-    let are_all = push_next(setting, spent, &mut to, from, command)?;
-    let ring = copy_of(alloc, &from.ring)?;
-    Ok(Exits {
-        ring,
-        to,
-        numbers: Vec::new(alloc),
-        are_all,
-    })
 }
 
 // Returns the exits of rings by a command. Their rings are put into a list.
@@ -141,11 +105,18 @@ fn exits_of(
     ensures next { OnOk result
         (AreBare (stages_of setting.now.catalogue.now bare.new.rings.items)) }
 {
-    let mut all = Vec::new(setting.alloc);
+    let alloc = setting.alloc;
+    let mut all = Vec::new(alloc);
     for from in rings {
-        let mut exits = exits_at(setting, spent, from, command)?;
-        exits.numbers = numbers_of(setting.alloc, bare, &exits.to)?;
-        all.push(exits)?;
+        let mut to = Vec::new(alloc);
+        let are_all = push_next(setting, spent, &mut to, from, command)?;
+        let numbers = numbers_of(alloc, bare, &to)?;
+        all.push(Exits {
+            ring: copy_of(alloc, &from.ring)?,
+            to,
+            numbers,
+            are_all,
+        })?;
     }
     Ok(all)
 }
@@ -177,11 +148,7 @@ pub(crate) fn layers_of<'a>(
             keys: IndexSet::new(alloc),
         };
         let exits = exits_of(setting, spent, &mut bare, &rings, command)?;
-        let Bare {
-            rings: next,
-            keys: _,
-        } = bare;
-        rings = next;
+        rings = bare.rings;
         layers.push(Layer { command, exits })?;
     }
     Ok(Layers {

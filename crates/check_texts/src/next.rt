@@ -1,6 +1,7 @@
 //! The rings that one command may lead to.
-ghost use Rattle.std.specs.Prelude.{◌≡◌, ◌++◌, ◌<◌, ◌≤◌, All, IfOk, IsTrue};
+ghost use Rattle.std.specs.Prelude.{◌≡◌, ◌++◌, ◌<◌, ◌≤◌, All, IfOk, IsTrue, List};
 ghost use Rattle.std.specs.Prelude.{Contains, None, OnOk, length, string_bytes};
+ghost use Rattle.fx_base.specs.Catalogue.{FileEntry};
 ghost use Rattle.fx_chain.specs.Accepted.{IsAccepted};
 ghost use Rattle.fx_chain.specs.Faults.{fault_of};
 ghost use Rattle.fx_chain.specs.Operation.{all_asked};
@@ -13,15 +14,13 @@ ghost use Rattle.check_lines.specs.Calls.{IsCall};
 ghost use Rattle.check_texts.specs.Rings.{Grows, HasEachNextStage, MayLeadTo, kept_text};
 ghost use Rattle.check_texts.specs.Rings.{stage_of, stage_reported, stages_of};
 
-use crate::distinct::push_new;
-use crate::reached::Reached;
-use crate::setting::WalkSetting;
-use crate::spent::Spent;
+use crate::walk::{Reached, Spent, WalkSetting};
 use check_lines::{accepted_in, call};
 use check_outcomes::{PossibleReport, may_report};
 use fx_base::NoMemory;
 use fx_chain::Request;
 use fx_language::Command;
+use fx_order::RingSlots;
 use fx_script::report_text;
 
 /// Checks whether two things hold.
@@ -51,6 +50,59 @@ pub(crate) fn printed_behind(
     text.push_str(before)?;
     text.push_str(line)?;
     Ok(text)
+}
+
+/// Checks whether both rings have the same slots, the same allocation range and the same counts.
+pub(crate) fn are_same(one: &RingSlots, other: &RingSlots) -> bool
+    ensures { IsTrue result → (catalogue : List FileEntry)
+        → ring_with_slots catalogue one.now ≡ ring_with_slots catalogue other.now }
+{
+    one.submissions == other.submissions
+        && one.registrations == other.registrations
+        && one.slots.is_same(&other.slots)
+}
+
+// Checks whether both are the same ring, after the same text.
+fn are_alike(one: &Reached, other: &Reached) -> bool
+    ensures { IsTrue result → (catalogue : List FileEntry)
+        → stage_of catalogue one.now ≡ stage_of catalogue other.now }
+{
+    one.printed.as_bytes() == other.printed.as_bytes() && are_same(&one.ring, &other.ring)
+}
+
+// Checks whether a ring is in a list, after the same text.
+fn has_ring(rings: &[Reached], one: &Reached) -> bool
+    ensures { IsTrue result → (catalogue : List FileEntry)
+        → Contains (stages_of catalogue rings.now) (stage_of catalogue one.now) }
+{
+    for reached in rings {
+        if are_alike(reached, one) {
+            return true;
+        }
+    }
+    false
+}
+
+// Appends a ring unless it is already in the list. If the setting keeps texts, the check is skipped: two ways that printed the
+// same led to one ring.
+fn push_new(
+    setting: &WalkSetting<'_>,
+    spent: &mut Spent,
+    rings: &mut Vec<Reached>,
+    reached: Reached,
+) -> Result<(), NoMemory>
+    ensures grows { OnOk result ((catalogue : List FileEntry)
+        → Grows (λ s. s ≡ stage_of catalogue reached) (stages_of catalogue rings.old.items)
+        (stages_of catalogue rings.new.items)) }
+    ensures there { OnOk result ((catalogue : List FileEntry)
+        → Contains (stages_of catalogue rings.new.items) (stage_of catalogue reached)) }
+{
+    if !setting.keeps && has_ring(rings, &reached) {
+        return Ok(());
+    }
+    spent.count_ring(&reached);
+    rings.push(reached)?;
+    Ok(())
 }
 
 // Appends the ring that a report leaves, with its lines.

@@ -10,18 +10,14 @@ ghost use Rattle.check_texts.specs.Layers.{commands_in, texts_in};
 ghost use Rattle.check_texts.specs.Ways.{AreBare, AreTextsOf, CountsUpTo, IsBare, IsBehind};
 ghost use Rattle.check_texts.specs.Ways.{ways_behind};
 
-use crate::distinct::are_same;
 use crate::layers::{Exits, Layers};
-use crate::next::{both, printed_behind};
-use crate::reached::Reached;
-use crate::setting::WalkSetting;
-use crate::spent::Spent;
-use crate::text_end::text_at_end;
-use check_lines::copy_of;
+use crate::next::{are_same, both, printed_behind};
+use crate::walk::{Reached, Spent, WalkSetting};
+use check_lines::{close_in_order, copy_of, files_at};
 use fx_base::NoMemory;
 use fx_order::RingSlots;
+use fx_script::teardown_text;
 use indexmap::IndexSet;
-use std::alloc::Global;
 
 /// A text from a ring to the end of the script, and the orders of its submissions.
 #[derive(Debug, Drop)]
@@ -62,46 +58,34 @@ pub(crate) fn rest_at<'a>(
     None
 }
 
-// Checks whether there is a place for one more text of a ring that has `count`.
-fn has_place(setting: &WalkSetting<'_>, spent: &Spent, count: usize) -> bool {
-    count < setting.most && spent.has_place(setting.limits)
-}
-
-// Appends a text and its orders.
-fn push_ending(
-    spent: &mut Spent,
-    endings: &mut Vec<TextEnd>,
-    ending: TextEnd,
-) -> Result<(), NoMemory>
-    ensures grows { OnOk result (Grows (λ t. t ≡ string_bytes ending.text)
-        (texts_in endings.old.items) (texts_in endings.new.items)) }
-    ensures there { OnOk result
-        (Contains (texts_in endings.new.items) (string_bytes ending.text)) }
-{
-    spent.count_text(ending.text.len(), ending.orders.len());
-    endings.push(ending)?;
-    Ok(())
-}
-
-// Returns a text without orders alone in a list, if there is a place for it, and whether there is.
-fn one_ending(
+// Appends the texts that begin with an exit. Returns whether there was a place for each.
+fn push_endings(
     setting: &WalkSetting<'_>,
     spent: &mut Spent,
-    text: String,
-) -> Result<(Vec<TextEnd>, bool), NoMemory>
-    ensures each { IfOk result (λ found. (other : List ℕ) → Contains (texts_in found.0.items) other
-        → other ≡ string_bytes text) }
-    ensures there { IfOk result (λ found. IsTrue found.1
-        → Contains (texts_in found.0.items) (string_bytes text)) }
+    endings: &mut Vec<TextEnd>,
+    exit: &Reached,
+    later: &[TextEnd],
+) -> Result<bool, NoMemory>
+    requires told { setting.now.keeps ≡ true }
+    ensures grows { IfOk result (λ _. Grows (IsBehind (string_bytes exit.now.printed)
+        (texts_in later.now)) (texts_in endings.old.items) (texts_in endings.new.items)) }
+    ensures all { IfOk result (λ all. IsTrue all → (text : List ℕ)
+        → Contains (texts_in later.now) text
+        → Contains (texts_in endings.new.items) (string_bytes exit.now.printed ++ text)) }
 {
-    let alloc = setting.alloc;
-    let mut endings = Vec::new(alloc);
-    if !has_place(setting, spent, 0) {
-        return Ok((endings, false));
+    for ending in later {
+        if endings.len() >= setting.most || !spent.has_place(setting.limits) {
+            return Ok(false);
+        }
+        let text = printed_behind(setting, exit.printed.as_str(), ending.text.as_str())?;
+        let mut orders = Vec::from_slice(setting.alloc, &ending.orders)?;
+        if let Some(past) = exit.past {
+            orders.push(past)?;
+        }
+        spent.count_text(text.len(), orders.len());
+        endings.push(TextEnd { text, orders })?;
     }
-    let orders = Vec::new(alloc);
-    push_ending(spent, &mut endings, TextEnd { text, orders })?;
-    Ok((endings, true))
+    Ok(true)
 }
 
 // Returns what is kept of a ring at the end of the script.
@@ -114,9 +98,15 @@ fn rest_at_end(
     requires bare { IsBare (stage_of setting.now.catalogue.now last.now) }
     ensures { IfOk result (IsRest setting.now.catalogue.now []) }
 {
-    let text = text_at_end(setting, last)?;
-    let (endings, is_whole) = one_ending(setting, spent, text)?;
-    let ring = copy_of(setting.alloc, &last.ring)?;
+    let alloc = setting.alloc;
+    let files = files_at(alloc, &last.ring.slots)?;
+    let closes = close_in_order(alloc, setting.catalogue, &files)?;
+    let text = teardown_text(alloc, setting.catalogue, &closes)?;
+    let orders = Vec::new(alloc);
+    let end = [TextEnd { text, orders }];
+    let mut endings = Vec::new(alloc);
+    let is_whole = push_endings(setting, spent, &mut endings, last, &end)?;
+    let ring = copy_of(alloc, &last.ring)?;
     Ok(KeptWays {
         ring,
         ways: 1,
@@ -143,41 +133,6 @@ fn rests_at_end(
     Ok(rests)
 }
 
-// Returns the orders of a text, and that of an exit before them, if it has one.
-fn orders_behind(alloc: Global, exit: &Reached, orders: &[usize]) -> Result<Vec<usize>, NoMemory> {
-    let mut all = Vec::from_slice(alloc, orders)?;
-    if let Some(past) = exit.past {
-        all.push(past)?;
-    }
-    Ok(all)
-}
-
-// Appends the texts that begin with an exit. Returns whether there was a place for each.
-fn push_endings(
-    setting: &WalkSetting<'_>,
-    spent: &mut Spent,
-    endings: &mut Vec<TextEnd>,
-    exit: &Reached,
-    later: &[TextEnd],
-) -> Result<bool, NoMemory>
-    requires told { setting.now.keeps ≡ true }
-    ensures grows { IfOk result (λ _. Grows (IsBehind (string_bytes exit.now.printed)
-        (texts_in later.now)) (texts_in endings.old.items) (texts_in endings.new.items)) }
-    ensures all { IfOk result (λ all. IsTrue all → (text : List ℕ)
-        → Contains (texts_in later.now) text
-        → Contains (texts_in endings.new.items) (string_bytes exit.now.printed ++ text)) }
-{
-    for ending in later {
-        if !has_place(setting, spent, endings.len()) {
-            return Ok(false);
-        }
-        let text = printed_behind(setting, exit.printed.as_str(), ending.text.as_str())?;
-        let orders = orders_behind(setting.alloc, exit, &ending.orders)?;
-        push_ending(spent, endings, TextEnd { text, orders })?;
-    }
-    Ok(true)
-}
-
 // Adds the ways that begin with an exit to those of its ring.
 fn push_ways(
     setting: &WalkSetting<'_>,
@@ -200,12 +155,9 @@ fn push_ways(
 {
     let is_whole = push_endings(setting, spent, &mut rest.endings, exit, &later.endings)?;
     let are_whole = both(is_whole, later.is_whole);
-    let whole = both(rest.is_whole, are_whole);
-    let ways = rest.ways.saturating_add(later.ways);
-    let are_all = both(rest.are_all, later.are_all);
-    rest.is_whole = whole;
-    rest.ways = ways;
-    rest.are_all = are_all;
+    rest.is_whole = both(rest.is_whole, are_whole);
+    rest.ways = rest.ways.saturating_add(later.ways);
+    rest.are_all = both(rest.are_all, later.are_all);
     Ok(())
 }
 
@@ -318,14 +270,10 @@ pub(crate) fn rests_of(
 {
     let Layers { mut layers, last } = all;
     spent.keep_command();
-    let rings = last.as_slice();
-    let mut later = rests_at_end(setting, spent, rings)?;
+    let mut later = rests_at_end(setting, spent, &last)?;
     while let Some(layer) = layers.pop() {
         spent.begin_command();
-        let exits = layer.exits.as_slice();
-        let behind = later.as_slice();
-        let before = rests_before(setting, spent, exits, behind)?;
-        later = before;
+        later = rests_before(setting, spent, &layer.exits, &later)?;
     }
     Ok(later)
 }

@@ -8,9 +8,7 @@ ghost use Rattle.check_texts.specs.Rings.{AreStagesFrom, AreRings, HasEachFrom, 
 ghost use Rattle.check_texts.specs.Rings.{Stage, stages_of};
 
 use crate::next::{both, push_next};
-use crate::reached::Reached;
-use crate::setting::WalkSetting;
-use crate::spent::Spent;
+use crate::walk::{Reached, Spent, WalkSetting};
 use fx_base::NoMemory;
 use fx_language::Command;
 use fx_order::{RingSlots, Slots};

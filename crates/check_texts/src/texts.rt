@@ -1,19 +1,16 @@
-//! The texts that a script can print.
-ghost use Rattle.std.specs.Prelude.{◌≡◌, ◌-◌, ◌<◌, ◌^◌, [], false, All, Contains, IfOk, IsTrue, List, OnOk, map};
+//! The texts that a script can print, each of which is one of its texts.
+ghost use Rattle.std.specs.Prelude.{◌≡◌, ◌-◌, ◌<◌, ◌^◌, [], false, All, Contains, IfOk, IsTrue, List, map};
 ghost use Rattle.std.specs.Prelude.{string_bytes, string_eq, ℕ};
 ghost use Rattle.indexmap.specs.IndexSet.{IsUnique};
 ghost use Rattle.check_texts.specs.Layers.{texts_in};
-ghost use Rattle.check_texts.specs.Rings.{Grows};
-ghost use Rattle.check_texts.specs.Texts.{IsTextFound};
+ghost use Rattle.check_texts.specs.Texts.{EachFoundTextIsAText, IsTextFound};
 ghost use Rattle.check_texts.specs.Ways.{HasWays};
 
 use crate::layers::layers_of;
 use crate::next::both;
-use crate::reached::Past;
 use crate::rests::{TextEnd, rest_at, rests_of};
 use crate::rings::start_ring;
-use crate::setting::WalkSetting;
-use crate::spent::Spent;
+use crate::walk::{Past, Spent, WalkSetting};
 use check_search::Limits;
 use fx_base::NoMemory;
 use fx_language::Script;
@@ -57,45 +54,28 @@ impl AllTexts {
     }
 }
 
-// Texts, each once.
-#[derive(Drop)]
-struct EachText {
-    texts: IndexSet<String>,
-    by: Vec<Vec<usize>>,
-}
-
-// Puts a text behind others that haven't got it.
-fn push_text(all: &mut EachText, text: String, orders: Vec<usize>) -> Result<(), NoMemory>
-    ensures grows { OnOk result (Grows (λ t. t ≡ string_bytes text)
-        (map string_bytes all.old.texts.keys) (map string_bytes all.new.texts.keys)) }
-    ensures there { OnOk result
-        (Contains (map string_bytes all.new.texts.keys) (string_bytes text)) }
-{
-    if all.texts.insert(text)? {
-        all.by.push(orders)?;
-    }
-    Ok(())
-}
-
-// Returns texts, each once.
-fn each_text(alloc: Global, endings: &[TextEnd]) -> Result<EachText, NoMemory>
+// Returns the texts, each once, and the orders of each, the first submission's first.
+fn each_text(
+    alloc: Global,
+    endings: &[TextEnd],
+) -> Result<(IndexSet<String>, Vec<Vec<usize>>), NoMemory>
     ensures each { IfOk result (λ all. (text : List ℕ)
-        → Contains (map string_bytes all.texts.keys) text
+        → Contains (map string_bytes all.0.keys) text
         → Contains (texts_in endings.now) text) }
     ensures all { IfOk result (λ all. (text : List ℕ) → Contains (texts_in endings.now) text
-        → Contains (map string_bytes all.texts.keys) text) }
+        → Contains (map string_bytes all.0.keys) text) }
 {
-    let mut all = EachText {
-        texts: IndexSet::new(alloc),
-        by: Vec::new(alloc),
-    };
+    let mut texts = IndexSet::new(alloc);
+    let mut by = Vec::new(alloc);
     for ending in endings {
         let text = String::from_str(alloc, ending.text.as_str())?;
         let mut orders = Vec::from_slice(alloc, &ending.orders)?;
         orders.reverse();
-        push_text(&mut all, text, orders)?;
+        if texts.insert(text)? {
+            by.push(orders)?;
+        }
     }
-    Ok(all)
+    Ok((texts, by))
 }
 
 // Checks whether a number of ways is not the largest one, which stands for all larger ones.
@@ -139,15 +119,18 @@ pub fn texts_of(
     let Some(rest) = rest_at(&rests, 0, &start_ring(alloc)) else {
         return Ok(AllTexts::nothing(alloc, spent.orders));
     };
-    let found = each_text(alloc, &rest.endings)?;
-    let are_all = both(rest.are_all, rest.is_whole);
-    let are_counted = both(rest.are_all, is_exact(rest.ways));
+    let (texts, by) = each_text(alloc, &rest.endings)?;
     Ok(AllTexts {
-        texts: found.texts,
-        by: found.by,
+        texts,
+        by,
         orders: spent.orders,
-        are_all,
+        are_all: both(rest.are_all, rest.is_whole),
         ways: rest.ways,
-        are_counted,
+        are_counted: both(rest.are_all, is_exact(rest.ways)),
     })
 }
+
+/// States that a text of a play in which no allocation fails is a text of the script.
+pub fn each_found_text_is_a_text()
+    ensures { EachFoundTextIsAText }
+{}

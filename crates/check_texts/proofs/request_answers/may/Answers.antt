@@ -14,9 +14,9 @@ returns-clause-each c =
     let script = c.args.script.now in
     let place = c.args.place in
     let a : IsAskedIn (instructions_of c.commands.result.now) place c.in-Some.asking = c.in-Some.ensures.some in
-    all_of_values (λ (said : Said). completed_of said.completion) c.in_ok-found.found.answers.items (MayAnswerIn script place)
+    all_of_values (λ (said : Said). completed_of said.completion) c.in_ok-answers.answers.items (MayAnswerIn script place)
     (λ it inside.
-    let (o, there, says) = c.in_ok-found.ensures.each it inside in
+    let (o, there, says) = c.in_ok-answers.ensures.each it inside in
     said_is_answered script place _ _ _ (sym c.commands.ensures ∙ a.split) a.number false
     (rw c.catalogue.ensures.value at (c.in_ok-rings.ensures.each o (rw c.deref.ensures.value at there)))
     (rw a.place_same at says))
@@ -27,6 +27,6 @@ returns-clause-all c = λ yes it may.
     let a : IsAskedIn (instructions_of c.commands.result.now) c.args.place c.in-Some.asking = c.in-Some.ensures.some in
     let two = c.both.ensures yes in
     answer_is_said script c.args.place _ _ _ (sym c.commands.ensures ∙ a.split) a.number false
-    (stages_of c.catalogue.result.now c.deref.result.now) (said_in c.in_ok-found.found.answers.items) a.counted
+    (stages_of c.catalogue.result.now c.deref.result.now) (said_in c.in_ok-answers.answers.items) a.counted
     (rw (c.deref.ensures.value, sym c.catalogue.ensures.value) (c.in_ok-rings.ensures.all two.0))
-    (rw a.place_same at (c.in_ok-found.ensures.all two.1)) may
+    (rw a.place_same at (c.in_ok-answers.ensures.all two.1)) may

@@ -1,5 +1,5 @@
 use Rattle.check_texts.proofs.Words.{string_bytes, take_all, ◌++◌, ◌≡◌, TextEnd}
-use Rattle.check_texts.proofs.Growth.{at_value, grows_on, holds_more}
+use Rattle.check_texts.proofs.Growth.{at_value, grows_on, has_pushed, holds_more, pushed}
 use Rattle.check_texts.proofs.rests.push_endings.Goals as goal
 
 pub loop-ending-preserved : goal.loop-ending-preserved
@@ -10,11 +10,12 @@ loop-ending-preserved c =
     let text_is : string_bytes c.in_ok-text.text ≡ line ++ own =
     rw (c.requires.told, c.as_str.ensures.value, c.as_str-in-loop-ending.ensures.value) at c.in_ok-text.ensures in
     let stands = at_value f c.args.later.now c.loop-ending-test.true c.ending-item.is in
-    let grows = rw text_is at c.in_ok-push_ending.ensures.grows in
+    let grows = pushed f c.loop-ending.endings.items _ c.in_ok-push-2.ensures.items {P = λ t. t ≡ line ++ own} text_is in
     record {
       grows = grows_on (λ t is. (own, stands, is)) c.loop-ending.invariant.grows grows;
       there = holds_more f c.args.later.now c.loop-ending-test.true c.ending-item.is
-          (λ text has. grows.kept (line ++ text) (c.loop-ending.invariant.there text has)) (rw text_is at c.in_ok-push_ending.ensures.there);
+          (λ text has. grows.kept (line ++ text) (c.loop-ending.invariant.there text has))
+          (rw text_is at (has_pushed f c.loop-ending.endings.items _ c.in_ok-push-2.ensures.items));
     }
 
 pub returns-clause-all : goal.returns-clause-all

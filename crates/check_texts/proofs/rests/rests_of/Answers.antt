@@ -4,7 +4,7 @@ use Rattle.check_texts.proofs.Ways.{commands_before, last_layer}
 use Rattle.check_texts.proofs.rests.rests_of.Goals as goal
 
 pub rests_at_end-requires-clause-rings : goal.rests_at_end-requires-clause-rings
-rests_at_end-requires-clause-rings c = rw c.as_slice-rings.ensures.value c.requires.last
+rests_at_end-requires-clause-rings c = rw c.deref.ensures.value c.requires.last
 
 pub loop-layer-init : goal.loop-layer-init
 loop-layer-init c = record { layers = c.requires.layers; rests = ([], append-nil (commands_in c.args.all.layers.items), c.in_ok-later.ensures) }
@@ -22,8 +22,8 @@ loop-layer-preserved c =
       rests = (
         instruction_of layer.command.now ∷ done,
         commands_before layers layer is done _ same,
-        c.in_ok-before.ensures (instruction_of layer.command.now) done (rw c.as_slice-exits.ensures.value own.0)
-            (rw c.as_slice-behind.ensures.value are),
+        c.in_ok-later-2.ensures (instruction_of layer.command.now) done (rw c.deref-in-Some.ensures.value own.0)
+            (rw c.deref-in-Some-2.ensures.value are),
       );
     }
 

@@ -28,19 +28,19 @@ first_ring c = c.in-Some.ensures.same c.args.script.now.catalogue ∙ c.start_ri
 pub returns-clause-each : goal.returns-clause-each
 returns-clause-each c =
     let at = (goal.at.returns-clause-each c).In-Some in
-    all_of_values string_bytes c.in_ok-found.found.texts.keys (IsTextFound c.args.script.now) (λ text inside.
-    script_text c.args.script.now (first_ways at) (first_ring at) text (rw c.deref-2.ensures.value at (c.in_ok-found.ensures.each text inside)))
+    all_of_values string_bytes c.in_ok-texts.texts.keys (IsTextFound c.args.script.now) (λ text inside.
+    script_text c.args.script.now (first_ways at) (first_ring at) text (rw c.deref-2.ensures.value at (c.in_ok-texts.ensures.each text inside)))
 
 pub returns-clause-all : goal.returns-clause-all
 returns-clause-all c = λ yes text found.
     let at = (goal.at.returns-clause-all c).In-Some in
-    let two = c.both-are_all.ensures yes in
-    c.in_ok-found.ensures.all text
+    let two = c.both.ensures yes in
+    c.in_ok-texts.ensures.all text
     (rw c.deref-2.ensures.value (script_texts c.args.script.now (first_ways at) (first_ring at) two.0 two.1 text found))
 
 pub returns-clause-ways : goal.returns-clause-ways
 returns-clause-ways c =
     let at = (goal.at.returns-clause-ways c).In-Some in
     let ways = first_ways at in
-    script_ways c.args.script.now ways (first_ring at) c.both-are_counted.result
-    (λ yes. let two = c.both-are_counted.ensures yes in (two.0, ways.count.same (c.is_exact.ensures two.1)))
+    script_ways c.args.script.now ways (first_ring at) c.both-2.result
+    (λ yes. let two = c.both-2.ensures yes in (two.0, ways.count.same (c.is_exact.ensures two.1)))
