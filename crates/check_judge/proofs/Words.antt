@@ -111,7 +111,7 @@ pub use Rattle.check_lines.specs.ClosedView.{named_close_of}
 pub use Rattle.check_lines.specs.Lines.{Lines, NamedClose, ReadsReport, lines_of, lines_text, named_close, named_closes, IsCompletionInRange}
 pub use Rattle.check_lines.specs.Lines.{IsPlaceInRange, IsReportBefore, HasNoCloses, AreLinesInRange, IsCloseInRange, is_without}
 pub use Rattle.check_lines.specs.LinesView.{lines_in}
-pub use Rattle.check_lines.specs.declared.closed_line.ClosedLine.{ClosedLine}
+pub use Rattle.check_lines.specs.declared.report_lines.ClosedLine.{ClosedLine}
 pub use Rattle.check_lines.specs.declared.report_lines.ReportLines.{ReportLines}
 pub use Rattle.fx_order.proofs.ChainsFront.{length-done, both_parts, parts_of, first_run, others_completed, own_completed, few_completions, first_is}
 pub use Rattle.fx_order.proofs.ChainsFront.{all_of_rest, too_few}

@@ -1,27 +1,141 @@
 //! Calls between submissions: the ring that each leaves and the line that it prints if no allocation fails; and the line of a refused
 //! submission.
-ghost use Rattle.std.specs.Prelude.{◌≡◌, ◌≤◌, [], IfOk, List, None, length, string_bytes, unwrap_or};
-ghost use Rattle.std.specs.Option.{MatchOption};
+ghost use Rattle.std.specs.Prelude.{◌≡◌, ◌+◌, ◌^◌, ◌<◌, ◌≤◌, false, IfOk, OnOk, length, None, All, [], List, string_bytes, unwrap_or};
+ghost use Rattle.std.specs.List.{list_any};
+ghost use Rattle.std.specs.Option.{option_to_list, MatchOption};
+ghost use Rattle.fx_base.specs.declared.catalogue.TheConstants.{MOST_ENTRIES};
+ghost use Rattle.check_lines.specs.InRange.{AreInRange};
+ghost use Rattle.fx_chain.specs.Answers.{is_bad_entry};
+ghost use Rattle.fx_ring.specs.Registration.{file_after, files_after, removed_by_number, removed_from};
+ghost use Rattle.fx_ring.specs.Tags.{tag_at, tags_for};
+ghost use Rattle.fx_order.specs.Access.{with_file};
+ghost use Rattle.fx_order.specs.Slots.{table_of_slots, ring_of_slots, ring_with_slots};
+ghost use Rattle.fx_ring.specs.Ring.{HasClosed, ring_files_in_order, IsRing};
 ghost use Rattle.fx_base.specs.Catalogue.{FileEntry};
 ghost use Rattle.fx_chain.specs.Faults.{fault_of};
 ghost use Rattle.fx_chain.specs.Operation.{all_asked};
 ghost use Rattle.fx_language.specs.Instruction.{instruction_of};
-ghost use Rattle.fx_order.specs.Slots.{ring_of_slots, ring_with_slots, table_of_slots};
 ghost use Rattle.fx_plain.specs.declared.table.TheConstants.{MOST_SLOTS};
 ghost use Rattle.fx_print.specs.Text.{refused_line, too_many_line};
-ghost use Rattle.fx_ring.specs.Ring.{IsRing};
 ghost use Rattle.check_lines.specs.Calls.{HasEntries, IsLineOf, IsNoSubmission, after_call, call_of};
-ghost use Rattle.check_lines.specs.InRange.{AreInRange};
 
-use crate::call_closes::{close_in_order, files_at};
 use crate::call_head::{given, head_of};
-use crate::call_list::{apply_list, empty_slots};
-use fx_base::{Catalogue, Closed, NoMemory};
+use fx_base::{Catalogue, CloseList, Closed, Mark, NoMemory};
 use fx_chain::{Request, check};
 use fx_language::Command;
 use fx_order::{RingSlots, Slots};
+use fx_ring::tag_at;
 use fx_script::{refused_line, result_line, too_many_line, with_closes};
 use std::alloc::Global;
+
+/// Returns `n` empty slots, all of them in the allocation range.
+///
+/// # Errors
+/// `NoMemory` if an allocation fails.
+pub(crate) fn empty_slots(alloc: Global, n: u32) -> Result<Slots, NoMemory>
+    ensures { IfOk result (λ slots. table_of_slots slots
+        ≡ record { size = n; range = (0, n); at = λ _. None }) }
+{
+    let at = vec![in alloc; None; n as usize]?;
+    Ok(Slots { range: (0, n), at })
+}
+
+// Applies one number: -1 empties the slot, -2 leaves it as it is, and any other number opens that catalogue entry
+// there. Returns the file that was removed.
+fn apply_number(slots: &mut Slots, mark: Mark, tag: u64, slot: u32, number: i32) -> Option<Closed>
+    requires slot { slot < length slots.old.at.items }
+    requires good { is_bad_entry MOST_ENTRIES number ≡ false }
+    ensures table { table_of_slots slots.new ≡ with_file (table_of_slots slots.old) slot
+        (file_after mark tag number ((table_of_slots slots.old).at slot)) }
+    ensures removed { option_to_list result
+        ≡ removed_by_number number ((table_of_slots slots.old).at slot) }
+{
+    let was = slots.at[slot as usize];
+    if number >= 0 {
+        let entry = number as u8;
+        slots.at[slot as usize] = Some(Closed { mark, entry, tag });
+        return was;
+    }
+    if number < -1 {
+        return None;
+    }
+    slots.at[slot as usize] = None;
+    was
+}
+
+/// Applies the k-th list, from the slot `off` on, and returns the files that it removed, in order of slot. Without tags, the tag
+/// of each new file is 0.
+///
+/// # Errors
+/// `NoMemory` if an allocation fails.
+pub(crate) fn apply_list(
+    alloc: Global,
+    slots: &mut Slots,
+    k: u32,
+    off: u32,
+    list: &[i32],
+    tags: Option<&[u64]>,
+) -> Result<Vec<Closed>, NoMemory>
+    requires slots { off + length list.now ≤ length slots.old.at.items }
+    requires few { length slots.old.at.items < 2 ^ 31 }
+    requires good { list_any (is_bad_entry MOST_ENTRIES) list.now ≡ false }
+    ensures table { OnOk result (table_of_slots slots.new ≡ record (table_of_slots slots.old) {
+      at = files_after k (table_of_slots slots.old).at off list.now
+          (tags_for list.now tags.entry);
+    }) }
+    ensures removed { IfOk result (λ files.
+        files.items ≡ removed_from (table_of_slots slots.old).at off list.now) }
+    ensures in_range { OnOk result (AreInRange (table_of_slots slots.old).at
+        → AreInRange (table_of_slots slots.new).at) }
+{
+    let mut removed = Vec::new(alloc);
+    for (i, number) in list.iter().enumerate() {
+        let place = i as u32;
+        let mark = Mark::Registered { k, i: place };
+        if let Some(file) = apply_number(slots, mark, tag_at(tags, i), off + place, *number) {
+            removed.push(file)?;
+        }
+    }
+    Ok(removed)
+}
+
+/// Returns the files at all slots, in order of slot.
+///
+/// # Errors
+/// `NoMemory` if an allocation fails.
+pub fn files_at(alloc: Global, slots: &Slots) -> Result<Vec<Closed>, NoMemory>
+    ensures { IfOk result (λ files. files.items
+        ≡ ring_files_in_order (table_of_slots slots.now).at (length slots.now.at.items)) }
+{
+    let mut files = Vec::new(alloc);
+    for file in &slots.at {
+        if let Some(file) = file {
+            files.push(*file)?;
+        }
+    }
+    Ok(files)
+}
+
+/// Returns a list of closes of these files, in order of mark. Each of them is of the catalogue.
+///
+/// # Errors
+/// `NoMemory` if an allocation fails.
+pub fn close_in_order(
+    alloc: Global,
+    catalogue: &Catalogue,
+    files: &[Closed],
+) -> Result<CloseList, NoMemory>
+    requires entries { All (λ file. file.entry < length catalogue.now) files.now }
+    requires few { length files.now < 2 ^ 32 }
+    ensures { IfOk result (HasClosed files.now) }
+{
+    let mut closes = CloseList::with_room(alloc, files.len() as u32)?;
+    for file in files {
+        closes.close(catalogue.open(file.entry, file.mark, file.tag));
+    }
+    closes.sort();
+    Ok(closes)
+}
 
 /// The ring that a call leaves, and what the call prints.
 #[derive(Drop)]

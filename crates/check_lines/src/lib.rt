@@ -3,22 +3,11 @@
 //! files that it closes.
 #![tactic(auto)]
 
-mod accepted;
 mod call_answer;
-mod call_closes;
 mod call_head;
-mod call_list;
-mod closed_line;
-mod completion_line;
-mod cut;
 pub mod laws;
-mod number;
 mod report_lines;
 
-pub use accepted::{accepted_in, is_accepted};
-pub use call_answer::{CallAnswer, call, copy_of};
-pub use call_closes::{close_in_order, files_at};
-pub use call_head::memory_word;
-pub use closed_line::ClosedLine;
-pub use cut::rest_behind;
-pub use report_lines::{ReportLines, read_report};
+pub use call_answer::{CallAnswer, call, close_in_order, copy_of, files_at};
+pub use call_head::{accepted_in, is_accepted, memory_word};
+pub use report_lines::{ClosedLine, ReportLines, read_report, rest_behind};

@@ -1,6 +1,0 @@
-use Rattle.check_lines.proofs.Words.{◌≡◌, true, take, is_without}
-use Rattle.check_lines.proofs.cut.cut.Given as goal
-
--- no byte so far is the one at which the text is cut
-abbrev pub invariant-loop-i : goal.invariant-loop-i
-invariant-loop-i l = is_without l.at (take l.i l.text) ≡ true

@@ -1,7 +1,0 @@
-use Rattle.check_lines.proofs.Words.{Decides-eqb, strip_prefix_is}
-use Rattle.check_lines.proofs.Cuts.{behind_is}
-use Rattle.check_lines.proofs.cut.rest_behind.Goals as goal
-
-pub returns : goal.returns
-returns c = behind_is c.args.text.now c.args.expected.now c.strip_prefix.result
-    (strip_prefix_is Decides-eqb c.args.text.now c.args.expected.now c.strip_prefix.result c.strip_prefix.ensures.cases)

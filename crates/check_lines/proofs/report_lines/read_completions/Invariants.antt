@@ -1,0 +1,10 @@
+use Rattle.check_lines.proofs.Words.{◌≡◌, length, all_completed, AreSoMany, IsCompletionInRange, completion_line}
+use Rattle.check_lines.proofs.ReportTexts.{HasFirst}
+use Rattle.check_lines.proofs.report_lines.read_completions.Given as goal
+
+-- the completions so far are those of the first lines
+abbrev pub invariant-loop : goal.invariant-loop
+invariant-loop l = record {
+  counted : length l.completions.items ≡ l.counter;
+  first : HasFirst completion_line IsCompletionInRange (AreSoMany l.count) l.text (all_completed l.completions.items) l.rest;
+}

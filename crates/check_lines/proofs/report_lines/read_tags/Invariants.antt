@@ -1,0 +1,10 @@
+use Rattle.check_lines.proofs.Words.{◌<◌, ◌^◌, length, codes, AreAll, line_of_tag}
+use Rattle.check_lines.proofs.ReportTexts.{HasFirst}
+use Rattle.check_lines.proofs.report_lines.read_tags.Given as goal
+
+abbrev pub decreases-loop-behind : goal.decreases-loop-behind
+decreases-loop-behind l = length l.rest
+
+-- the tags so far are those of the first lines
+abbrev pub invariant-loop-behind : goal.invariant-loop-behind
+invariant-loop-behind l = HasFirst line_of_tag (λ tag. tag < 2 ^ 64) (AreAll (codes "tag ")) l.text l.tags.items l.rest
