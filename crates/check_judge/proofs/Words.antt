@@ -28,7 +28,7 @@ pub use Rattle.check_search.specs.declared.claim.Resident.{Resident}
 pub use Rattle.check_search.specs.declared.claim.Wants.{Wants}
 pub use Rattle.check_judge.specs.declared.stop.Stop.{Stop}
 pub use Rattle.check_judge.specs.declared.stop.Stop.TheVariants.{Refuted}
-pub use Rattle.check_search.specs.declared.strand.Strand.{Strand}
+pub use Rattle.check_search.specs.declared.claim.Strand.{Strand}
 pub use Rattle.fx_order.proofs.Histories.{each_order_is_a_history}
 pub use Rattle.fx_order.proofs.OneRing.{NonePast, ring_with_files, shows_ring, none_past, each_report_leads_to_one_ring, each_closed_file_is_known}
 pub use Rattle.fx_order.proofs.OneRing.{in_limits, no_file_that_stays_is_closed}

@@ -11,7 +11,7 @@ use Rattle.check_judge.specs.Claims.{Fits, touched}
 use Rattle.check_search.specs.AtSlots.{has_slot}
 use Rattle.check_search.specs.declared.cell.Cell.{Cell}
 use Rattle.check_search.specs.declared.claim.Claim.{Claim}
-use Rattle.check_search.specs.declared.strand.Strand.{Strand}
+use Rattle.check_search.specs.declared.claim.Strand.{Strand}
 
 -- the accesses of these slots
 abbrev pub seen : List Cell → List Access → List Access

@@ -8,8 +8,8 @@ use Rattle.check_search.proofs.Words.{eq-eqb, list_all, Standing, allows, cell_a
 use Rattle.check_search.proofs.Words.{Full, Same, Wants, Something, Strand, next, Leaves, drop-cons, ⊎_elim, ◌≢◌, cases_lt}
 use Rattle.check_search.specs.Machine.{HasNoEnd}
 use Rattle.std.proofs.lemmas.List.Sums.{sum_by-cons}
-use Rattle.check_search.specs.declared.counted.SlotChange.{SlotChange}
-use Rattle.check_search.specs.declared.counted.SlotChange.TheVariants.{Takes, Empties, Leaving, Staying}
+use Rattle.check_search.specs.declared.dead.SlotChange.{SlotChange}
+use Rattle.check_search.specs.declared.dead.SlotChange.TheVariants.{Takes, Empties, Leaving, Staying}
 use Rattle.check_search.proofs.Hopeless.{written}
 use Rattle.check_search.proofs.Reaching.{after, none_ends}
 use Rattle.std.proofs.Math.Bool.{and-false, and-true}

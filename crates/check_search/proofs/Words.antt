@@ -18,8 +18,8 @@ pub use Rattle.check_search.specs.declared.claim.Leaves.TheVariants.{Empty, File
 pub use Rattle.check_search.specs.declared.claim.Resident.{Resident}
 pub use Rattle.check_search.specs.declared.claim.Wants.{Wants}
 pub use Rattle.check_search.specs.declared.claim.Wants.TheVariants.{Anything, Bytes, Nothing, NothingToTake, Something}
-pub use Rattle.check_search.specs.declared.packed.Packing.{Packing}
-pub use Rattle.check_search.specs.declared.strand.Strand.{Strand}
+pub use Rattle.check_search.specs.declared.node.Packing.{Packing}
+pub use Rattle.check_search.specs.declared.claim.Strand.{Strand}
 pub use Rattle.std.proofs.Common.{All, Bool, Contains, IsTrue, List, None, Option, Some, [], ap, append_assoc, arith, cond, drop, drop-cons, eq-eqb}
 pub use Rattle.std.proofs.Common.{false, get_or, if◌then◌else◌, inl, inr, is_some, length, map, not, option_copied, refl, slice_get, slice_index}
 pub use Rattle.std.proofs.Common.{slice_index_or, slice_set, subst, suc, sym, take, true, zero, ℕ, ⊎_elim, ◌&&◌, ◌++◌, ◌+◌, ◌<◌, ◌==◌, ◌||◌, ◌∙◌, ◌∷◌}

@@ -11,10 +11,10 @@ use Rattle.check_search.specs.declared.claim.Resident.{Resident}
 use Rattle.check_search.specs.declared.claim.Wants.{Wants}
 use Rattle.check_search.specs.declared.claim.Wants.TheVariants.{Anything, Nothing, NothingToTake}
 use Rattle.check_search.specs.declared.claim.Wants.TheVariants.{Something, Bytes}
-use Rattle.check_search.specs.declared.counted.SlotChange.{SlotChange}
-use Rattle.check_search.specs.declared.counted.SlotChange.TheVariants.{Takes, Empties, Leaving}
-use Rattle.check_search.specs.declared.counted.SlotChange.TheVariants.{Staying}
-use Rattle.check_search.specs.declared.strand.Strand.{Strand}
+use Rattle.check_search.specs.declared.dead.SlotChange.{SlotChange}
+use Rattle.check_search.specs.declared.dead.SlotChange.TheVariants.{Takes, Empties, Leaving}
+use Rattle.check_search.specs.declared.dead.SlotChange.TheVariants.{Staying}
+use Rattle.check_search.specs.declared.claim.Strand.{Strand}
 use Rattle.check_search.specs.AtSlots.{has_slot}
 
 abbrev pub is_something : Wants → Bool

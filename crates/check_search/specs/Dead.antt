@@ -5,7 +5,7 @@ use Rattle.check_search.specs.Machine.{Standing, cell_at, may_find, may_leave}
 use Rattle.check_search.specs.declared.claim.Claim.{Claim}
 use Rattle.check_search.specs.declared.claim.Claim.TheVariants.{At, Full}
 use Rattle.check_search.specs.declared.claim.Leaves.TheVariants.{Same, Empty, File}
-use Rattle.check_search.specs.declared.strand.Strand.{Strand}
+use Rattle.check_search.specs.declared.claim.Strand.{Strand}
 
 -- the other claim changes nothing at the slot, or leaves what the claim may not be made with
 abbrev pub no_help : ℕ → Claim → Claim → Bool

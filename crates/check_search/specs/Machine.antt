@@ -15,7 +15,7 @@ use Rattle.check_search.specs.declared.claim.Claim.{Claim}
 use Rattle.check_search.specs.declared.claim.Claim.TheVariants.{At, Full}
 use Rattle.check_search.specs.declared.cell.Cell.{Cell}
 use Rattle.check_search.specs.declared.node.SearchNode.{SearchNode}
-use Rattle.check_search.specs.declared.strand.Strand.{Strand}
+use Rattle.check_search.specs.declared.claim.Strand.{Strand}
 
 -- the file at a slot
 abbrev pub cell_at : List Cell → ℕ → Option Resident

@@ -5,7 +5,7 @@ use Rattle.std.specs.Global.{Vec}
 use Rattle.check_search.specs.Machine.{Standing}
 use Rattle.check_search.specs.declared.cell.Cell.{Cell}
 use Rattle.check_search.specs.declared.claim.Resident.{Resident}
-use Rattle.check_search.specs.declared.packed.Packing.{Packing}
+use Rattle.check_search.specs.declared.node.Packing.{Packing}
 
 -- the file of this number among those of a slot
 abbrev pub packed_file : List (Vec (Option Resident)) → ℕ → ℕ → Option Resident

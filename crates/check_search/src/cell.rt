@@ -36,10 +36,7 @@ fn suits(wants: &Wants, found: Option<Resident>) -> bool
         Wants::Anything => true,
         Wants::Nothing | Wants::NothingToTake => found.is_none(),
         Wants::Something => found.is_some(),
-        Wants::Bytes(fits) => match found {
-            Some(resident) => fits[resident.file.entry as usize],
-            None => false,
-        },
+        Wants::Bytes(fits) => found.is_some_and(|resident| fits[resident.file.entry as usize]),
     }
 }
 
@@ -47,20 +44,14 @@ fn suits(wants: &Wants, found: Option<Resident>) -> bool
 pub(crate) fn may_leave(found: Option<Resident>) -> bool
     ensures { result ≡ may_leave found }
 {
-    match found {
-        Some(resident) => resident.leaves,
-        None => true,
-    }
+    found.is_none_or(|resident| resident.leaves)
 }
 
 /// Checks whether what was found may stay: nothing, or a file that the closes don't have.
 pub(crate) fn may_stay(found: Option<Resident>) -> bool
     ensures { result ≡ may_stay found }
 {
-    match found {
-        Some(resident) => !resident.leaves,
-        None => true,
-    }
+    found.is_none_or(|resident| !resident.leaves)
 }
 
 /// Checks whether a claim may be made where this is at its slot.
@@ -117,11 +108,8 @@ pub fn apply(cells: &mut [Cell], claim: &Claim)
     ensures { cells.new ≡ cells_after cells.old claim.now }
 {
     match claim {
-        Claim::At(slot, _, leaves) => match leaves {
-            Leaves::Same => {}
-            Leaves::Empty => write(cells, *slot, None),
-            Leaves::File(resident) => write(cells, *slot, Some(*resident)),
-        },
-        Claim::Full => {}
+        Claim::At(slot, _, Leaves::Empty) => write(cells, *slot, None),
+        Claim::At(slot, _, Leaves::File(resident)) => write(cells, *slot, Some(*resident)),
+        Claim::At(_, _, Leaves::Same) | Claim::Full => {}
     }
 }

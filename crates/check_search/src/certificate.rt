@@ -5,13 +5,11 @@ ghost use Rattle.check_search.specs.Packed.{all_unpacked, unpacked};
 ghost use Rattle.check_search.specs.Starts.{starting};
 
 use crate::cell::Cell;
-use crate::claim::Claim;
-use crate::counted::is_uneven;
-use crate::dead::is_dead_by;
+use crate::claim::{Claim, Strand};
+use crate::dead::{is_dead_by, is_uneven};
 use crate::node::{SearchNode, claim_of, is_test, start_of};
 use crate::search::Rows;
 use crate::steps::Steps;
-use crate::strand::Strand;
 use fx_base::NoMemory;
 use std::alloc::Global;
 
@@ -114,10 +112,7 @@ fn test_leads_inside(
     ensures { IfOk result (λ yes. IsTrue yes → TestLeadsInside strands.now
         (all_unpacked web.now.steps.packing web.now.rows.keys) (view here.now.node.now) chain) }
 {
-    let Some(claim) = claim_of(strands, &here.node.places, chain) else {
-        return Ok(false);
-    };
-    if !is_test(claim) {
+    if !claim_of(strands, &here.node.places, chain).is_some_and(is_test) {
         return Ok(false);
     }
     let Some(next) = here.node.next(alloc, strands, chain)? else {

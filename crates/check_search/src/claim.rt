@@ -1,7 +1,9 @@
-//! Claims: what a completion says of one access to the table.
-ghost use Rattle.std.specs.Prelude.{◌≡◌, ◌↔◌, IsTrue, Contains, List};
+//! Claims: what a completion says of one access to the table; and the claims of a chain.
+ghost use Rattle.std.specs.Prelude.{◌≡◌, ◌↔◌, IsTrue, Contains, List, ◌==◌};
 ghost use Rattle.check_search.specs.Residents.{IsResident};
+ghost use Rattle.std.specs.List.{list_any};
 
+use crate::cell::Cell;
 use fx_base::Closed;
 
 /// A file at a slot, and whether it is in the list of closes.
@@ -63,10 +65,7 @@ fn is_in_order_there(files: &[Closed], file: Closed) -> bool
     ensures { IsTrue result → Contains files.now file }
 {
     match files.binary_search_by_key(&file.mark, |other| other.mark) {
-        Ok(i) => match files.get(i) {
-            Some(other) => *other == file,
-            None => false,
-        },
+        Ok(i) => files.get(i).is_some_and(|other| *other == file),
         Err(_) => false,
     }
 }
@@ -76,4 +75,20 @@ fn has(files: &[Closed], file: Closed) -> bool
     ensures { IsTrue result ↔ Contains files.now file }
 {
     is_in_order_there(files, file) || files.iter().any(|other| *other == file)
+}
+
+/// A chain, by its number from 1, and its claims at some slots.
+#[derive(Debug, Drop)]
+pub struct Strand {
+    /// The number of the chain.
+    pub chain: u32,
+    /// The claims in the order of the chain.
+    pub claims: Vec<Claim>,
+}
+
+/// Checks whether `slot` is among `cells`.
+pub fn has_slot(cells: &[Cell], slot: u32) -> bool
+    ensures { result ≡ list_any (λ cell. cell.slot == slot) cells.now }
+{
+    cells.iter().any(|cell| cell.slot == slot)
 }

@@ -68,12 +68,8 @@ pub fn components(
     }
     let mut parts = Vec::new(alloc);
     for label in 0..size {
-        let mut part: Vec<usize> = Vec::new(alloc);
-        for (slot, own) in labels.iter().enumerate() {
-            if *own == label {
-                part.push(slot)?;
-            }
-        }
+        let slots = (0..size).filter(|slot| labels.get(*slot).copied() == Some(label));
+        let part: Vec<usize> = slots.collect(alloc)?;
         if !part.is_empty() {
             parts.push(part)?;
         }

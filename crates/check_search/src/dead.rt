@@ -1,25 +1,163 @@
-//! States from which no end is reached, since a claim waits for a file that is never installed.
-ghost use Rattle.std.specs.Prelude.{◌≡◌, ℕ, ◌≤◌, IsTrue, Some, true, slice_get};
-ghost use Rattle.check_search.specs.Dead.{IsHopeless, NoneHelps, no_help};
+//! States from which no end is reached: the files that come to a slot and leave it don't balance, or a claim waits for a file that is
+//! never installed.
+ghost use Rattle.std.specs.Prelude.{◌≡◌, ◌⊎◌, ◌≤◌, IfSome, IsTrue, cond, count_by, drop, ℕ, Some, true, slice_get};
+ghost use Rattle.check_search.specs.Counted.{LastStays, TooFewLeave, TwoStay, changes, is_change, leaving_files, staying, to_come};
 ghost use Rattle.check_search.specs.Machine.{HasNoEnd, view};
+ghost use Rattle.check_search.specs.Dead.{IsHopeless, NoneHelps, no_help};
 ghost use Rattle.check_search.specs.declared.claim.Claim.{Claim as OneClaim};
 
 use crate::cell::{cell_at, may_find, may_leave};
-use crate::claim::{Claim, Leaves};
+use crate::claim::{Claim, Leaves, Resident, Strand, Wants, has_slot};
 use crate::node::{SearchNode, place_of};
-use crate::strand::Strand;
+
+/// A change that a claim makes to its slot.
+#[derive(Clone, Copy, Debug, PartialEq, Eq)]
+pub enum SlotChange {
+    /// The file that is there is taken.
+    Takes,
+    /// What is there is removed, and no file is installed.
+    Empties,
+    /// A file is installed that is in the list of closes.
+    Leaving,
+    /// A file is installed that is not in the list of closes.
+    Staying,
+}
+
+// Checks whether what a claim leaves at its slot is such a change.
+fn is_change(leaves: &Leaves, wants: &Wants, change: SlotChange) -> bool
+    ensures { result ≡ is_change leaves.now wants.now change }
+{
+    match (leaves, change) {
+        (Leaves::Empty, SlotChange::Takes) => matches!(wants, Wants::Something),
+        (Leaves::Empty, SlotChange::Empties) => true,
+        (Leaves::File(file), SlotChange::Leaving) => file.leaves,
+        (Leaves::File(file), SlotChange::Staying) => !file.leaves,
+        _ => false,
+    }
+}
+
+/// Checks whether a claim makes such a change of a slot.
+pub(crate) fn is_changing(change: SlotChange, slot: u32, claim: &Claim) -> bool
+    ensures { result ≡ changes change slot claim.now }
+{
+    match claim {
+        Claim::At(at, wants, leaves) => is_change(leaves, wants, change) && *at == slot,
+        Claim::Full => false,
+    }
+}
+
+// 1 for yes, and 0 for no.
+fn one_if(yes: bool) -> usize
+    ensures number { result ≡ cond yes 1 0 }
+    ensures few { result ≤ 1 }
+{
+    if yes { 1 } else { 0 }
+}
+
+// Returns how many of the claims from a place on make such a change.
+fn count_from(change: SlotChange, slot: u32, claims: &[Claim], first: usize) -> usize
+    ensures { result ≡ count_by (changes change slot) (drop first claims.now) }
+{
+    let mut count = 0usize;
+    for k in first..claims.len() {
+        count += one_if(is_changing(change, slot, &claims[k]));
+    }
+    count
+}
+
+// Returns how many claims that make such a change are still to be made, where they can be counted.
+fn to_come(change: SlotChange, slot: u32, strands: &[Strand], places: &[usize]) -> Option<usize>
+    ensures { IfSome result (λ count. count ≡ to_come change slot strands.now places.now) }
+{
+    let mut count = 0usize;
+    for c in 0..strands.len() {
+        let own = count_from(change, slot, &strands[c].claims, place_of(places, c));
+        count = count.checked_add(own)?;
+    }
+    Some(count)
+}
+
+// Returns how many files at a slot leave it: 0 or 1.
+fn leaving(found: Option<Resident>) -> usize
+    ensures { result ≡ leaving_files found }
+{
+    found.map_or(0, |resident| one_if(resident.leaves))
+}
+
+// Returns how many stay there.
+fn staying(found: Option<Resident>) -> usize
+    ensures { result ≡ staying found }
+{
+    found.map_or(0, |resident| one_if(!resident.leaves))
+}
+
+// Checks whether two files stay at a slot.
+fn two_stay(strands: &[Strand], node: &SearchNode, slot: u32) -> bool
+    ensures { IsTrue result → TwoStay strands.now (view node.now) slot }
+{
+    let here = staying(cell_at(&node.cells, slot));
+    let count = to_come(SlotChange::Staying, slot, strands, &node.places);
+    count.is_some_and(|count| here.saturating_add(count) >= 2)
+}
+
+// Checks whether more files are taken from a slot than leave it.
+fn too_few_leave(strands: &[Strand], node: &SearchNode, slot: u32) -> bool
+    ensures { IsTrue result → TooFewLeave strands.now (view node.now) slot }
+{
+    let here = leaving(cell_at(&node.cells, slot));
+    let Some(takes) = to_come(SlotChange::Takes, slot, strands, &node.places) else {
+        return false;
+    };
+    let count = to_come(SlotChange::Leaving, slot, strands, &node.places);
+    count.is_some_and(|count| here.saturating_add(count) < takes)
+}
+
+// Checks whether each file leaves a slot, and the last one that comes stays there.
+fn last_stays(strands: &[Strand], node: &SearchNode, slot: u32) -> bool
+    ensures { IsTrue result → LastStays strands.now (view node.now) slot }
+{
+    let found = cell_at(&node.cells, slot);
+    let Some(empties) = to_come(SlotChange::Empties, slot, strands, &node.places) else {
+        return false;
+    };
+    let Some(stays) = to_come(SlotChange::Staying, slot, strands, &node.places) else {
+        return false;
+    };
+    let Some(leaves) = to_come(SlotChange::Leaving, slot, strands, &node.places) else {
+        return false;
+    };
+    let none_stays = empties == 0 && stays == 0 && staying(found) == 0;
+    none_stays && leaving(found).saturating_add(leaves) >= 1
+}
+
+// Checks whether the counts of a slot's files show that they don't balance.
+fn shows_uneven(strands: &[Strand], node: &SearchNode, slot: u32) -> bool
+    ensures { IsTrue result → TwoStay strands.now (view node.now) slot
+        ⊎ (TooFewLeave strands.now (view node.now) slot ⊎ LastStays strands.now (view node.now) slot) }
+{
+    two_stay(strands, node, slot)
+        || too_few_leave(strands, node, slot)
+        || last_stays(strands, node, slot)
+}
+
+/// Checks whether the files of `slot` don't balance, so that no order leads to an end.
+pub fn is_uneven(strands: &[Strand], node: &SearchNode, slot: u32) -> bool
+    ensures { IsTrue result → HasNoEnd strands.now (view node.now) }
+{
+    if node.places.len() != strands.len() || !has_slot(&node.cells, slot) {
+        return false;
+    }
+    shows_uneven(strands, node, slot)
+}
 
 /// Checks whether another claim changes nothing at a slot, or leaves there what the claim may not be made with.
 pub(crate) fn is_no_help(slot: u32, claim: &Claim, other: &Claim) -> bool
     ensures { result ≡ no_help slot claim.now other.now }
 {
     match other {
-        Claim::At(at, _, leaves) => match leaves {
-            Leaves::Same => true,
-            Leaves::Empty => *at != slot || !may_find(claim, None),
-            Leaves::File(file) => *at != slot || !may_find(claim, Some(*file)),
-        },
-        Claim::Full => true,
+        Claim::At(at, _, Leaves::Empty) => *at != slot || !may_find(claim, None),
+        Claim::At(at, _, Leaves::File(file)) => *at != slot || !may_find(claim, Some(*file)),
+        Claim::At(_, _, Leaves::Same) | Claim::Full => true,
     }
 }
 
@@ -53,10 +191,7 @@ fn is_hopeless(strands: &[Strand], node: &SearchNode, slot: u32, claim: &Claim) 
     ensures { IsTrue result → IsHopeless strands.now (view node.now) slot claim.now }
 {
     let found = cell_at(&node.cells, slot);
-    if may_find(claim, found) {
-        return false;
-    }
-    !may_leave(found) || none_helps(strands, &node.places, slot, claim)
+    !may_find(claim, found) && (!may_leave(found) || none_helps(strands, &node.places, slot, claim))
 }
 
 /// Checks whether the claim at `at`, by its chain and its place, is still to be made and waits for a file that is never

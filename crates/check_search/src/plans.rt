@@ -1,8 +1,9 @@
 //! Searches that leave chains and orders out, by what workers do: they find what some workers played. Nothing is proved of them.
 
-use crate::search::{Found, SearchRoom, search, search_along};
+use crate::search::{Found, SearchRoom, search};
 use crate::steps::Steps;
 use crate::tracks::Tracks;
+use crate::walk::Walk;
 use fx_base::NoMemory;
 use std::alloc::Global;
 
@@ -84,10 +85,13 @@ fn near(
             return Ok(None);
         };
         let plan = Plan { open, seed: 0 };
-        let (blocked, found) = search_along(alloc, steps, &tracks, plan, room)?;
-        if let Found::Order(order) = found {
-            return Ok(Some(order));
-        }
+        let blocked = {
+            let mut walk = Walk::new(alloc, steps, Some(&tracks), plan, room)?;
+            if let Found::Order(order) = walk.run()? {
+                return Ok(Some(order));
+            }
+            walk.blocked
+        };
         let mut is_wider = false;
         for cell in &blocked {
             is_wider |= tracks.widen(steps, *cell)?;

@@ -1,14 +1,32 @@
 //! The search for an order. Nothing is proved of what it finds: its result is checked (`crate::certificate`).
 
-use crate::doubt::Doubt;
-use crate::limits::Limits;
 use crate::plans::{EACH, Plan, played};
 use crate::steps::Steps;
-use crate::tracks::Tracks;
 use crate::walk::Walk;
 use fx_base::NoMemory;
 use indexmap::IndexSet;
 use std::alloc::Global;
+
+/// The reason that a search gives for leaving a submission undecided. It is advice: no contract says that the search would have
+/// decided it within larger limits (this project's own).
+#[derive(Clone, Copy, Debug, PartialEq, Eq)]
+pub enum Doubt {
+    /// The search stopped at its limit of states.
+    TooManyStates,
+    /// The search stopped at its limit of memory.
+    TooMuchMemory,
+    /// The search ended, and its result wasn't confirmed.
+    NotShown,
+}
+
+/// The limits of a search for the states of a submission, or of a part of one (this project's own).
+#[derive(Clone, Copy, Debug, PartialEq, Eq)]
+pub struct Limits {
+    /// The largest number of states.
+    pub states: usize,
+    /// The largest number of bytes that the kept states take, as estimated by the search.
+    pub bytes: usize,
+}
 
 /// The result of a search.
 #[derive(Debug, Drop)]
@@ -62,20 +80,6 @@ pub(crate) fn search(
     let mut walk = Walk::new(alloc, steps, None, plan, room)?;
     let found = walk.run()?;
     Ok((walk.rows, found))
-}
-
-/// Looks for an end by a plan, in the orders of some tracks. Where there is none it answers which slots kept the chains that were
-/// farthest.
-pub(crate) fn search_along(
-    alloc: Global,
-    steps: &Steps<'_>,
-    tracks: &Tracks,
-    plan: Plan,
-    room: SearchRoom,
-) -> Result<(Vec<usize>, Found), NoMemory> {
-    let mut walk = Walk::new(alloc, steps, Some(tracks), plan, room)?;
-    let found = walk.run()?;
-    Ok((walk.blocked, found))
 }
 
 // How many states are met with all chains before some are left out.

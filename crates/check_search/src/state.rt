@@ -1,7 +1,6 @@
 //! The state that a search is at, and what is counted of it as steps are made and taken back. Nothing is promised of it.
 
-use crate::step::{ClaimStep, number_at};
-use crate::steps::Steps;
+use crate::steps::{ClaimStep, Steps, number_at};
 use crate::tally::{Tally, count};
 use crate::tracks::moment_of;
 use fx_base::NoMemory;

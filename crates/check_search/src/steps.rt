@@ -1,15 +1,46 @@
 //! The claims of a part by numbers, and the state of a search that goes through them. Nothing is promised of it.
 
 use crate::cell::{Cell, may_find, may_leave, may_stay};
-use crate::claim::{Claim, Leaves, Resident};
+use crate::claim::{Claim, Leaves, Resident, Strand};
 use crate::dead::is_no_help;
-use crate::node::is_test;
-use crate::packed::Packing;
-use crate::step::{ClaimAt, ClaimStep, bit_behind, number_at, set_number};
-use crate::strand::Strand;
+use crate::node::{Packing, is_test};
 use crate::tally::Tally;
 use fx_base::NoMemory;
 use std::alloc::Global;
+
+/// Of so many claims of a slot each has a bit.
+pub const MOST_CLAIMS: usize = 48;
+
+/// A claim, the place of its slot among those of the part, the number of the file that it leaves there, the class that it is
+/// counted in, and its bit among the claims of the slot, 0 where these are too many.
+#[derive(Clone, Copy)]
+pub struct ClaimStep<'a> {
+    pub claim: &'a Claim,
+    pub cell: Option<usize>,
+    pub left: Option<u16>,
+    pub class: usize,
+    pub bit: u64,
+}
+
+/// A claim, by its chain and its place among the chain's.
+pub type ClaimAt = (usize, usize);
+
+/// Returns the bit of a claim with so many in front of it at its slot.
+pub(crate) fn bit_behind(before: usize) -> u64 {
+    if before < MOST_CLAIMS { 1 << before } else { 0 }
+}
+
+/// Returns the number at a place of a packed state.
+pub(crate) fn number_at(row: &[u16], place: usize) -> u16 {
+    row.get(place).copied().unwrap_or(0)
+}
+
+/// Sets the number at a place, if the state has it.
+pub(crate) fn set_number(row: &mut [u16], place: usize, number: u16) {
+    if let Some(own) = row.get_mut(place) {
+        *own = number;
+    }
+}
 
 // The claims of a slot.
 #[derive(Drop)]
@@ -164,10 +195,9 @@ impl<'a> Steps<'a> {
     }
 
     fn places_at(&self, cell: usize) -> &[ClaimAt] {
-        match self.slots.get(cell) {
-            Some(own) => &own.places,
-            None => &[],
-        }
+        self.slots
+            .get(cell)
+            .map_or(&[][..], |own| own.places.as_slice())
     }
 
     // Returns the claim of a chain at a place, where it is still to be made.
@@ -231,9 +261,9 @@ impl<'a> Steps<'a> {
 
     /// Returns a chain whose next claim only tests and may be made, where this many slots of the allocation range are empty.
     pub(crate) fn test_of(&self, row: &[u16], empty: usize) -> Option<usize> {
-        (0..self.chains.len()).find(|chain| match self.next_of(row, *chain) {
-            Some(step) => is_test(step.claim) && self.allows(row, &step, empty),
-            None => false,
+        (0..self.chains.len()).find(|chain| {
+            self.next_of(row, *chain).is_some_and(|step| is_test(step.claim)
+                && self.allows(row, &step, empty))
         })
     }
 
@@ -276,15 +306,11 @@ impl<'a> Steps<'a> {
         claim: &Claim,
     ) -> bool {
         let (front, behind) = claims.split_at(at.min(claims.len()));
-        let helps = |other: &ClaimAt| self.helps(row, *other, slot, claim);
+        let helps = |other: &ClaimAt| {
+            let other = self.left_at(row, *other);
+            other.is_some_and(|other| !is_no_help(slot, claim, other))
+        };
         front.iter().rev().any(helps) || behind.iter().any(helps)
-    }
-
-    fn helps(&self, row: &[u16], other: ClaimAt, slot: u32, claim: &Claim) -> bool {
-        match self.left_at(row, other) {
-            Some(other) => !is_no_help(slot, claim, other),
-            None => false,
-        }
     }
 
     /// Returns the state behind the next claim of a chain.

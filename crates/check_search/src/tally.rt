@@ -72,11 +72,8 @@ impl<'a> Tally<'a> {
 
     /// Returns the number of the class of a claim, which it doesn't count.
     pub(crate) fn class_of(&mut self, claim: &'a Claim) -> Result<usize, NoMemory> {
-        if let Some(class) = self
-            .classes
-            .iter()
-            .position(|own| is_alike(own.claim, claim))
-        {
+        let mut own = self.classes.iter();
+        if let Some(class) = own.position(|own| is_alike(own.claim, claim)) {
             return Ok(class);
         }
         self.classes.push(Class {
@@ -132,7 +129,7 @@ impl<'a> Tally<'a> {
         })
     }
 
-    // Checks whether the files don't come out even, where this is at the slot ([`crate::counted`]).
+    // Checks whether the files don't come out even, where this is at the slot ([`crate::dead`]).
     fn is_uneven(&self, found: Option<Resident>) -> bool {
         let (mut leaving, mut staying) = (self.leaving, self.staying);
         match found {

@@ -2,8 +2,7 @@
 //! its claims were made, where the others can be made so. Nothing is promised of it.
 
 use crate::cell::may_find;
-use crate::step::{ClaimStep, MOST_CLAIMS};
-use crate::steps::Steps;
+use crate::steps::{ClaimStep, MOST_CLAIMS, Steps};
 use fx_base::NoMemory;
 use indexmap::IndexSet;
 use std::alloc::Global;
@@ -102,8 +101,7 @@ impl Slot<'_> {
             let Some(moment) = reached.get_index(at).copied() else {
                 return Ok(Some(reached));
             };
-            let behind = self.all_behind(moment)?;
-            for other in &behind {
+            for other in &self.all_behind(moment)? {
                 reached.insert(*other)?;
             }
         }
@@ -127,11 +125,9 @@ impl Slot<'_> {
             return Ok(None);
         };
         let mut moments = IndexSet::new(self.alloc);
-        for at in (0..reached.len()).rev() {
-            if let Some(moment) = reached.get_index(at).copied() {
-                if self.leads_on(moment, &moments)? {
-                    moments.insert(moment)?;
-                }
+        for moment in reached.as_slice().iter().rev() {
+            if self.leads_on(*moment, &moments)? {
+                moments.insert(*moment)?;
             }
         }
         Ok(Some(moments))

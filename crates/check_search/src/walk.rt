@@ -4,8 +4,7 @@ use crate::node::is_test;
 use crate::plans::Plan;
 use crate::search::{Found, Rows, SearchRoom};
 use crate::state::{SearchState, drawn};
-use crate::step::ClaimStep;
-use crate::steps::Steps;
+use crate::steps::{ClaimStep, Steps};
 use crate::tracks::Tracks;
 use fx_base::NoMemory;
 use indexmap::IndexSet;
@@ -13,7 +12,7 @@ use std::alloc::Global;
 
 // A state on the way from the start to where a search is: the chain of the step that led to it, what was at the slot of that
 // step, the last chain on the way there that did more than test, and how many of the steps from there were tried.
-#[derive(Clone, Copy)]
+#[derive(Clone, Copy, Default)]
 struct Stage {
     by: usize,
     before: u16,
@@ -78,12 +77,7 @@ impl<'a> Walk<'a> {
         self.rows
             .insert(Vec::from_slice(self.alloc, &self.here.row)?)?;
         self.met.insert(self.here.sum)?;
-        self.way.push(Stage {
-            by: 0,
-            before: 0,
-            last: 0,
-            tried: 0,
-        })?;
+        self.way.push(Stage::default())?;
         for _ in 0..usize::MAX {
             if let Some(found) = self.advance()? {
                 return Ok(found);
@@ -159,17 +153,15 @@ impl<'a> Walk<'a> {
             return self.steps.test_of(&self.here.row, self.here.empty);
         }
         let (_, high) = self.window();
-        (0..high).find(|chain| match self.here.next_of(*chain) {
-            Some(step) => is_test(step.claim) && self.may_make(*chain),
-            None => false,
+        (0..high).find(|chain| {
+            let step = self.here.next_of(*chain);
+            step.is_some_and(|step| is_test(step.claim) && self.may_make(*chain))
         })
     }
 
     fn may_make(&self, chain: usize) -> bool {
-        match self.here.next_of(chain) {
-            Some(step) => { self.here.allows(&step) && self.keeps_track(&step) }
-            None => false,
-        }
+        let step = self.here.next_of(chain);
+        step.is_some_and(|step| self.here.allows(&step) && self.keeps_track(&step))
     }
 
     // Checks whether a step leads to a moment of its slot from which the others there are tried.

@@ -1,5 +1,5 @@
 use Rattle.check_search.proofs.Words.{◌≡◌, ◌+◌, drop, to_come}
-use Rattle.check_search.proofs.counted.to_come.Given as goal
+use Rattle.check_search.proofs.dead.to_come.Given as goal
 
 -- those so far, and those of the chains that are left, are all of them
 abbrev pub invariant-loop-c : goal.invariant-loop-c

@@ -1,5 +1,5 @@
 use Rattle.check_search.proofs.Words.{◌≡◌, ◌++◌, drop, numbered_cells}
-use Rattle.check_search.proofs.packed.Packing.cells_with.Given as goal
+use Rattle.check_search.proofs.node.Packing.cells_with.Given as goal
 
 -- the cells so far, and those that are left, are all of them
 abbrev pub invariant-loop-i : goal.invariant-loop-i

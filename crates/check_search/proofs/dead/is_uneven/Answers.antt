@@ -1,6 +1,6 @@
 use Rattle.check_search.proofs.Words.{arith, sym, view}
 use Rattle.check_search.proofs.Uneven.{uneven_ends}
-use Rattle.check_search.proofs.counted.is_uneven.Goals as goal
+use Rattle.check_search.proofs.dead.is_uneven.Goals as goal
 
 pub returns : goal.returns
 returns c = λ yes. uneven_ends c.args.strands.now (view c.args.node.now) c.args.slot (record {

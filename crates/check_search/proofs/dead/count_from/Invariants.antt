@@ -1,5 +1,5 @@
 use Rattle.check_search.proofs.Words.{◌≡◌, ◌+◌, ◌≤◌, drop, count_by, changes}
-use Rattle.check_search.proofs.counted.count_from.Given as goal
+use Rattle.check_search.proofs.dead.count_from.Given as goal
 
 -- those so far, and those that are left, are all of them
 abbrev pub invariant-loop-k : goal.invariant-loop-k
