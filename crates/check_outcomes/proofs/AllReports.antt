@@ -4,17 +4,17 @@ use Rattle.check_outcomes.proofs.Words.{Completed, length-map, Asked, runs_of, f
 use Rattle.check_outcomes.proofs.Words.{false, false≢true, Chain, members_of, ⊎_elim, ◌≤◌, subst, Contains, Some, Completion, Place, all_completed}
 use Rattle.check_outcomes.proofs.Words.{completed_of, ring_of_slots, IsOneOrder, RingState, ring_of, Reported, recursion_from_All, IsAccepted}
 use Rattle.check_outcomes.proofs.Words.{IsOrderOf, RingContents, ring_left, suc, ◌∷◌, ◌++◌, Closed, Vec, all_asked, Slots, contains_map, Rest}
-use Rattle.check_outcomes.proofs.Words.{settled_at, Parts, StaysIn, AreAtStart, AreAllBy, IsAtStartBy, IsStateExploredBy, said_by, states_of, told_by}
+use Rattle.check_outcomes.proofs.Words.{settled_at, Parts, StaysIn, AreAtStart, AreAllBy, IsAtStart, IsFirstState, IsStateExploredBy, said_by, states_of, told_by}
 use Rattle.check_outcomes.proofs.Words.{told_states, settled_in, AreToldClosed, is_state_idle, parts_by_numbers, rules_in, runs_in, view_in, Claimed}
 use Rattle.check_outcomes.proofs.Words.{PlayState, has_none, is_idle_at, PlayedSubmission, cases_Bool, AreParts, AreClosed, ArePartsIn}
 use Rattle.check_outcomes.proofs.Words.{HasReadsAloneIn, IsTurnOfPart, IsTurnOfReader, ChainAccess, each_history_is_an_order, HasMemory, AreAllStates}
 use Rattle.check_outcomes.proofs.Words.{StateView, IsReportBy, MayReport, IsPossibleIn, IsPossible, IsToldAt, OfEach, says, PossibleAnswer}
 use Rattle.check_outcomes.proofs.Words.{PossibleReport, contains_mapped, HasEnd, ring_at, IsAnswer, HasEachAnswer, HasEachEnd, ring_behind, told_from}
 use Rattle.check_outcomes.proofs.Words.{IsConfirmedPlay, ToldState, told_state_of, all_told, answers_of, HasEachReport, IsOverIn, HasReport, IsToldOf}
-use Rattle.check_outcomes.proofs.Words.{TellsOf, IsOver, All-from_recursion}
+use Rattle.check_outcomes.proofs.Words.{TellsOf, IsOver, All-from_recursion, All-map, get_or_from_slice_get, slice_get-get_or}
 use Rattle.check_outcomes.specs.declared.parts.PartNumbers.{PartNumbers}
 use Rattle.check_outcomes.proofs.Idle.{are_idle, none_for, none_left, over_idle}
-use Rattle.check_outcomes.proofs.Lists.{each_run, inside_at}
+use Rattle.check_outcomes.proofs.Lists.{each_run}
 use Rattle.check_outcomes.proofs.Viewing.{less_one}
 use Rattle.fx_ring.specs.Submission.{reported}
 use Rattle.check_outcomes.proofs.First.{all_said}
@@ -90,10 +90,11 @@ abbrev settled_by : Claimed → ℕ → List Asked → List Completed × Rest
 settled_by claimed chain run = settled_at (rules_in claimed.submission.now) (first_member claimed.submission.now.number chain) run
 
 -- the chains are at their start
-starts : (claimed : Claimed) (first : PlayState) (Begins : ℕ → List Completed → Type 0)
+starts : (claimed : Claimed) (first : PlayState) {told : List (Vec Completion)} (Begins : ℕ → List Completed → Type 0)
     → length (runs_in claimed.submission.now) ≡ length claimed.submission.now.chains.now
-    → ((i : ℕ) → i < length claimed.submission.now.chains.now → IsAtStartBy claimed first i)
-    → ((i : ℕ) → IsAtStartBy claimed first i → Begins (i + 1) (settled_in claimed i).0)
+    → ((i : ℕ) → i < length claimed.submission.now.chains.now
+    → IsAtStart claimed.submission.now told first.chains.items i)
+    → ((i : ℕ) → i < length claimed.submission.now.chains.now → Begins (i + 1) (settled_in claimed.submission.now i).0)
     → AreAtStart (rules_in claimed.submission.now) Begins claimed.submission.now.number 1 (runs_in claimed.submission.now)
     (view_in claimed.submission.now first).rests
 starts claimed first Begins many start begins =
@@ -101,16 +102,27 @@ starts claimed first Begins many start begins =
     each_run (λ chain run. Begins chain (settled_by claimed chain run).0 × (rests chain ≡ (settled_by claimed chain run).1))
     (λ chain runs. AreAtStart (rules_in claimed.submission.now) Begins claimed.submission.now.number chain runs rests) (λ _. tt)
     (λ _ _ _ one others. (one.0, one.1, others)) 1 (runs_in claimed.submission.now)
-    (λ k few. let at = start k (omega arith) in (begins k at, rw (less_one k) at.rest))
+    (λ k few. (begins k (omega arith), rw (less_one k) (start k (omega arith)).rest))
 
-pub all_by : {claimed : Claimed} {slots : Slots} {first : PlayState} → length (runs_in claimed.submission.now) ≡ length claimed.submission.now.chains.now
-    → 0 < length claimed.found.now.states.items → first ≡ slice_index_or claimed.found.now.states.items 0 first
-    → table_of_slots first.slots ≡ table_of_slots slots → claimed.submission.now.size ≡ length slots.at.items
-    → (IsTrue claimed.submission.now.tells → first.telling.removed.items ≡ [])
-    → ArePartsIn claimed.submission.now slots claimed.found.now.numbers
-    → ((i : ℕ) → i < length claimed.submission.now.chains.now → IsAtStartBy claimed first i)
+-- what a chain was told is said, if all of it is
+said_at : (P : Completed → Type 0) (told : List (Vec Completion)) → All (λ own. All (λ c. P (completed_of c)) own.items) told
+    → (i : ℕ) → i < length told → AllByRecursion P (slice_index_or (answers_of told) i [])
+said_at P told all i within =
+    let f : Vec Completion → List Completed = λ v. all_completed v.items in
+    let here = slice_index_or (answers_of told) i [] in
+    let low : i < length (answers_of told) = omega (arith, length-map told f) in
+    let (own, inside, is) = contains_map f told here
+    (i, low, get_or_from_slice_get (answers_of told) i here here (slice_get-get_or (answers_of told) i [] low)) in
+    let its = All-contains (λ own. All (λ c. P (completed_of c)) own.items) told own all inside in
+    rw is (recursion_from_All P (map completed_of own.items) (All-map P completed_of own.items its))
+
+pub all_by : {claimed : Claimed} {slots : Slots} {first : PlayState} (told : List (Vec Completion))
+    → length (runs_in claimed.submission.now) ≡ length claimed.submission.now.chains.now → IsFirstState claimed.submission.now slots told first
+    → All (λ own. All (λ c. said_by claimed (completed_of c)) own.items) told
+    → Contains (states_of claimed) (view_in claimed.submission.now first) → Contains (told_states claimed) (told_by claimed first)
+    → claimed.submission.now.size ≡ length slots.at.items → ArePartsIn claimed.submission.now slots claimed.found.now.numbers
     → All (IsStateExploredBy claimed) claimed.found.now.states.items → AreAllBy claimed slots
-all_by {claimed} {slots} {first} many some is table size none in_parts start each =
+all_by {claimed} {slots} {first} told many start listed inside among size in_parts each =
     let sub = claimed.submission.now in
     record {
       are = λ submissions registrations number. record {
@@ -119,10 +131,11 @@ all_by {claimed} {slots} {first} many some is table size none in_parts start eac
         apart = parts_in claimed slots many in_parts;
         first = view_in sub first;
         begins = record {
-          table = table;
-          chains = rw (← size, ← number) (starts claimed first (λ _ told. AllByRecursion (said_by claimed) told) many start (λ i at. at.said));
+          table = start.table;
+          chains = rw (← size, ← number) (starts claimed first (λ _ told. AllByRecursion (said_by claimed) told) many start.chains
+              (λ i few. let at = start.chains i few in rw (← at.told_is) (said_at (said_by claimed) told listed i at.there)));
         };
-        inside = inside_at (view_in sub) claimed.found.now.states.items some is refl;
+        inside = inside;
         closed = rw (← size) (closed_all many each);
       };
       told = λ tells submissions registrations number. record {
@@ -130,12 +143,12 @@ all_by {claimed} {slots} {first} many some is table size none in_parts start eac
         apart = parts_in claimed slots many in_parts;
         first = told_by claimed first;
         begins = record {
-          table = table;
-          removed = none tells;
-          chains = rw (← size, ← number) (starts claimed first (λ chain told. (told_by claimed first).told chain ≡ told) many start
-              (λ i at. rw (less_one i) (at.told tells)));
+          table = start.table;
+          removed = start.removed;
+          chains = rw (← size, ← number) (starts claimed first (λ chain told. (told_by claimed first).told chain ≡ told) many start.chains
+              (λ i few. rw (less_one i, start.kept tells) (start.chains i few).told_is));
         };
-        inside = inside_at (told_by claimed) claimed.found.now.states.items some is refl;
+        inside = among;
         closed = rw (← size) (told_closed many each tells);
       };
     }

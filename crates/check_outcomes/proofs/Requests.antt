@@ -11,7 +11,7 @@ use Rattle.check_outcomes.proofs.ChainAccesses.{AreRight, last_of}
 use Rattle.check_outcomes.proofs.Commuting.{ComesTo}
 use Rattle.check_outcomes.specs.Answering.{MayComeTo, count_of, answer_of, count_at_table, answer_at_table, read_answer, close_answer, allocated}
 use Rattle.check_outcomes.specs.Answering.{IsListIntent, count_or_none, entry_intent, refusal_or}
-use Rattle.check_outcomes.specs.declared.choice.Intent.{Intent}
+use Rattle.check_outcomes.specs.declared.answering.Intent.{Intent}
 
 -- so many accesses, and this answer
 abbrev Says : List Access → Completed → ℕ → Completed → Type 0

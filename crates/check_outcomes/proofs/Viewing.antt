@@ -3,12 +3,13 @@ use Rattle.check_outcomes.proofs.Words.{◌≡◌, ℕ, ◌-◌, ◌<◌, ◌≤
 use Rattle.check_outcomes.proofs.Words.{slice_index_or, false≢true, Vec, Completed, Completion, all_completed, completed_of, map-append, take_all}
 use Rattle.check_outcomes.proofs.Words.{get_or-map, take-append-drop, suc, ◌+◌, ◌==◌, false, Option, Some, None, append-nil, append_assoc, severs}
 use Rattle.check_outcomes.proofs.Words.{Asked, Place, next_member, canceled, eq-eqb, All, length-map, not, ◌&&◌, Contains, IsTrue, table_of_slots}
-use Rattle.check_outcomes.proofs.Words.{first_member, Request, all_asked, asked_of, get_or_from_slice_get, AllByRecursion, recursion_from_All}
+use Rattle.check_outcomes.proofs.Words.{first_member, Request, all_asked, asked_of, get_or_from_slice_get, recursion_from_All}
 use Rattle.check_outcomes.proofs.Words.{slice_get, slice_get_within, All-map, slice_set, length-drop, map-set, all_told, answers_of, Access, Rules}
 use Rattle.check_outcomes.proofs.Words.{Settles, gone_on, moved, rest_for, settled_at, Progress, ne_eqb, drop-drop, StepsChain, list_all, asks_from}
 use Rattle.check_outcomes.proofs.Words.{rest_in, LeadsOn, IsStepTo, are_reads, has_reads_at, is_idle_at, not_begun, rules_in, runs_in, told_state_of}
 use Rattle.check_outcomes.proofs.Words.{view_in, IsExploredBy, said_by, states_of, told_by, told_states, PlayedSubmission, Claimed, PlayState}
 use Rattle.check_outcomes.proofs.Words.{is_read, IsToldOn, run_at, view_of_state, get_or-set_other, get_or-set_same, and_parts, drop_all}
+use Rattle.check_outcomes.proofs.Words.{IsAtStart, below_more, get_or_append_left, get_or_at, length-append, settled_in}
 use Rattle.std.proofs.Common.{Bool, true, rules}
 use Rattle.std.specs.Cmp.Lexicographic.{pointwise}
 use Rattle.fx_chain.specs.contracts.completion.CompletionPartialEq.TheImpl.{eq-value as eq_of_completion}
@@ -161,16 +162,39 @@ pub reads_here : (submission : PlayedSubmission) (state : PlayState) (i : ℕ) (
 reads_here submission state i own left {progress} run is behind are =
     are ∙ (all_reads left ∙ (rw (less_one i, is, ← run, ← behind) (ap are_reads (sym (requests_for _ (all_asked left) progress.made)))))
 
--- a chain that stands where its requests settle
-pub at_start_by : (rules : Rules) (P : Completed → Type 0) {place : Place} {run : List Asked} {before : List Completion} (after : List Completion)
-    {done : ℕ} {progress : Progress} → Settles (settled_at rules place run) place run (all_completed before) (all_completed after) done → before ≡ []
-    → All (λ c. P (completed_of c)) after → progress.done ≡ done → progress.made ≡ 0
-    → AllByRecursion P (settled_at rules place run).0 × (rest_in place run progress ≡ (settled_at rules place run).1)
-at_start_by rules P {place} {run} after settles none all at made =
-    let told = rw none at settles.told in (
-      rw (← told) (recursion_from_All P (map completed_of after) (All-map P completed_of after all)),
-      (λ i. rest_for (moved place (at i)) (drop (at i) run) (made i)) ∙ sym settles.rest,
-    )
+-- one more chain's answers
+module _ (xs : List (Vec Completion)) (x : Vec Completion) where
+  before_it : (k : ℕ) → k < length xs → slice_index_or (answers_of (xs ++ x ∷ [])) k [] ≡ slice_index_or (answers_of xs) k []
+  before_it k few =
+      let f : Vec Completion → List Completed = λ v. all_completed v.items in
+      rw (map-append f xs (x ∷ [])) (get_or_append_left (answers_of xs) (f x ∷ []) [] k (omega (arith, length-map xs f)))
+
+  at_it : (i : ℕ) → length xs ≡ i → slice_index_or (answers_of (xs ++ x ∷ [])) i [] ≡ all_completed x.items
+  at_it i many =
+      let f : Vec Completion → List Completed = λ v. all_completed v.items in
+      rw (map-append f xs (x ∷ [])) (get_or_at (answers_of xs) (f x) [] [] i (omega (arith, length-map xs f)))
+
+-- one more chain is at its first access, where its requests settle
+pub start_more : {submission : PlayedSubmission} {told : List (Vec Completion)} {chains : List Progress} {i : ℕ} → length told ≡ i
+    → length chains ≡ i → ((k : ℕ) → k < i → IsAtStart submission told chains k) → (mine : Vec Completion) {done : ℕ}
+    → Settles (settled_in submission i) (first_member submission.number (i + 1)) (slice_index_or (runs_in submission) i []) []
+    (all_completed mine.items) done
+    → (k : ℕ) → k < i + 1 → IsAtStart submission (told ++ mine ∷ []) (chains ++ record { done = done; made = 0 } ∷ []) k
+start_more {submission} {told} {chains} {i} many same each mine {done} settles =
+    let own : Progress = record { done = done; made = 0 } in
+    let all = length-append told (mine ∷ []) in
+    below_more (IsAtStart submission (told ++ mine ∷ []) (chains ++ own ∷ [])) i
+    (λ k low.
+    let before = each k low in
+    record {
+      there = omega (arith, all);
+      told_is = before_it told mine k (omega arith) ∙ before.told_is;
+      rest = rw (get_or_append_left chains (own ∷ []) not_begun k (omega arith)) before.rest;
+    }) (record {
+      there = omega (arith, all);
+      told_is = at_it told mine i many ∙ settles.told;
+      rest = rw (get_or_at chains own [] not_begun i same) (sym settles.rest);
+    })
 
 -- what a chain answers comes behind what it was told, and what the others were told stays
 leads_on : {submission : PlayedSubmission} {state : PlayState} {i : ℕ} {a : Access} {own : List Completed} {next : PlayState}

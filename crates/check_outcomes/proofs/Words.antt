@@ -11,9 +11,9 @@ pub use Rattle.check_outcomes.specs.Nodes.{told_from, ring_at}
 pub use Rattle.check_outcomes.specs.Parts.{AreParts, Parts, StaysIn}
 pub use Rattle.check_outcomes.specs.Rests.{HasMemory, IsNext, IsNextOf, Rest, Rules, behind, over, rest_at, rules_of, settled_at, step, step_of}
 pub use Rattle.std.proofs.lemmas.Bool.{and_parts, cases_Bool, cases_eq, ne_eqb, and_from, eqb-true, le-leb, not-false}
-pub use Rattle.check_outcomes.specs.Listed.{AreAllBy, IsAnswerIn, IsAtStartBy, IsExploredBy, IsExploredInTurn, IsConfirmedPlay, IsPossibleIn}
+pub use Rattle.check_outcomes.specs.Listed.{AreAllBy, IsAnswerIn, IsAtStart, IsExploredBy, IsExploredInTurn, IsConfirmedPlay, IsPossibleIn}
 pub use Rattle.check_outcomes.specs.Listed.{IsStateExploredBy, IsToldAt, IsToldOf, OfEach, report_of_play, said_by, says, settled_in, states_of}
-pub use Rattle.check_outcomes.specs.Listed.{told_by, told_states}
+pub use Rattle.check_outcomes.specs.Listed.{IsFirstState, told_by, told_states}
 pub use Rattle.check_outcomes.specs.Outcomes.{HasEachAnswer, HasEachEnd, HasEachReport, IsAnswer, IsPossible, IsReportBy, MayReport, TellsOf}
 pub use Rattle.check_outcomes.specs.Outcomes.{ring_behind}
 pub use Rattle.check_outcomes.specs.Reports.{AreToldClosed, EachReportIsListed, HasReport, LeadsOn, ToldState}
@@ -22,17 +22,17 @@ pub use Rattle.check_outcomes.specs.Tellings.{IsToldOn, all_told, answers_of}
 pub use Rattle.check_outcomes.specs.Views.{ArePartsIn, IsInPart, IsOverIn, IsStepTo, is_state_idle, is_idle_at, not_begun, parts_by_numbers, rules_in}
 pub use Rattle.check_outcomes.specs.Views.{HasReadsAloneIn, IsTurnOfPart, IsTurnOfReader, has_reads_at, run_at, runs_in, told_state_of, view_in}
 pub use Rattle.check_outcomes.specs.Views.{view_of_state}
-pub use Rattle.check_outcomes.specs.declared.chain.Progress.{Progress}
+pub use Rattle.check_outcomes.specs.declared.submission.Progress.{Progress}
 pub use Rattle.check_outcomes.specs.declared.closed.Claimed.{Claimed}
-pub use Rattle.check_outcomes.specs.declared.outcome.PossibleAnswer.{PossibleAnswer}
-pub use Rattle.check_outcomes.specs.declared.possible_report.PossibleReport.{PossibleReport}
+pub use Rattle.check_outcomes.specs.declared.outcomes.PossibleAnswer.{PossibleAnswer}
+pub use Rattle.check_outcomes.specs.declared.outcomes.PossibleReport.{PossibleReport}
 pub use Rattle.check_outcomes.specs.declared.state.PlayState.{PlayState}
 pub use Rattle.check_outcomes.specs.declared.submission.PlayedSubmission.{PlayedSubmission}
 pub use Rattle.fx_order.proofs.ChainsFront.{first_is, both_parts, first_and_rest}
 pub use Rattle.fx_order.proofs.Ordered.{each_history_is_an_order}
 pub use Rattle.fx_order.specs.declared.slots.Slots.{Slots}
 pub use Rattle.fx_table.proofs.SumLemmas.{contains_map, contains_mapped}
-pub use Rattle.std.proofs.lemmas.List.{drop-drop, get_or-set_other, get_or-set_same, length-drop, map-set, drop_all}
+pub use Rattle.std.proofs.lemmas.List.{drop-drop, get_or_append_left, get_or_at, get_or-set_other, get_or-set_same, length-drop, map-set, drop_all}
 pub use Rattle.std.proofs.lemmas.Option.{slice_get-get_or}
 pub use Rattle.std.specs.List.{list_all}
 pub use Rattle.std.specs.Prelude.{Err, IfSome, Ok, slice_set, MatchOption, is_some}
@@ -54,7 +54,7 @@ pub use Rattle.fx_order.proofs.Words.{map-append, take_all, take-append-drop, sl
 pub use Rattle.fx_order.proofs.Words.{operation_of, IfOk-weaker, ◌*◌, drop-map, ◌↔◌}
 pub use Rattle.std.proofs.lemmas.List.Elements.{All-from_recursion, Contains-append_left, Contains-push, All-push}
 pub use Rattle.check_outcomes.specs.Choices.{HasEachOf, Intends, IsNextAccess, IsOf}
-pub use Rattle.check_outcomes.specs.declared.choice.Intent.TheVariants.{Allocate, Look, Put, Take}
+pub use Rattle.check_outcomes.specs.declared.answering.Intent.TheVariants.{Allocate, Look, Put, Take}
 pub use Rattle.std.proofs.lemmas.List.Sorted.{All-permutation, IsPermutation-append_comm, IsPermutation-append_left, IsPermutation-append_right}
 pub use borrow.Author.Count.{below_more}
 pub use Rattle.std.proofs.lemmas.Slice.Eq.{slice_eq-Decides}

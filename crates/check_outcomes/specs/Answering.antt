@@ -17,8 +17,8 @@ use Rattle.fx_order.specs.declared.access.Access.{Access}
 use Rattle.fx_order.specs.declared.access.Access.TheVariants.{Looks, Takes, Allocates}
 use Rattle.fx_order.specs.Requests.{AreEntriesDone, gives}
 use Rattle.check_outcomes.specs.Choices.{Intends}
-use Rattle.check_outcomes.specs.declared.choice.Intent.{Intent}
-use Rattle.check_outcomes.specs.declared.choice.Intent.TheVariants.{Clear, Put}
+use Rattle.check_outcomes.specs.declared.answering.Intent.{Intent}
+use Rattle.check_outcomes.specs.declared.answering.Intent.TheVariants.{Clear, Put}
 
 -- the entries of a list that aren't skips
 abbrev pub done_entries : List ℤ → List ℤ

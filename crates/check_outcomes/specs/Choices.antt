@@ -10,9 +10,9 @@ use Rattle.fx_order.specs.declared.access.Access.{Access}
 use Rattle.fx_order.specs.declared.access.Access.TheVariants.{Looks, Puts, Clears, Takes}
 use Rattle.fx_order.specs.declared.access.Access.TheVariants.{Allocates, FindsFull}
 use Rattle.fx_order.specs.Requests.{IsRequestDone}
-use Rattle.check_outcomes.specs.declared.choice.Intent.{Intent}
-use Rattle.check_outcomes.specs.declared.choice.Intent.TheVariants.{Look, Put, Clear, Take}
-use Rattle.check_outcomes.specs.declared.choice.Intent.TheVariants.{Allocate}
+use Rattle.check_outcomes.specs.declared.answering.Intent.{Intent}
+use Rattle.check_outcomes.specs.declared.answering.Intent.TheVariants.{Look, Put, Clear, Take}
+use Rattle.check_outcomes.specs.declared.answering.Intent.TheVariants.{Allocate}
 
 -- behind so many accesses the request may make this one
 abbrev pub IsNextAccess : List FileEntry → ℕ → Place → Operation → ℕ → Access → Type 0

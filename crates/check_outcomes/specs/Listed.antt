@@ -1,10 +1,11 @@
 -- What is looked through of the states that a search met.
 use Rattle.std.specs.Prelude.{◌≡◌, ℕ, ◌+◌, ◌<◌, List, [], length, map, slice_index_or, false}
 use Rattle.std.specs.Prelude.{Contains, IsTrue, Option, Some}
-use Rattle.std.specs.List.{AllByRecursion}
+use Rattle.std.specs.Global.{Vec}
 use Rattle.fx_chain.specs.Completed.{Completed, all_completed}
 use Rattle.fx_chain.specs.Explains.{first_member}
 use Rattle.fx_chain.specs.Operation.{Asked, all_asked}
+use Rattle.fx_chain.specs.declared.completion.Completion.{Completion}
 use Rattle.fx_chain.specs.declared.completion.Place.{Place}
 use Rattle.fx_order.specs.Slots.{ring_of_slots, table_of_slots}
 use Rattle.fx_order.specs.declared.access.Access.{Access}
@@ -26,11 +27,12 @@ use Rattle.check_outcomes.specs.Outcomes.{IsAnswer, IsPossible, IsReportBy, MayR
 use Rattle.check_outcomes.specs.Outcomes.{answered}
 use Rattle.check_outcomes.specs.Outcomes.{ring_behind}
 use Rattle.check_outcomes.specs.declared.closed.Claimed.{Claimed}
-use Rattle.check_outcomes.specs.declared.outcome.PossibleAnswer.{PossibleAnswer}
+use Rattle.check_outcomes.specs.declared.outcomes.PossibleAnswer.{PossibleAnswer}
 use Rattle.check_outcomes.specs.declared.player.OrderPlay.{OrderPlay}
-use Rattle.check_outcomes.specs.declared.possible_report.PossibleReport.{PossibleReport}
+use Rattle.check_outcomes.specs.declared.outcomes.PossibleReport.{PossibleReport}
 use Rattle.check_outcomes.specs.declared.state.PlayState.{PlayState}
 use Rattle.check_outcomes.specs.declared.submission.PlayedSubmission.{PlayedSubmission}
+use Rattle.check_outcomes.specs.declared.submission.Progress.{Progress}
 
 -- what is answered at the place, if there is one, is one of these
 abbrev pub says : Option Place → List PossibleAnswer → Completed → Type 0
@@ -73,29 +75,32 @@ abbrev pub IsStateExploredBy : Claimed → PlayState → Type 0
 IsStateExploredBy claimed state = (i : ℕ) → i < length claimed.submission.now.chains.now
     → IsExploredInTurn claimed state i
 
-abbrev pub run_in : Claimed → ℕ → List Asked
-run_in claimed i = slice_index_or (runs_in claimed.submission.now) i []
+-- what is answered before a chain's first access, and where the chain is then, by its number from 0
+abbrev pub settled_in : PlayedSubmission → ℕ → List Completed × Rest
+settled_in submission i =
+    settled_at (rules_in submission) (first_member submission.number (i + 1))
+    (slice_index_or (runs_in submission) i [])
 
-abbrev pub first_in : Claimed → ℕ → Place
-first_in claimed i = first_member claimed.submission.now.number (i + 1)
+-- a chain is at its first access, and this is what the chains were told before, by their numbers
+-- from 0
+pub record IsAtStart (submission : PlayedSubmission) (told : List (Vec Completion))
+    (chains : List Progress) (i : ℕ) : Type 0 where
+  pub there : i < length told
+  pub told_is : slice_index_or (answers_of told) i [] ≡ (settled_in submission i).0
+  pub rest : rest_in (first_member submission.number (i + 1))
+      (slice_index_or (runs_in submission) i []) (slice_index_or chains i not_begun)
+      ≡ (settled_in submission i).1
 
--- what is answered in front of a chain's first access, and where the chain is then
-abbrev pub settled_in : Claimed → ℕ → List Completed × Rest
-settled_in claimed i =
-    settled_at (rules_in claimed.submission.now) (first_in claimed i) (run_in claimed i)
-
--- a chain is at its first access, and what is answered before is said, and told where the
--- submission keeps it
-pub record IsAtStartBy (claimed : Claimed) (state : PlayState) (i : ℕ) : Type 0 where
-  pub said : AllByRecursion (said_by claimed) (settled_in claimed i).0
-  pub rest : rest_in (first_in claimed i) (run_in claimed i)
-      (slice_index_or state.chains.items i not_begun) ≡ (settled_in claimed i).1
-  pub told : IsTrue claimed.submission.now.tells
-      → slice_index_or (answers_of state.telling.answers.items) i [] ≡ (settled_in claimed i).0
-
-abbrev pub AreAtStartBy : Claimed → PlayState → Type 0
-AreAtStartBy claimed state =
-    (i : ℕ) → i < length claimed.submission.now.chains.now → IsAtStartBy claimed state i
+-- the first state of the submission at these slots, and what the chains were told before, which the
+-- state has, if the submission keeps it
+pub record IsFirstState (submission : PlayedSubmission) (slots : Slots)
+    (told : List (Vec Completion)) (state : PlayState) : Type 0 where
+  pub table : table_of_slots state.slots ≡ table_of_slots slots
+  pub chains : (i : ℕ) → i < length submission.chains.now
+      → IsAtStart submission told state.chains.items i
+  pub kept : IsTrue submission.tells
+      → answers_of state.telling.answers.items ≡ answers_of told
+  pub removed : state.telling.removed.items ≡ []
 
 -- the states are all of the submission at these slots, and what is answered at the place is said
 pub record AreAllBy (claimed : Claimed) (slots : Slots) : Type 0 where

@@ -10,8 +10,8 @@ use Rattle.fx_order.specs.declared.slots.Slots.{Slots}
 use Rattle.fx_ring.specs.Ring.{RingContents, RingState, ring_of}
 use Rattle.fx_ring.specs.Submission.{IsOneHistory, Reported, reported}
 use Rattle.check_outcomes.specs.Rests.{HasMemory}
-use Rattle.check_outcomes.specs.declared.outcome.PossibleAnswer.{PossibleAnswer}
-use Rattle.check_outcomes.specs.declared.possible_report.PossibleReport.{PossibleReport}
+use Rattle.check_outcomes.specs.declared.outcomes.PossibleAnswer.{PossibleAnswer}
+use Rattle.check_outcomes.specs.declared.outcomes.PossibleReport.{PossibleReport}
 
 -- one history of the ring's table comes to this report and leaves this ring, and each request finds
 -- memory

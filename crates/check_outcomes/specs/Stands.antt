@@ -8,7 +8,7 @@ use Rattle.fx_chain.specs.declared.completion.Place.{Place}
 use Rattle.fx_order.specs.Access.{Table, Permits}
 use Rattle.fx_order.specs.declared.access.Access.{Access}
 use Rattle.check_outcomes.specs.Rests.{IsNext, Rest, Rules, behind, over, rest_at, step}
-use Rattle.check_outcomes.specs.declared.chain.Progress.{Progress}
+use Rattle.check_outcomes.specs.declared.submission.Progress.{Progress}
 
 -- the place of the member that follows a place by a number of members
 abbrev pub moved : Place → ℕ → Place

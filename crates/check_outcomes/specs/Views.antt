@@ -17,7 +17,7 @@ use Rattle.check_outcomes.specs.Nodes.{HasReadsAlone, HasTurn, IsOver, StateView
 use Rattle.check_outcomes.specs.Reports.{ToldState}
 use Rattle.check_outcomes.specs.Stands.{asks_from, rest_in}
 use Rattle.check_outcomes.specs.Tellings.{answers_of}
-use Rattle.check_outcomes.specs.declared.chain.Progress.{Progress}
+use Rattle.check_outcomes.specs.declared.submission.Progress.{Progress}
 use Rattle.check_outcomes.specs.declared.parts.PartNumbers.{PartNumbers}
 use Rattle.check_outcomes.specs.declared.state.PlayState.{PlayState}
 use Rattle.check_outcomes.specs.declared.submission.PlayedSubmission.{PlayedSubmission}

@@ -1,5 +1,7 @@
-//! The accesses of each kind of request at the table, its answer, and the slots that it may access, if no allocation fails.
-ghost use Rattle.std.specs.Prelude.{◌≡◌, ◌+◌, ◌<◌, ◌≤◌, ◌^◌, ℕ, IfOk, Some, false, int_le, length, negsuc};
+//! The accesses of each kind of request at the table, those that it may make next, its answer, and the
+//! slots that it may access, if no allocation fails.
+ghost use Rattle.std.specs.Prelude.{◌≡◌, ◌+◌, ◌<◌, ◌≤◌, ◌^◌, ℕ, [], ◌∷◌, IfOk, Some, false};
+ghost use Rattle.std.specs.Prelude.{int_le, length, negsuc};
 ghost use Rattle.std.specs.List.{list_any};
 ghost use Rattle.fx_base.specs.Catalogue.{IsCatalogue};
 ghost use Rattle.fx_base.specs.declared.open_file.Closed.{Closed as File};
@@ -12,13 +14,28 @@ ghost use Rattle.fx_order.specs.declared.access.Access.{Access as Made};
 ghost use Rattle.fx_order.specs.declared.access.Access.TheVariants.{Allocates};
 ghost use Rattle.check_outcomes.specs.Answering.{IsListIntent, MayComeTo, answer_of, close_answer, count_of, done_entries, entry_intent};
 ghost use Rattle.check_outcomes.specs.Answering.{open_answer, read_answer};
-ghost use Rattle.check_outcomes.specs.Choices.{Intends, IsNextAccess};
+ghost use Rattle.check_outcomes.specs.Choices.{HasEach, HasEachOf, Intends, IsNextAccess};
+ghost use Rattle.check_outcomes.specs.declared.answering.Intent.TheVariants.{Allocate};
 
-use crate::choice::Intent;
-use fx_base::{Catalogue, Errno, MOST_ENTRIES, NoMemory};
+use fx_base::{Catalogue, Closed, Errno, MOST_ENTRIES, NoMemory};
 use fx_chain::{Completion, Op, Place, Request, Target, refusal_of};
 use fx_order::{Access, Slots};
 use std::alloc::Global;
+
+/// An access that a request is to make, before it is known what it finds.
+#[derive(Clone, Copy, Debug)]
+pub enum Intent {
+    /// Looks at a slot.
+    Look(u32),
+    /// Installs a file at a slot.
+    Put(u32, Closed),
+    /// Empties a slot for an update.
+    Clear(u32),
+    /// Empties a slot for a close.
+    Take(u32),
+    /// Installs a file at any empty slot of the allocation range.
+    Allocate(Closed),
+}
 
 // Checks whether an entry of a list isn't a skip.
 fn is_done(entry: i32) -> bool
@@ -87,8 +104,8 @@ fn list_intent(
     Some(entry_intent(place, entries, at, *entry))
 }
 
-/// Returns what a request is to do at a table of `size` slots after `made` of its accesses, or `None` if it makes no other.
-pub(crate) fn intent_of(
+// Returns what a request is to do at a table of `size` slots after `made` of its accesses, or `None` if it makes no other.
+fn intent_of(
     catalogue: &Catalogue,
     size: u32,
     place: Place,
@@ -124,6 +141,74 @@ pub(crate) fn intent_of(
             }
             list_intent(place, catalogue.len(), (0, *off), list, made)
         }
+    }
+}
+
+// Returns what is at a slot.
+fn found_at(slots: &Slots, slot: u32) -> Option<Closed>
+    ensures { result ≡ (table_of_slots slots.now).at slot }
+{
+    slots.at.get(slot as usize).copied().unwrap_or(None)
+}
+
+// Returns a single choice.
+fn one(alloc: Global, access: Access) -> Result<Vec<Access>, NoMemory>
+    ensures { IfOk result (λ choices. choices.items ≡ access ∷ []) }
+{
+    let mut choices = Vec::new(alloc);
+    choices.push(access)?;
+    Ok(choices)
+}
+
+// Returns the accesses by which a file may be installed at any empty slot.
+fn allocations(alloc: Global, slots: &Slots, file: Closed) -> Result<Vec<Access>, NoMemory>
+    requires { length slots.now.at.items < 2 ^ 32 }
+    ensures { IfOk result (λ choices.
+        HasEachOf (table_of_slots slots.now) (Allocate file) choices.items) }
+{
+    let mut choices = one(alloc, Access::FindsFull)?;
+    for slot in 0..slots.at.len() as u32 {
+        choices.push(Access::Allocates(slot, file))?;
+    }
+    Ok(choices)
+}
+
+// Returns the accesses by which a request may do what it is to do: each one that the table permits, and perhaps others.
+fn accesses_of(alloc: Global, slots: &Slots, intent: Intent) -> Result<Vec<Access>, NoMemory>
+    requires { length slots.now.at.items < 2 ^ 32 }
+    ensures { IfOk result (λ choices. HasEachOf (table_of_slots slots.now) intent choices.items) }
+{
+    match intent {
+        Intent::Look(slot) => one(alloc, Access::Looks(slot, found_at(slots, slot))),
+        Intent::Put(slot, file) => one(alloc, Access::Puts(slot, file, found_at(slots, slot))),
+        Intent::Clear(slot) => one(alloc, Access::Clears(slot, found_at(slots, slot))),
+        Intent::Take(slot) => one(alloc, Access::Takes(slot, found_at(slots, slot))),
+        Intent::Allocate(file) => allocations(alloc, slots, file),
+    }
+}
+
+/// Returns the accesses that a request may make next, after `made` of its accesses: each one that the table permits, and perhaps
+/// others.
+///
+/// # Errors
+/// `NoMemory` if an allocation fails.
+pub fn next_accesses(
+    alloc: Global,
+    catalogue: &Catalogue,
+    slots: &Slots,
+    place: Place,
+    request: &Request,
+    made: usize,
+) -> Result<Vec<Access>, NoMemory>
+    requires catalogue { IsCatalogue catalogue.now }
+    requires slots { length slots.now.at.items < 2 ^ 32 }
+    requires limits { IsWithinLimits (asked_of request.now) }
+    ensures { IfOk result (λ choices. HasEach catalogue.now (table_of_slots slots.now) place
+        (operation_of request.now.op) made choices.items) }
+{
+    match intent_of(catalogue, slots.at.len() as u32, place, request, made) {
+        Some(intent) => accesses_of(alloc, slots, intent),
+        None => Ok(Vec::new(alloc)),
     }
 }
 

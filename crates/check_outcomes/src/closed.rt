@@ -1,22 +1,18 @@
 //! The check that a search met all states of a submission.
-ghost use Rattle.std.specs.Prelude.{◌≡◌, ◌<◌, [], IfOk, IfSome, IsTrue, All, Contains};
-ghost use Rattle.std.specs.Prelude.{length, slice_index_or};
-ghost use Rattle.fx_chain.specs.Completed.{all_completed, completed_of};
+ghost use Rattle.std.specs.Prelude.{◌<◌, IfOk, IfSome, IsTrue, All, Contains, length};
+ghost use Rattle.fx_chain.specs.Completed.{completed_of};
 ghost use Rattle.fx_order.specs.Access.{Permits};
 ghost use Rattle.fx_order.specs.Slots.{table_of_slots};
 ghost use Rattle.check_outcomes.specs.Outcomes.{answered};
-ghost use Rattle.check_outcomes.specs.Listed.{AreAllBy, AreAtStartBy, IsAtStartBy, says};
-ghost use Rattle.check_outcomes.specs.Listed.{IsExploredBy, IsExploredInTurn, IsStateExploredBy};
-ghost use Rattle.check_outcomes.specs.Tellings.{answers_of};
+ghost use Rattle.check_outcomes.specs.Listed.{AreAllBy, IsExploredBy, IsExploredInTurn};
+ghost use Rattle.check_outcomes.specs.Listed.{IsStateExploredBy, says};
 ghost use Rattle.check_outcomes.specs.Views.{IsTurnAt};
 
-use crate::chain::settle;
 use crate::found::FoundStates;
-use crate::outcome::PossibleAnswer;
+use crate::outcomes::PossibleAnswer;
 use crate::parts::are_parts;
-use crate::state::{PlayState, accesses_of, next_state};
+use crate::state::{PlayState, accesses_of, next_state, start};
 use crate::submission::PlayedSubmission;
-use crate::telling::are_same as are_same_answers;
 use crate::turns::{ChainTurn, turn_at, waits};
 use fx_base::NoMemory;
 use fx_chain::{Completion, Place};
@@ -40,6 +36,18 @@ fn are_listed(place: Option<Place>, answers: &[PossibleAnswer], told: &[Completi
 {
     told.iter()
         .all(|c| place != Some(c.place) || is_answered(answers, c))
+}
+
+// Checks whether what the chains were told at the place is among the answers.
+fn are_all_listed(
+    place: Option<Place>,
+    answers: &[PossibleAnswer],
+    told: &[Vec<Completion>],
+) -> bool
+    ensures { IsTrue result → All (λ own. All (λ c. says place answers.now (completed_of c))
+        own.items) told.now }
+{
+    told.iter().all(|own| are_listed(place, answers, own))
 }
 
 /// The states of a search, and the answers at the place that is asked for, if there is one.
@@ -127,61 +135,6 @@ fn is_state_explored(claimed: &Claimed<'_>, state: &PlayState) -> Result<bool, N
     Ok(true)
 }
 
-// Checks whether these are the answers of a chain on the way to a state, if the submission keeps them.
-fn has_told(
-    submission: &PlayedSubmission<'_>,
-    state: &PlayState,
-    i: usize,
-    told: &[Completion],
-) -> bool
-    ensures { IsTrue result → IsTrue submission.now.tells
-        → slice_index_or (answers_of state.now.telling.answers.items) i []
-        ≡ all_completed told.now }
-{
-    if !submission.tells {
-        return true;
-    }
-    match state.telling.answers.get(i) {
-        Some(own) => are_same_answers(own, told),
-        None => false,
-    }
-}
-
-// Checks whether no file was removed on the way to a state, if the submission keeps these files.
-fn has_removed_none(submission: &PlayedSubmission<'_>, state: &PlayState) -> bool
-    ensures { IsTrue result → IsTrue submission.now.tells → state.now.telling.removed.items ≡ [] }
-{
-    !submission.tells || state.telling.removed.is_empty()
-}
-
-// Checks whether a chain of a state is at its first access, and what it answered before is listed.
-fn is_at_start(claimed: &Claimed<'_>, state: &PlayState, i: usize) -> Result<bool, NoMemory>
-    requires { i < length claimed.now.submission.now.chains.now }
-    ensures { IfOk result (λ yes. IsTrue yes → IsAtStartBy claimed.now state.now i) }
-{
-    let submission = claimed.submission;
-    let here = state.progress(i);
-    let mut told = Vec::new(submission.alloc);
-    let own = submission.members(i);
-    let done = settle(submission, submission.first(i), own, &mut told)?;
-    if here.done != done || here.made != 0 || !has_told(submission, state, i, &told) {
-        return Ok(false);
-    }
-    Ok(are_listed(claimed.submission.asked, claimed.answers, &told))
-}
-
-// Checks whether each chain of a state is at its first access.
-fn are_at_start(claimed: &Claimed<'_>, state: &PlayState) -> Result<bool, NoMemory>
-    ensures { IfOk result (λ yes. IsTrue yes → AreAtStartBy claimed.now state.now) }
-{
-    for i in 0..claimed.submission.chains.len() {
-        if !is_at_start(claimed, state, i)? {
-            return Ok(false);
-        }
-    }
-    Ok(true)
-}
-
 // Checks whether all states are explored.
 fn are_states_explored(claimed: &Claimed<'_>) -> Result<bool, NoMemory>
     ensures { IfOk result (λ yes. IsTrue yes
@@ -195,20 +148,19 @@ fn are_states_explored(claimed: &Claimed<'_>) -> Result<bool, NoMemory>
     Ok(true)
 }
 
-/// Checks whether a search says that it reached its end, and the states that it found, the first one of which has these slots, are
-/// all of the submission, and what is answered at the place on the way is among the answers.
+/// Checks whether a search says that it reached its end, the states that it found are all of the
+/// submission at these slots, and what is answered at the place on the way is among the answers.
 pub(crate) fn are_all_states(claimed: &Claimed<'_>, slots: &Slots) -> Result<bool, NoMemory>
     ensures { IfOk result (λ yes. IsTrue yes → AreAllBy claimed.now slots.now) }
 {
-    let Some(first) = claimed.found.states.get(0) else {
-        return Ok(false);
-    };
+    let submission = claimed.submission;
+    let mut told = Vec::new(submission.alloc);
+    let first = start(submission, slots, &mut told)?;
     if !claimed.found.is_whole
-        || slots.at.len() != claimed.submission.size as usize
-        || !first.slots.is_same(slots)
-        || !has_removed_none(claimed.submission, first)
-        || !are_parts(claimed.submission, slots, &claimed.found.numbers)
-        || !are_at_start(claimed, first)?
+        || slots.at.len() != submission.size as usize
+        || !are_parts(submission, slots, &claimed.found.numbers)
+        || !are_all_listed(submission.asked, claimed.answers, &told)
+        || !claimed.found.has(&first)?
     {
         return Ok(false);
     }

@@ -1,45 +1,15 @@
 //! A search for all states of a submission. Nothing is proved of what it meets: the states are looked through
-//! (`crate::closed`), and what was found is confirmed by an order (`crate::confirm`).
+//! (`crate::closed`), and what was found is confirmed by an order (`crate::player`).
 
-use crate::chain::{Progress, settle};
 use crate::found::{FoundStates, FoundStep, key_of};
 use crate::parts::part_numbers;
-use crate::state::{PlayState, accesses_of, next_state};
+use crate::state::{PlayState, accesses_of, next_state, start};
 use crate::submission::PlayedSubmission;
-use crate::telling::{WayReport, push_copies};
 use crate::turns::{turn_at, waits};
 use check_search::Limits;
 use fx_base::NoMemory;
 use fx_chain::{Completion, Op, Place, Request};
 use fx_order::Slots;
-
-/// Returns the first state of a submission at these slots. Appends what each chain answers there.
-pub(crate) fn start(
-    submission: &PlayedSubmission<'_>,
-    slots: &Slots,
-    told: &mut Vec<Vec<Completion>>,
-) -> Result<PlayState, NoMemory> {
-    let alloc = submission.alloc;
-    let mut chains = Vec::new(alloc);
-    let mut telling = WayReport::none(alloc);
-    for i in 0..submission.chains.len() {
-        let own = submission.members(i);
-        let mut answers = Vec::new(alloc);
-        let done = settle(submission, submission.first(i), own, &mut answers)?;
-        chains.push(Progress { done, made: 0 })?;
-        if submission.tells {
-            let mut copy = Vec::new(alloc);
-            push_copies(alloc, &mut copy, &answers)?;
-            telling.answers.push(copy)?;
-        }
-        told.push(answers)?;
-    }
-    Ok(PlayState {
-        slots: slots.copy(alloc)?,
-        chains,
-        telling,
-    })
-}
 
 // Returns the bytes that a state keeps of a request: its answer, the bytes of a read, and the files that it removed, each with its numbers in the
 // key.
@@ -57,14 +27,14 @@ fn weight_of(request: &Request) -> usize {
 
 // Returns the bytes that a state keeps of the answers and removed files on the way to it.
 fn weight_told(submission: &PlayedSubmission<'_>) -> usize {
-    let mut weight: usize = 0;
     if !submission.tells {
-        return weight;
+        return 0;
     }
-    for request in submission.requests {
-        weight = weight.saturating_add(weight_of(request));
-    }
-    weight.saturating_add(submission.chains.len().saturating_mul(32))
+    let lists = submission.chains.len().saturating_mul(32);
+    submission.requests.iter().fold(
+        lists,
+        |weight, request| weight.saturating_add(weight_of(request)),
+    )
 }
 
 // Returns how many states may be met. A slot of a state takes 40 bytes, and its numbers in the

@@ -4,24 +4,20 @@
 #![tactic(auto)]
 
 mod answering;
-mod chain;
-mod choice;
 mod closed;
-mod confirm;
 mod explore;
 mod found;
 pub mod laws;
-mod outcome;
+mod outcomes;
 mod parts;
 mod player;
-mod possible_report;
 mod state;
 mod submission;
 mod telling;
 mod turns;
 
-pub use answering::{answer, count};
-pub use choice::next_accesses;
+pub use answering::{answer, count, next_accesses};
 pub use found::push_file;
-pub use outcome::{PossibleAnswer, PossibleAnswers, may_answer};
-pub use possible_report::{PossibleReport, PossibleReports, may_report};
+pub use outcomes::{
+    PossibleAnswer, PossibleAnswers, PossibleReport, PossibleReports, may_answer, may_report,
+};

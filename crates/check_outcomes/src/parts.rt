@@ -4,7 +4,7 @@ ghost use Rattle.std.specs.Prelude.{◌≡◌, ◌<◌, ◌≤◌, ℕ, All, IsT
 ghost use Rattle.fx_chain.specs.Operation.{asked_of};
 ghost use Rattle.fx_order.specs.Slots.{table_of_slots};
 ghost use Rattle.check_outcomes.specs.Parts.{StaysIn};
-ghost use Rattle.check_outcomes.specs.Views.{ArePartsIn, IsInPart, parts_by_numbers};
+ghost use Rattle.check_outcomes.specs.Views.{ArePartsIn, parts_by_numbers};
 
 use crate::answering::slots_of;
 use crate::submission::PlayedSubmission;
@@ -56,20 +56,6 @@ fn stay_in(numbers: &PartNumbers, slots: &Slots, part: usize, requests: &[Reques
         .all(|request| stays_in(numbers, slots, part, request))
 }
 
-// Checks whether a chain of a submission stays in its part.
-fn is_in_part(
-    submission: &PlayedSubmission<'_>,
-    slots: &Slots,
-    numbers: &PartNumbers,
-    i: usize,
-) -> bool
-    requires inside { i < length submission.now.chains.now }
-    requires many { length slots.now.at.items ≤ length numbers.now.of_slot.items }
-    ensures { IsTrue result → IsInPart submission.now slots.now numbers.now i }
-{
-    stay_in(numbers, slots, numbers.part_of(i), submission.members(i))
-}
-
 /// Checks whether each chain of a submission at these slots stays in its part.
 pub(crate) fn are_parts(
     submission: &PlayedSubmission<'_>,
@@ -82,7 +68,7 @@ pub(crate) fn are_parts(
         return false;
     }
     for i in 0..submission.chains.len() {
-        if !is_in_part(submission, slots, numbers, i) {
+        if !stay_in(numbers, slots, numbers.part_of(i), submission.members(i)) {
             return false;
         }
     }

@@ -6,12 +6,12 @@ ghost use Rattle.fx_chain.specs.Operation.{asked_of};
 ghost use Rattle.std.specs.List.{list_all};
 ghost use Rattle.fx_order.specs.Slots.{table_of_slots};
 ghost use Rattle.check_outcomes.specs.Idle.{is_read};
+ghost use Rattle.check_outcomes.specs.Listed.{IsFirstState};
 ghost use Rattle.check_outcomes.specs.Tellings.{IsToldOn, answers_of};
 ghost use Rattle.check_outcomes.specs.Views.{HasEachNextIn, IsOverIn, IsStepTo, has_reads_at, is_idle_at, not_begun};
 
-use crate::chain::{Progress, chain_accesses, left, step};
-use crate::submission::PlayedSubmission;
-use crate::telling::{WayReport, are_all_same};
+use crate::submission::{PlayedSubmission, Progress, chain_accesses, left, settle, step};
+use crate::telling::{WayReport, are_all_same, push_lists};
 use fx_base::NoMemory;
 use fx_chain::{Completion, Op, Request};
 use fx_order::{Access, Slots};
@@ -98,6 +98,36 @@ impl PlayState {
         }
         true
     }
+}
+
+/// Returns the first state of a submission at these slots. Appends what each chain answers there.
+pub(crate) fn start(
+    submission: &PlayedSubmission<'_>,
+    slots: &Slots,
+    told: &mut Vec<Vec<Completion>>,
+) -> Result<PlayState, NoMemory>
+    requires { told.old.items ≡ [] }
+    ensures { IfOk result (IsFirstState submission.now slots.now told.new.items) }
+{
+    let alloc = submission.alloc;
+    let mut chains = Vec::new(alloc);
+    for i in 0..submission.chains.len() {
+        let own = submission.members(i);
+        let mut answers = Vec::new(alloc);
+        let done = settle(submission, submission.first(i), own, &mut answers)?;
+        chains.push(Progress { done, made: 0 })?;
+        told.push(answers)?;
+    }
+    let slots = slots.copy(alloc)?;
+    let mut telling = WayReport::none(alloc);
+    if submission.tells {
+        push_lists(alloc, &mut telling.answers, told)?;
+    }
+    Ok(PlayState {
+        slots,
+        chains,
+        telling,
+    })
 }
 
 // Returns the answers and removed files after an access of a chain, by the chain's number from 0, that answers this: none, if the

@@ -1,5 +1,5 @@
 //! The answers and removed files on the way to a state of a submission.
-ghost use Rattle.std.specs.Prelude.{◌≡◌, ◌++◌, ◌<◌, IfOk, IsPermutation, IsTrue, length};
+ghost use Rattle.std.specs.Prelude.{◌≡◌, ◌++◌, ◌<◌, [], IfOk, IsPermutation, IsTrue, length};
 ghost use Rattle.std.specs.Option.{option_to_list};
 ghost use Rattle.fx_chain.specs.Completed.{all_completed};
 ghost use Rattle.fx_order.specs.Access.{file_removed_by};
@@ -33,8 +33,8 @@ pub(crate) fn are_all_same(some: &[Vec<Completion>], others: &[Vec<Completion>])
     some == others
 }
 
-/// Adds the same completions at the end.
-pub(crate) fn push_copies(
+// Adds the same completions at the end.
+fn push_copies(
     alloc: Global,
     all: &mut Vec<Completion>,
     more: &[Completion],
@@ -49,8 +49,8 @@ pub(crate) fn push_copies(
     push_copies(alloc, all, more)
 }
 
-// Adds the same lists at the end.
-fn push_lists(
+/// Adds the same lists at the end.
+pub(crate) fn push_lists(
     alloc: Global,
     all: &mut Vec<Vec<Completion>>,
     more: &[Vec<Completion>],
@@ -86,7 +86,10 @@ fn removed_after(
 
 impl WayReport {
     /// Nothing yet.
-    pub(crate) fn none(alloc: Global) -> WayReport {
+    pub(crate) fn none(alloc: Global) -> WayReport
+        ensures answers { result.answers.items ≡ [] }
+        ensures removed { result.removed.items ≡ [] }
+    {
         WayReport {
             answers: Vec::new(alloc),
             removed: Vec::new(alloc),

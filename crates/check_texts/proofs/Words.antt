@@ -1,7 +1,7 @@
 -- The names that most proofs of this crate use.
 pub use Rattle.check_outcomes.specs.Outcomes.{HasEachEnd, HasEachReport, IsAnswer, IsPossible, ring_behind, IsReportBy, MayReport, TellsOf}
-pub use Rattle.check_outcomes.specs.declared.outcome.PossibleAnswer.{PossibleAnswer}
-pub use Rattle.check_outcomes.specs.declared.possible_report.PossibleReport.{PossibleReport}
+pub use Rattle.check_outcomes.specs.declared.outcomes.PossibleAnswer.{PossibleAnswer}
+pub use Rattle.check_outcomes.specs.declared.outcomes.PossibleReport.{PossibleReport}
 pub use Rattle.fx_base.specs.Catalogue.{FileEntry}
 pub use Rattle.fx_base.specs.declared.errno.Errno.{Errno}
 pub use Rattle.fx_base.specs.declared.errno.Errno.TheVariants.{ENOMEM}

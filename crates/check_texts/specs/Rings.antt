@@ -7,7 +7,7 @@ use Rattle.fx_chain.specs.Faults.{fault_of}
 use Rattle.fx_chain.specs.Operation.{Asked, all_asked}
 use Rattle.fx_chain.specs.declared.completion.Place.{Place}
 use Rattle.check_outcomes.specs.Outcomes.{ring_behind}
-use Rattle.check_outcomes.specs.declared.possible_report.PossibleReport.{PossibleReport}
+use Rattle.check_outcomes.specs.declared.outcomes.PossibleReport.{PossibleReport}
 use Rattle.fx_ring.specs.Ring.{IsRing, RingContents, RingState, ring_of}
 use Rattle.fx_ring.specs.Submission.{Reported, reported}
 use Rattle.fx_language.specs.Instruction.{Instruction, SubmitsAll, instructions_of}

@@ -64,7 +64,8 @@ fn key_of(alloc: Global, ring: &RingSlots) -> Result<Vec<u32>, NoMemory> {
     Ok(key)
 }
 
-// Puts the rings of exits among others, unless they are there. Returns their numbers, of which nothing is proved.
+// Puts the rings of exits among others, unless they are there. Returns their numbers. Nothing is
+// proved of these.
 fn numbers_of(alloc: Global, bare: &mut Bare, exits: &[Reached]) -> Result<Vec<usize>, NoMemory>
     ensures { OnOk result ((catalogue : List FileEntry)
         → AreRings (stages_of catalogue exits.now)

@@ -1,5 +1,6 @@
-//! A walk through a script: its setting, the request that is asked for, the rings that it reaches, the orders that it keeps, and how
-//! much of its limits it has used. Nothing is proved of these numbers, which only bound the walk.
+//! A walk through a script: its setting, the request that is asked for, the rings that it reaches,
+//! the orders that it keeps, and how much of its limits it has used. Nothing is proved of these
+//! numbers, which only bound the walk.
 ghost use Rattle.std.specs.Prelude.{◌≡◌, ◌+◌, ◌<◌, ◌≤◌, IfOk, List, None, length};
 ghost use Rattle.fx_base.specs.Catalogue.{FileEntry, IsCatalogue};
 ghost use Rattle.fx_chain.specs.Accepted.{IsAccepted};

@@ -1,7 +1,7 @@
 use Rattle.check_outcomes.proofs.Words.{◌≡◌, ◌∙◌, sym, refl, Progress, not-false, slice_eq-Decides, file_Decides}
 use Rattle.std.proofs.Common.{rules}
 use Rattle.std.specs.Bool.{Decides}
-use Rattle.check_outcomes.specs.contracts.chain.ProgressPartialEq.TheImpl.{eq-value}
+use Rattle.check_outcomes.specs.contracts.submission.ProgressPartialEq.TheImpl.{eq-value}
 use Rattle.check_outcomes.proofs.state.PlayState.is_same.Goals as goal
 
 progress_Decides : (a b : Progress) → Decides (eq-value.it a b) (a ≡ b)

@@ -1,5 +1,0 @@
-use Rattle.check_outcomes.proofs.Words.{length}
-use Rattle.check_outcomes.proofs.chain.+cancel.Given as goal
-
-abbrev pub decreases-cancel : goal.decreases-cancel
-decreases-cancel l = length l.requests.now

@@ -1,8 +1,0 @@
-use Rattle.check_outcomes.proofs.Words.{ℕ, ◌<◌, Contains, Allocates, FindsFull}
-use Rattle.check_outcomes.proofs.choice.allocations.Given as goal
-
-abbrev pub invariant-loop-slot : goal.invariant-loop-slot
-invariant-loop-slot l = record {
-  full : Contains l.choices.items FindsFull;
-  each : (k : ℕ) → k < l.slot → Contains l.choices.items (Allocates k l.file);
-}

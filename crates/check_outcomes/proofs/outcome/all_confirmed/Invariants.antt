@@ -1,5 +1,0 @@
-use Rattle.check_outcomes.proofs.Words.{All, IsAnswerIn}
-use Rattle.check_outcomes.proofs.outcome.all_confirmed.Given as goal
-
-abbrev pub invariant-loop-by : goal.invariant-loop-by
-invariant-loop-by l = All (IsAnswerIn l.submission l.slots l.place) l.answers.items

@@ -1,5 +1,0 @@
-use Rattle.check_outcomes.proofs.Words.{All, IsPossibleIn}
-use Rattle.check_outcomes.proofs.possible_report.all_confirmed.Given as goal
-
-abbrev pub invariant-loop-by : goal.invariant-loop-by
-invariant-loop-by l = All (IsPossibleIn l.submission l.slots) l.reports.items

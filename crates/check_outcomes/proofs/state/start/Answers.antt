@@ -1,0 +1,35 @@
+use Rattle.check_outcomes.proofs.Words.{refl, arith, sym, ◌∙◌, false≢true, length-append, ◌∷◌, []}
+use Rattle.check_outcomes.proofs.Viewing.{start_more}
+use Rattle.check_outcomes.proofs.state.start.Goals.{then-submission+in_ok-push_lists, else-submission}
+use Rattle.check_outcomes.proofs.state.start.Goals as goal
+
+pub loop-i-init : goal.loop-i-init
+loop-i-init c = record {
+  told = rw c.requires refl;
+  chains = rw c.new-chains.ensures.items refl;
+  each = λ k low. absurd (omega (arith, low));
+}
+
+pub loop-i-preserved : goal.loop-i-preserved
+loop-i-preserved c =
+    let before = c.loop-i.invariant in
+    let settles = rw (c.first.ensures, c.members-own.ensures.run, c.new-answers.ensures.items) at c.in_ok-done.ensures in
+    record {
+      told = rw c.in_ok-push-2.ensures.items (omega (arith, before.told, length-append c.loop-i.told.items (c.settle.new.told ∷ [])));
+      chains = rw c.in_ok-push.ensures.items (omega (arith, before.chains, length-append c.loop-i.chains.items (record { done = c.in_ok-done.done; made = 0 } ∷ [])));
+      each = rw (c.in_ok-push-2.ensures.items, c.in_ok-push.ensures.items) (start_more before.told before.chains before.each c.settle.new.told settles);
+    }
+
+pub returns : goal.returns
+returns c = record {
+  table = c.in_ok-slots.ensures;
+  chains = λ i few. c.loop-i.invariant.each i (omega (arith, few, c.loop-i-test.false));
+  kept = λ tells. elim c.if-submission.branch [
+    | then-submission+in_ok-push_lists w ↦ rw w.telling-is (rw (c.none-telling.ensures.answers, w.deref.ensures.value) at w.in_ok-push_lists.ensures)
+    | else-submission w ↦ absurd (false≢true (sym w.if-submission.false ∙ tells))
+  ];
+  removed = elim c.if-submission.branch [
+    | then-submission+in_ok-push_lists w ↦ rw w.telling-is c.none-telling.ensures.removed
+    | else-submission w ↦ rw w.telling-is c.none-telling.ensures.removed
+  ];
+}

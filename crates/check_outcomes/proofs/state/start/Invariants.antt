@@ -1,0 +1,9 @@
+use Rattle.check_outcomes.proofs.Words.{ℕ, ◌<◌, ◌≡◌, length, IsAtStart}
+use Rattle.check_outcomes.proofs.state.start.Given as goal
+
+abbrev pub invariant-loop-i : goal.invariant-loop-i
+invariant-loop-i l = record {
+  told : length l.told.items ≡ l.i;
+  chains : length l.chains.items ≡ l.i;
+  each : (k : ℕ) → k < l.i → IsAtStart l.submission l.told.items l.chains.items k;
+}
