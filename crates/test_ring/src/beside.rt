@@ -1,13 +1,30 @@
 //! Threads that really run at the same time: a gate stops chains until others have reached the same point. No clause
 //! says that two threads ran, so a player of all chains on one thread would be proved as well.
-use crate::setting::{Players, TABLES, Table, play, wait_for};
+use crate::setting::{Players, TABLES, Table, play};
 use fx_chain::{Gate, Place};
 use std::alloc::Global;
 use std::process::Abort;
 use std::sync::Wait;
 use std::sync::atomic::{AtomicBool, AtomicU32, Ordering};
 use std::test::Fail;
+use std::thread;
 use std::thread::Threads;
+
+// The number of times that a chain checks whether others have come.
+const MOST_TURNS: u32 = 50_000_000;
+
+// Waits until a count reaches `least`. After one chain has waited in vain, which is recorded, no other chain waits.
+fn wait_for(count: &AtomicU32, least: u32, is_late: &AtomicBool) {
+    for turn in 0..MOST_TURNS {
+        if count.load(Ordering::SeqCst) >= least || is_late.load(Ordering::SeqCst) {
+            return;
+        }
+        if turn % 1024 == 0 {
+            thread::yield_now();
+        }
+    }
+    is_late.store(true, Ordering::SeqCst);
+}
 
 // A gate before the only members of chains; the first `held` chains wait at it until all have reached it.
 #[derive(Drop)]
@@ -59,16 +76,15 @@ fn meet<R: Threads + Wait + Abort + Sync>(
 // As many chains meet as there are workers.
 #[test]
 fn each_number_of_workers_play_beside_each_other(rt: HostRuntime) -> Result<(), Fail> {
-    let mut requests = String::new(rt.alloc());
+    let alloc = rt.alloc();
+    let mut requests = String::new(alloc);
     for workers in 1..17 {
         requests.push_str("close 0\n")?;
-        let script = format!(in rt.alloc(); "{requests}submit\n")?;
+        let script = format!(in alloc; "{requests}submit\n")?;
         for table in TABLES {
             let players = (table, workers);
-            assert!(rt;
-                meet(&rt, rt.alloc(), script.as_str(), players, workers, workers),
-                "{workers} workers"
-            );
+            let met = meet(&rt, alloc, script.as_str(), players, workers, workers);
+            assert!(rt; met, "{workers} workers");
         }
     }
     Ok(())
@@ -114,10 +130,8 @@ fn an_update_between_an_open_and_its_read(rt: HostRuntime) {
     let wanted = b"sparse 0\n1.1.1 0\n1.1.2 2 6869\n1.2.1 1\nclosed 1.1.1.0 a.txt\nteardown\n\
                    closed 1.2.1.0 b.txt\n";
     for table in TABLES {
-        let gate = Between {
-            done: AtomicU32::new(0),
-            is_late: AtomicBool::new(false),
-        };
+        let (done, is_late) = (AtomicU32::new(0), AtomicBool::new(false));
+        let gate = Between { done, is_late };
         let text = play(&rt, rt.alloc(), script, (table, 2), &gate);
         assert!(rt; text.as_slice() == wanted.as_slice() && !gate.is_late.load(Ordering::SeqCst));
     }

@@ -1,7 +1,57 @@
-//! The members of a chain that the gate is called for: each that is started, once before and once after, in order, and
-//! no other. Which members are started was worked out by hand.
-use crate::setting::{Calls, TABLES, play};
+//! The requests that the gate is called for: each that is started, once before and once after, in order, and no other.
+//! Which requests are started was worked out by hand.
+use crate::setting::{TABLES, end, play, read, ring_of, submit};
+use bitflags::Flags;
+use fx_chain::{CutFault, CutKind, Gate, Place, Request, SqeFlags};
+use fx_ring::SubmitFault;
+use std::alloc::{AllocError, Global};
+use std::sync::atomic::{AtomicBool, AtomicU32, Ordering};
 use std::test::Fail;
+
+// A gate of a first submission that counts its calls for each chain, and records a call that isn't the next one of its
+// chain: before the first member, after it, before the second one, and so on.
+#[derive(Drop)]
+struct Calls {
+    chains: Vec<AtomicU32>,
+    is_wrong: AtomicBool,
+}
+
+impl Calls {
+    // Creates a gate of a submission of `chains` chains.
+    fn new(alloc: Global, chains: usize) -> Result<Calls, AllocError> {
+        let chains = (0..chains).map(|_| AtomicU32::new(0)).collect(alloc)?;
+        let is_wrong = AtomicBool::new(false);
+        Ok(Calls { chains, is_wrong })
+    }
+
+    // Records a call for a chain that was called for `others` times before.
+    fn note(&self, place: Place, others: u32) {
+        let chain = self.chains.get(place.chain.wrapping_sub(1) as usize);
+        let count = chain.map(|chain| chain.fetch_add(1, Ordering::SeqCst));
+        if count != Some(others) || place.submission != 1 {
+            self.is_wrong.store(true, Ordering::SeqCst);
+        }
+    }
+
+    // Checks whether exactly the first `started` members of each chain were started: the gate was called once before
+    // each of them and once after it, in order.
+    fn were_started(&self, started: &[u32]) -> bool {
+        let mut chains = self.chains.iter().zip(started);
+        chains.all(|(chain, count)| chain.load(Ordering::SeqCst) == count.wrapping_mul(2))
+            && self.chains.len() == started.len()
+            && !self.is_wrong.load(Ordering::SeqCst)
+    }
+}
+
+impl Gate for Calls {
+    fn before(&self, place: Place) {
+        self.note(place, place.member.wrapping_mul(2).wrapping_sub(2));
+    }
+
+    fn after(&self, place: Place) {
+        self.note(place, place.member.wrapping_mul(2).wrapping_sub(1));
+    }
+}
 
 // Scripts with one submission, or with none that is accepted, each with the number of started members of each chain.
 // The chains of the first script are at slots of their own.
@@ -34,10 +84,37 @@ fn gate_is_called_for_what_is_started(rt: HostRuntime) -> Result<(), Fail> {
     for (script, started) in &ROWS {
         for table in TABLES {
             for workers in [1, 2, 3, 16] {
-                let calls = Calls::new(alloc, 1, started.len())?;
+                let calls = Calls::new(alloc, started.len())?;
                 play(&rt, alloc, script, (table, workers), &calls);
                 assert!(rt; calls.were_started(started), "{script}");
             }
+        }
+    }
+    Ok(())
+}
+
+// Submissions that are refused, and that no script can express.
+#[test]
+fn refused_submissions_start_no_request(rt: HostRuntime) -> Result<(), Fail> {
+    let alloc = rt.alloc();
+    let (op, flags) = (read(0, 0, 5).op, SqeFlags::empty());
+    let requests = [read(0, 0, 5), Request { op, flags }];
+    let (at, kind) = (2, CutKind::BadFlags);
+    let bad_flags = SubmitFault::Cut(CutFault { at, kind });
+    for (count, workers, fault) in [
+        (1, 0, SubmitFault::Workers),
+        (1, 17, SubmitFault::Workers),
+        (2, 4_294_967_295, SubmitFault::Workers),
+        (2, 1, bad_flags),
+        (2, 16, bad_flags),
+    ] {
+        for table in TABLES {
+            let calls = Calls::new(alloc, 0)?;
+            let mut ring = ring_of(&rt, alloc, &[0])?;
+            let requests = &requests[..count];
+            let refused = submit(&rt, alloc, &mut ring, requests, (table, workers), &calls);
+            assert!(rt; refused.err() == Some(fault) && calls.were_started(&[]));
+            end(&rt, alloc, ring);
         }
     }
     Ok(())

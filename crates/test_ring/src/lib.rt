@@ -8,15 +8,7 @@ mod beside;
 #[cfg(test)]
 mod gates;
 #[cfg(test)]
-mod lasting;
-#[cfg(test)]
-mod orders;
-#[cfg(test)]
-mod refused;
-#[cfg(test)]
 mod setting;
-#[cfg(test)]
-mod submissions;
 #[cfg(test)]
 mod tables;
 #[cfg(test)]

@@ -1,15 +1,136 @@
-//! The values that the tests share: requests, rings, players, and gates that wait or record their calls. Memory is
-//! ample: a test fails if an allocation fails.
-mod calls;
-mod requests;
-mod rings;
-mod scripts;
-mod waiting;
+//! The values that the tests share: requests, rings and players. Memory is ample: a test fails if an allocation fails.
+ghost use Rattle.std.specs.Prelude.{◌≡◌, IfOk};
+ghost use Rattle.fx_chain.specs.Operation.{Opens, Reads, Closes, operation_of};
+ghost use Rattle.fx_chain.specs.declared.request.Target.TheVariants.{Slot};
 
-pub(crate) use calls::Calls;
-pub(crate) use requests::{in_chain, open_at, read};
-pub(crate) use rings::{
-    Players, TABLES, Table, end, one_file, registered_ring, ring_of_one_file, submit, try_submit,
-};
-pub(crate) use scripts::play;
-pub(crate) use waiting::wait_for;
+use bitflags::Flags;
+use fx_base::Catalogue;
+use fx_baton::BatonTable;
+use fx_chain::{Gate, Op, Place, Request, SqeFlags, Target};
+use fx_counted::CountedTable;
+use fx_ring::{Report, Ring, SubmitFault};
+use fx_script::run;
+use std::alloc::{AllocError, Global};
+use std::process::Abort;
+use std::sync::Wait;
+use std::test::Fail;
+use std::thread::Threads;
+
+/// Creates an open at a slot.
+pub fn open_at(alloc: Global, name: &str, slot: u32) -> Result<Request, AllocError>
+    ensures { IfOk result (λ request. operation_of request.op ≡ Opens name.now (Slot slot)) }
+{
+    let (name, target) = (String::from_str(alloc, name)?, Target::Slot(slot));
+    let (op, flags) = (Op::Open { name, target }, SqeFlags::empty());
+    Ok(Request { op, flags })
+}
+
+/// Creates a read of `len` bytes from byte `off` on.
+pub fn read(slot: u32, off: u32, len: u32) -> Request
+    ensures { operation_of result.op ≡ Reads slot off len }
+{
+    let (op, flags) = (Op::Read { slot, off, len }, SqeFlags::FIXED_FILE);
+    Request { op, flags }
+}
+
+/// Creates a close of a slot.
+pub fn close(slot: u32) -> Request
+    ensures { operation_of result.op ≡ Closes slot }
+{
+    let (op, flags) = (Op::Close { slot }, SqeFlags::empty());
+    Request { op, flags }
+}
+
+/// Links the request at position `at` of a submission, from 0, into chains of 16: each but the last of a chain is
+/// linked with the next one.
+pub fn in_chain(mut request: Request, at: u32) -> Request
+    ensures { result.op ≡ request.op }
+{
+    if at % 16 < 15 {
+        request.flags = request.flags.union(SqeFlags::IO_LINK);
+    }
+    request
+}
+
+/// Returns the place of a member of the first chain of the first submission.
+pub fn first_chain(member: u32) -> Place {
+    Place {
+        submission: 1,
+        chain: 1,
+        member,
+    }
+}
+
+/// The table that the workers share.
+#[derive(Clone, Copy)]
+pub enum Table {
+    /// The lock-free table, of packed words.
+    Words,
+    /// The table guarded by one word.
+    Baton,
+}
+
+/// Both of them.
+pub const TABLES: [Table; 2] = [Table::Words, Table::Baton];
+
+/// The players of a submission: a table, and a number of workers.
+pub type Players = (Table, u32);
+
+/// Creates a catalogue with only `a.txt`, a file of 4,096 bytes.
+pub fn one_file(alloc: Global) -> Result<Catalogue, Fail> {
+    let mut catalogue = Catalogue::new(alloc);
+    catalogue.add(String::from_str(alloc, "a.txt")?, vec![in alloc; 7; 4096]?)?;
+    Ok(catalogue)
+}
+
+/// Creates a ring with this catalogue and a table of this list of entries.
+pub fn ring_of<R: Abort>(rt: &R, alloc: Global, list: &[i32]) -> Result<Ring, Fail> {
+    let mut ring = Ring::new(alloc, one_file(alloc)?);
+    assert!(rt; ring.register(alloc, list).is_ok());
+    Ok(ring)
+}
+
+/// Submits requests.
+pub fn submit<R: Threads + Wait + Sync, G: Gate>(
+    rt: &R,
+    alloc: Global,
+    ring: &mut Ring,
+    requests: &[Request],
+    players: Players,
+    gate: &G,
+) -> Result<Report, SubmitFault> {
+    let (table, workers) = players;
+    match table {
+        Table::Words => ring.submit::<CountedTable, G>(rt, alloc, requests, workers, gate),
+        Table::Baton => ring.submit::<BatonTable, G>(rt, alloc, requests, workers, gate),
+    }
+}
+
+/// Tears a ring down; memory for its list suffices.
+pub fn end<R: Abort>(rt: &R, alloc: Global, ring: Ring) {
+    match ring.tear_down(alloc) {
+        Ok(closes) => assert!(rt; closes.tags(alloc).is_ok()),
+        Err(_refused) => panic!(rt; "a list of closes"),
+    }
+}
+
+/// Plays a script to its end, and returns what it prints.
+pub fn play<R: Threads + Wait + Abort + Sync, G: Gate>(
+    rt: &R,
+    alloc: Global,
+    script: &str,
+    players: Players,
+    gate: &G,
+) -> Vec<u8> {
+    let (table, workers) = players;
+    assert!(rt; 1 <= workers && workers <= 16);
+    let mut reader = script.as_bytes();
+    let mut text = Vec::new(alloc);
+    let (input, output) = (&mut reader, &mut text);
+    let ended = match table {
+        Table::Words => run::<CountedTable, _, _, _>(rt, alloc, workers, gate, input, output),
+        Table::Baton => run::<BatonTable, _, _, _>(rt, alloc, workers, gate, input, output),
+    };
+    assert!(rt; ended.is_ok());
+    text
+}

@@ -1,15 +1,18 @@
-//! One slot of each shared table, a pass that uses it, and a pass that replaces the file there, in every interleaving
-//! of their calls. Each call returns, whatever the other pass holds or has yet to retire: no clause says that a call
-//! which may wait returns. What it returns is in its contract.
-ghost use Rattle.std.specs.Prelude.{◌≡◌, All, length};
+//! Shared tables without a ring: two passes in every interleaving of their calls, and a chain on a table that lasts.
+//! Each call returns, whatever the other pass holds or has yet to retire: no clause says that a call which may wait
+//! returns. What it returns is in its contract.
+ghost use Rattle.std.specs.Prelude.{◌≡◌, ◌+◌, true, All, length};
 ghost use Rattle.fx_table.specs.Pass.{IsHoldOf, IsIdle, IsRetiredOf};
+ghost use Rattle.fx_lasting.specs.Tables.{IsPassOfTable, opening_of_table, view_of};
 
-use crate::setting::one_file;
-use fx_base::{Catalogue, Mark, OpenFile};
+use crate::setting::{close, first_chain, in_chain, one_file, open_at, read};
+use fx_base::{Catalogue, CloseList, Mark, OpenFile};
 use fx_baton::BatonTable;
+use fx_chain::{OpenGate, run_chain};
 use fx_counted::CountedTable;
+use fx_lasting::{LastingPass, LastingTable};
 use fx_plain::PlainTable;
-use fx_table::{FileTable, Hold, Retired};
+use fx_table::{FileTable, Hold, Retired, SharedTable};
 use std::alloc::Global;
 use std::process::Abort;
 use std::sync::Wait;
@@ -21,21 +24,12 @@ fn open_table<T: FileTable, R: Abort>(rt: &R, alloc: Global, files: &Catalogue) 
     ensures count { length result.1.items ≡ 2 }
     ensures ready { All (λ p. T.fits result.0 p × IsIdle (T.view p)) result.1.items }
 {
-    let Ok(mut plain) = PlainTable::sparse(alloc, 1) else {
-        panic!(rt; "a table")
-    };
-    if let Err(_refused) = plain.prepare(1) {
-        plain.abandon();
-        panic!(rt; "memory for a number")
-    }
-    assert!(rt; !files.is_empty());
+    let mut plain = PlainTable::sparse(alloc, 1).expect(rt, "a table");
+    assert!(rt; plain.prepare(1).is_ok() && !files.is_empty());
     plain.put_back(0, files.open(0, Mark::Registered { k: 1, i: 0 }, 0));
     match T::open(alloc, plain, 1, 2) {
         Ok(opened) => opened,
-        Err((plain, _)) => {
-            plain.abandon();
-            panic!(rt; "memory for a shared table")
-        }
+        Err(_refused) => panic!(rt; "memory for a shared table"),
     }
 }
 
@@ -46,10 +40,7 @@ fn hold_of<T: FileTable, R: Wait + Abort>(rt: &R, table: &T, pass: &mut T::Pass)
     ensures held { IsHoldOf (T.view pass.new) result }
 {
     assert!(rt; table.is_idle(pass) && 0 < table.size());
-    let Ok(hold) = table.look(rt, pass, 0) else {
-        panic!(rt; "a file at the slot")
-    };
-    hold
+    table.look(rt, pass, 0).expect(rt, "a file at the slot")
 }
 
 // Installs a file at the slot, and returns the file that was there, to be retired.
@@ -66,14 +57,11 @@ fn replace<T: FileTable, R: Wait + Abort>(
     assert!(rt; table.is_idle(pass) && 0 < table.size() && 0 < table.numbers_left(pass));
     assert!(rt; !files.is_empty());
     let file = files.open(0, Mark::Registered { k: 2, i: 0 }, 0);
-    let Some(retired) = table.put(rt, pass, 0, file) else {
-        panic!(rt; "a file that is replaced")
-    };
-    retired
+    table.put(rt, pass, 0, file).expect(rt, "the replaced file")
 }
 
-// Closes a file that a call returned.
-fn close(out: Option<OpenFile>) {
+// Discards a file that a call returned.
+fn discard(out: Option<OpenFile>) {
     if let Some(file) = out {
         file.discard();
     }
@@ -106,33 +94,33 @@ fn play_both<T: FileTable, R: Wait + Abort>(
     match used {
         Use::BeforeReplacement => {
             let hold = hold_of(rt, table, a);
-            close(table.release(rt, a, hold));
+            discard(table.release(rt, a, hold));
             let retired = replace(rt, table, b, files);
-            close(table.retire(rt, b, retired));
+            discard(table.retire(rt, b, retired));
         }
         Use::OverReplacement => {
             let hold = hold_of(rt, table, a);
             let retired = replace(rt, table, b, files);
-            close(table.release(rt, a, hold));
-            close(table.retire(rt, b, retired));
+            discard(table.release(rt, a, hold));
+            discard(table.retire(rt, b, retired));
         }
         Use::OverBoth => {
             let hold = hold_of(rt, table, a);
             let retired = replace(rt, table, b, files);
-            close(table.retire(rt, b, retired));
-            close(table.release(rt, a, hold));
+            discard(table.retire(rt, b, retired));
+            discard(table.release(rt, a, hold));
         }
         Use::BeforeRetirement => {
             let retired = replace(rt, table, b, files);
             let hold = hold_of(rt, table, a);
-            close(table.release(rt, a, hold));
-            close(table.retire(rt, b, retired));
+            discard(table.release(rt, a, hold));
+            discard(table.retire(rt, b, retired));
         }
         Use::OverRetirement => {
             let retired = replace(rt, table, b, files);
             let hold = hold_of(rt, table, a);
-            close(table.retire(rt, b, retired));
-            close(table.release(rt, a, hold));
+            discard(table.retire(rt, b, retired));
+            discard(table.release(rt, a, hold));
         }
     }
 }
@@ -141,12 +129,7 @@ fn play_both<T: FileTable, R: Wait + Abort>(
 fn play_on<T: FileTable, R: Wait + Abort>(rt: &R, alloc: Global, used: Use) -> Result<(), Fail> {
     let files = one_file(alloc)?;
     let (table, mut passes) = open_table::<T, _>(rt, alloc, &files);
-    let Some(mut a) = passes.pop() else {
-        unreachable!()
-    };
-    let Some(mut b) = passes.pop() else {
-        unreachable!()
-    };
+    let (mut a, mut b) = (passes.pop().unwrap(), passes.pop().unwrap());
     assert!(rt; table.draw(&mut b) == Some(1));
     play_both(rt, &table, used, &files, &mut b, &mut a);
     assert!(rt; table.is_idle(&b) && table.is_idle(&a));
@@ -168,5 +151,82 @@ fn retired_while_held(rt: HostRuntime) -> Result<(), Fail> {
         play_on::<BatonTable, _>(&rt, rt.alloc(), used)?;
         play_on::<CountedTable, _>(&rt, rt.alloc(), used)?;
     }
+    Ok(())
+}
+
+// Opens a table of one slot that lasts, with one pass, which installs files.
+fn open_lasting<R: Abort>(rt: &R, alloc: Global) -> (LastingTable, Vec<LastingPass>)
+    ensures lasts { (opening_of_table result.0).lasts ≡ true }
+    ensures passes { (opening_of_table result.0).passes ≡ 1 }
+    ensures count { length result.1.items ≡ 1 }
+    ensures ready { All (λ p. IsPassOfTable result.0 p × IsIdle (view_of p)) result.1.items }
+{
+    let plain = PlainTable::sparse(alloc, 1).expect(rt, "a table");
+    match LastingTable::open(alloc, plain, 1, 1) {
+        Ok(opened) => opened,
+        Err(_refused) => panic!(rt; "memory for a shared table"),
+    }
+}
+
+// Takes the last pass of the list.
+fn last_pass<T: SharedTable, R: Abort>(rt: &R, table: &T, passes: &mut Vec<T::Pass>) -> T::Pass
+    requires { All (λ p. T.fits table.now p × IsIdle (T.view p)) passes.old.items }
+    ensures pass { T.fits table.now result × IsIdle (T.view result) }
+    ensures others { All (λ p. T.fits table.now p × IsIdle (T.view p)) passes.new.items }
+{
+    let Some(pass) = passes.pop() else {
+        panic!(rt; "a pass")
+    };
+    pass
+}
+
+// Returns a pass to the list. It is idle.
+fn give_back<T: SharedTable, R: Abort>(rt: &R, table: &T, passes: &mut Vec<T::Pass>, pass: T::Pass)
+    requires list { All (λ p. T.fits table.now p × IsIdle (T.view p)) passes.old.items }
+    requires pass { T.fits table.now pass }
+    ensures list { All (λ p. T.fits table.now p × IsIdle (T.view p)) passes.new.items }
+    ensures count { length passes.new.items ≡ length passes.old.items + 1 }
+{
+    assert!(rt; table.is_idle(&pass));
+    match passes.push(pass) {
+        Ok(()) => {}
+        Err(_refused) => panic!(rt; "room for a pass"),
+    }
+}
+
+// A chain opens a file at the slot, reads five bytes of it and closes the slot. Nobody else uses the table, so that the
+// close finds the file and closes it. No ring plays a chain on a table that lasts, so that only this test does.
+#[test]
+fn chain_on_a_table_that_lasts(rt: HostRuntime) -> Result<(), Fail> {
+    let alloc = rt.alloc();
+    let catalogue = one_file(alloc)?;
+    let open = in_chain(open_at(alloc, "a.txt", 0)?, 0);
+    let requests = [open, in_chain(read(0, 0, 5), 1), close(0)];
+    let mut out = Vec::with_capacity(alloc, 3)?;
+    let mut closes = CloseList::with_room(alloc, 4)?;
+    let (table, mut passes) = open_lasting(&rt, alloc);
+    let mut pass = last_pass(&rt, &table, &mut passes);
+    assert!(rt; passes.is_empty());
+    assert!(rt; 3 <= table.looks_left(&pass));
+    assert!(rt; 1 <= table.numbers_left(&pass));
+    run_chain(
+        &rt,
+        alloc,
+        &table,
+        &mut pass,
+        &catalogue,
+        1,
+        1,
+        &requests,
+        &OpenGate,
+        &mut out,
+        &mut closes,
+    );
+    give_back(&rt, &table, &mut passes, pass);
+    table.close(passes).abandon();
+    assert!(rt; out[0].is_answer(first_chain(1), 0, &[]));
+    assert!(rt; out[1].is_answer(first_chain(2), 5, &[7; 5]));
+    assert!(rt; out[2].is_answer(first_chain(3), 0, &[]));
+    assert!(rt; closes.files() == [first_chain(1).installed(0, 0)].as_slice());
     Ok(())
 }

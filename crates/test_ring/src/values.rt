@@ -1,10 +1,15 @@
-//! Values worked out by hand, of calls that no script shows.
+//! Results that no script shows: values worked out by hand, the memory of reads, and an order of a report.
+use crate::setting::{
+    TABLES, Table, close, end, first_chain, in_chain, one_file, open_at, read, ring_of, submit,
+};
 use bitflags::Flags;
-use fx_chain::{Completion, Op, Place, Request, SqeFlags, Target, target};
+use fx_chain::{Completion, LONGEST_READ, OpenGate, SqeFlags, Target, check, target};
+use fx_order::{Access, ChainAccess, RingSlots, Slots, is_one_order};
 use fx_words::{
     begin_amount, control_word, end_amount, entry_of, node_of, retire_amount, says_full, slot_word,
     takes_of,
 };
+use std::test::Fail;
 
 #[test]
 fn file_index_names_the_slot_below_it(rt: HostRuntime) {
@@ -45,15 +50,77 @@ fn words_of_the_table_without_a_lock(rt: HostRuntime) {
 #[test]
 fn request_with_both_flags_is_a_hard_link(rt: HostRuntime) {
     let failed = Completion {
-        place: Place {
-            submission: 1,
-            chain: 1,
-            member: 1,
-        },
+        place: first_chain(1),
         res: -9,
         got: Vec::new(rt.alloc()),
     };
-    let flags = SqeFlags::IO_LINK.union(SqeFlags::IO_HARDLINK);
-    let op = Op::Close { slot: 0 };
-    assert!(rt; !Request { op, flags }.severs(&failed));
+    let mut request = close(0);
+    request.flags = SqeFlags::IO_LINK.union(SqeFlags::IO_HARDLINK);
+    assert!(rt; !request.severs(&failed));
+}
+
+// A read allocates exactly the bytes that it asks for. By its contract it may fail for lack of memory; here none does.
+// The built program plays scripts of every size (tests/check-limits).
+#[test]
+fn reads_of_each_length(rt: HostRuntime) -> Result<(), Fail> {
+    let alloc = rt.alloc();
+    let mut list = Vec::new(alloc);
+    for len in 0..LONGEST_READ + 1 {
+        list.push(in_chain(read(0, 0, len), len))?;
+    }
+    let requests = list.as_slice();
+    let mut ring = ring_of(&rt, alloc, &[0])?;
+    for table in TABLES {
+        for workers in [1, 16] {
+            let players = (table, workers);
+            let answer = submit(&rt, alloc, &mut ring, requests, players, &OpenGate);
+            let report = answer.expect(&rt, "a report");
+            for (len, completion) in report.completions.iter().enumerate() {
+                assert!(rt; len <= 4096);
+                assert!(rt; completion.res == len as i32 && completion.got.capacity() == len);
+            }
+        }
+    }
+    end(&rt, alloc, ring);
+    Ok(())
+}
+
+// Returns an access by a chain.
+fn by(chain: u32, access: Access) -> ChainAccess {
+    ChainAccess { chain, access }
+}
+
+// One worker plays a chain that opens a file at slot 0 and reads it, and then one that closes the slot. Without the
+// close, the order isn't one of the report. No program here computes orders, so only this test sees that memory
+// suffices for one.
+#[test]
+fn order_of_a_report(rt: HostRuntime) -> Result<(), Fail> {
+    let alloc = rt.alloc();
+    let file = first_chain(1).installed(0, 0);
+    let order = [
+        by(1, Access::Puts(0, file, None)),
+        by(1, Access::Looks(0, Some(file))),
+        by(2, Access::Takes(0, Some(file))),
+    ];
+    let open = in_chain(open_at(alloc, "a.txt", 0)?, 0);
+    let requests = [open, read(0, 0, 5), close(0)];
+    let mut ring = ring_of(&rt, alloc, &[-1, -1])?;
+    let players = (Table::Baton, 1);
+    let answer = submit(&rt, alloc, &mut ring, &requests, players, &OpenGate);
+    let report = answer.expect(&rt, "a report");
+    end(&rt, alloc, ring);
+    let catalogue = one_file(alloc)?;
+    for (count, is_order) in [(2, false), (3, true)] {
+        assert!(rt; check(&requests).is_ok());
+        let (range, at) = ((0, 2), vec![in alloc; None; 2]?);
+        let mut empty = RingSlots {
+            slots: Slots { range, at },
+            submissions: 0,
+            registrations: 0,
+        };
+        let order = &order[..count];
+        let said = is_one_order(alloc, &catalogue, &mut empty, &requests, &report, order)?;
+        assert!(rt; said == is_order, "{count} accesses");
+    }
+    Ok(())
 }
