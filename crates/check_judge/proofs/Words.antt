@@ -26,8 +26,8 @@ pub use Rattle.check_search.specs.declared.claim.Leaves.{Leaves}
 pub use Rattle.check_search.specs.declared.claim.Leaves.TheVariants.{Empty, File, Same}
 pub use Rattle.check_search.specs.declared.claim.Resident.{Resident}
 pub use Rattle.check_search.specs.declared.claim.Wants.{Wants}
-pub use Rattle.check_judge.specs.declared.stop.Stop.{Stop}
-pub use Rattle.check_judge.specs.declared.stop.Stop.TheVariants.{Refuted}
+pub use Rattle.check_judge.specs.declared.judgement.Stop.{Stop}
+pub use Rattle.check_judge.specs.declared.judgement.Stop.TheVariants.{Refuted}
 pub use Rattle.check_search.specs.declared.claim.Strand.{Strand}
 pub use Rattle.fx_order.proofs.Histories.{each_order_is_a_history}
 pub use Rattle.fx_order.proofs.OneRing.{NonePast, ring_with_files, shows_ring, none_past, each_report_leads_to_one_ring, each_closed_file_is_known}
@@ -99,8 +99,8 @@ pub use Rattle.check_judge.specs.Step.{ContinuesText, IsStep, LeadsNowhere, Lead
 pub use Rattle.check_judge.specs.Told.{AreApart, AreFrom, HasLines, Installed, IsFileAtSlot, MayBeClosed, OneInstalled, TellsKnown, TellsCloses}
 pub use Rattle.check_judge.specs.Told.{HasNone, MayCloseAll, HasDistinctMarks}
 pub use Rattle.check_judge.specs.declared.judgement.Fault.{Fault}
-pub use Rattle.check_judge.specs.declared.met.Met.{Met}
-pub use Rattle.check_judge.specs.declared.met.Met.TheVariants.{Apart, Here}
+pub use Rattle.check_judge.specs.declared.command.Met.{Met}
+pub use Rattle.check_judge.specs.declared.command.Met.TheVariants.{Apart, Here}
 pub use Rattle.check_judge.specs.Verdict.{CameBy, told_report, IsRefuted, IsToldOutcome}
 pub use Rattle.check_judge.specs.declared.told.Told.{Told}
 pub use Rattle.fx_language.specs.Instruction.{Instruction, MakesSparse, RegistersList, SetsRange, SubmitsAll, Unregisters, UpdatesRing}

@@ -5,8 +5,9 @@ use Rattle.fx_language.specs.Instruction.{Instruction}
 use Rattle.fx_order.specs.declared.ring_slots.RingSlots.{RingSlots}
 use Rattle.check_judge.specs.Ordered.{MayPrintBy}
 use Rattle.check_judge.specs.Step.{LeadsNowhere, LeadsTo}
-use Rattle.check_judge.specs.declared.answer.CommandVerdict.{CommandVerdict}
-use Rattle.check_judge.specs.declared.answer.CommandVerdict.TheVariants.{Printed, Broken, Undecided}
+use Rattle.check_judge.specs.declared.command.CommandVerdict.{CommandVerdict}
+use Rattle.check_judge.specs.declared.command.CommandVerdict.TheVariants.{Printed, Broken}
+use Rattle.check_judge.specs.declared.command.CommandVerdict.TheVariants.{Undecided}
 use Rattle.fx_order.specs.Slots.{ring_with_slots}
 
 -- the text continues with a text of the command in one way alone, by this order if there is one,

@@ -17,8 +17,8 @@ use Rattle.fx_order.specs.declared.access.ChainAccess.{ChainAccess}
 use Rattle.check_judge.specs.Claims.{AreClaims, IsAllocationInRange, Possibly, Tells}
 use Rattle.check_judge.specs.declared.chain_claims.MemberClaims.{MemberClaims}
 use Rattle.check_search.specs.declared.claim.Claim.{Claim}
-use Rattle.check_judge.specs.declared.stop.Stop.{Stop}
-use Rattle.check_judge.specs.declared.stop.Stop.TheVariants.{Refuted, Unknown, NoMemory}
+use Rattle.check_judge.specs.declared.judgement.Stop.{Stop}
+use Rattle.check_judge.specs.declared.judgement.Stop.TheVariants.{Refuted, Unknown, NoMemory}
 
 -- the chains have these completions by an order whose accesses this table may permit
 pub record AreDone (catalogue : List FileEntry) (size : ℕ) (range : ℕ × ℕ) (submission : ℕ)

@@ -18,8 +18,8 @@ use Rattle.check_search.specs.declared.claim.Leaves.{Leaves}
 use Rattle.check_search.specs.declared.claim.Leaves.TheVariants.{Same, Empty, File}
 use Rattle.check_search.specs.declared.claim.Claim.{Claim}
 use Rattle.check_search.specs.declared.claim.Claim.TheVariants.{At, Full}
-use Rattle.check_judge.specs.declared.stop.Stop.{Stop}
-use Rattle.check_judge.specs.declared.stop.Stop.TheVariants.{Refuted, Unknown, NoMemory}
+use Rattle.check_judge.specs.declared.judgement.Stop.{Stop}
+use Rattle.check_judge.specs.declared.judgement.Stop.TheVariants.{Refuted, Unknown, NoMemory}
 
 -- the slot of an access
 abbrev pub touched : Access → Option ℕ

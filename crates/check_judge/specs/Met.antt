@@ -1,7 +1,7 @@
 -- The beginning of a text.
 use Rattle.std.specs.Prelude.{◌≡◌, ℕ, ◌≤◌, List, ◌++◌, length, take}
-use Rattle.check_judge.specs.declared.met.Met.{Met}
-use Rattle.check_judge.specs.declared.met.Met.TheVariants.{Here, Apart}
+use Rattle.check_judge.specs.declared.command.Met.{Met}
+use Rattle.check_judge.specs.declared.command.Met.TheVariants.{Here, Apart}
 
 -- the first `count` bytes of the text are this line
 pub record BeginsWith (text : List ℕ) (count : ℕ) (line : List ℕ) : Type 0 where

@@ -6,8 +6,8 @@ use Rattle.fx_language.specs.Instruction.{Instruction}
 use Rattle.fx_script.specs.Play.{Prints}
 use Rattle.check_lines.specs.Lines.{HasNoCloses}
 use Rattle.fx_order.specs.declared.ring_slots.RingSlots.{RingSlots}
-use Rattle.check_judge.specs.declared.met.Met.{Met}
-use Rattle.check_judge.specs.declared.met.Met.TheVariants.{Here, Apart}
+use Rattle.check_judge.specs.declared.command.Met.{Met}
+use Rattle.check_judge.specs.declared.command.Met.TheVariants.{Here, Apart}
 use Rattle.fx_order.specs.Slots.{ring_with_slots}
 
 -- each ring of the one state may be led to the other by the command, and print this

@@ -9,8 +9,8 @@ use Rattle.fx_order.specs.declared.access.ChainAccess.{ChainAccess}
 use Rattle.check_judge.specs.declared.part.PartVerdict.{PartVerdict}
 use Rattle.check_judge.specs.declared.part.PartVerdict.TheVariants.{Order, Refuted, Unsettled}
 use Rattle.check_judge.specs.declared.told.Told.{Told}
-use Rattle.check_judge.specs.declared.verdict.Verdict.{Verdict}
-use Rattle.check_judge.specs.declared.verdict.Verdict.TheVariants.{Legal, NotLegal, Undecided}
+use Rattle.check_judge.specs.declared.judgement.Verdict.{Verdict}
+use Rattle.check_judge.specs.declared.judgement.Verdict.TheVariants.{Legal, NotLegal, Undecided}
 
 -- completions and closes as a report; the room of its list of closes may be any
 abbrev pub told_report : RingState → Told → ℕ → Reported

@@ -7,9 +7,8 @@ ghost use Rattle.fx_order.specs.Requests.{IsChainDone};
 ghost use Rattle.check_judge.specs.Claims.{Possibly, Tells};
 ghost use Rattle.check_judge.specs.Chains.{TellsChains, TellsMember};
 
+use crate::judgement::{Reason, Stop};
 use crate::request_claims::{ClaimSetting, claims_of_request};
-use crate::stop::Stop;
-use crate::verdict::Reason;
 use check_search::Claim;
 use fx_base::Errno;
 use fx_chain::{Chain, Completion, Place, Request};

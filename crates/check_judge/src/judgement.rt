@@ -1,7 +1,79 @@
-//! The verdict on a text, with the place and the reason of a break.
-use crate::verdict::Reason;
+//! The verdicts on a submission's report and on a text, each with its reason.
+
 use check_search::Doubt;
-use fx_order::{Order, RingSlots};
+use fx_chain::Place;
+use fx_order::{ChainAccess, Order, RingSlots};
+use std::alloc::{AllocError, AllocFailed};
+
+/// The reason why no order leads to a report. It is advice for a person, and no contract speaks of it.
+#[derive(Clone, Copy, Debug, PartialEq, Eq)]
+pub enum Reason {
+    /// The request at this place has no completion, or one that is impossible with any table.
+    Member(Place),
+    /// There are more completions than requests.
+    TooManyCompletions,
+    /// The closes aren't in order of mark, or contain a file that was never in the table.
+    Closes,
+    /// No order of the accesses to this slot leads to the report.
+    Slot(u32),
+    /// No order of the accesses of chains that share slots leads to the report.
+    Chains,
+}
+
+/// A verdict on the report of a submission (this project's own).
+#[derive(Debug, Drop)]
+pub enum Verdict {
+    /// This order of accesses leads to the report.
+    Legal(Vec<ChainAccess>),
+    /// No order leads to the report.
+    NotLegal(Reason),
+    /// Neither was shown within the limits.
+    Undecided(Doubt),
+}
+
+/// A reason for which there is no answer.
+#[derive(Clone, Copy, Debug, PartialEq, Eq)]
+pub enum Stop {
+    /// No order explains the report.
+    Refuted(Reason),
+    /// The report can't be judged.
+    Unknown,
+    /// An allocation failed.
+    NoMemory,
+}
+
+impl From<AllocError> for Stop {
+    ghost use Rattle.std.specs.Prelude.{◌≡◌};
+    ghost use Rattle.check_judge.specs.declared.judgement.Stop.TheVariants.{NoMemory};
+
+    ghost from_gives = { λ _ e. e ≡ NoMemory };
+
+    fn from(_error: AllocError) -> Stop {
+        Stop::NoMemory
+    }
+}
+
+impl From<fx_base::NoMemory> for Stop {
+    ghost use Rattle.std.specs.Prelude.{◌≡◌};
+    ghost use Rattle.check_judge.specs.declared.judgement.Stop.TheVariants.{NoMemory};
+
+    ghost from_gives = { λ _ e. e ≡ NoMemory };
+
+    fn from(_error: fx_base::NoMemory) -> Stop {
+        Stop::NoMemory
+    }
+}
+
+impl<T: Drop> From<AllocFailed<T>> for Stop {
+    ghost use Rattle.std.specs.Prelude.{◌≡◌};
+    ghost use Rattle.check_judge.specs.declared.judgement.Stop.TheVariants.{NoMemory};
+
+    ghost from_gives = { λ _ e. e ≡ NoMemory };
+
+    fn from(_refused: AllocFailed<T>) -> Stop {
+        Stop::NoMemory
+    }
+}
 
 /// The reason why a script doesn't print a text after its break. It is advice for a person, and no contract speaks of it.
 #[derive(Debug, Drop)]

@@ -8,11 +8,10 @@ ghost use Rattle.fx_order.specs.Slots.{ring_with_slots};
 ghost use Rattle.check_judge.specs.Verdict.{CameBy, IsToldOutcome, IsVerdict};
 
 use crate::chain_claims::{ToldChains, claims_of_chains};
+use crate::judgement::{Stop, Verdict};
 use crate::part::{PartVerdict, TableTold, judge_table};
 use crate::request_claims::ClaimSetting;
-use crate::stop::Stop;
 use crate::told::Told;
-use crate::verdict::Verdict;
 use check_search::{Doubt, Limits};
 use fx_base::{Catalogue, NoMemory};
 use fx_chain::{Request, cut};

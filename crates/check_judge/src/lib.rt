@@ -2,32 +2,21 @@
 //! to a report, for instance a kernel's. The verdicts `Legal` and `NotLegal` are proved.
 #![tactic(auto)]
 
-mod answer;
-mod blame;
-mod brought;
-mod call;
 mod chain_claims;
-mod closed_files;
-mod full;
+mod command;
 mod judgement;
 mod judging;
 mod kept;
-mod known;
-mod met;
 mod part;
 mod places;
 mod play;
 mod refuted;
 mod request_claims;
-mod stop;
 mod strands;
 mod submission;
 mod told;
-mod update_claims;
-mod verdict;
 
-pub use judgement::{Break, Fault, Judgement};
+pub use judgement::{Break, Fault, Judgement, Reason, Verdict};
 pub use judging::judge_submission;
 pub use play::{judge, judge_from};
 pub use told::Told;
-pub use verdict::{Reason, Verdict};

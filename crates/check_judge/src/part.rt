@@ -3,17 +3,15 @@ ghost use Rattle.std.specs.Prelude.{◌≡◌, ◌<◌, ◌+◌, ◌^◌, All, I
 ghost use Rattle.fx_order.specs.Slots.{table_of_slots};
 ghost use Rattle.check_judge.specs.Played.{IsCell, IsOutcome};
 
-use crate::brought::has_unknown;
-use crate::full::{is_range_empty, with_full};
-use crate::refuted::judge_counts;
-use crate::strands::strands_of;
-use crate::verdict::Reason;
+use crate::judgement::Reason;
+use crate::refuted::{has_unknown, judge_counts};
+use crate::strands::{accesses_along, is_range_empty, strands_of, with_full};
 use check_search::{
-    Cell, Claim, Doubt, FEW_STATES, Found, Leaves, Limits, Steps, Strand, Wants, Web, apply,
-    cell_at, claim_of, components, explore, resident_for, shows_no_end,
+    Cell, Claim, Doubt, FEW_STATES, Found, Limits, Steps, Web, components, explore, resident_for,
+    shows_no_end,
 };
 use fx_base::{Closed, NoMemory};
-use fx_order::{Access, ChainAccess, Slots};
+use fx_order::{ChainAccess, Slots};
 use std::alloc::Global;
 
 /// The result of a search.
@@ -48,55 +46,6 @@ pub(crate) fn cell_of(table: &TableTold<'_>, slot: usize) -> Cell
         in_range: inside,
         file: table.slots.at[slot].map(|file| resident_for(table.closes, file)),
     }
-}
-
-// Returns the access that a claim describes, if `found` was at the slot.
-fn access_of(claim: &Claim, found: Option<Closed>) -> Access {
-    match claim {
-        Claim::Full => Access::FindsFull,
-        Claim::At(slot, wants, leaves) => match (wants, leaves) {
-            (Wants::NothingToTake, _) => Access::Takes(*slot, None),
-            (_, Leaves::Same) => Access::Looks(*slot, found),
-            (Wants::Something, Leaves::Empty) => Access::Takes(*slot, found),
-            (_, Leaves::Empty) => Access::Clears(*slot, found),
-            (Wants::Nothing, Leaves::File(resident)) => Access::Allocates(*slot, resident.file),
-            (_, Leaves::File(resident)) => Access::Puts(*slot, resident.file, found),
-        },
-    }
-}
-
-// Returns the accesses of an order of claims.
-fn accesses_along(
-    alloc: Global,
-    strands: &[Strand],
-    cells: &[Cell],
-    order: &[usize],
-) -> Result<Vec<ChainAccess>, NoMemory> {
-    let mut cells = Vec::from_slice(alloc, cells)?;
-    let mut places = Vec::new(alloc);
-    for _ in strands {
-        places.push(0usize)?;
-    }
-    let mut accesses = Vec::new(alloc);
-    for at in order {
-        let (Some(claim), Some(strand)) = (claim_of(strands, &places, *at), strands.get(*at)) else {
-            break;
-        };
-        let found = match claim {
-            Claim::At(slot, _, _) => cell_at(&cells, *slot).map(|resident| resident.file),
-            Claim::Full => None,
-        };
-        let access = access_of(claim, found);
-        accesses.push(ChainAccess {
-            chain: strand.chain,
-            access,
-        })?;
-        apply(&mut cells, claim);
-        if *at < places.len() {
-            places[*at] = places[*at].saturating_add(1);
-        }
-    }
-    Ok(accesses)
 }
 
 // Judges the claims of these slots: searches for an order of the accesses there.
@@ -205,8 +154,7 @@ fn judge_components(
     let mut doubt: Option<Doubt> = None;
     for i in 0..parts.len() {
         let cells = cells_of(alloc, table, &parts[i])?;
-        let outcome = judge_part(alloc, table, &cells, limits, reason_of(&parts[i]))?;
-        match outcome {
+        match judge_part(alloc, table, &cells, limits, reason_of(&parts[i]))? {
             PartVerdict::Order(mut own) => order.append(&mut own)?,
             PartVerdict::Refuted(reason) => return Ok(PartVerdict::Refuted(reason)),
             PartVerdict::Unsettled(other) => doubt = Some(other),
@@ -272,8 +220,7 @@ pub(crate) fn judge_table(
     if has_unknown(table) {
         return Ok(PartVerdict::Refuted(Reason::Closes));
     }
-    let outcome = judge_counts(alloc, table)?;
-    match outcome {
+    match judge_counts(alloc, table)? {
         PartVerdict::Refuted(reason) => Ok(PartVerdict::Refuted(reason)),
         _ => judge_searched(alloc, table, limits),
     }

@@ -10,8 +10,7 @@ ghost use Rattle.check_judge.specs.Kept.{IsRingKept};
 ghost use Rattle.fx_language.specs.Script.{AreFiles};
 ghost use Rattle.fx_order.specs.Slots.{ring_with_slots};
 
-use crate::answer::CommandVerdict;
-use crate::call::play_call;
+use crate::command::{CommandVerdict, play_call};
 use crate::judgement::{Break, Fault, Judgement};
 use crate::kept::is_kept;
 use crate::submission::play_submission;

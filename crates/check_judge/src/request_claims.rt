@@ -1,23 +1,91 @@
 //! The claims of one request, from its completion.
-ghost use Rattle.std.specs.Prelude.{◌≡◌, ◌↔◌, ◌≤◌, ◌<◌, ◌+◌, ◌^◌, ◌∷◌, [], List, IfOk, IsTrue, length, slice_index_or, true, ℕ, None, Some};
+ghost use Rattle.std.specs.Prelude.{◌≡◌, ◌<◌, ◌≤◌, ◌+◌, ◌^◌, IsTrue, List, None, false, length, ◌↔◌, ◌∷◌, [], IfOk, slice_index_or, true, ℕ, Some};
+ghost use Rattle.std.specs.List.{AllZip, list_any};
+ghost use Rattle.std.specs.Option.{option_to_list};
+ghost use Rattle.fx_chain.specs.Completed.{completed_of};
+ghost use Rattle.fx_chain.specs.Operation.{Updates, Opens, asked_of, operation_of};
+ghost use Rattle.fx_chain.specs.Refusal.{is_bad_entry, refusal_of};
+ghost use Rattle.fx_order.specs.Requests.{AreEntriesDone, IsEntryDone, IsUpdateDone, IsRefused, IsOpenDone, IsReadDone, IsCloseDone, IsDoneAtTable, IsRequestDone, gives};
+ghost use Rattle.fx_order.specs.declared.access.Access.{Access as OneAccess};
+ghost use Rattle.check_judge.specs.Claims.{Fits, Tells, Possibly};
 ghost use Rattle.fx_base.specs.Catalogue.{name_at};
 ghost use Rattle.fx_base.specs.declared.open_file.Closed.{Closed as FileAt};
 ghost use Rattle.fx_chain.specs.Accepted.{IsWithinLimits};
-ghost use Rattle.fx_chain.specs.Completed.{completed_of};
-ghost use Rattle.fx_chain.specs.Operation.{Opens, asked_of, operation_of};
-ghost use Rattle.fx_chain.specs.Refusal.{refusal_of};
 ghost use Rattle.fx_chain.specs.declared.request.Target.TheVariants.{Slot, Any};
-ghost use Rattle.fx_order.specs.Requests.{IsRefused, IsOpenDone, IsReadDone, IsCloseDone, IsDoneAtTable, IsRequestDone, gives};
-ghost use Rattle.fx_order.specs.declared.access.Access.{Access as OneAccess};
-ghost use Rattle.check_judge.specs.Claims.{Fits, Possibly, Tells};
 
-use crate::stop::Stop;
-use crate::update_claims::claims_of_update;
-use crate::verdict::Reason;
+use crate::judgement::{Reason, Stop};
 use check_search::{Claim, Leaves, Wants, resident_for};
-use fx_base::{Catalogue, Closed, Errno, NoMemory};
-use fx_chain::{Completion, LONGEST_READ, Op, Place, Request, Target, refusal_of};
+use fx_base::{Catalogue, Closed, Errno, MOST_ENTRIES, NoMemory};
+use fx_chain::{Completion, LONGEST_READ, LONGEST_UPDATE, Op, Place, Request, Target, refusal_of};
 use std::alloc::Global;
+
+// Returns the claim of an entry at a position in its list and at a slot, or `None` if the entry is a skip.
+fn claim_of_entry(
+    setting: &ClaimSetting<'_>,
+    place: Place,
+    at: (u32, u32),
+    entry: i32,
+) -> Option<Claim>
+    requires few { length setting.now.catalogue.now ≤ MOST_ENTRIES }
+    requires good { is_bad_entry (length setting.now.catalogue.now) entry ≡ false }
+    ensures { (accesses : List OneAccess) → IsEntryDone place at.0 at.1 entry accesses
+        → AllZip (Fits setting.now.closes.now) (option_to_list result) accesses }
+{
+    let (in_list, slot) = at;
+    if entry >= 0 {
+        let file = resident_for(setting.closes, place.installed(in_list, entry as u8));
+        return Some(Claim::At(slot, Wants::Anything, Leaves::File(file)));
+    }
+    if entry > -2 {
+        return Some(Claim::At(slot, Wants::Anything, Leaves::Empty));
+    }
+    None
+}
+
+// Returns the claims of the entries of a list, from a slot on.
+fn claims_of_entries(
+    alloc: Global,
+    setting: &ClaimSetting<'_>,
+    place: Place,
+    off: u32,
+    list: &[i32],
+) -> Result<Vec<Claim>, Stop>
+    requires few { off + length list.now < 2 ^ 32 }
+    requires entries { length setting.now.catalogue.now ≤ MOST_ENTRIES }
+    requires good { list_any (is_bad_entry (length setting.now.catalogue.now)) list.now ≡ false }
+    ensures { Tells (λ own. AreEntriesDone place 0 off list.now own) setting.now.closes.now result }
+{
+    let mut claims = Vec::new(alloc);
+    for i in 0..list.len() {
+        if let Some(claim) = claim_of_entry(setting, place, (i as u32, off + i as u32), list[i]) {
+            claims.push(claim)?;
+        }
+    }
+    Ok(claims)
+}
+
+/// Returns the claims of an update.
+pub(crate) fn claims_of_update(
+    alloc: Global,
+    setting: &ClaimSetting<'_>,
+    place: Place,
+    update: (u32, &[i32]),
+    c: &Completion,
+) -> Result<Vec<Claim>, Stop>
+    requires short { length update.1.now ≤ LONGEST_UPDATE }
+    requires size { setting.now.size < 2 ^ 32 }
+    requires entries { length setting.now.catalogue.now ≤ MOST_ENTRIES }
+    requires accepted { refusal_of setting.now.catalogue.now setting.now.size
+        (Updates update.0 update.1.now) ≡ None }
+    ensures { Tells (λ own. IsUpdateDone place update.entry.0 update.entry.1.now own
+        (completed_of c.now)) setting.now.closes.now result }
+{
+    let (off, list) = update;
+    if !c.is_answer(place, list.len() as i32, &[]) {
+        return Err(Stop::Refuted(Reason::Member(place)));
+    }
+    claims_of_entries(alloc, setting, place, off, list)
+}
 
 /// The values that are known when claims are derived.
 #[derive(Clone, Copy)]

@@ -1,4 +1,4 @@
-//! The claims of chains at some slots alone.
+//! The claims of chains at some slots alone, and the accesses that an order of them makes.
 ghost use Rattle.std.specs.Prelude.{◌≡◌, ◌<◌, ◌+◌, ◌^◌, IfOk, OnOk, List, length, filter, ◌==◌, ◌++◌};
 ghost use Rattle.std.specs.List.{list_any};
 ghost use Rattle.fx_base.specs.declared.open_file.Closed.{Closed as FileAt};
@@ -7,20 +7,16 @@ ghost use Rattle.check_judge.specs.Claims.{AreClaims};
 ghost use Rattle.check_judge.specs.Strands.{AreStrands, strand_for};
 ghost use Rattle.check_search.specs.AtSlots.{keeps};
 
-use check_search::{Cell, Claim, Strand, has_slot};
-use fx_base::NoMemory;
+use check_search::{Cell, Claim, Leaves, Strand, Wants, apply, cell_at, claim_of, has_slot};
+use fx_base::{Closed, NoMemory};
+use fx_order::{Access, ChainAccess, Slots};
 use std::alloc::Global;
 
 // Checks whether one of these slots is of the allocation range.
 fn has_range(cells: &[Cell]) -> bool
     ensures { result ≡ list_any (λ cell. cell.in_range) cells.now }
 {
-    for cell in cells {
-        if cell.in_range {
-            return true;
-        }
-    }
-    false
+    cells.iter().any(|cell| cell.in_range)
 }
 
 // Checks whether a claim is of one of these slots, or of the allocation range if one of them is of it.
@@ -74,4 +70,101 @@ pub(crate) fn strands_of(
         push_strand(&mut strands, i as u32 + 1, own)?;
     }
     Ok(strands)
+}
+
+// Returns the access that a claim describes, if `found` was at the slot.
+fn access_of(claim: &Claim, found: Option<Closed>) -> Access {
+    match claim {
+        Claim::Full => Access::FindsFull,
+        Claim::At(slot, wants, leaves) => match (wants, leaves) {
+            (Wants::NothingToTake, _) => Access::Takes(*slot, None),
+            (_, Leaves::Same) => Access::Looks(*slot, found),
+            (Wants::Something, Leaves::Empty) => Access::Takes(*slot, found),
+            (_, Leaves::Empty) => Access::Clears(*slot, found),
+            (Wants::Nothing, Leaves::File(resident)) => Access::Allocates(*slot, resident.file),
+            (_, Leaves::File(resident)) => Access::Puts(*slot, resident.file, found),
+        },
+    }
+}
+
+/// Returns the accesses of an order of claims. No contract says anything of them; they are checked like any other order.
+pub(crate) fn accesses_along(
+    alloc: Global,
+    strands: &[Strand],
+    cells: &[Cell],
+    order: &[usize],
+) -> Result<Vec<ChainAccess>, NoMemory> {
+    let mut cells = Vec::from_slice(alloc, cells)?;
+    let mut places = vec![in alloc; 0usize; strands.len()]?;
+    let mut accesses = Vec::new(alloc);
+    for at in order {
+        let (Some(claim), Some(strand)) = (claim_of(strands, &places, *at), strands.get(*at)) else {
+            break;
+        };
+        let found = match claim {
+            Claim::At(slot, _, _) => cell_at(&cells, *slot).map(|resident| resident.file),
+            Claim::Full => None,
+        };
+        accesses.push(ChainAccess {
+            chain: strand.chain,
+            access: access_of(claim, found),
+        })?;
+        apply(&mut cells, claim);
+        if *at < places.len() {
+            places[*at] = places[*at].saturating_add(1);
+        }
+    }
+    Ok(accesses)
+}
+
+/// Checks whether a table has no slot of its allocation range. If so, an open at any slot always finds the range full, and no part
+/// of the table has a slot of it.
+pub(crate) fn is_range_empty(slots: &Slots) -> bool {
+    slots.range.1 == 0 || slots.range.0 as usize >= slots.at.len()
+}
+
+// Appends the accesses of a chain, from a position on, that find the range full. Returns the position of the first other
+// claim.
+fn push_full(
+    whole: &mut Vec<ChainAccess>,
+    chain: u32,
+    claims: &[Claim],
+    first: usize,
+) -> Result<usize, NoMemory> {
+    for i in first..claims.len() {
+        if !matches!(claims[i], Claim::Full) {
+            return Ok(i);
+        }
+        whole.push(ChainAccess {
+            chain,
+            access: Access::FindsFull,
+        })?;
+    }
+    Ok(claims.len())
+}
+
+/// Returns an order with the accesses that find the range full, each at its place among those of its chain.
+pub(crate) fn with_full(
+    alloc: Global,
+    chains: &[Vec<Claim>],
+    order: &[ChainAccess],
+) -> Result<Vec<ChainAccess>, NoMemory>
+    requires { length chains.now + 1 < 2 ^ 32 }
+{
+    let mut whole = Vec::new(alloc);
+    let mut places = vec![in alloc; 0usize; chains.len()]?;
+    for x in order {
+        let chain = (x.chain as usize).saturating_sub(1);
+        if chain < chains.len() && chain < places.len() {
+            let place = push_full(&mut whole, x.chain, &chains[chain], places[chain])?;
+            places[chain] = place.saturating_add(1);
+        }
+        whole.push(*x)?;
+    }
+    for chain in 0..chains.len() {
+        if chain < places.len() {
+            push_full(&mut whole, chain as u32 + 1, &chains[chain], places[chain])?;
+        }
+    }
+    Ok(whole)
 }

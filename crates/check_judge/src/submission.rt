@@ -1,9 +1,9 @@
 //! Plays accepted submissions against a text.
-ghost use Rattle.std.specs.Prelude.{◌≡◌, ◌<◌, ◌≤◌, All, IfOk, OnOk, length};
-ghost use Rattle.fx_plain.specs.declared.table.TheConstants.{MOST_SLOTS};
+ghost use Rattle.std.specs.Prelude.{◌≤◌, length, ◌≡◌, ◌<◌, All, IfOk, OnOk};
 ghost use Rattle.fx_chain.specs.Accepted.{IsAccepted};
-ghost use Rattle.fx_chain.specs.Completed.{all_completed};
 ghost use Rattle.fx_chain.specs.Operation.{all_asked};
+ghost use Rattle.fx_plain.specs.declared.table.TheConstants.{MOST_SLOTS};
+ghost use Rattle.fx_chain.specs.Completed.{all_completed};
 ghost use Rattle.fx_chain.specs.Runs.{runs_of};
 ghost use Rattle.fx_ring.specs.declared.ring.TheConstants.{MOST_SUBMISSIONS};
 ghost use Rattle.fx_language.specs.Instruction.{SubmitsAll};
@@ -14,21 +14,94 @@ ghost use Rattle.fx_order.specs.Requests.{AreChainsDone};
 ghost use Rattle.check_judge.specs.Told.{AreApart, HasLines, TellsAll, TellsKnown};
 ghost use Rattle.fx_table.specs.declared.limits.TheConstants.{MAX_CHAINS};
 
-use crate::answer::CommandVerdict;
-use crate::blame::wrong_line;
-use crate::closed_files::{files_told, tags_told, wrong_order, wrong_tag};
-use crate::judgement::Fault;
+use crate::command::CommandVerdict;
+use crate::judgement::{Fault, Verdict};
 use crate::judging::judge_submission;
-use crate::known::unknown_file;
 use crate::places::{Answered, places_of};
-use crate::told::Told;
-use crate::verdict::Verdict;
+use crate::told::{Told, files_told, tags_told, unknown_file, wrong_order, wrong_tag};
 use check_lines::{ReportLines, read_report};
 use check_search::Limits;
 use fx_base::{Catalogue, NoMemory};
-use fx_chain::{Request, cut};
+use fx_chain::{Place, Request, cut};
 use fx_order::{ChainAccess, Order, OrderSetting, RingSlots};
 use std::alloc::Global;
+
+// Returns the number of bytes of the first line of a text, with its end.
+fn line_length(text: &[u8]) -> usize
+    ensures { result ≤ length text.now }
+{
+    for i in 0..text.len() {
+        if text[i] == b'\n' {
+            return i + 1;
+        }
+    }
+    text.len()
+}
+
+// Checks whether a line is that of a completion at a place.
+fn is_completion(alloc: Global, line: &[u8], place: Place) -> Result<bool, NoMemory> {
+    match read_report(alloc, line, 1)? {
+        Some((lines, _)) => Ok(lines.completions.iter().all(|c| c.place == place)),
+        None => Ok(false),
+    }
+}
+
+// Checks whether a line is that of a closed file or of a tag.
+fn is_close(line: &[u8]) -> bool {
+    line.starts_with(b"closed ") || line.starts_with(b"tag ")
+}
+
+/// Returns the first line of a text that isn't a line of the submission's report, if the report can't be read.
+///
+/// # Errors
+/// `NoMemory` if an allocation fails.
+pub(crate) fn wrong_line(
+    alloc: Global,
+    submission: u32,
+    requests: &[Request],
+    text: &[u8],
+) -> Result<Fault, NoMemory>
+    requires { IsAccepted (all_asked requests.now) }
+{
+    let mut rest = text;
+    let mut place = Place {
+        submission,
+        chain: 1,
+        member: 1,
+    };
+    for (count, request) in requests.iter().enumerate() {
+        let (line, others) = rest.split_at(line_length(rest));
+        if !is_completion(alloc, line, place)? {
+            let Place { chain, member, .. } = place;
+            let wanted = format!(in alloc; "{submission}.{chain}.{member} and its result")?;
+            return Ok(Fault::Line(count, wanted));
+        }
+        rest = others;
+        if request.links() {
+            place.member = place.member.saturating_add(1);
+        } else {
+            place.chain = place.chain.saturating_add(1);
+            place.member = 1;
+        }
+    }
+    wrong_close(alloc, requests.len(), rest)
+}
+
+// Returns the first invalid line of the lines of closed files and tags, which follow `before` lines.
+fn wrong_close(alloc: Global, before: usize, text: &[u8]) -> Result<Fault, NoMemory> {
+    let mut rest = text;
+    let mut count = before;
+    for _ in 0..text.len() {
+        let (line, others) = rest.split_at(line_length(rest));
+        if !is_close(line) || read_report(alloc, line, 0)?.is_none() {
+            break;
+        }
+        rest = others;
+        count = count.saturating_add(1);
+    }
+    let wanted = format!(in alloc; "the closed files, and then their tags")?;
+    Ok(Fault::Line(count, wanted))
+}
 
 // Returns the completions and closes that lines report, or the first invalid line.
 fn told_by(

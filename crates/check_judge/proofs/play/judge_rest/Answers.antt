@@ -1,6 +1,6 @@
 use Rattle.check_judge.proofs.Words.{◌≡◌, ◌+◌, ◌∷◌, length, length-drop, drop, sym, append-nil, ◌++◌, arith, option_to_list, length-map, refl}
 use Rattle.check_judge.proofs.Words.{instruction_of, instructions_of, ring_with_slots, take_rest, IsCommandVerdict}
-use Rattle.check_judge.specs.declared.answer.CommandVerdict.{CommandVerdict}
+use Rattle.check_judge.specs.declared.command.CommandVerdict.{CommandVerdict}
 use Rattle.check_judge.proofs.Plays.{GoesWith, at_start, ended, goes_on, next_instruction, not_ended, stops, there_is}
 use Rattle.check_judge.proofs.play.judge_rest.Goals.{in-Some+in_ok-push-in-Printed, in_default, In_ok-count, In_ok-play_end}
 use Rattle.check_judge.proofs.play.judge_rest.Goals as goal
