@@ -1,29 +1,23 @@
-//! Shares a table between two threads, and does three things that a server does, each in a file of its own: it learns that a
-//! file is closed (`gone.rt`), opens files until the table is full (`full.rt`) and replaces a file under load (`load.rt`). A
-//! smaller program is `example_first`. Begin with `replace.rt`.
+//! Shares a table between two threads, and does three things that a server does: it learns that a file is closed, opens
+//! files until the table is full, and replaces a file under load. A smaller program is `example_first`. Begin with
+//! `tasks.rt`.
 #![tactic(auto)]
 
 ghost use Rattle.std.specs.Prelude.{◌≡◌, ◌<◌, All, IfOk, length};
 ghost use Rattle.fx_table.specs.Opening.{size_of};
 ghost use Rattle.fx_table.specs.Pass.{IsIdle};
 
-mod full;
-mod gone;
-mod load;
-mod replace;
-mod start;
+mod tasks;
 
-use full::open_until_full;
-use fx_base::{AddFault, Catalogue, CloseList, NoMemory};
+use fx_base::{AddFault, Catalogue, CloseList, Mark, NoMemory};
 use fx_counted::CountedTable;
+use fx_plain::PlainTable;
 use fx_table::FileTable;
-use gone::{Gone, read_while_replaced};
-use load::replace_under_load;
-use start::{one_file, two_files};
 use std::alloc::Global;
 use std::sync::Wait;
 use std::sync::atomic::{AtomicU32, Ordering};
 use std::thread::Threads;
+use tasks::{Gone, open_until_full, read_while_replaced, replace_under_load};
 
 // The tag of the first file at slot 0.
 const TAG: u64 = 7;
@@ -31,7 +25,19 @@ const TAG: u64 = 7;
 // The number of chains. Each gives its pass numbers for 64 new files.
 const CHAINS: u32 = 20;
 
-// Makes a table of one file that two threads share, each by a pass.
+// Makes a catalogue of two files. The first has five bytes, the second none.
+fn two_files(alloc: Global) -> Result<Catalogue, AddFault>
+    ensures { IfOk result (λ catalogue. length catalogue ≡ 2) }
+{
+    let mut catalogue = Catalogue::new(alloc);
+    let first = String::from_str(alloc, "first.txt")?;
+    catalogue.add(first, b"hello".to_vec(alloc)?)?;
+    let second = String::from_str(alloc, "second.txt")?;
+    catalogue.add(second, Vec::new(alloc))?;
+    Ok(catalogue)
+}
+
+// Makes a table of four slots, with entry 0 of the catalogue at slot 0, that two threads share, each by a pass.
 fn shared_table<T: FileTable>(
     alloc: Global,
     catalogue: &Catalogue,
@@ -43,14 +49,16 @@ fn shared_table<T: FileTable>(
     ensures ready { IfOk result (λ (table, passes).
         All (λ p. T.fits table p × IsIdle (T.view p)) passes.items) }
 {
-    let plain = one_file(alloc, catalogue, TAG)?;
-    match T::open(alloc, plain, CHAINS, 2) {
-        Ok(opened) => Ok(opened),
-        Err((plain, refused)) => {
-            plain.abandon();
-            Err(refused)
-        }
+    let mut plain = PlainTable::sparse(alloc, 4)?;
+    if let Err(refused) = plain.prepare(4) {
+        plain.abandon();
+        return Err(refused);
     }
+    plain.put_back(0, catalogue.open(0, Mark::Registered { k: 1, i: 0 }, TAG));
+    T::open(alloc, plain, CHAINS, 2).map_err(|(plain, refused)| {
+        plain.abandon();
+        refused
+    })
 }
 
 // Reads the file while it is replaced, and then opens files until the table is full.
@@ -63,12 +71,7 @@ fn serve_by_name<T: FileTable, R: Threads + Wait + Sync>(
 {
     let (table, mut passes) = shared_table::<T>(alloc, catalogue)?;
     // A pass that is used by name leaves the list and returns to it, since the table is closed with all passes.
-    let Some(mut reader) = passes.pop() else {
-        unreachable!()
-    };
-    let Some(mut writer) = passes.pop() else {
-        unreachable!()
-    };
+    let (mut reader, mut writer) = (passes.pop().unwrap(), passes.pop().unwrap());
     let gone = read_while_replaced(rt, alloc, catalogue, &table, &mut reader, &mut writer);
     let opened = open_until_full(rt, catalogue, &table, &mut writer);
     passes.push_reserved(writer);
@@ -120,18 +123,13 @@ fn serve<R: Threads + Wait + Sync + Print>(
     if let Some(file) = retired {
         by_writer.close(file);
     }
-    let (writer, reader) = (by_writer.len(), by_reader.len());
+    let (writer, reader, count) = (by_writer.len(), by_reader.len(), bytes?.len());
     // A line that can't be written changes nothing.
-    let _ = println!(rt;
-        "the reader read {} bytes of the file that it holds",
-        bytes?.len()
-    );
+    let _ = println!(rt; "the reader read {count} bytes of the file that it holds");
     let _ = println!(rt; "files closed by the writer: {writer}, by the reader: {reader}");
     for tag in &by_reader.tags(alloc)? {
-        let _ = println!(rt;
-            "reported by the reader: the file with tag {} is closed",
-            tag.user_data
-        );
+        let tag = tag.user_data;
+        let _ = println!(rt; "reported by the reader: the file with tag {tag} is closed");
     }
     let _ = println!(rt; "files opened at any slot until no slot was free: {opened}");
     let _ = println!(rt; "files that were replaced and closed under load: {closed}");

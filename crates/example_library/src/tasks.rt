@@ -1,0 +1,185 @@
+//! Three things that a server does: it learns by a tag that a file is closed, opens files until the table is full, and
+//! replaces a file under load. Begin with [`replace`].
+ghost use Rattle.std.specs.Prelude.{◌<◌, ◌≡◌, All, length};
+ghost use Rattle.std.specs.Thread.{IsSync};
+ghost use Rattle.fx_table.specs.Opening.{size_of};
+ghost use Rattle.fx_table.specs.Pass.{IsIdle};
+
+use fx_base::{Catalogue, Mark, NoMemory, OpenFile};
+use fx_table::FileTable;
+use std::alloc::Global;
+use std::sync::Wait;
+use std::sync::atomic::{AtomicU32, Ordering};
+use std::thread;
+use std::thread::{Threads, join_mut};
+
+/// Replaces the file at slot 0, as an update does: puts entry 1 of the catalogue there. Returns the old file, to be
+/// closed, if nobody holds it. Returns `None` if it is still held, or if slot 0 was empty. Returns `None` and replaces
+/// nothing if the pass has no number for a new file and can't draw one.
+pub fn replace<T: FileTable, R: Wait>(
+    rt: &R,
+    catalogue: &Catalogue,
+    table: &T,
+    pass: &mut T::Pass,
+) -> Option<OpenFile>
+    requires ready { T.fits table.now pass.old × IsIdle (T.view pass.old) }
+    requires slot { 0 < size_of (T.opening table.now) }
+    requires entry { 1 < length catalogue.now }
+    ensures ready { T.fits table.now pass.new × IsIdle (T.view pass.new) }
+{
+    if table.numbers_left(pass) == 0 {
+        table.draw(pass)?;
+    }
+    if table.numbers_left(pass) == 0 {
+        return None;
+    }
+    let file = catalogue.open(1, Mark::Registered { k: 1, i: 1 }, 0);
+    let removed = table.put(rt, pass, 0, file)?;
+    table.retire(rt, pass, removed)
+}
+
+// Returns the first five bytes of an entry, or fewer if the entry is shorter.
+fn read(alloc: Global, catalogue: &Catalogue, entry: u8) -> Result<Vec<u8>, NoMemory> {
+    let mut bytes = Vec::with_capacity(alloc, 5)?;
+    catalogue.read_into(entry, 0, 5, &mut bytes);
+    Ok(bytes)
+}
+
+/// The bytes that the reader read, and the files that its release and the writer's update returned, to be closed.
+pub struct Gone {
+    pub bytes: Result<Vec<u8>, NoMemory>,
+    pub released: Option<OpenFile>,
+    pub retired: Option<OpenFile>,
+}
+
+/// Reads the file at slot 0 in one thread, and meanwhile replaces it in another. The reader is the last user, so the
+/// reader closes the file, and learns that by the tag which its list of closes returns. Returns `None` if the slot is
+/// empty.
+pub fn read_while_replaced<T: FileTable, R: Threads + Wait + Sync>(
+    rt: &R,
+    alloc: Global,
+    catalogue: &Catalogue,
+    table: &T,
+    reader: &mut T::Pass,
+    writer: &mut T::Pass,
+) -> Option<Gone>
+    requires slot { 0 < size_of (T.opening table.now) }
+    requires entry { 1 < length catalogue.now }
+    requires reader { T.fits table.now reader.old × IsIdle (T.view reader.old) }
+    requires writer { T.fits table.now writer.old × IsIdle (T.view writer.old) }
+    ensures reader { T.fits table.now reader.new × IsIdle (T.view reader.new) }
+    ensures writer { T.fits table.now writer.new × IsIdle (T.view writer.new) }
+{
+    let hold = table.look(rt, reader, 0).ok()?;
+    let entry = hold.entry;
+    let (bytes, retired) = join_mut(
+        rt,
+        &mut || read(alloc, catalogue, entry),
+        &mut || -> Option<OpenFile>
+            requires { IsSync R.row × T.fits table.now writer.now × IsIdle (T.view writer.now)
+                × (0 < size_of (T.opening table.now)) × (1 < length catalogue.now) }
+            ensures { T.fits table.entry.now writer.exit.now × IsIdle (T.view writer.exit.now) }
+        { replace(rt, catalogue, table, writer) },
+    );
+    let released = table.release(rt, reader, hold);
+    Some(Gone {
+        bytes,
+        released,
+        retired,
+    })
+}
+
+/// Opens entry 0 of the catalogue at any slot, until every slot of the range is full (`ENFILE`) or the chain has no
+/// number for a new file left. Returns the number of files that were installed: 0 if there is no chain left.
+pub fn open_until_full<T: FileTable, R: Wait>(
+    rt: &R,
+    catalogue: &Catalogue,
+    table: &T,
+    pass: &mut T::Pass,
+) -> u32
+    requires ready { T.fits table.now pass.old × IsIdle (T.view pass.old) }
+    requires entry { 0 < length catalogue.now }
+    ensures ready { T.fits table.now pass.new × IsIdle (T.view pass.new) }
+{
+    if table.draw(pass).is_none() {
+        return 0;
+    }
+    let left = table.numbers_left(pass);
+    for opened in 0..left {
+        let file = catalogue.open(0, Mark::Registered { k: 2, i: opened }, 0);
+        if let Err(file) = table.put_any(rt, pass, file) {
+            file.discard();
+            return opened;
+        }
+    }
+    left
+}
+
+// The number of times that a thread replaces the file, or reads it.
+const TIMES: u32 = 1000;
+
+// Looks the file at slot 0 up, and releases it. Returns the file, to be closed, if it was replaced and this was its last
+// user.
+fn visit<T: FileTable, R: Wait>(rt: &R, table: &T, pass: &mut T::Pass) -> Option<OpenFile>
+    requires ready { T.fits table.now pass.old × IsIdle (T.view pass.old) }
+    requires slot { 0 < size_of (T.opening table.now) }
+    ensures ready { T.fits table.now pass.new × IsIdle (T.view pass.new) }
+{
+    let hold = table.look(rt, pass, 0).ok()?;
+    table.release(rt, pass, hold)
+}
+
+// Replaces the file 1,000 times in the first thread, and reads it 1,000 times in any other. Discards the files that come
+// out, which a server would close, and adds their number to `closed`.
+fn work<T: FileTable, R: Wait>(
+    rt: &R,
+    catalogue: &Catalogue,
+    table: &T,
+    pass: &mut T::Pass,
+    is_first: bool,
+    closed: &AtomicU32,
+)
+    requires ready { T.fits table.now pass.old × IsIdle (T.view pass.old) }
+    requires slot { 0 < size_of (T.opening table.now) }
+    requires entry { 1 < length catalogue.now }
+    ensures ready { T.fits table.now pass.new × IsIdle (T.view pass.new) }
+{
+    for _ in 0..TIMES {
+        let out = if is_first {
+            replace(rt, catalogue, table, pass)
+        } else {
+            visit(rt, table, pass)
+        };
+        if let Some(file) = out {
+            file.discard();
+            closed.fetch_add(1, Ordering::SeqCst);
+        }
+    }
+}
+
+/// Replaces a file 1,000 times while another thread reads it: runs each of two passes in a thread of its own, and adds
+/// the files that came out to `closed`.
+pub fn replace_under_load<T: FileTable, R: Threads + Wait + Sync>(
+    rt: &R,
+    catalogue: &Catalogue,
+    table: &T,
+    passes: &mut [T::Pass],
+    closed: &AtomicU32,
+)
+    requires ready { All (λ p. T.fits table.now p × IsIdle (T.view p)) passes.old }
+    requires slot { 0 < size_of (T.opening table.now) }
+    requires entry { 1 < length catalogue.now }
+    ensures ready { All (λ p. T.fits table.now p × IsIdle (T.view p)) passes.new }
+    ensures count { length passes.new ≡ length passes.old }
+{
+    thread::for_each_mut(
+        rt,
+        passes,
+        2,
+        &|i, pass: &mut T::Pass|
+            requires { T.fits table.now pass.old × IsIdle (T.view pass.old)
+                × (0 < size_of (T.opening table.now)) × (1 < length catalogue.now) }
+            ensures { T.fits table.entry.now pass.new × IsIdle (T.view pass.new) }
+        { work(rt, catalogue, table, pass, i == 0, closed) },
+    );
+}
