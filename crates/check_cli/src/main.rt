@@ -1,35 +1,24 @@
 //! The program `fixcheck`: prints whether the rules allow a text for a script.
 #![tactic(auto)]
 
-mod answer_list;
-mod ending;
-mod going_on;
 mod input;
-mod order_lines;
-mod progress;
-mod question;
-mod shown;
-mod text_list;
-mod unexpected;
+mod judging;
+mod lists;
 mod verdict;
 
-use answer_list::{listing, place_of, status_of_answers};
 use check_explain::History;
 use check_judge::Judgement;
 use check_search::Limits;
 use check_texts::{may, texts_of};
-use ending::NoVerdict;
 use fx_arguments::fixcheck::{Asked, Settings, settings_in};
 use fx_arguments::words;
 use fx_order::Order;
 use fx_script::{PlayFault, Script};
-use going_on::breaks_from;
-use input::{note_script, read_path, script_of};
-use progress::judged;
-use question::Question;
+use input::{NoVerdict, note_script, read_path, script_of};
+use judging::{Question, judged};
+use lists::{listing_of_answers, listing_of_texts, place_of, status_of_answers, status_of_texts};
 use std::io::{self, Write};
 use std::process::ExitCode;
-use text_list::{listing_of_texts, status_of_texts};
 use verdict::{breaks_text, status_of, verdict_text};
 
 /// The number of bytes of a history that are kept before they are written.
@@ -40,10 +29,8 @@ const MIB: usize = 1_048_576;
 
 // Writes a text to standard output.
 fn write(rt: &HostRuntime, text: &str) -> Result<(), NoVerdict> {
-    match io::writer(rt).write_all(text.as_bytes()) {
-        Ok(()) => Ok(()),
-        Err(_) => Err(NoVerdict::Fault(PlayFault::Write)),
-    }
+    let written = io::writer(rt).write_all(text.as_bytes());
+    written.map_err(|_| NoVerdict::Fault(PlayFault::Write))
 }
 
 // Prints a whole history of a legal text, part by part.
@@ -89,7 +76,8 @@ fn list_answers(
     if answers.answers.is_empty() && answers.are_all {
         return Err(NoVerdict::NoRequest(word.to_owned(alloc)?));
     }
-    write(rt, listing(alloc, script, settings, &answers)?.as_str())?;
+    let list = listing_of_answers(alloc, script, settings, &answers)?;
+    write(rt, list.as_str())?;
     Ok(status_of_answers(&answers))
 }
 
@@ -102,10 +90,8 @@ fn list_texts(
 ) -> Result<u8, NoVerdict> {
     let alloc = rt.alloc();
     let all = texts_of(alloc, script, limits_of(settings), most as usize)?;
-    write(
-        rt,
-        listing_of_texts(alloc, script, settings, &all)?.as_str(),
-    )?;
+    let list = listing_of_texts(alloc, script, settings, &all)?;
+    write(rt, list.as_str())?;
     Ok(status_of_texts(&all))
 }
 
@@ -136,8 +122,7 @@ fn print_verdict(
             print_history(rt, &question, orders.as_slice())?;
         }
         Judgement::NotLegal(first) if settings.keep_going => {
-            let all = breaks_from(&question, limits, first)?;
-            write(rt, breaks_text(&question, &all)?.as_str())?;
+            write(rt, breaks_text(&question, limits, first)?.as_str())?;
         }
         judgement => write(rt, verdict_text(&question, &judgement)?.as_str())?,
     }

@@ -1,18 +1,19 @@
-//! Prints verdicts.
+//! The printed verdicts.
 ghost use Rattle.std.specs.Prelude.{◌≡◌};
 ghost use Rattle.check_cli.specs.Status.{status};
 
-use crate::going_on::{Breaks, Remainder};
-use crate::order_lines::push_order;
-use crate::question::Question;
-use crate::unexpected::why_of;
+use crate::judging::{Question, judged_after};
+use crate::lists::push_order;
 use check_explain::{
-    Complaint, explain, first_difference, line_after, line_number, shown_line, sign_before,
+    Complaint, MarkWords, PlaceWords, explain, first_difference, line_after, line_at, line_number,
+    shown_line, sign_before,
 };
 use check_judge::{Break, Fault, Judgement, Reason};
-use check_search::Doubt;
+use check_lines::accepted_in;
+use check_search::{Doubt, Limits};
 use fx_arguments::fixcheck::Settings;
 use fx_base::NoMemory;
+use fx_chain::Request;
 use std::alloc::AllocError;
 
 /// Returns the exit status of a verdict: 0 for legal, 1 for not legal, 6 for undecided.
@@ -36,12 +37,11 @@ fn push_found(
 ) -> Result<(), AllocError> {
     let number = line_number(question.text, at);
     let found = shown_line(question.alloc, question.text, at, "nothing")?;
+    let sign = if why.is_empty() { "" } else { "; " };
     write!(
         report,
-        "line {number} of the text: expected {expected}, found {found}"
-    )?;
-    report.push_str(if why.is_empty() { "" } else { "; " })?;
-    write!(report, "{why}\n")
+        "line {number} of the text: expected {expected}, found {found}{sign}{why}\n"
+    )
 }
 
 // Appends the numbers of the lines at some places of the text, the reason why they conflict, and the lines.
@@ -55,11 +55,8 @@ fn push_conflict(
     let first = line_number(question.text, from);
     report.push_str(if lines.len() == 1 { "line " } else { "lines " })?;
     for (i, line) in lines.iter().enumerate() {
-        let (sign, number) = (
-            sign_before(i, lines.len(), " and "),
-            first.saturating_add(*line),
-        );
-        write!(report, "{sign}{number}")?;
+        let sign = sign_before(i, lines.len(), " and ");
+        write!(report, "{sign}{}", first.saturating_add(*line))?;
     }
     write!(report, " of the text: {why}\n")?;
     for line in lines {
@@ -75,11 +72,7 @@ fn push_reason(report: &mut String, submission: u32, reason: Reason) -> Result<(
     write!(report, "submission {submission}: ")?;
     match reason {
         Reason::Member(place) => {
-            let (chain, member) = (place.chain, place.member);
-            write!(
-                report,
-                "no table lets {submission}.{chain}.{member} complete so\n"
-            )
+            write!(report, "no table lets {} complete so\n", PlaceWords(place))
         }
         Reason::TooManyCompletions => write!(report, "there are more completions than requests\n"),
         Reason::Closes => write!(report, "no order closes these files\n"),
@@ -99,6 +92,43 @@ fn complaint_in(question: &Question<'_>, broken: &Break) -> Result<Option<Compla
         Some(case) => explain(&case, slot),
         None => Ok(None),
     }
+}
+
+// Returns the requests of the last command before a break, if it is a submission that was accepted.
+fn last_accepted<'a>(question: &Question<'a>, broken: &Break) -> Option<&'a [Request]> {
+    let command = broken.commands.checked_sub(1)?;
+    let earlier = broken.ring.submissions.checked_sub(1)?;
+    accepted_in(question.script.commands().get(command)?, earlier)
+}
+
+// Returns the reason why the line at a place of the text is wrong, where the lines `expected` should be. It may be empty.
+fn why_of(
+    question: &Question<'_>,
+    broken: &Break,
+    at: usize,
+    expected: &[u8],
+) -> Result<String, AllocError> {
+    let (alloc, command, submission) = (question.alloc, broken.commands, broken.ring.submissions);
+    let front = format!(in alloc; "{submission}.")?;
+    let is_completion = line_at(question.text, at).starts_with(front.as_bytes());
+    if let (Some(requests), true) = (last_accepted(question, broken), is_completion) {
+        let count = requests.len();
+        return format!(in alloc;
+            "submission {submission}, command {command}, has {count} requests, and this is one more"
+        );
+    }
+    // the line of the end has no result, so that a `closed` line after it is the wrong one
+    let line = expected.strip_prefix(b"teardown\n").unwrap_or(expected);
+    for (slot, file) in broken.ring.slots.at.iter().enumerate() {
+        if let Some(file) = file {
+            let mark = MarkWords(file.mark);
+            let front = format!(in alloc; "closed {mark} ")?;
+            if line.starts_with(front.as_bytes()) {
+                return format!(in alloc; "{mark} is at slot {slot}");
+            }
+        }
+    }
+    Ok(String::new(alloc))
 }
 
 // Appends the command at which a text breaks, and the reason.
@@ -181,29 +211,37 @@ pub(crate) fn verdict_text(
     Ok(report)
 }
 
-/// Returns the lines of all breaks of a text, and of the verdict on what follows the last one.
-pub(crate) fn breaks_text(question: &Question<'_>, all: &Breaks) -> Result<String, NoMemory> {
+/// Returns the lines of all breaks of a text, each found from the ring that the text shows after the one before it, and of the
+/// verdict on what follows the last one.
+pub(crate) fn breaks_text(
+    question: &Question<'_>,
+    limits: Limits,
+    first: Break,
+) -> Result<String, NoMemory> {
     let mut report = String::new(question.alloc);
-    let mut command = 0usize;
-    for broken in &all.breaks {
-        push_break(&mut report, question, broken)?;
-        command = broken.commands.saturating_add(1);
-    }
-    match &all.rest {
-        Remainder::Nothing | Remainder::Judged(Judgement::NotLegal(_)) => {}
-        Remainder::NoRing => {
-            write!(
+    let (mut broken, commands) = (first, question.script.commands().len());
+    for _ in 0..=commands {
+        push_break(&mut report, question, &broken)?;
+        if broken.commands >= commands {
+            break;
+        }
+        let command = broken.commands.saturating_add(1);
+        match judged_after(question, limits, &broken)? {
+            Some(Judgement::NotLegal(next)) => {
+                broken = next;
+                continue;
+            }
+            None => write!(
                 report,
                 "not judged after command {command}: the text shows no ring there\n"
-            )?;
+            )?,
+            Some(Judgement::Legal(_)) => write!(report, "legal after command {command}\n")?,
+            Some(Judgement::Undecided(submission, doubt)) => {
+                write!(report, "undecided after command {command}: ")?;
+                push_doubt(&mut report, &question.settings, submission, &doubt)?;
+            }
         }
-        Remainder::Judged(Judgement::Legal(_)) => {
-            write!(report, "legal after command {command}\n")?;
-        }
-        Remainder::Judged(Judgement::Undecided(submission, doubt)) => {
-            write!(report, "undecided after command {command}: ")?;
-            push_doubt(&mut report, &question.settings, *submission, doubt)?;
-        }
+        break;
     }
     Ok(report)
 }

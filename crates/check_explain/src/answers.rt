@@ -1,16 +1,99 @@
 //! The answers that a request may give, whatever the other requests answer (docs/MODEL.md, "What a request answers").
 use crate::case::Case;
-use crate::contents::Contents;
-use crate::kinds::{Effect, acts_of, bytes_of, fixed_result, may_lack_memory};
-use crate::words::{GotWords, name_of, sign_before};
+use crate::kinds::{Act, Effect, acts_of, bytes_of, fixed_result, may_lack_memory};
+use crate::words::{GotWords, PlaceWords, name_of, sign_before};
 use fx_base::{Errno, NoMemory};
-use fx_chain::{Completion, Request};
+use fx_chain::{Completion, Place, Request};
 use std::alloc::{AllocError, Global};
 use std::fmt;
 use std::fmt::Display;
 
 /// The largest number of answers, and of bytes of a file, that are shown.
 const SHOWN: usize = 16;
+
+/// The contents that slots may have before a request: files of catalogue entries, or none. It is the first request of a submission, and
+/// [`Contents::pass`] goes on to the next one.
+#[derive(Drop)]
+pub(crate) struct Contents<'a> {
+    case: &'a Case<'a>,
+    // For each slot what requests leave there, each content once, and the chain of the requests, or `None` if it may be any.
+    left: Vec<Vec<(Option<u8>, Option<u32>)>>,
+    // The number of the request's chain, from 1, and the slots that its earlier members left known contents at.
+    chain: u32,
+    own: Vec<(u32, Option<u8>)>,
+}
+
+// Returns the accesses of a request that change a slot, each with what it leaves there.
+fn changes_of(case: &Case<'_>, request: &Request) -> Result<Vec<(Act, Option<u8>)>, NoMemory> {
+    let mut changes = Vec::new(case.alloc);
+    if case.refusal_of(request).is_none() {
+        for act in acts_of(case.alloc, case.catalogue, request)? {
+            match act.effect {
+                Effect::Looks => {}
+                Effect::Takes | Effect::Clears => changes.push((act, None))?,
+                Effect::Installs(entry) => changes.push((act, Some(entry)))?,
+            }
+        }
+    }
+    Ok(changes)
+}
+
+impl<'a> Contents<'a> {
+    /// Returns the contents before the first request of a submission.
+    pub(crate) fn new(case: &'a Case<'a>) -> Result<Contents<'a>, NoMemory> {
+        let mut left: Vec<Vec<(Option<u8>, Option<u32>)>> = Vec::new(case.alloc);
+        left.resize_with(case.size(), || Vec::new(case.alloc))?;
+        for (request, place) in case.requests.iter().zip(&case.places()?) {
+            for (act, content) in changes_of(case, request)? {
+                let by = act.slot.map(|_| place.chain);
+                let (first, count) = act.slot.map_or(case.slots.range, |slot| (slot, 1));
+                for there in left.iter_mut().skip(first as usize).take(count as usize) {
+                    match there.iter().position(|it| it.0 == content) {
+                        None => there.push((content, by))?,
+                        Some(i) if there[i].1 != by => there[i].1 = None,
+                        Some(_) => {}
+                    }
+                }
+            }
+        }
+        Ok(Contents {
+            case,
+            left,
+            chain: 1,
+            own: Vec::new(case.alloc),
+        })
+    }
+
+    /// Goes on to the request after `request`.
+    pub(crate) fn pass(&mut self, request: &Request) -> Result<(), NoMemory> {
+        if !request.links() {
+            self.chain = self.chain.saturating_add(1);
+            self.own.clear();
+            return Ok(());
+        }
+        for (act, content) in changes_of(self.case, request)? {
+            if let Some(slot) = act.slot {
+                self.own.push((slot, content))?;
+            }
+        }
+        Ok(())
+    }
+
+    /// Returns the contents that a slot may have before the request, each once: that of the last earlier member of its chain, or else
+    /// that before the submission, and those that other chains leave. A later member of its chain comes too late.
+    pub(crate) fn at(&self, slot: u32) -> Result<Vec<Option<u8>>, NoMemory> {
+        let file = self.case.slots.at.get(slot as usize).copied().flatten();
+        let own = self.own.iter().rev().find(|it| it.0 == slot);
+        let before = own.map_or(file.map(|it| it.entry), |it| it.1);
+        let mut contents = vec![in self.case.alloc; before]?;
+        for (content, by) in self.left.get(slot as usize).into_iter().flatten() {
+            if *by != Some(self.chain) && !contents.contains(content) {
+                contents.push(*content)?;
+            }
+        }
+        Ok(contents)
+    }
+}
 
 /// An answer that a request may give: one of the results from `first` to `last`, with these bytes, of a file of this name.
 #[derive(Drop)]
@@ -45,10 +128,9 @@ impl Display for ValidAnswer<'_> {
         if self.first < self.last {
             write!(f, " to {}", self.last)?;
         }
-        match self.bytes.as_slice().get(..SHOWN) {
-            Some(shown) if self.bytes.len() > SHOWN => write!(f, "{}..", GotWords(shown))?,
-            _ => write!(f, "{}", GotWords(self.bytes.as_slice()))?,
-        }
+        let bytes = self.bytes.as_slice();
+        write!(f, "{}", GotWords(bytes.get(..SHOWN).unwrap_or(bytes)))?;
+        f.write_str(if bytes.len() > SHOWN { ".." } else { "" })?;
         match self.name {
             Some(name) => write!(f, " of {name}"),
             None => Ok(()),
@@ -116,11 +198,11 @@ pub(crate) fn answers_of<'a>(
 
 /// Returns the first 16 of some answers in words, after a place.
 pub(crate) fn answers_words(
-    front: String,
+    alloc: Global,
+    place: Place,
     answers: &[ValidAnswer<'_>],
 ) -> Result<String, AllocError> {
-    let mut words = front;
-    words.push_str(" with ")?;
+    let mut words = format!(in alloc; "{} with ", PlaceWords(place))?;
     for (i, answer) in answers.iter().take(SHOWN).enumerate() {
         write!(words, "{}{answer}", sign_before(i, answers.len(), " or "))?;
     }

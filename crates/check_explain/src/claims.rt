@@ -1,7 +1,6 @@
 //! The claims of a submission's lines about some slots, for a search.
-use crate::case::Case;
-use crate::kinds::{Act, Effect, bytes_of};
-use crate::report::KnownReport;
+use crate::case::{Case, KnownReport};
+use crate::kinds::{Act, Effect, entries_read};
 use check_search::{Cell, Claim, Leaves, Resident, Strand, Wants};
 use fx_base::NoMemory;
 
@@ -41,11 +40,8 @@ impl ClaimsView<'_> {
 
     /// Checks whether an access is at a slot that is looked at. One that has no slot is at each slot of the allocation range.
     pub(crate) fn has(&self, act: &Act) -> bool {
-        let mut slots = self.slots.iter().enumerate().filter(|(_, has)| **has);
-        match act.slot {
-            Some(slot) => self.has_slot(slot),
-            None => slots.any(|(slot, _)| self.case.is_in_range(slot)),
-        }
+        let (first, count) = act.slot.map_or(self.case.slots.range, |slot| (slot, 1));
+        (first..first.saturating_add(count)).any(|slot| self.has_slot(slot))
     }
 
     /// Returns the lines that depend on the slots, with the slots' `closed` lines if `closes`, or else the lines that change the slots.
@@ -53,20 +49,20 @@ impl ClaimsView<'_> {
         let mut lines: Vec<usize> = Vec::new(self.case.alloc);
         for depends in [true, false] {
             for act in self.report.acts.iter().filter(|act| self.has(act)) {
-                let is_meant = if depends {
-                    act.found.is_some()
-                } else {
-                    act.is_done
-                };
+                let is_meant = act.found.is_some() || !depends && act.is_done;
                 let is_new = lines.last().copied() != Some(act.line);
                 if is_meant && is_new && !self.is_out(act.line) {
                     lines.push(act.line)?;
                 }
             }
-            for i in self.report.closes.iter().filter(|_| closes && depends) {
-                match self.report.files.get(*i) {
-                    Some(it) if self.has_slot(it.slot) => lines.push(it.closed.unwrap_or(0))?,
-                    _ => {}
+            for it in self
+                .report
+                .closes
+                .iter()
+                .filter_map(|i| self.report.files.get(*i))
+            {
+                if closes && depends && self.has_slot(it.slot) {
+                    lines.push(it.closed.unwrap_or(0))?;
                 }
             }
             if !lines.is_empty() {
@@ -92,16 +88,11 @@ impl ClaimsView<'_> {
 
     // Returns for each entry whether the read of a line may have found a file of it: the read got the file's bytes.
     fn fits_of(&self, line: usize) -> Result<[bool; 256], NoMemory> {
-        let mut fits = [false; 256];
-        let request = self.case.requests.get(line);
-        if let (Some(request), Some(it)) = (request, self.report.completions.get(line)) {
-            for number in 0..self.case.catalogue.len() {
-                let entry = u8::try_from(number).unwrap_or(u8::MAX);
-                let bytes = bytes_of(self.case, request, entry)?;
-                fits[entry as usize] = bytes.as_slice() == it.got.as_slice();
-            }
+        let (case, report) = (self.case, self.report);
+        match (case.requests.get(line), report.completions.get(line)) {
+            (Some(request), Some(it)) => entries_read(case, request, it),
+            _ => Ok([false; 256]),
         }
-        Ok(fits)
     }
 
     // Returns the claim of an access, if it makes one. That of a close that is left out empties the slot, if anything.
@@ -110,12 +101,10 @@ impl ClaimsView<'_> {
             return Ok(act.found.map(|_| Claim::Full));
         };
         let resident = act.file.and_then(|number| self.resident(number));
+        let is_out = self.is_out(act.line);
         let (wants, leaves) = match (act.effect, act.found, resident) {
-            (Effect::Looks, Some(_), _) if self.is_out(act.line) => return Ok(None),
-            (Effect::Takes, Some(_), _) if self.is_out(act.line) => (
-                Wants::Anything,
-                Leaves::Empty,
-            ),
+            (Effect::Looks, Some(_), _) if is_out => return Ok(None),
+            (Effect::Takes, Some(_), _) if is_out => (Wants::Anything, Leaves::Empty),
             (Effect::Looks, Some(true), _) => (Wants::Bytes(self.fits_of(act.line)?), Leaves::Same),
             (Effect::Looks, Some(false), _) => (Wants::Nothing, Leaves::Same),
             (Effect::Takes, Some(true), _) => (Wants::Something, Leaves::Empty),
@@ -143,25 +132,20 @@ impl ClaimsView<'_> {
             }
         }
         let (mut cells, mut number) = (Vec::new(self.case.alloc), 0usize);
-        for (at, found) in self.case.slots.at.iter().enumerate() {
-            let slot = u32::try_from(at).unwrap_or(u32::MAX);
-            let (in_range, file) = (
-                self.case.is_in_range(at),
-                found.and_then(|_| self.resident(number)),
-            );
+        for (slot, found) in (0..u32::MAX).zip(&self.case.slots.at) {
+            let file = found.and_then(|_| self.resident(number));
             number = number.saturating_add(usize::from(found.is_some()));
             if !self.has_slot(slot) {
                 continue;
             }
             cells.push(Cell {
                 slot,
-                in_range,
+                in_range: self.case.is_in_range(slot),
                 file,
             })?;
             if matches!(self.stays, Stays::Swept) {
-                let claims = vec![in self.case.alloc;
-                    Claim::At(slot, Wants::Anything, Leaves::Empty),
-                ]?;
+                let sweep = Claim::At(slot, Wants::Anything, Leaves::Empty);
+                let claims = vec![in self.case.alloc; sweep]?;
                 strands.push(Strand { chain: 0, claims })?;
             }
         }

@@ -1,13 +1,10 @@
 //! Lines of a submission that have no order together. Lines are left out, and the search is repeated.
-use crate::case::Case;
+use crate::case::{Case, KnownReport};
 use crate::claims::{ClaimsView, Stays};
 use crate::complaint::{Checked, Complaint};
-use crate::kinds::{Effect, fixed_result};
-use crate::report::KnownReport;
-use bitflags::Flags;
-use check_search::{Found, Limits, Steps, components, explore};
+use crate::kinds::{Effect, may_sever};
+use check_search::{Claim, Found, Limits, Steps, components, explore};
 use fx_base::NoMemory;
-use fx_chain::SqeFlags;
 
 /// The largest number of states of all searches, in which a search counts at least as many as there are lines, and of one search.
 const STATES: usize = 200_000;
@@ -58,9 +55,7 @@ impl Contradiction<'_> {
     fn files_at_slots(&self) -> Result<Vec<Vec<usize>>, NoMemory> {
         let ClaimsView { case, report, .. } = &self.view;
         let mut slots: Vec<Vec<usize>> = Vec::new(case.alloc);
-        for _ in 0..case.size() {
-            slots.push(Vec::new(case.alloc))?;
-        }
+        slots.resize_with(case.size(), || Vec::new(case.alloc))?;
         for (number, it) in report.files.iter().enumerate() {
             match slots.get_mut(it.slot as usize) {
                 Some(files) if self.view.has_slot(it.slot) => files.push(number)?,
@@ -126,10 +121,8 @@ impl Contradiction<'_> {
     // Looks at the first slots that chains join and at which the lines have no order. Returns whether there are such slots.
     fn look_at_parts(&mut self) -> Result<bool, NoMemory> {
         let case = self.view.case;
-        let mut chains = Vec::new(case.alloc);
-        for strand in self.view.question()?.1 {
-            chains.push(strand.claims)?;
-        }
+        let (_, strands) = self.view.question()?;
+        let chains: Vec<Vec<Claim>> = strands.into_iter().map(|it| it.claims).collect(case.alloc)?;
         for part in &components(case.alloc, case.size(), case.slots.range, &chains)? {
             if part.len() > 1 && self.look_at(part)? {
                 return Ok(true);
@@ -167,8 +160,7 @@ impl Contradiction<'_> {
             let chain = report.chain_of(line);
             let is_later = |other: usize| other > line && report.chain_of(other) == chain;
             it.links()
-                && !it.flags.contains(SqeFlags::IO_HARDLINK)
-                && fixed_result(case, it).is_none()
+                && may_sever(case, it)
                 && !named.iter().any(|other| *other == line || is_later(*other))
                 && report.acts.iter().any(|act| {
                     act.effect != Effect::Looks && is_later(act.line) && self.view.has(act)
@@ -215,16 +207,17 @@ pub(crate) fn no_order(case: &Case<'_>, report: &KnownReport, slot: Option<u32>)
         is_sure: true,
         states: STATES,
     };
-    let is_seen = match slot {
+    those.is_sure = match slot {
         Some(slot) => those.look_at(&[slot as usize])?,
         None => those.look_at_parts()?,
     };
-    those.is_sure = is_seen;
-    if is_seen {
+    if those.is_sure {
         those.leave_out()?;
+    } else if slot.is_none() {
+        return Ok(None);
     }
     let lines = those.view.named(those.rests_on_closes)?;
-    if lines.is_empty() || lines.len() > MOST_LINES || slot.is_none() && !is_seen {
+    if lines.is_empty() || lines.len() > MOST_LINES {
         return Ok(None);
     }
     let why = those.why(&lines, slot)?;

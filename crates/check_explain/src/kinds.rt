@@ -1,7 +1,8 @@
 //! The kinds of requests: their accesses, fixed results and reasons of refusals. No other module matches on the kind.
-use crate::case::{Case, next_place};
+use crate::case::{Case, places_of};
+use bitflags::Flags;
 use fx_base::{Catalogue, Errno, NoMemory};
-use fx_chain::{Op, Place, Request, Target, refusal_of};
+use fx_chain::{Completion, Op, Request, SqeFlags, Target, refusal_of};
 use fx_order::AccessPlace;
 use std::alloc::{AllocError, Global};
 
@@ -16,17 +17,6 @@ pub(crate) enum Effect {
     Clears,
     /// A file of this catalogue entry is installed.
     Installs(u8),
-}
-
-impl Effect {
-    /// Returns what it leaves at the slot, a file of a catalogue entry or none, or `None` if it leaves what is there.
-    pub(crate) fn left(self) -> Option<Option<u8>> {
-        match self {
-            Effect::Looks => None,
-            Effect::Takes | Effect::Clears => Some(None),
-            Effect::Installs(entry) => Some(Some(entry)),
-        }
-    }
 }
 
 /// An access that a request makes unless it is refused or canceled, and the facts that the request's line shows of it.
@@ -109,6 +99,11 @@ pub(crate) fn fixed_result(case: &Case<'_>, request: &Request) -> Option<i32> {
     }
 }
 
+/// Checks whether it depends on the slots whether a request severs its chain.
+pub(crate) fn may_sever(case: &Case<'_>, request: &Request) -> bool {
+    !request.flags.contains(SqeFlags::IO_HARDLINK) && fixed_result(case, request).is_none()
+}
+
 /// Checks whether a request is a read of some bytes, which may answer -12.
 pub(crate) fn may_lack_memory(request: &Request) -> bool {
     matches!(request.op, Op::Read { len: 1.., .. })
@@ -122,6 +117,21 @@ pub(crate) fn bytes_of(case: &Case<'_>, request: &Request, entry: u8) -> Result<
         case.catalogue.read_into(entry, *off, *len, &mut bytes);
     }
     Ok(bytes)
+}
+
+/// Returns for each catalogue entry whether a file of it has the bytes that a read returned.
+pub(crate) fn entries_read(
+    case: &Case<'_>,
+    request: &Request,
+    it: &Completion,
+) -> Result<[bool; 256], NoMemory> {
+    let mut fits = [false; 256];
+    for number in 0..case.catalogue.len() {
+        let entry = u8::try_from(number).unwrap_or(u8::MAX);
+        let bytes = bytes_of(case, request, entry)?;
+        fits[entry as usize] = bytes.as_slice() == it.got.as_slice();
+    }
+    Ok(fits)
 }
 
 /// Returns the reason why a request is refused with an error whatever is at the slots.
@@ -153,26 +163,19 @@ pub fn access_places(
     requests: &[Request],
 ) -> Result<Vec<Vec<AccessPlace>>, AllocError> {
     let mut chains: Vec<Vec<AccessPlace>> = Vec::new(alloc);
-    let mut at = Place {
-        submission: 0,
-        chain: 1,
-        member: 1,
-    };
-    for request in requests {
-        let Place { chain, member, .. } = at;
-        if member == 1 {
+    for (request, at) in requests.iter().zip(&places_of(alloc, 0, requests)?) {
+        if at.member == 1 {
             chains.push(Vec::new(alloc))?;
         }
         if let (None, Some(places)) = (refusal_of(catalogue, size, request), chains.last_mut()) {
             for Act { entry, .. } in acts_of(alloc, catalogue, request)? {
                 places.push(AccessPlace {
-                    chain,
-                    member,
+                    chain: at.chain,
+                    member: at.member,
                     entry,
                 })?;
             }
         }
-        at = next_place(at, request);
     }
     Ok(chains)
 }

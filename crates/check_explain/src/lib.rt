@@ -6,27 +6,18 @@ mod answers;
 mod case;
 mod claims;
 mod complaint;
-mod contents;
 mod contradiction;
 mod history;
-mod history_line;
-mod history_submission;
 mod kinds;
-mod lines;
-mod report;
 mod words;
 mod wrong_answer;
-mod wrong_close;
-mod wrong_count;
-mod wrong_place;
+mod wrong_files;
 
-pub use case::{Case, next_place};
+pub use case::{Case, KnownReport};
 pub use complaint::{Complaint, explain};
 pub use history::History;
 pub use kinds::access_places;
-pub use lines::{
-    cut_word, first_difference, line_after, line_at, line_number, next_asked, rest_after,
-    shown_line,
+pub use words::{
+    GotWords, MarkWords, PlaceWords, cut_word, first_difference, line_after, line_at, line_number,
+    next_asked, next_line, shown_line, sign_before,
 };
-pub use report::KnownReport;
-pub use words::{GotWords, MarkWords, PlaceWords, sign_before};

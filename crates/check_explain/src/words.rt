@@ -1,8 +1,117 @@
-//! Places, marks and files, in the words of a text.
+//! Lines of scripts and texts, by their bytes or their numbers, and the words for places, marks and files.
+ghost use Rattle.std.specs.Prelude.{◌≤◌, length};
+
 use fx_base::{Catalogue, Closed, Mark};
 use fx_chain::Place;
+use std::alloc::{AllocError, Global};
 use std::fmt;
 use std::fmt::Display;
+
+/// The largest number of bytes of a line that are shown.
+const SHOWN: usize = 100;
+
+// Returns the number of bytes of the first line, its end included.
+fn line_length(text: &[u8]) -> usize
+    ensures { result ≤ length text.now }
+{
+    match text.iter().position(|byte| *byte == b'\n') {
+        Some(at) => at + 1,
+        None => text.len(),
+    }
+}
+
+/// Returns the first line of a text, its end included, and the rest of the text.
+pub fn next_line(text: &[u8]) -> (&[u8], &[u8]) {
+    text.split_at(line_length(text))
+}
+
+/// Returns the line that begins at a byte, its end included. It is empty at the end of the text.
+pub fn line_at(text: &[u8], from: usize) -> &[u8] {
+    next_line(text.get(from..).unwrap_or(b"")).0
+}
+
+/// Returns a line without its end.
+pub(crate) fn without_end(line: &[u8]) -> &[u8] {
+    line.strip_suffix(b"\n").unwrap_or(line)
+}
+
+/// Returns the first word of a line, and its other words.
+pub fn cut_word(line: &[u8]) -> (&[u8], &[u8]) {
+    let mut words = without_end(line).splitn(2, |byte| *byte == b' ');
+    (words.next().unwrap_or(b""), words.next().unwrap_or(b""))
+}
+
+/// Returns the first line of a script that is a command or a request, its end included, and the rest of the script.
+pub fn next_asked(script: &[u8]) -> (&[u8], &[u8]) {
+    let mut rest = script;
+    for _ in 0..script.len() {
+        let (line, after) = next_line(rest);
+        if !line.starts_with(b"\n") && !line.starts_with(b"#") && !line.starts_with(b"file ") {
+            return (line, after);
+        }
+        rest = after;
+    }
+    (rest, rest)
+}
+
+/// Returns the number, from 1, of the line that has the byte at a place.
+pub fn line_number(text: &[u8], at: usize) -> usize {
+    let ends = text.iter().take(at).filter(|byte| **byte == b'\n');
+    ends.count().saturating_add(1)
+}
+
+/// Returns the place at which a line begins: `lines` lines after the one that begins at `from`.
+pub fn line_after(text: &[u8], from: usize, lines: usize) -> usize {
+    let mut at = from;
+    for _ in 0..lines {
+        at = at.saturating_add(line_at(text, at).len());
+    }
+    at
+}
+
+/// Returns the places of the first line in which two texts differ: in the first text, read from a place on, and in the second.
+pub fn first_difference(text: &[u8], from: usize, wanted: &[u8]) -> (usize, usize) {
+    let (mut at, mut there) = (from, 0usize);
+    for line in wanted.split_inclusive(|byte| *byte == b'\n') {
+        if line_at(text, at) != line {
+            break;
+        }
+        at = at.saturating_add(line.len());
+        there = there.saturating_add(line.len());
+    }
+    (at, there)
+}
+
+/// Returns the line that begins at a place, as a person is shown it: at most 100 bytes, and each that isn't printable as `\xNN`. For an
+/// empty or missing line it returns `none`.
+///
+/// # Errors
+/// `AllocError` if an allocation fails.
+pub fn shown_line(
+    alloc: Global,
+    text: &[u8],
+    from: usize,
+    none: &str,
+) -> Result<String, AllocError> {
+    let line = line_at(text, from);
+    let bytes = without_end(line);
+    if bytes.is_empty() {
+        return none.to_owned(alloc);
+    }
+    let mut shown = String::new(alloc);
+    for byte in bytes.iter().take(SHOWN) {
+        match *byte {
+            32..=126 => shown.push(char::from(*byte))?,
+            other => write!(shown, "\\x{other:02x}")?,
+        }
+    }
+    if bytes.len() > SHOWN {
+        shown.push_str("..")?;
+    } else if bytes.len() == line.len() {
+        shown.push_str(" without a line end")?;
+    }
+    Ok(shown)
+}
 
 /// A place: `S.C.M`.
 #[derive(Drop)]

@@ -1,21 +1,11 @@
 //! Completions that no request there may have, or that contradict their chain.
-use crate::answers::{ValidAnswer, answers_of, answers_words};
-use crate::case::{Case, next_place};
+use crate::answers::{Contents, ValidAnswer, answers_of, answers_words};
+use crate::case::Case;
 use crate::complaint::{Checked, Complaint};
-use crate::contents::Contents;
-use crate::kinds::{Effect, acts_of, bytes_of, fixed_result, why_refused};
+use crate::kinds::{Effect, acts_of, entries_read, fixed_result, may_sever, why_refused};
 use crate::words::{PlaceWords, name_of};
-use bitflags::Flags;
 use fx_base::{Errno, NoMemory};
-use fx_chain::{Completion, Place, Request, SqeFlags};
-
-// A request's place, and its chain so far: the line of its first member, and the member that severed it, if one did, with its line.
-#[derive(Clone, Copy)]
-struct Member {
-    place: Place,
-    first: usize,
-    severed: Option<(usize, Place)>,
-}
+use fx_chain::{Completion, Place, Request};
 
 // Returns the reason why a read can't have its bytes: the file that has them can't be at the slot, or no file has them.
 fn why_not_read(
@@ -28,16 +18,12 @@ fn why_not_read(
     if usize::try_from(res).ok() != Some(count) {
         return Ok(format!(in alloc; "the number is {res}, and {count} bytes follow")?);
     }
-    for number in 0..case.catalogue.len() {
-        let entry = u8::try_from(number).unwrap_or(u8::MAX);
-        if bytes_of(case, request, entry)?.as_slice() == it.got.as_slice() {
-            let name = name_of(case.catalogue, entry);
-            return Ok(format!(in alloc;
-                "these are the bytes of {name}, which can't be at slot {slot} then"
-            )?);
-        }
-    }
-    Ok(format!(in alloc; "no file gives this read these bytes")?)
+    let fits = entries_read(case, request, it)?;
+    let Some(entry) = (0..=u8::MAX).find(|entry| fits[*entry as usize]) else {
+        return Ok(format!(in alloc; "no file gives this read these bytes")?);
+    };
+    let name = name_of(case.catalogue, entry);
+    Ok(format!(in alloc; "these are the bytes of {name}, which can't be at slot {slot} then")?)
 }
 
 // Returns the reason why a request can't have a completion, which may be empty.
@@ -71,11 +57,11 @@ fn why_not(case: &Case<'_>, request: &Request, it: &Completion) -> Result<String
 }
 
 // Returns the complaint that a member is canceled, though no earlier one severs its chain: the lines of those that could.
-fn not_severed(case: &Case<'_>, first: usize, at: usize) -> Checked {
+fn not_severed(case: &Case<'_>, at: usize, member: u32) -> Checked {
+    let first = at.saturating_add(1).saturating_sub(member as usize);
     let mut lines = Vec::new(case.alloc);
     for (i, request) in case.requests.iter().enumerate().take(at).skip(first) {
-        let severs = !request.flags.contains(SqeFlags::IO_HARDLINK);
-        if severs && fixed_result(case, request).is_none() {
+        if may_sever(case, request) {
             lines.push(i)?;
         }
     }
@@ -97,58 +83,52 @@ fn not_canceled(case: &Case<'_>, by: (usize, Place), at: (usize, &Completion)) -
     Ok(Some(Complaint::Lines(vec![in case.alloc; by.0, at.0]?, why)))
 }
 
-// Returns the complaint about the completion of a request, if there is one.
+// Returns the complaint about the completion of a request, if there is one. `severed`: the line and the place of the member that
+// severed its chain.
 fn complaint_of(
     case: &Case<'_>,
     contents: &Contents<'_>,
-    member: Member,
-    at: usize,
+    severed: Option<(usize, Place)>,
+    (at, place): (usize, Place),
     request: &Request,
-    completions: &[Completion],
+    found: Option<&Completion>,
 ) -> Checked {
-    let why = match (member.severed, completions.get(at)) {
-        (_, None) => "its result can't be read".to_owned(case.alloc)?,
-        (Some(by), Some(it)) => return not_canceled(case, by, (at, it)),
-        (None, Some(it)) => {
-            if member.first < at && it.is_refusal(it.place, Errno::ECANCELED) {
-                return not_severed(case, member.first, at);
-            }
-            let answers = answers_of(case, contents, request)?;
-            if answers.iter().any(|answer| answer.fits(it)) {
-                return Ok(None);
-            }
-            why_not(case, request, it)?
-        }
-    };
+    if let (Some(by), Some(it)) = (severed, found) {
+        return not_canceled(case, by, (at, it));
+    }
+    if matches!(found, Some(it) if place.member > 1 && it.is_refusal(place, Errno::ECANCELED)) {
+        return not_severed(case, at, place.member);
+    }
     let canceled = -Errno::ECANCELED.code();
-    let answers = match member.severed {
+    let answers = match severed {
         Some(_) => vec![in case.alloc; ValidAnswer::among(case.alloc, canceled, canceled)]?,
         None => answers_of(case, contents, request)?,
     };
-    let place = format!(in case.alloc; "{}", PlaceWords(member.place))?;
-    Ok(Some(Complaint::Line(at, answers_words(place, &answers)?, why)))
+    let why = match found {
+        None => "its result can't be read".to_owned(case.alloc)?,
+        Some(it) if answers.iter().any(|answer| answer.fits(it)) => return Ok(None),
+        Some(it) => why_not(case, request, it)?,
+    };
+    let expected = answers_words(case.alloc, place, &answers)?;
+    Ok(Some(Complaint::Line(at, expected, why)))
 }
 
 /// Returns a complaint about the first completion that its request can't have, or that contradicts an earlier one of its chain.
 pub(crate) fn wrong_answer(case: &Case<'_>, completions: &[Completion]) -> Checked {
     let mut contents = Contents::new(case)?;
-    let mut member = Member {
-        place: case.first_place(),
-        first: 0,
-        severed: None,
-    };
-    for (at, request) in case.requests.iter().enumerate() {
-        let complaint = complaint_of(case, &contents, member, at, request, completions)?;
+    let mut severed = None;
+    for (at, (request, place)) in case.requests.iter().zip(&case.places()?).enumerate() {
+        let (place, found) = (*place, completions.get(at));
+        if place.member == 1 {
+            severed = None;
+        }
+        let complaint = complaint_of(case, &contents, severed, (at, place), request, found)?;
         if complaint.is_some() {
             return Ok(complaint);
         }
         contents.pass(request)?;
-        member.place = next_place(member.place, request);
-        if !request.links() {
-            member.first = at.saturating_add(1);
-            member.severed = None;
-        } else if let (None, Some(it)) = (member.severed, completions.get(at)) {
-            member.severed = request.severs(it).then_some((at, it.place));
+        if severed.is_none() && found.is_some_and(|it| request.severs(it)) {
+            severed = Some((at, place));
         }
     }
     Ok(None)

@@ -1,9 +1,9 @@
-//! Invalid lines of closed files and of tags after a submission's completions.
-use crate::case::Case;
+//! Invalid lines of closed files and of tags after a submission's completions, and lines that contradict each other by the files at
+//! one slot.
+use crate::case::{Case, Installed, KnownReport};
 use crate::complaint::{Checked, Complaint};
-use crate::lines::{line_after, line_at, rest_after};
-use crate::report::{Installed, KnownReport};
-use crate::words::{MarkWords, name_of};
+use crate::kinds::{Act, Effect};
+use crate::words::{FileWords, MarkWords, PlaceWords, line_after, name_of, next_line};
 use check_lines::{ClosedLine, read_report};
 use fx_base::Mark;
 
@@ -37,15 +37,16 @@ fn complaint_of(
     let last = report.closes.last().copied();
     let before = last.and_then(|nth| report.files.get(nth).copied());
     let i = file_marked(&report.files, last.unwrap_or(0), line.mark).unwrap_or(usize::MAX);
+    let mark = MarkWords(line.mark);
     let Some(known) = report.files.get_mut(i) else {
         let expected = "a file that was at a slot, or that a request installed";
-        let why = format!(in case.alloc; "no such file has the mark {}", MarkWords(line.mark))?;
+        let why = format!(in case.alloc; "no such file has the mark {mark}")?;
         return wrong(case, at, expected, why.as_str());
     };
     let name = name_of(case.catalogue, known.file.entry);
     if name.as_bytes() != line.name.as_slice() {
-        let expected = format!(in case.alloc; "closed {} {name}", MarkWords(line.mark))?;
-        let why = format!(in case.alloc; "{} is {name}", MarkWords(line.mark))?;
+        let expected = format!(in case.alloc; "closed {mark} {name}")?;
+        let why = format!(in case.alloc; "{mark} is {name}")?;
         return wrong(case, at, expected.as_str(), why.as_str());
     }
     if let Some(earlier) = known.closed {
@@ -72,21 +73,16 @@ fn complaint_after(case: &Case<'_>, report: &KnownReport, rest: &[u8]) -> Checke
         let expected = "a closed file, or the next command's line";
         return wrong(case, at, expected, why.as_str());
     }
-    for i in &report.closes {
-        let Some(Installed { file, closed, .. }) = report.files.get(*i).copied() else {
-            continue;
-        };
-        if file.tag == 0 {
-            continue;
-        }
+    let files = report.closes.iter().filter_map(|i| report.files.get(*i));
+    for Installed { file, closed, .. } in files.filter(|it| it.file.tag != 0) {
         let expected = format!(in case.alloc; "tag {}", file.tag)?;
-        let line = line_at(rest, 0);
+        let (line, after) = next_line(rest);
         if line.strip_suffix(b"\n") != Some(expected.as_bytes()) {
             let number = case.line.saturating_add(closed.unwrap_or(0));
             let why = format!(in case.alloc; "{expected} is that of the file of line {number}")?;
             return Ok(Some(Complaint::Line(at, expected, why)));
         }
-        rest = rest_after(rest, line);
+        rest = after;
         at = at.saturating_add(1);
     }
     if rest.starts_with(b"tag ") || rest.starts_with(b"closed ") {
@@ -104,7 +100,7 @@ pub(crate) fn wrong_close(case: &Case<'_>, report: &mut KnownReport) -> Checked 
         if !rest.starts_with(b"closed ") {
             break;
         }
-        let line = line_at(rest, 0);
+        let (line, after) = next_line(rest);
         let read = read_report(case.alloc, line, 0)?;
         let complaint = match read.and_then(|(mut lines, _)| lines.closed.pop()) {
             Some(closed) => complaint_of(case, report, at, &closed)?,
@@ -113,8 +109,69 @@ pub(crate) fn wrong_close(case: &Case<'_>, report: &mut KnownReport) -> Checked 
         if complaint.is_some() {
             return Ok(complaint);
         }
-        rest = rest_after(rest, line);
+        rest = after;
         at = at.saturating_add(1);
     }
     complaint_after(case, report, rest)
+}
+
+// Returns the complaint that two files are left at one slot.
+fn two_left(case: &Case<'_>, one: &Installed, other: &Installed) -> Checked {
+    let lines = one.line.iter().chain(other.line.iter()).copied();
+    let lines: Vec<usize> = lines.collect(case.alloc)?;
+    let (first, slot) = (FileWords(case.catalogue, one.file), one.slot);
+    let second = FileWords(case.catalogue, other.file);
+    let why = format!(in case.alloc;
+        "{first} and {second} are both left at slot {slot}: neither has a `closed` line"
+    )?;
+    Ok(Some(Complaint::Lines(lines, why)))
+}
+
+// Returns the complaint that a file has no `closed` line, if it was at a slot before an access that removed it or found the slot empty.
+fn removed(case: &Case<'_>, report: &KnownReport, act: &Act, it: &Installed) -> Checked {
+    let does = match act.found {
+        Some(false) => "finds the slot empty",
+        _ if act.is_done && act.effect != Effect::Looks => "removes what is there",
+        _ => return Ok(None),
+    };
+    let Some(later) = report.completions.get(act.line) else {
+        return Ok(None);
+    };
+    let mut lines = Vec::new(case.alloc);
+    if let Some(line) = it.line {
+        if line >= act.line || report.chain_of(line) != Some(later.place.chain) {
+            return Ok(None);
+        }
+        lines.push(line)?;
+    }
+    lines.push(act.line)?;
+    let (file, slot) = (FileWords(case.catalogue, it.file), it.slot);
+    let place = PlaceWords(later.place);
+    let why = format!(in case.alloc;
+        "{file} is at slot {slot} before {place}, which {does}, and has no `closed` line"
+    )?;
+    Ok(Some(Complaint::Lines(lines, why)))
+}
+
+/// Returns a complaint about the first slot at which two files are left, or about the first access that shows that a file without a
+/// `closed` line was removed.
+pub(crate) fn wrong_count(case: &Case<'_>, report: &KnownReport) -> Checked {
+    let mut left: Vec<Option<Installed>> = vec![in case.alloc; None; case.size()]?;
+    for it in report.files.iter().filter(|it| it.closed.is_none()) {
+        match left.get_mut(it.slot as usize) {
+            Some(Some(one)) => return two_left(case, one, it),
+            Some(at) => *at = Some(*it),
+            None => {}
+        }
+    }
+    for act in &report.acts {
+        let at = act.slot.and_then(|slot| left.get(slot as usize));
+        if let Some(Some(it)) = at {
+            let complaint = removed(case, report, act, it)?;
+            if complaint.is_some() {
+                return Ok(complaint);
+            }
+        }
+    }
+    Ok(None)
 }

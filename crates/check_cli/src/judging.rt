@@ -1,0 +1,246 @@
+//! A script and a text, judged: with progress on a terminal, and after a break from the ring that the text shows there.
+ghost use Rattle.std.specs.Prelude.{IfOk};
+ghost use Rattle.check_judge.specs.Judged.{IsJudged};
+
+use check_explain::{Case, KnownReport, cut_word, line_number, next_asked, next_line};
+use check_judge::{Break, Fault, Judgement, judge, judge_from};
+use check_lines::{ReportLines, accepted_in, copy_of, read_report};
+use check_search::Limits;
+use fx_arguments::fixcheck::Settings;
+use fx_base::NoMemory;
+use fx_order::{RingSlots, Slots};
+use fx_script::{Command, Script};
+use std::alloc::Global;
+use std::io::IsTerminal;
+use std::time::Instant;
+
+/// The limit of the first search, in states. Each later search has `LARGER` times as many.
+const FIRST_STATES: usize = 16_384;
+
+const LARGER: usize = 4;
+
+/// The largest number of searches before the last one.
+const SEARCHES: usize = 32;
+
+/// The number of seconds before anything is printed.
+const QUIET_SECONDS: u64 = 2;
+
+/// A script, a text that is judged for it, and the settings.
+#[derive(Clone, Copy)]
+pub(crate) struct Question<'a> {
+    pub alloc: Global,
+    pub script: &'a Script,
+    /// The bytes of the script.
+    pub source: &'a [u8],
+    pub text: &'a [u8],
+    pub settings: Settings<'a>,
+}
+
+impl Question<'_> {
+    /// Returns the rest of the text, from a byte on.
+    pub(crate) fn rest(&self, at: usize) -> &[u8] {
+        match self.text.get(at..) {
+            Some(rest) => rest,
+            None => b"",
+        }
+    }
+
+    /// Returns the rest of the script after the lines of some commands.
+    pub(crate) fn script_after(&self, commands: usize) -> &[u8] {
+        let mut rest = self.source;
+        for command in self.script.commands().iter().take(commands) {
+            let requests = match command {
+                Command::Submit(requests) => requests.len(),
+                _ => 0,
+            };
+            for _ in 0..=requests {
+                (_, rest) = next_asked(rest);
+            }
+        }
+        rest
+    }
+
+    /// Returns the submission at a break, if it is one that is accepted.
+    pub(crate) fn case_at<'b>(&'b self, broken: &'b Break) -> Option<Case<'b>> {
+        let submissions = broken.ring.submissions;
+        let command = self.script.commands().get(broken.commands)?;
+        Some(Case {
+            alloc: self.alloc,
+            catalogue: self.script.catalogue(),
+            slots: &broken.ring.slots,
+            submissions,
+            script: self.script_after(broken.commands),
+            requests: accepted_in(command, submissions)?,
+            text: self.rest(broken.at),
+            line: line_number(self.text, broken.at),
+        })
+    }
+}
+
+// Prints that a submission has more states than were met, unless the search began a moment ago. What can't be printed is left out.
+fn tell(rt: &HostRuntime, begin: &Instant, judgement: &Judgement, states: usize, limits: Limits) {
+    let (Judgement::Undecided(submission, _), Ok(passed)) = (judgement, begin.elapsed(rt)) else {
+        return;
+    };
+    let most = limits.states;
+    if passed.as_secs() >= QUIET_SECONDS {
+        let _ = eprintln!(rt;
+            "fixcheck: submission {submission} has more than {states} states; the limit is {most}"
+        );
+    }
+}
+
+/// Decides whether a script may print a text, as `check_judge::judge` does with the given limits. If standard error is a terminal, it
+/// searches with few states first, and after two seconds prints how many states were too few (this project's own).
+///
+/// # Errors
+/// `NoMemory` if an allocation fails.
+pub fn judged(
+    rt: &HostRuntime,
+    script: &Script,
+    text: &[u8],
+    limits: Limits,
+) -> Result<Judgement, NoMemory>
+    ensures { IfOk result (IsJudged script.now text.now) }
+{
+    let alloc = rt.alloc();
+    let (true, Ok(begin)) = (rt.stderr().is_terminal(), Instant::now(rt)) else {
+        return judge(alloc, script, text, limits);
+    };
+    let mut states = FIRST_STATES;
+    for _ in 0..SEARCHES {
+        if states >= limits.states {
+            break;
+        }
+        let few = Limits {
+            states,
+            bytes: limits.bytes,
+        };
+        let judgement = judge(alloc, script, text, few)?;
+        if !matches!(&judgement, Judgement::Undecided(..)) {
+            return Ok(judgement);
+        }
+        tell(rt, &begin, &judgement, states, limits);
+        states = states.saturating_mul(LARGER);
+    }
+    judge(alloc, script, text, limits)
+}
+
+// Returns the slots after a submission: each file that was at a slot, or that a completion installs there, is still there unless
+// it has a `closed` line. Returns `None` if two files are then at one slot.
+fn slots_after(case: &Case<'_>, lines: ReportLines) -> Result<Option<Slots>, NoMemory> {
+    let mut at = vec![in case.alloc; None; case.size()]?;
+    for it in &KnownReport::new(case, lines.completions)?.files {
+        if lines.closed.iter().any(|line| line.mark == it.file.mark) {
+            continue;
+        }
+        match at.get_mut(it.slot as usize) {
+            Some(there) if there.is_none() => *there = Some(it.file),
+            _ => return Ok(None),
+        }
+    }
+    let range = case.slots.range;
+    Ok(Some(Slots { range, at }))
+}
+
+// Returns the ring after a submission whose lines can be read, and the number of bytes of the rest of the text.
+fn after_submission(
+    case: &Case<'_>,
+    registrations: u32,
+) -> Result<Option<(RingSlots, usize)>, NoMemory> {
+    let Some((lines, rest)) = read_report(case.alloc, case.text, case.requests.len())? else {
+        return Ok(None);
+    };
+    for (it, place) in lines.completions.iter().zip(&case.places()?) {
+        if it.place != *place {
+            return Ok(None);
+        }
+    }
+    let Some(slots) = slots_after(case, lines)? else {
+        return Ok(None);
+    };
+    let ring = RingSlots {
+        slots,
+        submissions: case.number(),
+        registrations,
+    };
+    Ok(Some((ring, rest.len())))
+}
+
+// Returns the ring after a call, or after a refused submission, whose first line is this one: the expected ring if the line is the
+// expected one, and the ring before it if the line says that it was refused.
+fn after_line(
+    question: &Question<'_>,
+    broken: &Break,
+    line: &[u8],
+) -> Result<Option<RingSlots>, NoMemory> {
+    let ring = copy_of(question.alloc, &broken.ring)?;
+    let expected = match &broken.fault {
+        Fault::Text(expected) => expected.as_bytes(),
+        _ => b"submit",
+    };
+    if matches!(broken.fault, Fault::Text(_)) && next_line(expected).0 == line {
+        let limits = Limits {
+            states: 1,
+            bytes: 1,
+        };
+        let (alloc, commands) = (question.alloc, broken.commands);
+        let judgement = judge_from(alloc, question.script, commands, ring, expected, limits)?;
+        return Ok(match judgement {
+            Some(Judgement::NotLegal(next)) if next.commands == 1 => Some(next.ring),
+            _ => None,
+        });
+    }
+    let (word, result) = cut_word(line);
+    let is_refusal = result.starts_with(b"-") || result.starts_with(b"refused ");
+    Ok((is_refusal && word == cut_word(expected).0).then_some(ring))
+}
+
+// Returns the ring that a text shows after the command at which it breaks, and the number of bytes of the rest of the text, or `None`
+// if it shows none. It is advice, and no contract speaks of it: `judge_from` checks that it is a ring.
+//
+// Of a submission, each request has its completion. A file that was at a slot, or that a completion installs there, is there
+// unless it has a `closed` line, and no two files are at one slot. Of a call, or a refused submission, the first line is the
+// expected one, or says that it was refused.
+fn shown_after(
+    question: &Question<'_>,
+    broken: &Break,
+) -> Result<Option<(RingSlots, usize)>, NoMemory> {
+    if let Some(case) = question.case_at(broken) {
+        let shown = after_submission(&case, broken.ring.registrations)?;
+        if shown.is_some() {
+            return Ok(shown);
+        }
+    }
+    let (line, rest) = next_line(question.rest(broken.at));
+    let Some(ring) = after_line(question, broken, line)? else {
+        return Ok(None);
+    };
+    let read = read_report(question.alloc, rest, 0)?;
+    Ok(read.map(|(_, rest)| (ring, rest.len())))
+}
+
+/// Judges a text after a break, from the ring that the text shows there: the verdict is that of `check_judge::judge_from` on that
+/// ring, and nothing is proved of whether a play leads to it (this project's own). A further break is counted from the beginning of
+/// the script and of the text. Returns `None` if the text shows no ring there.
+///
+/// # Errors
+/// `NoMemory` if an allocation fails.
+pub(crate) fn judged_after(
+    question: &Question<'_>,
+    limits: Limits,
+    broken: &Break,
+) -> Result<Option<Judgement>, NoMemory> {
+    let Some((ring, rest)) = shown_after(question, broken)? else {
+        return Ok(None);
+    };
+    let (alloc, script) = (question.alloc, question.script);
+    let commands = broken.commands.saturating_add(1);
+    let at = question.text.len().saturating_sub(rest);
+    let mut judgement = judge_from(alloc, script, commands, ring, question.rest(at), limits)?;
+    if let Some(Judgement::NotLegal(next)) = &mut judgement {
+        next.commands = next.commands.saturating_add(commands);
+        next.at = next.at.saturating_add(at);
+    }
+    Ok(judgement)
+}
