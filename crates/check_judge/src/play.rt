@@ -7,6 +7,7 @@ ghost use Rattle.fx_script.specs.Play.{PrintsEnd};
 ghost use Rattle.check_judge.specs.Answer.{IsCommandVerdict};
 ghost use Rattle.check_judge.specs.Judged.{IsJudged, IsJudgedFrom};
 ghost use Rattle.check_judge.specs.Kept.{IsRingKept};
+ghost use Rattle.check_judge.specs.declared.judgement.Judgement.TheVariants.{NotLegal};
 ghost use Rattle.fx_language.specs.Script.{AreFiles};
 ghost use Rattle.fx_order.specs.Slots.{ring_with_slots};
 
@@ -82,6 +83,23 @@ fn play_end(
     }
 }
 
+// Returns the verdict that a text breaks after `commands` commands and `at` bytes.
+fn broken(commands: usize, at: usize, ring: RingSlots, fault: Fault) -> Judgement
+    ensures { result ≡ NotLegal (record {
+      commands = commands;
+      at = at;
+      ring = ring;
+      fault = fault;
+    }) }
+{
+    Judgement::NotLegal(Break {
+        commands,
+        at,
+        ring,
+        fault,
+    })
+}
+
 // Judges the rest of a text by the rest of a script's commands, from a ring.
 fn judge_rest(
     alloc: Global,
@@ -106,14 +124,7 @@ fn judge_rest(
                     orders.push(order)?;
                 }
             }
-            CommandVerdict::Broken(fault) => {
-                return Ok(Judgement::NotLegal(Break {
-                    commands: done,
-                    at,
-                    ring,
-                    fault,
-                }));
-            }
+            CommandVerdict::Broken(fault) => return Ok(broken(done, at, ring, fault)),
             CommandVerdict::Undecided(doubt) => {
                 return Ok(Judgement::Undecided(ring.submissions + 1, doubt));
             }
@@ -121,12 +132,7 @@ fn judge_rest(
     }
     match play_end(alloc, catalogue, &ring, &text[at..])? {
         None => Ok(Judgement::Legal(orders)),
-        Some(wanted) => Ok(Judgement::NotLegal(Break {
-            commands: commands.len(),
-            at,
-            ring,
-            fault: Fault::Text(wanted),
-        })),
+        Some(wanted) => Ok(broken(commands.len(), at, ring, Fault::Text(wanted))),
     }
 }
 

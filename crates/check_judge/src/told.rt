@@ -11,7 +11,7 @@ ghost use Rattle.fx_chain.specs.Operation.{all_asked, asked_of};
 
 use check_lines::ClosedLine;
 use fx_base::{Catalogue, Closed, Mark, NoMemory};
-use fx_chain::{Completion, Place, Request};
+use fx_chain::{Completion, Request};
 use fx_order::{Slots, installs_at};
 use std::alloc::Global;
 
@@ -147,24 +147,10 @@ pub(crate) fn wrong_tag(wanted: &[u64], tags: &[u64]) -> Option<usize>
 fn has_installed(request: &Request, completion: &Completion, mark: Mark) -> bool
     ensures { result ≡ false → Installed (asked_of request.now) (completed_of completion.now) mark → ⊥ }
 {
-    let Mark::Submitted {
-        submission,
-        chain,
-        member,
-        entry,
-    } = mark
-    else {
+    let Mark::Submitted { entry, .. } = mark else {
         return false;
     };
-    let place = Place {
-        submission,
-        chain,
-        member,
-    };
-    if completion.place != place {
-        return false;
-    }
-    if completion.res < 0 {
+    if completion.place.mark(entry) != mark || completion.res < 0 {
         return false;
     }
     installs_at(&request.op, entry)

@@ -45,7 +45,7 @@ loop-done-preserved c =
 pub returns-in-Broken : goal.returns-in-Broken
 returns-in-Broken c =
     let a = (goal.at.returns-in-Broken c).In_ok-count in
-    stops c.loop-done.invariant.so_far (next a) _ c.in-Broken.fault c.loop-done.invariant.inside (answered a c.in-Broken.is)
+    rw c.broken.ensures (stops c.loop-done.invariant.so_far (next a) _ c.in-Broken.fault c.loop-done.invariant.inside (answered a c.in-Broken.is))
 
 -- all commands were
 module _ (c : In_ok-play_end) where
@@ -64,7 +64,8 @@ pub returns-in-Some-2 : goal.returns-in-Some-2
 returns-in-Some-2 c =
     let e = (goal.at.returns-in-Some-2 c).In_ok-play_end in
     let never = rw c.in-Some-2.is at c.in_ok-play_end.ensures.only in
-    not_ended (all_done e) (as_many e) _ _ c.loop-done.invariant.inside (λ end. never (rw (take_rest c.args.text.now c.loop-done.at) end))
+    rw c.broken-in-Some-2.ensures (not_ended (all_done e) (as_many e) _ _ c.loop-done.invariant.inside
+    (λ end. never (rw (take_rest c.args.text.now c.loop-done.at) end)))
 
 pub returns-in-None : goal.returns-in-None
 returns-in-None c =
