@@ -49,13 +49,6 @@ module _ (before : RingState) (command : Instruction) (text : List ℕ) where
         → Prints ring command next printed
     pub only : (next : RingContents) (others : List ℕ) (g : ContinuesText before command text next others) → (ring_of next ≡ left) × (g.line ≡ line)
 
-  pub exactly : {left : RingState} {line : List ℕ} → ((ring next : RingContents) (printed : List ℕ) → ring_of ring ≡ before
-      → Prints ring command next printed ↔ ((ring_of next ≡ left) × (printed ≡ line))) → PrintsOne left line
-  exactly one = record {
-    may = λ ring next printed same leads is. (one ring next printed same).1 (leads, is);
-    only = λ next others g. (one g.ring next g.line g.same).0 g.prints;
-  }
-
 module _ (catalogue : List FileEntry) (old new : RingSlots) (command : Instruction) (text line : List ℕ)
     (one : PrintsOne (ring_with_slots catalogue old) command text (ring_with_slots catalogue new) line) where
   pub goes : (met : Met) → IsMet text line met → IsStep catalogue old command text met new

@@ -6,7 +6,7 @@ pub use Rattle.fx_chain.specs.Accepted.{IsAccepted, members_of, IsChain}
 pub use Rattle.fx_chain.specs.Answers.{installed}
 pub use Rattle.fx_chain.specs.Completed.{Completed, all_completed, completed, completed_of, next_member, refusal, negated}
 pub use Rattle.fx_chain.specs.Explains.{canceled, first_member, severs}
-pub use Rattle.fx_chain.specs.Operation.{Asked, Opens, all_asked, asked_of, Closes, Operation, Reads, Updates}
+pub use Rattle.fx_chain.specs.Operation.{Asked, Opens, all_asked, asked_of, Operation}
 pub use Rattle.fx_chain.specs.declared.completion.Completion.{Completion}
 pub use Rattle.fx_chain.specs.declared.completion.Place.{Place}
 pub use Rattle.fx_chain.specs.declared.request.Request.{Request}
@@ -44,7 +44,7 @@ pub use Rattle.fx_order.specs.declared.access.ChainAccess.{ChainAccess}
 pub use Rattle.fx_plain.proofs.Cells.{by_equality, unchanged, each_set, read_default}
 pub use Rattle.fx_plain.specs.Step.{changed_at}
 pub use Rattle.fx_ring.proofs.SubmittedRing.{submitted_rings}
-pub use Rattle.fx_ring.specs.Ring.{IsRing, RingState, ring_of, RingContents, files_of_ring, new_ring, HasCounted}
+pub use Rattle.fx_ring.specs.Ring.{IsRing, RingState, ring_of, RingContents, new_ring, HasCounted}
 pub use Rattle.fx_ring.specs.Submission.{Reported}
 pub use Rattle.check_search.specs.AtSlots.{has_slot, keeps, slot_claimed}
 pub use Rattle.fx_table.proofs.SumLemmas.{contains_head, contains_tail, contains_cases, contains_none, each_all}
@@ -52,20 +52,19 @@ pub use Rattle.std.proofs.Common.{All, Bool, Contains, Err, IsSome, List, None, 
 pub use Rattle.std.proofs.Common.{eq-eqb, false, filter, get_or, if◌then◌else◌, inl, inr, int_le, int_lt, is_some, length, map, nat_abs, negsuc, not}
 pub use Rattle.std.proofs.Common.{of_z, pos, refl, rules, slice_get, slice_index, slice_index_or, slice_set, subst, suc, sym, take, to_z, true, w32}
 pub use Rattle.std.proofs.Common.{zero, ℕ, ℤ, ◌++◌, ◌+◌, ◌<◌, ◌==◌, ◌||◌, ◌∙◌, ◌∷◌, ◌≡◌, ◌≢◌, ◌≤◌, ◌⊎◌, add_assoc, add-zero, add-one, ne_eqb}
-pub use Rattle.std.proofs.Common.{true≢false, length-drop, ⊎_elim, MatchBool, option_to_list, IfOk, IfSome, codes, length-append, nat_le, option_map}
-pub use Rattle.std.proofs.Common.{replicate, string_bytes, ◌-◌, ◌^◌, ◌↔◌, IfNone, IsTrue, unwrap_or, w64, zero-add, add_comm, Global, String}
-pub use Rattle.std.proofs.Common.{flat_map, MatchOption, is_lt}
-pub use Rattle.std.proofs.lemmas.Bool.{le-leb, le-ltb, lt-leb, lt-ltb, and_from, cases_Bool, cases_lt, ltb-false, or_parts, cond_both}
+pub use Rattle.std.proofs.Common.{true≢false, length-drop, ⊎_elim, MatchBool, option_to_list, IfOk, length-append, nat_le, option_map, replicate}
+pub use Rattle.std.proofs.Common.{string_bytes, ◌-◌, ◌^◌, ◌↔◌, IsTrue, unwrap_or, zero-add, add_comm, flat_map, MatchOption, is_lt}
+pub use Rattle.std.proofs.lemmas.Bool.{le-leb, lt-leb, and_from, cases_Bool, cases_lt}
 pub use Rattle.std.proofs.lemmas.Int.{to_z-of_z}
 pub use Rattle.std.proofs.lemmas.List.{append-nil, get_or_default, length-map, length-set, drop_more, drop_all, length_push, nil_from_length}
 pub use Rattle.std.proofs.lemmas.List.{take_all, length-take-le, take-append-drop, take_more, get_or-drop, get_or-take, get_or_past, length-take}
-pub use Rattle.std.proofs.lemmas.List.{length-replicate, get_or_read_under, map_push, drop-drop, get_or-map, take_rest, map-append, drop-map}
+pub use Rattle.std.proofs.lemmas.List.{get_or_read_under, map_push, drop-drop, get_or-map, take_rest, map-append, drop-map}
 pub use Rattle.std.proofs.lemmas.List.Elements.{All-contains, All-head, All-map, All-tail, All-weaker, Contains-append_right, Contains-get_or}
-pub use Rattle.std.proofs.lemmas.List.Elements.{All-more, All-append, All-cons, All-get_or, All-nil, All-replicate, filter-append, All-filter}
+pub use Rattle.std.proofs.lemmas.List.Elements.{All-more, All-append, All-cons, All-get_or, All-nil, filter-append, All-filter}
 pub use Rattle.std.proofs.lemmas.Option.{slice_get_read, slice_get_within, same_Some, slice_get_cases, slice_get_past, none-some}
 pub use Rattle.std.proofs.lemmas.Option.{get_or_from_slice_get, slice_get-get_or}
 pub use Rattle.std.specs.Global.{Vec}
-pub use Rattle.std.specs.List.{AllByRecursion, AllZip, list_any}
+pub use Rattle.std.specs.List.{AllByRecursion, AllZip}
 pub use Rattle.std.proofs.lemmas.Result.{IfOk-weaker, on_ok_weaker}
 pub use Rattle.check_search.proofs.Reaching.{mapped_at, no_any}
 pub use Rattle.fx_order.proofs.Placed.{same_size, Has, placed, has_either, placed-append, left_from, removes_contained, Removes, emptied}
@@ -74,25 +73,23 @@ pub use Rattle.std.proofs.lemmas.Slice.Zip.{AllZip-long}
 pub use Rattle.check_judge.specs.Known.{Brings, IsBrought, IsKnown}
 pub use Rattle.fx_order.proofs.Accesses.{of_chain, own_first, not_own}
 pub use Rattle.fx_order.specs.declared.slots.Slots.{Slots}
-pub use Rattle.fx_base.specs.AddFault.{has_name}
 pub use Rattle.fx_base.specs.Tags.{tag_completion, tags_of}
-pub use Rattle.fx_base.specs.declared.catalogue.TheConstants.{MOST_ENTRIES, LONGEST_ENTRY}
+pub use Rattle.fx_base.specs.declared.catalogue.TheConstants.{LONGEST_ENTRY}
 pub use Rattle.fx_base.specs.declared.errno.Errno.{Errno}
 pub use Rattle.fx_base.specs.declared.errno.Errno.TheVariants.{EBADF, ENFILE, ENOENT, ENOMEM, ECANCELED}
 pub use Rattle.fx_base.specs.declared.mark.Mark.{Mark}
 pub use Rattle.fx_base.specs.declared.mark.Mark.TheVariants.{Registered, Submitted}
 pub use Rattle.fx_base.specs.declared.tag_completion.TagCompletion.{TagCompletion}
-pub use Rattle.check_lines.proofs.Entries.{all_closed, all_of_ring, few_of_ring, good_registered, AreOf, all_of_list, few_of_list, good_larger}
-pub use Rattle.check_lines.proofs.Entries.{one_at, end_printed, shown}
+pub use Rattle.check_lines.proofs.Entries.{all_closed, all_of_ring, few_of_ring, one_at, end_printed, shown}
 pub use Rattle.check_lines.specs.InRange.{AreInRange, IsFileInRange}
 pub use Rattle.fx_chain.proofs.Cases.{either_way, either_case}
 pub use Rattle.fx_chain.specs.Faults.{fault_of}
 pub use Rattle.fx_chain.specs.Runs.{runs_of}
 pub use Rattle.fx_chain.specs.declared.chain.Chain.{Chain}
 pub use Rattle.fx_chain.specs.declared.request.Target.{Target}
-pub use Rattle.check_judge.specs.Kept.{IsRingKept, IsOfScript, IsOfRing}
+pub use Rattle.check_judge.specs.Kept.{IsRingKept, IsOfRing}
 pub use Rattle.check_judge.specs.Met.{BeginsWith, IsMet}
-pub use Rattle.check_judge.specs.Ordered.{MayPrintBy, IsTextBy, MayPrintAllBy, PrintsAllBy}
+pub use Rattle.check_judge.specs.Ordered.{MayPrintBy, MayPrintAllBy, PrintsAllBy}
 pub use Rattle.check_judge.specs.PlaceLists.{AreListsOf, IsListFor}
 pub use Rattle.check_judge.specs.Places.{AreAccessPlaces, IsChainListed, place_at, places_of_chain, own_places, AreChainsListed}
 pub use Rattle.check_judge.specs.Step.{ContinuesText, IsStep, LeadsNowhere, LeadsTo}
@@ -103,8 +100,7 @@ pub use Rattle.check_judge.specs.declared.command.Met.{Met}
 pub use Rattle.check_judge.specs.declared.command.Met.TheVariants.{Apart, Here}
 pub use Rattle.check_judge.specs.Verdict.{CameBy, told_report, IsRefuted, IsToldOutcome}
 pub use Rattle.check_judge.specs.declared.told.Told.{Told}
-pub use Rattle.fx_language.specs.Instruction.{Instruction, MakesSparse, RegistersList, SetsRange, SubmitsAll, Unregisters, UpdatesRing}
-pub use Rattle.fx_language.specs.Instruction.{instruction_of, instructions_of}
+pub use Rattle.fx_language.specs.Instruction.{Instruction, SubmitsAll, instruction_of, instructions_of}
 pub use Rattle.fx_language.specs.Script.{AreFiles, Meaning}
 pub use Rattle.check_lines.proofs.ReportTexts.{printed_lines, name_without_end}
 pub use Rattle.check_lines.specs.ClosedView.{named_close_of}
@@ -119,16 +115,13 @@ pub use Rattle.fx_order.specs.declared.listed_order.AccessPlace.{AccessPlace}
 pub use Rattle.fx_order.specs.declared.listed_order.Order.{Order}
 pub use Rattle.fx_order.specs.declared.ring_slots.RingSlots.{RingSlots}
 pub use Rattle.fx_plain.specs.declared.table.TheConstants.{MOST_SLOTS}
-pub use Rattle.fx_print.specs.Text.{closes_text, name_of, result_line, refused_line, too_many_line, teardown_text}
-pub use Rattle.fx_ring.specs.Registration.{files_after, registered, registered_sparse, removed_from, updated, range_refusal}
-pub use Rattle.fx_ring.specs.Tags.{tags_for}
+pub use Rattle.fx_print.specs.Text.{name_of, result_line, refused_line, too_many_line, teardown_text}
 pub use Rattle.fx_ring.specs.declared.ring.TheConstants.{MOST_SUBMISSIONS, MOST_REGISTRATIONS}
-pub use Rattle.fx_script.specs.Play.{IsCallRefused, Prints, PrintsClosed, PrintsEnd, PrintsReport, IsText, PrintsAll}
+pub use Rattle.fx_script.specs.Play.{Prints, PrintsEnd, PrintsReport, PrintsAll}
 pub use Rattle.fx_script.specs.Text.{report_text}
 pub use Rattle.std.proofs.Math.Seq.{drop-append_seam, take-append_seam, take-length, take-add}
 pub use Rattle.std.proofs.lemmas.Bool.Decides.{Decides-eqb}
 pub use Rattle.std.proofs.lemmas.Slice.Eq.{starts_is, slice_eq-Decides}
-pub use Rattle.fx_ring.proofs.Origins.{registered_rings, updated_rings}
 pub use Rattle.fx_order.proofs.RequestCases.{completion_so, each_placed, few_made}
 pub use Rattle.std.proofs.lemmas.List.Sorted.{Contains-permutation, IsPermutation-sym}
 pub use Rattle.check_judge.specs.Answer.{IsCommandVerdict}
