@@ -3,15 +3,15 @@
 //! prints. Contracts say what a failed call leaves. Begin reading at `rings.rt`.
 #![tactic(auto)]
 
-mod entries;
 mod rings;
-mod setting;
 mod tables;
-mod tell;
 
+use fx_base::CloseList;
 use fx_baton::BatonTable;
 use fx_counted::CountedTable;
+use fx_ring::Report;
 use std::alloc::Global;
+use std::fmt::Debug;
 use std::io::Read;
 use std::process::ExitCode;
 use std::sync::Wait;
@@ -34,11 +34,37 @@ fn asked<'a, I: Read>(reader: &mut I, line: &'a mut [u8; 64]) -> Option<Asked<'a
     Some((words.next()?, words.next()?, words.next()?.parse().ok()?))
 }
 
+// Prints that the call succeeded.
+fn print_done<R: Print>(rt: &R, call: &str) {
+    let _ = println!(rt; "{call}: done");
+}
+
+// Prints that the call was refused, and why.
+fn print_refused<R: Print, F: Debug + Drop>(rt: &R, call: &str, fault: F) {
+    let _ = println!(rt; "{call}: {fault:?}");
+}
+
+// Prints the files that were closed.
+fn print_closes<R: Print>(rt: &R, closes: &CloseList) {
+    for closed in closes.files() {
+        let _ = println!(rt; "{closed:?}");
+    }
+}
+
+// Prints the report of a call.
+fn print_report<R: Print>(rt: &R, call: &str, report: &Report) {
+    print_done(rt, call);
+    for completion in &report.completions {
+        let _ = println!(rt; "{completion:?}");
+    }
+    print_closes(rt, &report.closes);
+}
+
 // Makes the call. Returns `None` if an allocation before it fails, or if there is no such call.
 fn make<R: Threads + Wait + Print + Sync>(rt: &R, alloc: Global, asked: Asked<'_>) -> Option<()> {
     let (call, table, count) = asked;
     match (call, table) {
-        ("add", _) => entries::add(rt, alloc, count),
+        ("add", _) => tables::add(rt, alloc, count),
         ("prepare", _) => tables::prepare(rt, alloc, count),
         ("open", "words") => tables::open::<CountedTable, R>(rt, alloc, count),
         ("open", "baton") => tables::open::<BatonTable, R>(rt, alloc, count),
@@ -51,6 +77,7 @@ fn make<R: Threads + Wait + Print + Sync>(rt: &R, alloc: Global, asked: Asked<'_
     }
 }
 
+// Makes the call that is asked for. Of the output, only the end allocates: a failure there is printed.
 fn main(rt: HostRuntime) -> ExitCode {
     let mut line = [0u8; 64];
     let Some(asked) = asked(&mut rt.reader(), &mut line) else {
@@ -60,6 +87,9 @@ fn main(rt: HostRuntime) -> ExitCode {
     if make(&rt, rt.alloc(), asked).is_none() {
         let _ = println!(rt; "no setting");
     }
-    tell::end(&rt, rt.alloc());
+    let _ = match String::from_str(rt.alloc(), "end") {
+        Ok(text) => println!(rt; "{text}"),
+        Err(_refused) => println!(rt; "end: refused"),
+    };
     ExitCode::SUCCESS
 }

@@ -1,14 +1,46 @@
 //! The calls of a ring that allocate, and that no script makes so: `fixfiles` plays the calls between submissions.
-use crate::setting::{requests, ring_of_one_file};
-use crate::{ATTEMPTS, tell};
-use fx_base::NoMemory;
-use fx_chain::{Gate, OpenGate, Place};
-use fx_ring::{OpenRing, Ring};
+use crate::{ATTEMPTS, print_closes, print_refused, print_report};
+use bitflags::Flags;
+use fx_base::{Catalogue, NoMemory};
+use fx_chain::{Gate, Op, OpenGate, Place, Request, SqeFlags, Target};
+use fx_ring::Ring;
 use fx_table::FileTable;
 use std::alloc::Global;
 use std::sync::Wait;
 use std::sync::atomic::{AtomicU32, Ordering};
 use std::thread::Threads;
+
+// Creates a ring whose catalogue has `a.txt`, with the bytes `hello`, and `b.txt`, with `hi`. Its table has two slots:
+// slot 0 has `a.txt` with tag 7, and slot 1 is the allocation range. Returns `None` if an allocation fails.
+fn ring_of_two_files(alloc: Global) -> Option<Ring> {
+    let mut catalogue = Catalogue::new(alloc);
+    for (name, bytes) in [("a.txt", "hello"), ("b.txt", "hi")] {
+        let name = String::from_str(alloc, name).ok()?;
+        let bytes = bytes.as_bytes().to_vec(alloc).ok()?;
+        catalogue.add(name, bytes).ok()?;
+    }
+    let mut ring = Ring::new(alloc, catalogue);
+    if ring.register_tagged(alloc, &[0, -1], &[7, 0]).is_err() || ring.alloc_range(1, 1).is_err() {
+        ring.abandon();
+        return None;
+    }
+    Some(ring)
+}
+
+// Creates a chain that reads five bytes of slot 0 and closes it, and a chain that opens `b.txt` at any slot. Returns
+// `None` if an allocation fails.
+fn requests(alloc: Global) -> Option<Vec<Request>> {
+    let (name, target) = (String::from_str(alloc, "b.txt").ok()?, Target::Any);
+    let (slot, off, len) = (0, 0, 5);
+    let linked = SqeFlags::FIXED_FILE.union(SqeFlags::IO_LINK);
+    let requests = [
+        (Op::Read { slot, off, len }, linked),
+        (Op::Close { slot }, SqeFlags::empty()),
+        (Op::Open { name, target }, SqeFlags::empty()),
+    ]
+    .map(|(op, flags)| Request { op, flags });
+    Vec::from_array(alloc, requests).ok()
+}
 
 // A gate that counts its calls.
 #[derive(Drop)]
@@ -25,40 +57,33 @@ impl Gate for Calls {
 }
 
 // Tears the ring down, with a second attempt after an allocation failure.
-fn end<R: Print>(rt: &R, alloc: Global, ring: Ring) {
-    let ring = match ring.tear_down(alloc) {
-        Ok(closes) => return tell::closes(rt, &closes),
-        Err((ring, NoMemory)) => ring,
-    };
-    tell::refused(rt, "tear_down", NoMemory);
-    match ring.tear_down(alloc) {
-        Ok(closes) => tell::closes(rt, &closes),
-        Err((ring, NoMemory)) => {
-            tell::refused(rt, "tear_down", NoMemory);
-            ring.abandon();
-        }
+fn end<R: Print>(rt: &R, alloc: Global, mut ring: Ring) {
+    for _ in 0..ATTEMPTS {
+        ring = match ring.tear_down(alloc) {
+            Ok(closes) => return print_closes(rt, &closes),
+            Err((back, NoMemory)) => {
+                print_refused(rt, "tear_down", NoMemory);
+                back
+            }
+        };
     }
+    ring.abandon();
 }
 
 /// Lists the completion of the tag of a closed file.
 pub(crate) fn tags<R: Print>(rt: &R, alloc: Global) -> Option<()> {
-    let closes = match ring_of_one_file(alloc)?.tear_down(alloc) {
-        Ok(closes) => closes,
-        Err((ring, NoMemory)) => {
-            ring.abandon();
-            return None;
-        }
-    };
+    let torn_down = ring_of_two_files(alloc)?.tear_down(alloc);
+    let closes = torn_down.map_err(|(ring, NoMemory)| ring.abandon()).ok()?;
     for _ in 0..ATTEMPTS {
         match closes.tags(alloc) {
             Ok(tags) => {
                 let _ = println!(rt; "tags: {tags:?}");
                 break;
             }
-            Err(fault) => tell::refused(rt, "tags", fault),
+            Err(fault) => print_refused(rt, "tags", fault),
         }
     }
-    tell::closes(rt, &closes);
+    print_closes(rt, &closes);
     Some(())
 }
 
@@ -70,16 +95,16 @@ pub(crate) fn submit<T: FileTable, R: Threads + Wait + Print + Sync>(
     workers: u32,
 ) -> Option<()> {
     let requests = requests(alloc)?;
-    let mut ring = ring_of_one_file(alloc)?;
+    let mut ring = ring_of_two_files(alloc)?;
     let calls = Calls(AtomicU32::new(0));
     for _ in 0..ATTEMPTS {
         match ring.submit::<T, Calls>(rt, alloc, requests.as_slice(), workers, &calls) {
             Ok(report) => {
-                tell::report(rt, "submit", &report);
+                print_report(rt, "submit", &report);
                 break;
             }
             Err(fault) => {
-                tell::refused(rt, "submit", fault);
+                print_refused(rt, "submit", fault);
                 let _ = println!(rt; "gate: {} calls", calls.0.load(Ordering::SeqCst));
             }
         }
@@ -88,24 +113,20 @@ pub(crate) fn submit<T: FileTable, R: Threads + Wait + Print + Sync>(
     Some(())
 }
 
-// Opens the ring's table for the two chains of [`requests`], with a second attempt after an allocation failure.
-fn opened<T: FileTable, R: Print>(rt: &R, alloc: Global, ring: Ring) -> Result<OpenRing<T>, Ring> {
-    match ring.open::<T>(alloc, 2, 1) {
-        Ok(opened) => Ok(opened),
-        Err((ring, NoMemory)) => {
-            tell::refused(rt, "submit_open", NoMemory);
-            ring.open::<T>(alloc, 2, 1).map_err(|(ring, NoMemory)| ring)
-        }
-    }
-}
-
-/// Submits the same chains on a ring whose table is open.
+/// Submits the same chains on a ring whose table is open. The opening, too, has a second attempt after an allocation
+/// failure.
 pub(crate) fn submit_open<T: FileTable, R: Wait + Print>(rt: &R, alloc: Global) -> Option<()> {
     let requests = requests(alloc)?;
-    let ring = ring_of_one_file(alloc)?;
-    let mut ring = match opened::<T, R>(rt, alloc, ring) {
+    let opened = match ring_of_two_files(alloc)?.open::<T>(alloc, 2, 1) {
+        Ok(ring) => Ok(ring),
+        Err((ring, NoMemory)) => {
+            print_refused(rt, "submit_open", NoMemory);
+            ring.open::<T>(alloc, 2, 1)
+        }
+    };
+    let mut ring = match opened {
         Ok(ring) => ring,
-        Err(ring) => {
+        Err((ring, NoMemory)) => {
             end(rt, alloc, ring);
             return Some(());
         }
@@ -113,14 +134,14 @@ pub(crate) fn submit_open<T: FileTable, R: Wait + Print>(rt: &R, alloc: Global) 
     for _ in 0..ATTEMPTS {
         match ring.submit(rt, alloc, requests.as_slice(), &OpenGate) {
             Ok(Some(report)) => {
-                tell::report(rt, "submit_open", &report);
+                print_report(rt, "submit_open", &report);
                 break;
             }
             Ok(None) => {
                 let _ = println!(rt; "submit_open: no room");
             }
             Err(fault) => {
-                tell::refused(rt, "submit_open", fault);
+                print_refused(rt, "submit_open", fault);
                 let _ = println!(rt; "open ring: {} slots", ring.size());
             }
         }

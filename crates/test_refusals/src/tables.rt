@@ -1,18 +1,48 @@
-//! Preparing tables of one thread, and sharing them between passes.
-ghost use Rattle.std.specs.Prelude.{◌≤◌, IfErr};
+//! Calls without a ring: adding a file to a catalogue, preparing a table of one thread, and sharing it between passes.
+ghost use Rattle.std.specs.Prelude.{IfSome};
 ghost use Rattle.fx_plain.specs.State.{IsSettled};
 ghost use Rattle.fx_plain.specs.Contents.{state_of};
-ghost use Rattle.fx_table.specs.declared.limits.TheConstants.{MAX_PASSES};
 
-use crate::setting::prepared_table;
-use crate::{ATTEMPTS, tell};
-use fx_base::NoMemory;
+use crate::{ATTEMPTS, print_done, print_refused};
+use fx_base::{Catalogue, NoMemory};
 use fx_plain::PlainTable;
 use fx_table::{FileTable, MAX_PASSES};
 use std::alloc::Global;
 
 /// The number of chains that a shared table is opened for.
 const CHAINS: u32 = 2;
+
+/// Adds a file of two bytes to a catalogue of `entries` entries: the n-th, from 0, is `n.txt` and has no bytes.
+pub(crate) fn add<R: Print>(rt: &R, alloc: Global, entries: u32) -> Option<()> {
+    let mut catalogue = Catalogue::new(alloc);
+    for n in 0..entries {
+        let name = format!(in alloc; "{n}.txt").ok()?;
+        catalogue.add(name, Vec::new(alloc)).ok()?;
+    }
+    for _ in 0..ATTEMPTS {
+        let name = String::from_str(alloc, "new.txt").ok()?;
+        match catalogue.add(name, b"hi".to_vec(alloc).ok()?) {
+            Ok(()) => {
+                print_done(rt, "add");
+                break;
+            }
+            Err(fault) => print_refused(rt, "add", fault),
+        }
+    }
+    Some(())
+}
+
+// Creates a settled table of four slots, prepared for eight numbers. Returns `None` if an allocation fails.
+fn prepared_table(alloc: Global) -> Option<PlainTable>
+    ensures { IfSome result (λ plain. IsSettled (state_of plain)) }
+{
+    let mut plain = PlainTable::sparse(alloc, 4).ok()?;
+    if plain.is_settled() && plain.size() <= 8 && plain.prepare(8).is_ok() && plain.is_settled() {
+        return Some(plain);
+    }
+    plain.abandon();
+    None
+}
 
 /// Prepares a table for `numbers` numbers.
 pub(crate) fn prepare<R: Print>(rt: &R, alloc: Global, numbers: u32) -> Option<()> {
@@ -23,37 +53,14 @@ pub(crate) fn prepare<R: Print>(rt: &R, alloc: Global, numbers: u32) -> Option<(
         }
         match plain.prepare(numbers) {
             Ok(()) => {
-                tell::done(rt, "prepare");
+                print_done(rt, "prepare");
                 break;
             }
-            Err(NoMemory) => tell::refused(rt, "prepare", NoMemory),
+            Err(NoMemory) => print_refused(rt, "prepare", NoMemory),
         }
     }
     plain.abandon();
     Some(())
-}
-
-// Opens a table and closes it. Returns `Err` with the table if an allocation fails.
-fn open_and_close<T: FileTable, R: Print>(
-    rt: &R,
-    alloc: Global,
-    plain: PlainTable,
-    passes: u32,
-) -> Result<PlainTable, PlainTable>
-    requires settled { IsSettled (state_of plain) }
-    requires passes { (1 ≤ passes) × (passes ≤ MAX_PASSES) }
-    ensures { IfErr result (λ back. IsSettled (state_of back)) }
-{
-    match T::open(alloc, plain, CHAINS, passes) {
-        Ok((table, list)) => {
-            tell::done(rt, "open");
-            Ok(table.close(list))
-        }
-        Err((back, NoMemory)) => {
-            tell::refused(rt, "open", NoMemory);
-            Err(back)
-        }
-    }
 }
 
 /// Shares a table between `passes` passes, and closes it again.
@@ -61,13 +68,20 @@ pub(crate) fn open<T: FileTable, R: Print>(rt: &R, alloc: Global, passes: u32) -
     if passes == 0 || passes > MAX_PASSES {
         return None;
     }
-    let plain = prepared_table(alloc)?;
-    let left = match open_and_close::<T, R>(rt, alloc, plain, passes) {
-        Ok(closed) => closed,
-        Err(back) => match open_and_close::<T, R>(rt, alloc, back, passes) {
-            Ok(left) | Err(left) => left,
-        },
-    };
-    left.abandon();
+    let mut plain = prepared_table(alloc)?;
+    for _ in 0..ATTEMPTS {
+        plain = match T::open(alloc, plain, CHAINS, passes) {
+            Ok((table, list)) => {
+                print_done(rt, "open");
+                table.close(list).abandon();
+                return Some(());
+            }
+            Err((back, NoMemory)) => {
+                print_refused(rt, "open", NoMemory);
+                back
+            }
+        };
+    }
+    plain.abandon();
     Some(())
 }
