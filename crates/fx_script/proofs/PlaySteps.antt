@@ -21,7 +21,7 @@ use Rattle.std.proofs.lemmas.List.Sorted.{IsPermutation-refl}
 use Rattle.std.proofs.Math.Seq.{drop-cons, take-add}
 use Rattle.std.specs.List.Sorted.{IsPermutation}
 use Rattle.fx_language.specs.declared.command.Command.{Command}
-use Rattle.fx_script.specs.declared.play_fault.PlayFault.TheVariants.{Read, Script, Write, NoMemory}
+use Rattle.fx_script.specs.declared.runner.PlayFault.TheVariants.{Read, Script, Write, NoMemory}
 
 module _ (old same next : RingContents) (line : List ℕ) (is : ring_of same ≡ ring_of old) where
   -- the output of a submission, with this property of its report

@@ -7,7 +7,7 @@ pub use Rattle.fx_ring.specs.Ring.{RingContents, RingState, ring_files_in_order,
 pub use Rattle.fx_script.specs.Play.{CallAnswers, IsCallRefused, Prints, PrintsAll, PrintsClosed, PrintsEnd, PrintsFirst, PrintsReport}
 pub use Rattle.fx_script.specs.PlayedRing.{ring_played}
 pub use Rattle.fx_script.specs.Run.{IsInput, IsInputFault, IsPlayFault, Writes}
-pub use Rattle.fx_script.specs.declared.play_fault.PlayFault.{PlayFault}
+pub use Rattle.fx_script.specs.declared.runner.PlayFault.{PlayFault}
 pub use Rattle.fx_table.specs.declared.limits.TheConstants.{CHAIN_NUMBERS, MAX_CHAINS}
 pub use Rattle.std.proofs.Common.{Bool, List, None, Option, Some, [], ap, append_assoc, arith, codes, drop, false, inl, inr, length, length-append}
 pub use Rattle.std.proofs.Common.{nat_le, nat_lt, pos, refl, rules, slice_index_or, string_bytes, subst, suc, sym, take, true, zero, ℕ}

@@ -3,8 +3,8 @@ use Rattle.std.specs.Prelude.{◌≡◌, ◌⊎◌, ℕ, List, Option, IfSome}
 use Rattle.std.specs.Io.KnownBytes.{Appends}
 use Rattle.fx_script.specs.Play.{IsText, IsTextOfFirst}
 use Rattle.fx_language.specs.Script.{Meaning, IsScript, HasFault}
-use Rattle.fx_script.specs.declared.play_fault.PlayFault.{PlayFault}
-use Rattle.fx_script.specs.declared.play_fault.PlayFault.TheVariants.{Read, Script, Write, NoMemory}
+use Rattle.fx_script.specs.declared.runner.PlayFault.{PlayFault}
+use Rattle.fx_script.specs.declared.runner.PlayFault.TheVariants.{Read, Script, Write, NoMemory}
 
 -- the output is one of these texts
 abbrev pub Writes : (List ℕ → Type 0) → Option (List ℕ) → Option (List ℕ) → Type 0

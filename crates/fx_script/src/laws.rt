@@ -1,7 +1,7 @@
 //! A limit of runs, as the contract of a function with an empty body (this project's own).
 
 ghost use Rattle.std.specs.Prelude.{◌≡◌};
-ghost use Rattle.fx_script.specs.declared.input.TheConstants.{MOST_TURNS};
+ghost use Rattle.fx_script.specs.declared.runner.TheConstants.{MOST_TURNS};
 
 /// States that a run reads at most 8,388,608 times.
 pub fn limits_are_numbers()

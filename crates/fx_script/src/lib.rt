@@ -5,24 +5,17 @@
 //! here. Begin reading at `specs/Play.antt`, then `runner.rt` and `player.rt`.
 #![tactic(auto)]
 
-mod input;
 pub mod laws;
-mod needs;
-mod play_fault;
 mod played_ring;
 mod player;
 mod prints;
-mod report;
 mod runner;
-mod setting;
-mod writes;
 
 pub use fx_language::{
     Command, LARGEST_NUMBER, LARGEST_TAG, LONGEST_LINE, LONGEST_SCRIPT, Script, ScriptError,
     ScriptFault,
 };
 pub use fx_print::{refused_line, result_line, teardown_text, too_many_line, with_closes};
-pub use play_fault::PlayFault;
 pub use player::play;
-pub use report::report_text;
-pub use runner::run;
+pub use prints::report_text;
+pub use runner::{PlayFault, run};

@@ -1,26 +1,94 @@
 //! The ring of a play: the table may stay open between submissions that one worker plays one after another.
-ghost use Rattle.std.specs.Prelude.{◌≡◌, IfErr, IfOk, OnOk, string_bytes};
+ghost use Rattle.std.specs.Prelude.{◌≡◌, ◌≤◌, IfErr, IfOk, OnOk, string_bytes};
 ghost use Rattle.std.specs.Option.{MatchOption};
+ghost use Rattle.fx_table.specs.declared.limits.TheConstants.{CHAIN_NUMBERS, MAX_CHAINS};
 ghost use Rattle.fx_ring.specs.Ring.{ring_of};
 ghost use Rattle.fx_language.specs.Instruction.{instruction_of};
 ghost use Rattle.fx_script.specs.Play.{Prints};
 ghost use Rattle.fx_script.specs.PlayedRing.{ring_played};
 ghost use Rattle.fx_script.specs.Run.{IsPlayFault, Writes};
 
-use crate::needs::needs_together;
-use crate::play_fault::PlayFault;
-use crate::prints::command_text;
-use crate::report::answer_text;
-use crate::setting::Setting;
-use crate::writes::write_text;
+use crate::player::{Setting, write_text};
+use crate::prints::{answer_text, command_text};
+use crate::runner::PlayFault;
 use fx_base::NoMemory;
-use fx_chain::Gate;
+use fx_chain::{Gate, Request, check};
 use fx_language::Command;
 use fx_ring::{OpenRing, Ring};
-use fx_table::FileTable;
+use fx_table::{CHAIN_NUMBERS, FileTable, MAX_CHAINS};
 use std::io::Write;
 use std::sync::Wait;
 use std::thread::Threads;
+
+// The number of chains that a table is opened for, and the greatest number of files that each may install.
+#[derive(Clone, Copy, Drop)]
+struct Needs {
+    chains: u32,
+    most: u32,
+    ghost few_chains: { chains ≤ MAX_CHAINS },
+    ghost few_files: { most ≤ CHAIN_NUMBERS },
+}
+
+impl Needs {
+    // Returns the needs of both together, or `None` if they are more chains than a table has.
+    fn with(self, other: Needs) -> Option<Needs> {
+        let chains = self.chains + other.chains;
+        if chains > MAX_CHAINS {
+            return None;
+        }
+        Some(Needs {
+            chains,
+            most: self.most.max(other.most),
+        })
+    }
+
+    // Returns the number of file numbers of a table with `slots` slots that is opened for them.
+    fn numbers(self, slots: u32) -> u64 {
+        u64::from(slots) + u64::from(self.chains) * u64::from(self.most)
+    }
+}
+
+// Returns the needs of a submission's chains; a refused submission has none. Each counts as at least one chain, so that
+// at most as many submissions are considered together as a table has chains.
+fn needs_of_submission(requests: &[Request]) -> Needs {
+    let mut chains = 1;
+    let mut most = 0;
+    if check(requests).is_ok() {
+        let mut installs = 0;
+        for (i, request) in requests.iter().enumerate() {
+            let own = request.installs().min(CHAIN_NUMBERS as usize) as u32;
+            installs = CHAIN_NUMBERS.min(installs + own);
+            most = most.max(installs);
+            if !request.links() && i + 1 < requests.len() {
+                chains = MAX_CHAINS.min(chains + 1);
+                installs = 0;
+            }
+        }
+    }
+    Needs { chains, most }
+}
+
+// Returns the joint needs of the submissions that `commands` begins with: of as many as need no more numbers together,
+// on a table of `slots` slots, than each on its own.
+fn needs_together(commands: &[Command], slots: u32) -> Needs {
+    let mut needs = Needs { chains: 0, most: 0 };
+    let mut apart: u64 = 0;
+    for command in commands {
+        let Command::Submit(requests) = command else {
+            break;
+        };
+        let own = needs_of_submission(requests.as_slice());
+        let Some(together) = needs.with(own) else {
+            break;
+        };
+        apart = apart.saturating_add(own.numbers(slots));
+        if together.numbers(slots) > apart {
+            break;
+        }
+        needs = together;
+    }
+    needs
+}
 
 /// The ring of a play, with an open table of type `O` or without one. It must be consumed, as the ring must.
 pub enum PlayedRing<O> {

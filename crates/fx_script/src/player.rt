@@ -1,16 +1,16 @@
 //! Playing a script: the ring executes its commands, one after another, and the text of each is written.
-ghost use Rattle.std.specs.Prelude.{◌≡◌, ◌≤◌, IfErr, OnOk};
+ghost use Rattle.std.specs.Prelude.{◌≡◌, ◌≤◌, IfErr, IsOkAnd, OnOk, string_bytes};
+ghost use Rattle.std.specs.Io.KnownBytes.{Appends};
 ghost use Rattle.fx_table.specs.declared.limits.TheConstants.{MAX_PASSES};
 ghost use Rattle.fx_ring.specs.Ring.{ring_of};
 ghost use Rattle.fx_language.specs.Instruction.{instructions_of};
 ghost use Rattle.fx_script.specs.Play.{IsText, IsTextOfFirst, PrintsAll, PrintsFirst};
 ghost use Rattle.fx_script.specs.Run.{IsPlayFault, Writes};
 
-use crate::play_fault::PlayFault;
 use crate::played_ring::{PlayedRing, play_command};
 use crate::prints::end_text;
-use crate::setting::Setting;
-use crate::writes::write_text;
+use crate::runner::PlayFault;
+use fx_base::NoMemory;
 use fx_chain::Gate;
 use fx_language::{Command, Script};
 use fx_ring::{OpenRing, Ring};
@@ -19,6 +19,33 @@ use std::alloc::Global;
 use std::io::Write;
 use std::sync::Wait;
 use std::thread::Threads;
+
+/// The values that stay the same while a script is played: the means to start threads and to wait, the allocator, the
+/// number of workers of each submission, and the gate.
+#[derive(Drop)]
+pub struct Setting<'a, R, G> {
+    pub rt: &'a R,
+    pub alloc: Global,
+    pub workers: u32,
+    pub gate: &'a G,
+    pub ghost some: { 1 ≤ workers },
+    pub ghost few: { workers ≤ MAX_PASSES },
+}
+
+// Writes the text of a command in one call, so that a reader that gets one write at a time gets one command at a time.
+pub fn write_text<W: Write>(writer: &mut W, text: Result<String, NoMemory>) -> Result<(), PlayFault>
+    ensures written { OnOk result (IsOkAnd text (λ text.
+        Appends (W.contents writer.old) (W.contents writer.new) (string_bytes text))) }
+    ensures fault { IfErr result (λ fault. IsPlayFault fault
+        (W.contents writer.new ≡ W.contents writer.old)) }
+{
+    let Ok(text) = text else {
+        return Err(PlayFault::NoMemory);
+    };
+    writer
+        .write_all(text.as_str().as_bytes())
+        .map_err(|_| PlayFault::Write)
+}
 
 // Plays the commands, writes the text of each, and closes the files that are left at the end.
 fn play_commands<T: FileTable, R: Threads + Wait + Sync, G: Gate, W: Write>(

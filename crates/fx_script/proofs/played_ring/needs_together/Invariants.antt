@@ -1,5 +1,5 @@
 use Rattle.fx_script.proofs.Words.{◌≤◌, CHAIN_NUMBERS, MAX_CHAINS}
-use Rattle.fx_script.proofs.needs.needs_together.Given as goal
+use Rattle.fx_script.proofs.played_ring.needs_together.Given as goal
 
 abbrev pub invariant-loop-command : goal.invariant-loop-command
 invariant-loop-command l = record {

@@ -1,6 +1,6 @@
 use Rattle.fx_script.proofs.Words.{◌+◌, ◌≤◌, length, LONGEST_SCRIPT}
 use Rattle.fx_script.proofs.KeptBytes.{Kept}
-use Rattle.fx_script.proofs.input.read_all.Given as goal
+use Rattle.fx_script.proofs.runner.read_all.Given as goal
 
 -- the first bytes that the reader has returned are kept
 abbrev pub invariant-reading : goal.invariant-reading
