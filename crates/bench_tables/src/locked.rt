@@ -5,8 +5,7 @@ ghost use Rattle.fx_plain.specs.Contents.{state_of};
 ghost use Rattle.fx_table.specs.declared.limits.TheConstants.{MAX_CHAINS};
 ghost use Rattle.bench_tables.specs.Holds.{HasHoldsUpTo};
 
-use crate::shared::discard;
-use crate::subject::Subject;
+use crate::shared::{Subject, discard};
 use fx_base::OpenFile;
 use fx_plain::PlainTable;
 use fx_table::numbers_for;

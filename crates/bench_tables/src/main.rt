@@ -1,16 +1,12 @@
 //! The program `bench_tables`: prints the nanoseconds that a table takes for the work which the variable TABLE_BENCH_ROW
-//! of the environment names (`row.rt`). Without that variable it prints what the measured calls return (`trial.rt`).
+//! of the environment names (`work.rt`). Without that variable it tests the measured calls, and prints what they return.
 #![tactic(auto)]
 
-ghost use Rattle.std.specs.Prelude.{◌<◌, length};
+ghost use Rattle.std.specs.Prelude.{◌<◌, ◌≤◌, length, vec_capacity};
 
 mod locked;
 mod measure;
-mod row;
 mod shared;
-mod subject;
-mod trial;
-mod watch;
 mod work;
 
 use fx_base::Catalogue;
@@ -19,9 +15,8 @@ use fx_counted::CountedTable;
 use fx_lasting::LastingTable;
 use fx_table::MAX_PASSES;
 use locked::Locked;
-use measure::time;
-use row::row_of;
-use shared::Shared;
+use measure::{shaped, time};
+use shared::{Shared, Subject};
 use std::alloc::Global;
 use std::env;
 use std::process::ExitCode;
@@ -29,14 +24,13 @@ use std::rt::Clock;
 use std::sync::Wait;
 use std::thread::Threads;
 use std::time::CpuClock;
-use trial::try_tables;
+use work::{MARK, READ_LEN, Shape, look, read, row_of};
 
 // Creates a catalogue of one entry of 64 bytes.
 fn one_entry(alloc: Global) -> Option<Catalogue> {
     let mut catalogue = Catalogue::new(alloc);
     let name = String::from_str(alloc, "a.txt").ok()?;
-    let bytes = vec![in alloc; 7; 64].ok()?;
-    catalogue.add(name, bytes).ok()?;
+    catalogue.add(name, vec![in alloc; 7; 64].ok()?).ok()?;
     Some(catalogue)
 }
 
@@ -66,6 +60,77 @@ fn report<R: Threads + Wait + Clock + CpuClock + Print + Sync>(
         _ => return None,
     };
     println!(rt; "{nanoseconds}").ok()
+}
+
+// Uses a table of four slots whose first two are full, which has three files afterwards. Prints the bytes that were
+// read at slot 2 while it was empty and while it had a file, and the slots at which a file was installed at any empty
+// slot: first, after that file's removal, and when no slot was empty.
+fn use_table<S: Subject, R: Wait + Print>(
+    rt: &R,
+    subject: &S,
+    pass: &mut S::Pass,
+    catalogue: &Catalogue,
+    into: &mut Vec<u8>,
+) -> Option<()>
+    requires ready { S.ready subject.now pass.old }
+    requires entry { 0 < length catalogue.now }
+    requires room { READ_LEN ≤ vec_capacity into.old }
+    ensures { S.ready subject.now pass.new }
+{
+    read(rt, subject, pass, catalogue, 2, into);
+    let empty = into.len();
+    let first = subject.put_any(rt, pass, catalogue.open(0, MARK, 0));
+    read(rt, subject, pass, catalogue, 2, into);
+    let full = into.len();
+    subject.take(rt, pass, 2);
+    let again = subject.put_any(rt, pass, catalogue.open(0, MARK, 0));
+    look(rt, subject, pass, 2);
+    subject.put(rt, pass, 2, catalogue.open(0, MARK, 0));
+    subject.put(rt, pass, 3, catalogue.open(0, MARK, 0));
+    let last = subject.put_any(rt, pass, catalogue.open(0, MARK, 0));
+    subject.take(rt, pass, 3);
+    print!(rt; "{empty} and {full} bytes, {first:?}, {again:?}, {last:?}, ").ok()
+}
+
+// Opens a table, uses it, closes it, and prints the results.
+fn try_table<S: Subject, R: Wait + Print>(
+    rt: &R,
+    alloc: Global,
+    catalogue: &Catalogue,
+    name: &str,
+) -> Option<()>
+    requires { 0 < length catalogue.now }
+{
+    let mut into = Vec::with_capacity(alloc, READ_LEN as usize).ok()?;
+    let (slots, full, range) = (4, 2, 4);
+    let shape = Shape { slots, full, range };
+    print!(rt; "{name}: ").ok()?;
+    let plain = match S::open(alloc, shaped(alloc, catalogue, shape)?, 1, 1) {
+        Err(plain) => {
+            plain.abandon();
+            return None;
+        }
+        Ok((subject, mut passes)) => {
+            if !passes.is_empty() {
+                let _ = use_table(rt, &subject, &mut passes[0], catalogue, &mut into);
+            }
+            subject.close(passes)
+        }
+    };
+    let files = plain.full();
+    plain.abandon();
+    println!(rt; "{files} files").ok()
+}
+
+// Tests what no clause says of the measured calls of each table, that they do what their names say, and prints their
+// results, one line for each table. Returns `None` if an allocation or a write fails.
+fn try_tables<R: Wait + Print>(rt: &R, alloc: Global, catalogue: &Catalogue) -> Option<()>
+    requires { 0 < length catalogue.now }
+{
+    try_table::<Shared<CountedTable>, R>(rt, alloc, catalogue, "counted")?;
+    try_table::<Shared<LastingTable>, R>(rt, alloc, catalogue, "lasting")?;
+    try_table::<Shared<BatonTable>, R>(rt, alloc, catalogue, "baton")?;
+    try_table::<Locked, R>(rt, alloc, catalogue, "mutex")
 }
 
 fn main(rt: HostRuntime) -> ExitCode {

@@ -1,6 +1,6 @@
 use Rattle.std.proofs.Common.{◌≤◌, vec_capacity}
 use Rattle.bench_tables.specs.declared.work.TheConstants.{READ_LEN}
-use Rattle.bench_tables.proofs.work.work.Given as goal
+use Rattle.bench_tables.proofs.work.do_work.Given as goal
 
 abbrev pub invariant-loop-i : goal.invariant-loop-i
 invariant-loop-i g l = record { ready : g.S.Subject.ready l.subject l.pass; room : READ_LEN ≤ vec_capacity l.into }
