@@ -52,7 +52,7 @@ impl From<NoMemory> for NoVerdict {
 
 impl NoVerdict {
     /// Returns the exit status: 2 for wrong arguments, 3 for an invalid script, 4 for a failed read or write, 5 for a failed allocation.
-    /// That of a request for help or the version is 0.
+    /// A request for help or for the version returns 0.
     pub fn status(&self) -> u8 {
         match self {
             NoVerdict::Refused(refusal) => refusal.status(),
