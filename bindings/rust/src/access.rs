@@ -119,15 +119,17 @@ impl<T> Drop for Values<T> {
         let Some(seat) = pool.installing.first() else {
             return;
         };
+        let mut values: Vec<Box<T>> = Vec::new();
         for slot in 0..self.slots {
             let mut closed = 0;
             // SAFETY: the seat is in the pool, so it is idle and nobody else uses it.
             if unsafe { core::yacht_core_take(seat.0.as_ptr(), slot, &mut closed) } == core::CLOSED
             {
                 // SAFETY: the core closed this file in this call (`removed`).
-                drop(unsafe { value_of::<T>(closed) });
+                values.push(unsafe { value_of(closed) });
             }
         }
+        // The values are dropped when the list is, one after another, even if the drop of one panics.
     }
 }
 
@@ -299,10 +301,11 @@ impl<T> Access<T> {
 
 impl<T> Drop for Access<T> {
     fn drop(&mut self) {
+        let mut values: Vec<Box<T>> = Vec::new();
         for looker in self.lookers.iter_mut() {
             if *looker.busy.get_mut() {
                 // SAFETY: a guard borrows the worker, so this one was forgotten, and nobody has a reference to its value any more.
-                drop(unsafe { looker.release::<T>() });
+                values.extend(unsafe { looker.release() });
             }
         }
         let lookers = std::mem::take(&mut self.lookers);
@@ -310,6 +313,9 @@ impl<T> Drop for Access<T> {
         pool.installing.extend(self.installer.take());
         pool.looking
             .extend(lookers.into_vec().into_iter().map(|looker| looker.seat));
+        // The seats are back, and the lock is open: the values go last, even if the drop of one panics.
+        drop(pool);
+        drop(values);
     }
 }
 

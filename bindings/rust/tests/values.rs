@@ -204,6 +204,48 @@ fn a_drop_that_panics_leaves_the_worker_usable() {
     assert!(!worker.look(0).unwrap().0);
 }
 
+/// Counts its drops, and panics in the first.
+struct Counted(Arc<AtomicUsize>);
+
+impl Drop for Counted {
+    fn drop(&mut self) {
+        assert_ne!(self.0.fetch_add(1, SeqCst), 0, "the first drop panics");
+    }
+}
+
+#[test]
+fn a_drop_that_panics_loses_no_seat_and_no_other_value() {
+    let drops = Arc::new(AtomicUsize::new(0));
+    let table = Options::new(3).workers(1).guards(2).open().unwrap();
+    let worker = table.worker().unwrap();
+    for slot in 0..2 {
+        worker.put(slot, Counted(drops.clone())).unwrap();
+        std::mem::forget(worker.look(slot).unwrap());
+        assert!(worker.take(slot).unwrap().is_none());
+    }
+    let caught = std::panic::catch_unwind(std::panic::AssertUnwindSafe(|| drop(worker)));
+    assert!(caught.is_err());
+    assert_eq!(drops.load(SeqCst), 2);
+    // the next worker has all its guards
+    let worker = table.worker().unwrap();
+    worker.put(0, Counted(drops.clone())).unwrap();
+    drop((worker.look(0).unwrap(), worker.look(0).unwrap()));
+}
+
+#[test]
+fn a_drop_that_panics_leaves_the_other_values_of_a_table_to_be_dropped() {
+    let drops = Arc::new(AtomicUsize::new(0));
+    let table = Table::with_slots(4).unwrap();
+    let worker = table.worker().unwrap();
+    for _ in 0..4 {
+        worker.put_any(Counted(drops.clone())).unwrap();
+    }
+    drop(worker);
+    let caught = std::panic::catch_unwind(std::panic::AssertUnwindSafe(|| drop(table)));
+    assert!(caught.is_err());
+    assert_eq!(drops.load(SeqCst), 4);
+}
+
 #[test]
 fn what_is_left_is_dropped_with_the_last_handle() {
     let notes = Notes::default();
