@@ -261,7 +261,7 @@ impl<T> Access<T> {
         match answer {
             // SAFETY: the core closed this file in this call (`placed`).
             core::CLOSED => Ok(Some(unsafe { value_of(closed) })),
-            core::DONE => Ok(None),
+            core::DONE | core::IN_USE => Ok(None),
             // SAFETY: the core refused the file, so the value was never installed (`placed`).
             _ => Err(unsafe { value_of(tag) }),
         }
@@ -292,7 +292,7 @@ impl<T> Access<T> {
         match unsafe { core::yacht_core_take(self.installer(), slot, &mut closed) } {
             // SAFETY: the core closed this file in this call (`removed`).
             core::CLOSED => Ok(Some(unsafe { value_of(closed) })),
-            core::DONE => Ok(None),
+            core::IN_USE => Ok(None),
             core::EMPTY => Err(TakeError::Empty),
             _ => Err(TakeError::NoSlot),
         }

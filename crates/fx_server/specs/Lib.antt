@@ -1,2 +1,4 @@
+pub mod Answers
 pub mod Files
+pub mod Handle
 pub mod Workers

@@ -24,17 +24,12 @@ use Rattle.fx_lasting.specs.Tables.{view_of, opening_of_table, IsPassOfTable}
 use Rattle.fx_lasting.specs.declared.table.LastingTable.{LastingTable}
 use Rattle.fx_server.specs.Files.{file_with}
 use Rattle.fx_server.specs.declared.answers.LookAnswer.{LookAnswer}
-use Rattle.fx_server.specs.declared.answers.LookRefusal.{LookRefusal}
-use Rattle.fx_server.specs.declared.answers.LookRefusal.TheVariants.{Empty, NoSlot, Busy}
-use Rattle.fx_server.specs.declared.answers.NotHolding.{NotHolding}
-use Rattle.fx_server.specs.declared.answers.PutAny.{PutAny}
-use Rattle.fx_server.specs.declared.answers.PutAny.TheVariants as any
-use Rattle.fx_server.specs.declared.answers.PutFault.{PutFault}
-use Rattle.fx_server.specs.declared.answers.PutFault.TheVariants as put
+use Rattle.fx_server.specs.declared.answers.ServerRefusal.{ServerRefusal}
+use Rattle.fx_server.specs.declared.answers.ServerRefusal.TheVariants.{Empty, NoSlot, Busy}
+use Rattle.fx_server.specs.declared.answers.ServerRefusal.TheVariants.{Idle, NoBlock, Again}
+use Rattle.fx_server.specs.declared.answers.ServerRefusal.TheVariants.{Full as NoFree}
 use Rattle.fx_server.specs.declared.answers.Removal.{Removal}
 use Rattle.fx_server.specs.declared.answers.Removal.TheVariants.{Nothing, InUse, Closed}
-use Rattle.fx_server.specs.declared.answers.TakeFault.{TakeFault}
-use Rattle.fx_server.specs.declared.answers.TakeFault.TheVariants as take
 use Rattle.fx_server.specs.declared.worker.Held.{Held}
 use Rattle.fx_server.specs.declared.worker.TableWorker.{TableWorker}
 
@@ -91,37 +86,39 @@ abbrev pub HasNoBlock : TableWorker → TableWorker → Type 0
 HasNoBlock w w' = ((its_pass w).numbers_left ≡ 0) × (w' ≡ w)
 
 -- the hold that a look-up returned is noted, and its node is returned
-abbrev pub Notes : Result Hold TableFault → Result ℕ LookRefusal → Option Held → Type 0
+abbrev pub Notes : Result Hold TableFault → Result ℕ ServerRefusal → Option Held → Type 0
 Notes (Ok hold) result held =
     (result ≡ Ok hold.node) × (held ≡ Some (record { node = hold.node; entry = hold.entry }))
 Notes (Err _) result held = (result ≡ Err Empty) × (held ≡ None)
 
 -- a look-up: the node that is returned is that of the hold that the worker has now
-abbrev pub Finds : TableWorker → ℕ → Result ℕ LookRefusal → Option ℕ → TableWorker → Type 0
+abbrev pub Finds : TableWorker → ℕ → Result ℕ ServerRefusal → Option ℕ → TableWorker → Type 0
 Finds w slot (Ok node) freed w' = (held : Held) × (held.node ≡ node) × (w'.held ≡ Some held)
     × LooksAt w slot (Ok (hold_in held)) freed w'
 Finds w slot (Err Empty) freed w' =
     (w'.held ≡ None) × LooksAt w slot (Err fault.Empty) freed w'
 Finds w slot (Err NoSlot) freed w' = (freed ≡ None) × HasNoSlot w slot w'
 Finds w slot (Err Busy) freed w' = (freed ≡ None) × IsBusy w w'
+Finds w slot (Err _) freed w' = ⊥
 
 abbrev pub LooksUp : TableWorker → ℕ → LookAnswer → TableWorker → Type 0
 LooksUp w slot look w' = Finds w slot look.found look.freed w'
 
 -- the node of the next file is chosen; the caller sees no other change of the pass
-abbrev pub Chooses : TableWorker → Result ℕ PutFault → TableWorker → Type 0
+abbrev pub Chooses : TableWorker → Result ℕ ServerRefusal → TableWorker → Type 0
 Chooses w (Ok node) w' = (w'.held ≡ None) × (node < nodes_of (its_table w).table.shared.key)
     × (its_pass w' ≡ its_pass w) × HasChosen w'.pass node
-Chooses w (Err put.Busy) w' = IsBusy w w'
-Chooses w (Err put.NoSlot) w' = ⊥
-Chooses w (Err put.NoBlock) w' = HasNoBlock w w'
+Chooses w (Err Busy) w' = IsBusy w w'
+Chooses w (Err NoBlock) w' = HasNoBlock w w'
+Chooses w (Err _) w' = ⊥
 
 -- a release: the tag that is returned is that of the file, if it came out
-abbrev pub ReleasesHeld : TableWorker → Result (Option ℕ) NotHolding → TableWorker → Type 0
+abbrev pub ReleasesHeld : TableWorker → Result (Option ℕ) ServerRefusal → TableWorker → Type 0
 ReleasesHeld w (Ok tag) w' = (held : Held) × (out : Option Identity) × (w.held ≡ Some held)
     × (w'.held ≡ None) × (tag ≡ tag_in out)
     × Released (its_opening w) (its_pass w) (hold_in held) out (its_pass w')
-ReleasesHeld w (Err _) w' = (w.held ≡ None) × (w' ≡ w)
+ReleasesHeld w (Err Idle) w' = (w.held ≡ None) × (w' ≡ w)
+ReleasesHeld w (Err _) w' = ⊥
 
 -- a removed file is retired: it is still used, or it is closed and its tag is returned
 abbrev pub RetiresAs : Opening → PassView → Retired → Removal → PassView → Type 0
@@ -145,26 +142,28 @@ pub record PutsAt (w : TableWorker) (slot tag : ℕ) (removal : Removal) (w' : T
   pub used : UsesChoice (its_table w).table.shared.key w.pass between
   pub retires : RetiresAny (its_opening w) between retired removal (its_pass w')
 
-abbrev pub Puts : TableWorker → ℕ → ℕ → Result Removal PutFault → TableWorker → Type 0
+abbrev pub Puts : TableWorker → ℕ → ℕ → Result Removal ServerRefusal → TableWorker → Type 0
 Puts w slot tag (Ok removal) w' = PutsAt w slot tag removal w'
-Puts w slot tag (Err put.Busy) w' = IsBusy w w'
-Puts w slot tag (Err put.NoSlot) w' = HasNoSlot w slot w'
-Puts w slot tag (Err put.NoBlock) w' = HasNoBlock w w'
+Puts w slot tag (Err Busy) w' = IsBusy w w'
+Puts w slot tag (Err NoSlot) w' = HasNoSlot w slot w'
+Puts w slot tag (Err NoBlock) w' = HasNoBlock w w'
+Puts w slot tag (Err _) w' = ⊥
 
 -- one round of an installation: the file is at the slot, on the node that was chosen, if one was;
 -- or every slot had a file at one step, or nothing was done, and the choice stays
-abbrev pub PutsAny : TableWorker → ℕ → PutAny → TableWorker → Type 0
-PutsAny w tag (any.At slot) w' = (slot < size_of (its_opening w))
+abbrev pub PutsAny : TableWorker → ℕ → Result ℕ ServerRefusal → TableWorker → Type 0
+PutsAny w tag (Ok slot) w' = (slot < size_of (its_opening w))
     × UsesChoice (its_table w).table.shared.key w.pass (its_pass w') × ((new : File)
     × IsNewFile (its_opening w) (its_pass w) (file_with tag) new
     × Adds (its_opening w) (its_pass w) ([] ▷ Allocate slot new) DoesNothing one_number
     (its_pass w'))
-PutsAny w tag any.Full w' = KeepsChoice w.pass w'.pass
+PutsAny w tag (Err NoFree) w' = KeepsChoice w.pass w'.pass
     × Adds (its_opening w) (its_pass w) ([] ▷ Full) DoesNothing no_use (its_pass w')
-PutsAny w tag any.Again w' = KeepsChoice w.pass w'.pass
+PutsAny w tag (Err Again) w' = KeepsChoice w.pass w'.pass
     × Adds (its_opening w) (its_pass w) [] DoesNothing no_use (its_pass w')
-PutsAny w tag any.Busy w' = IsBusy w w'
-PutsAny w tag any.NoBlock w' = HasNoBlock w w'
+PutsAny w tag (Err Busy) w' = IsBusy w w'
+PutsAny w tag (Err NoBlock) w' = HasNoBlock w w'
+PutsAny w tag (Err _) w' = ⊥
 
 -- the file of a slot is taken out and retired
 pub record TakesFrom (w : TableWorker) (slot : ℕ) (removal : Removal) (w' : TableWorker)
@@ -174,9 +173,10 @@ pub record TakesFrom (w : TableWorker) (slot : ℕ) (removal : Removal) (w' : Ta
   pub taken : Taken (its_opening w) (its_pass w) slot (Ok retired) between
   pub retires : RetiresAs (its_opening w) between retired removal (its_pass w')
 
-abbrev pub RemovesFrom : TableWorker → ℕ → Result Removal TakeFault → TableWorker → Type 0
+abbrev pub RemovesFrom : TableWorker → ℕ → Result Removal ServerRefusal → TableWorker → Type 0
 RemovesFrom w slot (Ok removal) w' = TakesFrom w slot removal w'
-RemovesFrom w slot (Err take.Empty) w' =
+RemovesFrom w slot (Err Empty) w' =
     (empty : NoFile) × Taken (its_opening w) (its_pass w) slot (Err empty) (its_pass w')
-RemovesFrom w slot (Err take.NoSlot) w' = HasNoSlot w slot w'
-RemovesFrom w slot (Err take.Busy) w' = IsBusy w w'
+RemovesFrom w slot (Err NoSlot) w' = HasNoSlot w slot w'
+RemovesFrom w slot (Err Busy) w' = IsBusy w w'
+RemovesFrom w slot (Err _) w' = ⊥

@@ -1,19 +1,18 @@
-//! Workers: each is one pass of a table that never has to be closed, together with the table. The last worker that is dropped ends the
-//! table. A worker can go to another thread.
+//! The table that never has to be closed, for C: workers, each one pass of the table together with the table, and an export for each call
+//! of a worker. The last worker that is closed ends the table. A worker can go to another thread.
 //!
 //! Each call's clause says which events it adds to the pass, as the table's own clauses do (`fx_table`, `specs/Calls.antt`): which file
-//! was at the slot, and which file is returned to be closed. Files are told apart by their tags. Begin reading at `worker.rt` and
-//! `specs/Workers.antt`.
+//! was at the slot, and which file is returned to be closed. Files are told apart by their tags. C has one pointer for each worker.
+//! Begin reading at `worker.rt` and `specs/Workers.antt`, then `exports.rt` and `specs/Answers.antt`.
 #![tactic(auto)]
 
 mod answers;
+mod codes;
 mod crossing;
+mod exports;
+mod handle;
+mod numbers;
 mod opening;
+mod parts;
 mod shared;
 mod worker;
-
-pub use answers::{LookAnswer, LookRefusal, NotHolding, PutAny, PutFault, Removal, TakeFault};
-pub use crossing::crosses;
-pub use opening::{OpenFault, open};
-pub use shared::Shared;
-pub use worker::TableWorker;

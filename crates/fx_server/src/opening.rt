@@ -4,8 +4,9 @@ ghost use Rattle.std.specs.Arc.{arc_value};
 ghost use Rattle.fx_table.specs.Pass.{IsIdle};
 ghost use Rattle.fx_lasting.specs.Tables.{view_of, IsPassOfTable};
 ghost use Rattle.fx_server.specs.Workers.{IsGood, IsInRange};
-ghost use Rattle.fx_server.specs.declared.opening.OpenFault.TheVariants.{OutOfRange, NoMemory as RanOut};
+ghost use Rattle.fx_server.specs.declared.answers.ServerRefusal.TheVariants.{Bad, NoMemory as RanOut};
 
+use crate::answers::ServerRefusal;
 use crate::shared::{Shared, one_file};
 use crate::worker::TableWorker;
 use fx_base::NoMemory;
@@ -14,47 +15,38 @@ use fx_plain::{MOST_SLOTS, PlainTable};
 use std::alloc::{AllocError, Global};
 use std::sync::Arc;
 
-/// The reason why a table is not opened.
-#[derive(Clone, Copy)]
-pub enum OpenFault {
-    /// A number is out of its range.
-    OutOfRange,
-    /// An allocation failed.
-    NoMemory,
-}
-
 /// Opens a table of 1 to 256 empty slots, and returns its workers, 1 to 1,024, of which the first `installing`, 1 to 64, install files.
 ///
 /// # Errors
-/// `OutOfRange` if a number is out of its range, `NoMemory` if an allocation fails.
+/// `Bad` if a number is out of its range, `NoMemory` if an allocation fails.
 pub fn open(
     alloc: Global,
     slots: u32,
     workers: u32,
     installing: u32,
-) -> Result<Vec<TableWorker>, OpenFault>
+) -> Result<Vec<TableWorker>, ServerRefusal>
     ensures good { IfOk result (λ list. All IsGood list.items) }
     ensures count { IfOk result (λ list. length list.items ≡ workers) }
     ensures range { IfOk result (λ list. IsInRange slots workers installing) }
-    ensures out_of_range { result ≡ Err OutOfRange → IsInRange slots workers installing → ⊥ }
+    ensures out_of_range { result ≡ Err Bad → IsInRange slots workers installing → ⊥ }
 {
     if slots < 1 || slots > MOST_SLOTS || workers < 1 || workers > MOST_PASSES {
-        return Err(OpenFault::OutOfRange);
+        return Err(ServerRefusal::Bad);
     }
     if installing < 1 || installing > MOST_INSTALLING || installing > workers {
-        return Err(OpenFault::OutOfRange);
+        return Err(ServerRefusal::Bad);
     }
     let Ok(catalogue) = one_file(alloc) else {
-        return Err(OpenFault::NoMemory);
+        return Err(ServerRefusal::NoMemory);
     };
     let Ok(plain) = PlainTable::sparse(alloc, slots) else {
-        return Err(OpenFault::NoMemory);
+        return Err(ServerRefusal::NoMemory);
     };
     match LastingTable::open(alloc, plain, workers, installing) {
         Ok((table, passes)) => share(alloc, Shared { table, catalogue }, passes),
         Err((plain, NoMemory)) => {
             plain.abandon();
-            Err(OpenFault::NoMemory)
+            Err(ServerRefusal::NoMemory)
         }
     }
 }
@@ -64,7 +56,7 @@ fn share(
     alloc: Global,
     shared: Shared,
     passes: Vec<LastingPass>,
-) -> Result<Vec<TableWorker>, OpenFault>
+) -> Result<Vec<TableWorker>, ServerRefusal>
     requires ready { All (λ p. IsPassOfTable shared.table p × IsIdle (view_of p)) passes.items }
     ensures good { IfOk result (λ list. All IsGood list.items) }
     ensures count { IfOk result (λ list. length list.items ≡ length passes.items) }
@@ -72,11 +64,11 @@ fn share(
 {
     let Ok(shared) = Arc::new(alloc, shared) else {
         spend(passes);
-        return Err(OpenFault::NoMemory);
+        return Err(ServerRefusal::NoMemory);
     };
     let Ok(workers) = Vec::with_capacity(alloc, passes.len()) else {
         spend(passes);
-        return Err(OpenFault::NoMemory);
+        return Err(ServerRefusal::NoMemory);
     };
     deal(shared, passes, workers)
 }
@@ -86,7 +78,7 @@ fn deal(
     shared: Arc<Shared, Global>,
     mut passes: Vec<LastingPass>,
     mut workers: Vec<TableWorker>,
-) -> Result<Vec<TableWorker>, OpenFault>
+) -> Result<Vec<TableWorker>, ServerRefusal>
     requires ready { All (λ p. IsPassOfTable (arc_value shared).table p × IsIdle (view_of p)) passes.items }
     requires none { length workers.items ≡ 0 }
     ensures good { IfOk result (λ list. All IsGood list.items) }
@@ -96,11 +88,11 @@ fn deal(
     while let Some(pass) = passes.pop() {
         let Ok(worker) = begin(&shared, pass) else {
             spend(passes);
-            return Err(OpenFault::NoMemory);
+            return Err(ServerRefusal::NoMemory);
         };
         let Ok(()) = workers.push(worker) else {
             spend(passes);
-            return Err(OpenFault::NoMemory);
+            return Err(ServerRefusal::NoMemory);
         };
     }
     passes.destroy_empty();

@@ -6,7 +6,7 @@ ghost use Rattle.fx_lasting.specs.Passes.{nodes_of};
 ghost use Rattle.fx_server.specs.Workers.{Chooses, IsGood, LooksUp, Notes, ReleasesHeld, Puts, PutsAny};
 ghost use Rattle.fx_server.specs.Workers.{RemovesFrom, RetiresAs, its_table};
 
-use crate::answers::{LookAnswer, LookRefusal, NotHolding, PutAny, PutFault, Removal, TakeFault};
+use crate::answers::{LookAnswer, Removal, ServerRefusal};
 use crate::shared::Shared;
 use fx_base::OpenFile;
 use fx_lasting::{LastingPass, LastingTable, TriedPut};
@@ -53,10 +53,10 @@ impl TableWorker {
     {
         let table = &self.shared.table;
         if self.held.is_some() {
-            return refused(LookRefusal::Busy);
+            return refused(ServerRefusal::Busy);
         }
         if slot >= table.size() {
-            return refused(LookRefusal::NoSlot);
+            return refused(ServerRefusal::NoSlot);
         }
         let LookUp { found, freed } = table.look_up(&mut self.pass, slot);
         let freed = tag_of(freed);
@@ -67,15 +67,15 @@ impl TableWorker {
     /// Releases the file that the worker holds. Returns its tag, if it was removed and nobody uses it any more.
     ///
     /// # Errors
-    /// `NotHolding` if the worker holds no file.
-    pub fn release(&mut self) -> Result<Option<u64>, NotHolding>
+    /// `Idle` if the worker holds no file.
+    pub fn release(&mut self) -> Result<Option<u64>, ServerRefusal>
         requires good { IsGood self.old }
         ensures good { IsGood self.new }
         ensures table { self.new.shared ≡ self.old.shared }
         ensures released { ReleasesHeld self.old result self.new }
     {
         let Some(Held { node, entry }) = self.held.take() else {
-            return Err(NotHolding);
+            return Err(ServerRefusal::Idle);
         };
         let hold = Hold { node, entry };
         let out = self.shared.table.release(&mut self.pass, hold);
@@ -94,18 +94,18 @@ impl TableWorker {
     ///
     /// # Errors
     /// `Busy`, `NoBlock`, in this order.
-    pub fn next_node(&mut self) -> Result<u32, PutFault>
+    pub fn next_node(&mut self) -> Result<u32, ServerRefusal>
         requires good { IsGood self.old }
         ensures good { IsGood self.new }
         ensures table { self.new.shared ≡ self.old.shared }
         ensures chosen { Chooses self.old result self.new }
     {
         if self.held.is_some() {
-            return Err(PutFault::Busy);
+            return Err(ServerRefusal::Busy);
         }
         let table = &self.shared.table;
         if !table.installs(&self.pass) {
-            return Err(PutFault::NoBlock);
+            return Err(ServerRefusal::NoBlock);
         }
         Ok(table.next_node(&mut self.pass))
     }
@@ -114,22 +114,22 @@ impl TableWorker {
     ///
     /// # Errors
     /// `Busy`, `NoSlot`, `NoBlock`, in this order.
-    pub fn put(&mut self, slot: u32, tag: u64) -> Result<Removal, PutFault>
+    pub fn put(&mut self, slot: u32, tag: u64) -> Result<Removal, ServerRefusal>
         requires good { IsGood self.old }
         ensures good { IsGood self.new }
         ensures table { self.new.shared ≡ self.old.shared }
         ensures placed { Puts self.old slot tag result self.new }
     {
         if self.held.is_some() {
-            return Err(PutFault::Busy);
+            return Err(ServerRefusal::Busy);
         }
         let shared: &Shared = &self.shared;
         let table = &shared.table;
         if slot >= table.size() {
-            return Err(PutFault::NoSlot);
+            return Err(ServerRefusal::NoSlot);
         }
         if !table.installs(&self.pass) {
-            return Err(PutFault::NoBlock);
+            return Err(ServerRefusal::NoBlock);
         }
         let file = shared.file(tag);
         match table.put(&mut self.pass, slot, file) {
@@ -138,31 +138,34 @@ impl TableWorker {
         }
     }
 
-    /// Makes one round to install a file with this tag at a free slot.
-    pub fn put_any(&mut self, tag: u64) -> PutAny
+    /// Makes one round to install a file with this tag at a free slot. Returns the slot.
+    ///
+    /// # Errors
+    /// `Busy`, `NoBlock`, in this order; `Full` if at one step every slot had a file; `Again` if the slots changed during the round.
+    pub fn put_any(&mut self, tag: u64) -> Result<u32, ServerRefusal>
         requires good { IsGood self.old }
         ensures good { IsGood self.new }
         ensures table { self.new.shared ≡ self.old.shared }
         ensures allocated { PutsAny self.old tag result self.new }
     {
         if self.held.is_some() {
-            return PutAny::Busy;
+            return Err(ServerRefusal::Busy);
         }
         let shared: &Shared = &self.shared;
         let table = &shared.table;
         if !table.installs(&self.pass) {
-            return PutAny::NoBlock;
+            return Err(ServerRefusal::NoBlock);
         }
         let file = shared.file(tag);
         match table.try_put_any(&mut self.pass, file) {
-            TriedPut::At(slot) => PutAny::At(slot),
+            TriedPut::At(slot) => Ok(slot),
             TriedPut::Full(file) => {
                 file.discard();
-                PutAny::Full
+                Err(ServerRefusal::Full)
             }
             TriedPut::Again(file) => {
                 file.discard();
-                PutAny::Again
+                Err(ServerRefusal::Again)
             }
         }
     }
@@ -171,28 +174,28 @@ impl TableWorker {
     ///
     /// # Errors
     /// `Busy`, `NoSlot`, or `Empty` if the slot has no file.
-    pub fn take(&mut self, slot: u32) -> Result<Removal, TakeFault>
+    pub fn take(&mut self, slot: u32) -> Result<Removal, ServerRefusal>
         requires good { IsGood self.old }
         ensures good { IsGood self.new }
         ensures table { self.new.shared ≡ self.old.shared }
         ensures removed { RemovesFrom self.old slot result self.new }
     {
         if self.held.is_some() {
-            return Err(TakeFault::Busy);
+            return Err(ServerRefusal::Busy);
         }
         let table = &self.shared.table;
         if slot >= table.size() {
-            return Err(TakeFault::NoSlot);
+            return Err(ServerRefusal::NoSlot);
         }
         match table.take(&mut self.pass, slot) {
             Ok(retired) => Ok(retire(table, &mut self.pass, retired)),
-            Err(Empty) => Err(TakeFault::Empty),
+            Err(Empty) => Err(ServerRefusal::Empty),
         }
     }
 }
 
 // Notes the hold that a look-up returned, if it found a file, and returns its node.
-fn note(held: &mut Option<Held>, found: Result<Hold, Fault>) -> Result<u32, LookRefusal>
+fn note(held: &mut Option<Held>, found: Result<Hold, Fault>) -> Result<u32, ServerRefusal>
     ensures { Notes found result held.new }
 {
     match found {
@@ -203,13 +206,13 @@ fn note(held: &mut Option<Held>, found: Result<Hold, Fault>) -> Result<u32, Look
         }
         Err(_) => {
             *held = None;
-            Err(LookRefusal::Empty)
+            Err(ServerRefusal::Empty)
         }
     }
 }
 
 // Returns the result of a look-up that was refused.
-fn refused(fault: LookRefusal) -> LookAnswer
+fn refused(fault: ServerRefusal) -> LookAnswer
     ensures { (result.found ≡ Err fault) × (result.freed ≡ None) }
 {
     LookAnswer {

@@ -1,4 +1,4 @@
-//! The C interface of the verified core (`crates/fx_server_c`), or the stand-in for it. A worker of the core is one pass of its
+//! The C interface of the verified core (`crates/fx_server`), or the stand-in for it. A worker of the core is one pass of its
 //! table. A value is known to the core by its tag, which it returns to whoever has to drop the value.
 #![allow(dead_code)]
 
@@ -9,10 +9,12 @@ pub(crate) struct Core {
     _marker: std::marker::PhantomData<(*mut u8, std::marker::PhantomPinned)>,
 }
 
-/// The call is done.
+/// The call is done. If it installs a value, the slot was empty.
 pub(crate) const DONE: i64 = 0;
 /// The call is done, and it returned the tag of a value that nobody uses any more.
 pub(crate) const CLOSED: i64 = 1;
+/// The call is done, and the value that was at the slot is still used.
+pub(crate) const IN_USE: i64 = 2;
 /// The slot is empty.
 pub(crate) const EMPTY: i64 = -1;
 /// There is no such slot.

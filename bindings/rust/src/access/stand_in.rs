@@ -3,7 +3,9 @@
 //!
 //! A slot's word has the node and one, shifted by 32 bits, and the number of takes. A node's word is 0 where the node is free,
 //! `BORN` less what was released while its file is in a slot, and 1 and what is still held after that.
-use super::core::{Core, AGAIN, BAD, BUSY, CLOSED, DONE, EMPTY, FULL, IDLE, NO_BLOCK, NO_SLOT};
+use super::core::{
+    Core, AGAIN, BAD, BUSY, CLOSED, DONE, EMPTY, FULL, IDLE, IN_USE, NO_BLOCK, NO_SLOT,
+};
 use super::core::{MOST_INSTALLING, MOST_SLOTS, MOST_WORKERS};
 use std::cell::UnsafeCell;
 use std::sync::atomic::{AtomicU64, Ordering::SeqCst};
@@ -110,13 +112,14 @@ impl Worker {
     }
 }
 
-fn answer(closed: Option<u64>, out: &mut u64) -> i64 {
+// Writes the tag of a closed value. Returns `kept` if there is none.
+fn answer(closed: Option<u64>, kept: i64, out: &mut u64) -> i64 {
     match closed {
         Some(tag) => {
             *out = tag;
             CLOSED
         }
-        None => DONE,
+        None => kept,
     }
 }
 
@@ -191,7 +194,7 @@ pub(crate) unsafe fn yacht_core_release(handle: *mut Core, closed: *mut u64) -> 
     let Some(node) = it.held.take() else {
         return IDLE;
     };
-    answer(it.table.subtract(node, 1), unsafe { &mut *closed })
+    answer(it.table.subtract(node, 1), DONE, unsafe { &mut *closed })
 }
 
 pub(crate) unsafe fn yacht_core_put(
@@ -214,7 +217,7 @@ pub(crate) unsafe fn yacht_core_put(
     it.table.changes.fetch_add(1, SeqCst);
     match it.table.slots[slot as usize].swap(word, SeqCst) {
         old if old >> 32 == 0 => DONE,
-        old => answer(it.table.retire(old), unsafe { &mut *closed }),
+        old => answer(it.table.retire(old), IN_USE, unsafe { &mut *closed }),
     }
 }
 
@@ -245,6 +248,6 @@ pub(crate) unsafe fn yacht_core_take(handle: *mut Core, slot: u32, closed: *mut 
     };
     match word.swap(0, SeqCst) {
         old if old >> 32 == 0 => EMPTY,
-        old => answer(it.table.retire(old), unsafe { &mut *closed }),
+        old => answer(it.table.retire(old), IN_USE, unsafe { &mut *closed }),
     }
 }

@@ -1,0 +1,104 @@
+-- The meaning of the numbers that C gets: the result of a worker's call, and its tag.
+use Rattle.std.specs.Prelude.{◌≡◌, ℕ, ℤ, pos, Option, Some, None, Result, Ok, Err}
+use Rattle.fx_server.specs.Workers.{IsGood, LooksUp, ReleasesHeld, Puts, PutsAny, RemovesFrom}
+use Rattle.fx_server.specs.Workers.{Chooses}
+use Rattle.fx_server.specs.declared.answers.LookAnswer.{LookAnswer}
+use Rattle.fx_server.specs.declared.answers.ServerRefusal.{ServerRefusal}
+use Rattle.fx_server.specs.declared.answers.ServerRefusal.TheVariants as refusal
+use Rattle.fx_server.specs.declared.answers.Removal.{Removal}
+use Rattle.fx_server.specs.declared.answers.Removal.TheVariants.{Nothing, InUse, Closed}
+use Rattle.fx_server.specs.declared.codes.TheConstants.{DONE, CLOSED, IN_USE, EMPTY, NO_SLOT, BUSY}
+use Rattle.fx_server.specs.declared.codes.TheConstants.{IDLE, NO_BLOCK, FULL, AGAIN, BAD, NO_MEMORY}
+use Rattle.fx_server.specs.declared.worker.TableWorker.{TableWorker}
+
+abbrev pub refusal_code : ServerRefusal → ℤ
+refusal_code refusal.Empty = EMPTY
+refusal_code refusal.NoSlot = NO_SLOT
+refusal_code refusal.Busy = BUSY
+refusal_code refusal.Idle = IDLE
+refusal_code refusal.NoBlock = NO_BLOCK
+refusal_code refusal.Full = FULL
+refusal_code refusal.Again = AGAIN
+refusal_code refusal.Bad = BAD
+refusal_code refusal.NoMemory = NO_MEMORY
+
+-- of a call that returns a node or a slot
+abbrev pub answer_number : Result ℕ ServerRefusal → ℤ
+answer_number (Ok number) = pos number
+answer_number (Err reason) = refusal_code reason
+
+abbrev pub tag_or_zero : Option ℕ → ℕ
+tag_or_zero None = 0
+tag_or_zero (Some tag) = tag
+
+abbrev pub release_number : Result (Option ℕ) ServerRefusal → ℤ
+release_number (Ok None) = DONE
+release_number (Ok (Some tag)) = CLOSED
+release_number (Err reason) = refusal_code reason
+
+abbrev pub released_tag : Result (Option ℕ) ServerRefusal → ℕ
+released_tag (Ok tag) = tag_or_zero tag
+released_tag (Err _) = 0
+
+-- of a call that removes a file, or may do so
+abbrev pub removal_number : Result Removal ServerRefusal → ℤ
+removal_number (Ok Nothing) = DONE
+removal_number (Ok InUse) = IN_USE
+removal_number (Ok (Closed tag)) = CLOSED
+removal_number (Err reason) = refusal_code reason
+
+abbrev pub removal_tag : Result Removal ServerRefusal → ℕ
+removal_tag (Ok (Closed tag)) = tag
+removal_tag _ = 0
+
+-- the number and the tag are those of a look-up of the worker, which is good afterwards
+pub record LooksAs (w : TableWorker) (slot : ℕ) (number : ℤ) (freed : ℕ) : Type 0 where
+  pub after : TableWorker
+  pub look : LookAnswer
+  pub good : IsGood after
+  pub looked : LooksUp w slot look after
+  pub its_number : number ≡ answer_number look.found
+  pub its_tag : freed ≡ tag_or_zero look.freed
+
+-- of a release
+pub record ReleasesAs (w : TableWorker) (number : ℤ) (closed : ℕ) : Type 0 where
+  pub after : TableWorker
+  pub result : Result (Option ℕ) ServerRefusal
+  pub good : IsGood after
+  pub released : ReleasesHeld w result after
+  pub its_number : number ≡ release_number result
+  pub its_tag : closed ≡ released_tag result
+
+-- of an installation at a slot
+pub record PutsAs (w : TableWorker) (slot tag : ℕ) (number : ℤ) (closed : ℕ) : Type 0 where
+  pub after : TableWorker
+  pub result : Result Removal ServerRefusal
+  pub good : IsGood after
+  pub placed : Puts w slot tag result after
+  pub its_number : number ≡ removal_number result
+  pub its_tag : closed ≡ removal_tag result
+
+-- of a round of an installation at any slot
+pub record PutsAnyAs (w : TableWorker) (tag : ℕ) (number : ℤ) : Type 0 where
+  pub after : TableWorker
+  pub result : Result ℕ ServerRefusal
+  pub good : IsGood after
+  pub allocated : PutsAny w tag result after
+  pub its_number : number ≡ answer_number result
+
+-- of a removal
+pub record RemovesAs (w : TableWorker) (slot : ℕ) (number : ℤ) (closed : ℕ) : Type 0 where
+  pub after : TableWorker
+  pub result : Result Removal ServerRefusal
+  pub good : IsGood after
+  pub removed : RemovesFrom w slot result after
+  pub its_number : number ≡ removal_number result
+  pub its_tag : closed ≡ removal_tag result
+
+-- of a choice of the next file's node
+pub record ChoosesAs (w : TableWorker) (number : ℤ) : Type 0 where
+  pub after : TableWorker
+  pub result : Result ℕ ServerRefusal
+  pub good : IsGood after
+  pub chosen : Chooses w result after
+  pub its_number : number ≡ answer_number result
