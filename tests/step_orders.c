@@ -2,8 +2,9 @@
  * tables, each of which must be found.
  *
  * What may come next depends on a state alone, so of two orders that reach the same state only one is continued, and a family is done
- * when no new state comes. The last line counts families and wrong tables. The exit status is 1 if a family isn't right, or a wrong
- * table isn't found. */
+ * when no new state comes. A line is printed for each family, with the number of its states and steps, and for each wrong table, with
+ * what is found. With an argument only the table's families are explored, up to the first fault. The exit status is 1 if a family
+ * isn't right, or a wrong table isn't found. */
 #include <stdio.h>
 #include <stdlib.h>
 #include <string.h>
@@ -122,9 +123,9 @@ static bool explore(const struct step_table *table, int family, int wrong) {
         steps += go_on(table, &s);
     }
     if (wrong && fault != NULL) {
-        printf("steps: %s, %s: found after %zu states: %s\n", table->name, table->wrong_names[wrong], seen.used, fault);
+        printf("%s, %s: %s\n", table->name, table->wrong_names[wrong], fault);
     } else if (!wrong) {
-        printf("steps: %s, %s: %zu states, %ld steps%s%s\n", table->name, name, seen.used, steps, fault ? ": " : "", fault ? fault : "");
+        printf("%s, %s: %zu states, %ld steps%s%s\n", table->name, name, seen.used, steps, fault ? ": " : "", fault ? fault : "");
     }
     fflush(stdout);
     forget_all();
@@ -137,26 +138,28 @@ static bool is_found(const struct step_table *table, int wrong) {
             return true;
         }
     }
-    printf("steps: %s, %s: NOT FOUND\n", table->name, table->wrong_names[wrong]);
+    printf("%s, %s: NOT FOUND\n", table->name, table->wrong_names[wrong]);
     return false;
 }
 
-static bool is_right(const struct step_table *table) {
-    int bad = 0, missed = 0;
-    for (int family = 0; family < table->families; family++) {
-        bad += !explore(table, family, 0);
+/* Explores all families, or those up to the first with a fault. */
+static bool is_right(const struct step_table *table, bool up_to_first) {
+    bool right = true;
+    for (int family = 0; family < table->families && (right || !up_to_first); family++) {
+        right &= explore(table, family, 0);
     }
-    if (table->missing != NULL && table->missing() != NULL) {
-        printf("steps: %s: %s\n", table->name, table->missing());
-        bad++;
+    if (right && table->missing != NULL && table->missing() != NULL) {
+        printf("%s: %s\n", table->name, table->missing());
+        right = false;
     }
-    for (int wrong = 1; wrong < table->wrong_tables; wrong++) {
-        missed += !is_found(table, wrong);
-    }
-    printf("steps: %s: %d families, %d wrong; %d wrong tables, %d not found\n", table->name, table->families, bad, table->wrong_tables - 1, missed);
-    return !bad && !missed;
+    return right;
 }
 
-int main(void) {
-    return is_right(&the_table) ? 0 : 1;
+int main(int count, char **words) {
+    (void)words;
+    bool right = is_right(&the_table, count > 1);
+    for (int wrong = 1; count == 1 && wrong < the_table.wrong_tables; wrong++) {
+        right &= is_found(&the_table, wrong);
+    }
+    return right ? 0 : 1;
 }
