@@ -456,6 +456,9 @@ def play(text):
 
 
 if __name__ == "__main__":
+    if len(sys.argv) > 1:
+        print(f"model.py: there is no argument {sys.argv[1]}; the script is read from standard input, as in: model.py < SCRIPT", file=sys.stderr)
+        sys.exit(2)
     written, status, fault = play(sys.stdin.buffer.read())
     sys.stdout.write(written)
     if fault:

@@ -11,7 +11,7 @@ ROWS_OF_A_HEAD = 40
 
 
 class NoHistory(Exception):
-    """The lines are not a history, or the text is not that of the history."""
+    """The lines are not a history, the text is not that of the history, or the history has nothing that is asked for."""
 
 
 @dataclass
