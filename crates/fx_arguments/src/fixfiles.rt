@@ -3,6 +3,7 @@ ghost use Rattle.std.specs.Prelude.{◌≤◌, IfOk};
 ghost use Rattle.fx_table.specs.declared.limits.TheConstants.{MAX_PASSES};
 
 use crate::{Refusal, words};
+use clap::error::ErrorKind;
 use clap::{Arg, ArgMatches, Command, Error, value_parser};
 use std::alloc::{AllocError, Global};
 use std::convert::AsStr;
@@ -82,12 +83,23 @@ fn command<'a>(alloc: Global) -> Result<Command<'a>, AllocError> {
         .value_parser(TABLES)
         .default_value("words")
         .help("Which table they share: `words` has no lock, `baton` is guarded by one word");
+    // no script is an argument; one that is given is refused with a tip
+    let script = Arg::new(alloc, "script").hide(true);
     Command::new(alloc, "fixfiles")
         .about(ABOUT)
         .after_help(SCRIPTS_AND_STATUSES)
         .override_usage("fixfiles [OPTIONS] < SCRIPT")
         .arg(workers)?
-        .arg(table)
+        .arg(table)?
+        .arg(script)
+}
+
+// Returns the error of a script that is given as an argument.
+fn script_given(alloc: Global, path: &str) -> Result<Error, AllocError> {
+    let message = format!(in alloc;
+        "unexpected argument '{path}' found\n\n  tip: the script is read from standard input, as in 'fixfiles < {path}'"
+    )?;
+    command(alloc)?.error(ErrorKind::UnknownArgument, message.as_str())
 }
 
 // Returns the number of workers, which has a default and was checked to be in its range.
@@ -108,6 +120,9 @@ pub fn settings_in<S: AsStr>(alloc: Global, words: &[S]) -> Result<Settings, Err
     ensures { IfOk result (λ asked. (1 ≤ asked.workers) × (asked.workers ≤ MAX_PASSES)) }
 {
     let matches = command(alloc)?.try_get_matches_from(words)?;
+    if let Some(path) = matches.get_str("script") {
+        return Err(script_given(alloc, path)?);
+    }
     Ok(Settings {
         workers: workers_of(&matches),
         table: matches.get_one("table").unwrap_or(Table::Words),
