@@ -1,0 +1,3 @@
+pub mod Ghost
+pub mod Fields
+pub mod Views
