@@ -3,6 +3,10 @@ use Rattle.fx_table.proofs.Words.{◌≤◌, ℕ, ◌+◌, Bool, true, false, Li
 use Rattle.fx_table.proofs.Words.{◌▷▷◌, Doing, Opening, PassView, IsFront, Use, Adds, ◌≡◌, None, Contents, state_of, append_assoc, no_use, both_uses}
 use Rattle.fx_table.proofs.Words.{Spends, one_number, IsNewFile, Placed, Cleared, Taken, Option, Some, option_map, Result, ok_or, ◌▷◌, numbered, File}
 use Rattle.fx_table.proofs.Words.{next_number, retired_of, IsFileRemoval, activity_of, retiring, Retired, opening, IsGivenBack}
+use Rattle.fx_table.proofs.Words.{map, subst, filter-append, part_of_pass}
+use Rattle.std.proofs.lemmas.List.{append_cancel_right, append-nil}
+use Rattle.fx_table.specs.Pass.{event_of}
+use Rattle.fx_table.specs.Showing.{FollowsShown, Learns}
 use Rattle.fx_base.specs.Identity.{Identity}
 use Rattle.fx_plain.specs.declared.event.Action.TheVariants.{Put, Clear, Take}
 use Rattle.fx_table.specs.declared.values.Empty.{Empty}
@@ -50,6 +54,46 @@ adds_then o u v w xs ys d e a b one two = record {
   no_chains_left = two.no_chains_left ∙ one.no_chains_left;
   numbers_left = spends_then o.lasts u.numbers_left v.numbers_left w.numbers_left a.numbers b.numbers one.numbers_left two.numbers_left;
   looks_left = spends_then o.lasts u.looks_left v.looks_left w.looks_left a.looks b.looks one.looks_left two.looks_left;
+}
+
+-- the empty history begins every other one
+pub seen_from_start : (h : List Event) → IsSeenBy [] h
+seen_from_start h = (h, sym (append-nil h))
+
+unspent : (lasts : Bool) (before after : ℕ) → Spends lasts before 0 after → after ≡ before
+unspent false before after spends = omega arith
+unspent true before after spends = spends
+
+-- a pass that made no action, and whose front has all that was shown, has learned it
+pub learned_so : (o : Opening) (shown : List Event) (v w : PassView) → Adds o v [] v.doing no_use w → IsSeenBy shown w.front → Learns o shown v w
+learned_so o shown v w adds seen = record {
+  own = adds.seen;
+  shown = seen;
+  front = adds.front;
+  same = λ i. record {
+    number = adds.number i;
+    front = w.front;
+    own = adds.own i;
+    chain = adds.chain i;
+    drawn = adds.drawn i;
+    no_chains_left = adds.no_chains_left i;
+    numbers_left = unspent o.lasts v.numbers_left w.numbers_left adds.numbers_left i;
+    looks_left = unspent o.lasts v.looks_left w.looks_left adds.looks_left i;
+    doing = adds.now i;
+  };
+}
+
+-- what a call adds follows all that its pass had seen
+pub follows_shown : (o : Opening) (shown : List Event) (v w : PassView) (actions : List Action) (doing : Doing) (used : Use) → IsFront o v
+    → IsSeenBy shown v.front → Adds o v actions doing used w → FollowsShown shown v actions w
+follows_shown o shown v w actions doing used front seen adds = let since = adds.seen.0 in record {
+  since = since;
+  front = adds.seen.1;
+  shown = seen;
+  part = append_cancel_right (part_of_pass v.number since) (map (event_of v) actions) v.own
+      (ap (λ (l : List Event). part_of_pass v.number since ++ l) (sym front.mine)
+      ∙ (sym (filter-append _ since v.front)
+      ∙ (ap (part_of_pass v.number) (sym adds.seen.1) ∙ (subst (λ (n : ℕ). part_of_pass n w.front ≡ w.own) adds.number adds.front.mine ∙ adds.own))));
 }
 
 -- The results of calls that empty or replace a slot.

@@ -1,5 +1,5 @@
 -- Sums over lists, and membership in a list.
-use Rattle.fx_table.proofs.Words.{◌≡◌, ◌≢◌, ℕ, zero, suc, ◌+◌, ◌-◌, ◌<◌, ◌≤◌, cond, eqb, List, map, refl, ap, arith, eq-eqb, ne_eqb, ◌⊎◌, inl, inr}
+use Rattle.fx_table.proofs.Words.{subst, ◌≡◌, ◌≢◌, ℕ, zero, suc, ◌+◌, ◌-◌, ◌<◌, ◌≤◌, cond, eqb, List, map, refl, ap, arith, eq-eqb, ne_eqb, ◌⊎◌, inl, inr}
 use Rattle.fx_table.proofs.Words.{count_by, range_with_len, sum_by-cons, dite, ℕ_discrete, changed_at, length, get_elem?, some, some-ne-none}
 use Rattle.fx_table.proofs.Words.{some-injective, [], ◌∷◌, reverse, sym, ◌∙◌, ⊎_elim, Contains, All, set, sum_by, Bool, once, slice_index_or}
 use Rattle.fx_table.proofs.Words.{length-map, get_or-map, get_or_default, All-contains_itself, sum}
@@ -82,6 +82,9 @@ module _ {X : Type 0} where
   -- a list of one
   pub contains_only : (x y : X) → Contains (x ∷ []) y → y ≡ x
   contains_only x y h = ⊎_elim (λ is. is) (λ t. absurd (contains_none y t)) (contains_cases x [] y h)
+
+  pub contains_alone : {xs : List X} {x : X} → xs ≡ x ∷ [] → Contains xs x
+  contains_alone {xs} {x} e = subst (λ (l : List X). Contains l x) (sym e) (contains_head x [])
 
   pub each_all : (P : X → Type 0) (xs : List X) → ((x : X) → Contains xs x → P x) → All P xs
   each_all P xs f k d inside = f (slice_index_or xs k d) (All-contains_itself xs k d inside)

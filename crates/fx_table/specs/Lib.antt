@@ -4,6 +4,8 @@ pub mod Opening
 pub mod Pass
 pub mod Tasks
 pub mod Calls
+pub mod Showing
+pub mod Finding
 pub mod Closing
 pub mod Turns
 pub mod Laws

@@ -1,6 +1,9 @@
 //! The limits of every shared table, as numbers, and laws that follow from the contract of a shared table alone (this
 //! project's own). Each is the contract of a function with an empty body.
 ghost use Rattle.std.specs.Prelude.{◌≡◌};
+ghost use Rattle.fx_table.specs.Showing.{CallsFollowWhatWasShown};
+ghost use Rattle.fx_table.specs.Finding.{LookUpFindsTheChange, LookUpFindsThePut, LookUpFindsTheRemoval};
+ghost use Rattle.fx_table.specs.Finding.{FullFollowsAnInstallation};
 ghost use Rattle.fx_table.specs.Laws.{CallsCompose, ChainHasOnePass, CallsKeepDrawnChains, ChainIsPartOfItsPass};
 ghost use Rattle.fx_table.specs.declared.limits.TheConstants.{MAX_CHAINS, MAX_PASSES, PASS_LOOKS, FIRST_CHAIN_NUMBER, CHAIN_NUMBERS};
 
@@ -17,6 +20,31 @@ pub fn limits_are_numbers()
 /// States that two calls in a row add what each of them adds.
 pub fn calls_compose()
     ensures { CallsCompose }
+{}
+
+/// States that a call's events follow all that its pass had seen or learned before the call.
+pub fn calls_follow_what_was_shown()
+    ensures { CallsFollowWhatWasShown }
+{}
+
+/// States that a look-up after a change of its slot finds what the change left, or what a later change left.
+pub fn a_look_up_finds_the_change()
+    ensures { LookUpFindsTheChange }
+{}
+
+/// States that a look-up after a put at its slot finds the new file, if no action between changes the slot.
+pub fn a_look_up_finds_the_put()
+    ensures { LookUpFindsThePut }
+{}
+
+/// States that a look-up after a removal at its slot finds no file, if no action between changes the slot.
+pub fn a_look_up_finds_the_removal()
+    ensures { LookUpFindsTheRemoval }
+{}
+
+/// States that a call which finds every slot full after a removal at one of them follows an installation there.
+pub fn full_follows_an_installation()
+    ensures { FullFollowsAnInstallation }
 {}
 
 /// States that among the passes of a closed table at most one drew a given chain.
