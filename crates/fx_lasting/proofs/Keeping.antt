@@ -9,8 +9,13 @@ use Rattle.fx_lasting.proofs.Words.{IsHistory, held_in, held_of, taken_of, logs_
 use Rattle.fx_lasting.proofs.Words.{free, removed_in, Change, Glance, Log, Start, View, Work, found_sum, found_by, at_index}
 use Rattle.fx_lasting.proofs.Words.{◌⊎◌, list_place, IsListedIn}
 use Rattle.fx_lasting.proofs.Histories.{Grows, legal_before}
+use Rattle.fx_seen.proofs.Views.{of_replaced}
 use Rattle.fx_lasting.proofs.Lists.{ListGoesOn, stays_listed, was_listed}
 use mathlib.Core.Option as maybe
+
+-- the history that the seat shows begins this one
+abbrev pub IsKnown : List Event → View → Type 0
+IsKnown h u = IsSeenBy u.known h
 
 abbrev pub Homes : Type 0
 Homes = List (maybe.Option (Option Closed))
@@ -252,6 +257,7 @@ module _ (turn : Turn) where
               empty = (r.each_view j u t.1).empty;
               start = (r.each_view j u t.1).start;
             }) (at_set st.views id j w u e);
+        known = of_replaced (IsKnown a.h) st.views (λ j u e. s.grows.seen u.known (r.known j u e)) id w (s.grows.seen v.known (r.known id v here));
         holds = λ n. let t = sum_set (held_of n) st.views id v w here in let a = r.holds n in let b = s.holds n in omega arith;
         passes = λ p. total_same (λ z. one_if (eqb z.number p)) st.views id w here one refl refl ∙ r.passes p;
         whole = let t = sum_set lengths st.views id v w here in let e = ap (length {A = Log}) one in let b = r.whole in omega arith;

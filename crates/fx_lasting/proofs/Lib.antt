@@ -41,3 +41,4 @@ pub mod Rounds
 pub mod WordBounds
 pub mod Holds
 pub mod Choices
+pub mod Showing

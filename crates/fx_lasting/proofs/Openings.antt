@@ -14,6 +14,8 @@ use Rattle.atomic_table.specs.Table.{opening}
 use Rattle.fx_lasting.proofs.Counts.{tally_none, tally_same}
 use Rattle.fx_table.proofs.FullSlots.{full_few}
 use Rattle.fx_plain.proofs.Prepared.{numbered_anew}
+use Rattle.fx_seen.proofs.Views.{of_one}
+use Rattle.fx_lasting.proofs.Keeping.{IsKnown}
 
 -- the phase of a slot's first node
 abbrev phase_for : ℕ → Option File → Phase
@@ -162,6 +164,7 @@ module _ (k : Start) (words : List ℕ) (homes : List (Option Closed)) (o : Open
     unborn = λ n l. let m = more_nodes in high_phase (omega arith);
     fresh = λ number l. ap not (le-ltb number (slots_of k) l);
     each_view = view_opens;
+    known = of_one (IsKnown []) (first_view k) ([], refl);
     holds = λ n. refl;
     passes = λ p. let a = counted_once (λ (y : Log). y.number) new_log (λ n. refl) p k.passes in omega arith;
     whole = let a = length-map-range_with_len new_log 1 k.passes in omega arith;

@@ -5,11 +5,13 @@ use Rattle.fx_lasting.proofs.Words.{View, Work, Idle, Nothing, Glance, Change, S
 use Rattle.fx_lasting.proofs.Words.{taking, owed, get_elem?, state_after_all, slots_of, word_of, some, set, set_here, set_else, at_set, stands_at, sum_set}
 use Rattle.fx_lasting.proofs.Words.{HasNoFile, ViewAgrees, taken_of, held_of, logs_of, lengths, zero, suc, [], ◌∷◌, ◌≢◌}
 use Rattle.std.proofs.lemmas.List.{set-set}
+use Rattle.fx_seen.proofs.Views.{OfEach, of_replaced, of_appended}
+use Rattle.fx_table.proofs.Calls.{seen_from_start}
 use Rattle.fx_lasting.specs.Cuts.{without_first, first_alone}
 use Rattle.fx_table.proofs.Seats.{AreReseated, split, joined}
 use Rattle.fx_lasting.proofs.Choosing.{no_file, no_take, not_busy, holds_none}
 use Rattle.fx_lasting.proofs.Frames.{busy, owner_map, owner_stays, control_same}
-use Rattle.fx_lasting.proofs.Keeping.{word_at, slot_word}
+use Rattle.fx_lasting.proofs.Keeping.{IsKnown, word_at, slot_word}
 
 -- a seat that does nothing, and on whose account no slot is uncounted
 abbrev IsIdle : View → Type 0
@@ -22,7 +24,8 @@ abbrev start : View → Start
 start v = v.start
 
 -- the rule holds where passes are in other seats that do nothing
-module _ (k : Start) (s : Shared) (r : Agrees k s) (views : List View) (a : AreReseated logs start k IsIdle s.views views) where
+module _ (k : Start) (s : Shared) (r : Agrees k s) (views : List View) (a : AreReseated logs start k IsIdle s.views views)
+    (known : OfEach (IsKnown r.history) views) where
   by_log : (f : Log → ℕ) → sum_by (λ (u : View). sum_by f u.logs) views ≡ sum_by (λ (u : View). sum_by f u.logs) s.views
   by_log f = a.by_logs (sum_by f) refl (λ xs ys. sum_by-append f xs ys)
 
@@ -60,6 +63,7 @@ module _ (k : Start) (s : Shared) (r : Agrees k s) (views : List View) (a : AreR
       empty = λ _. new.idle;
       start = new.begun;
     }) (λ old. r.each_view j u old) (a.each j u e);
+    known = known;
     holds = λ n. r.holds n ∙ sym (by_work (λ d. if_file n (held_in d)) refl);
     passes = λ p. by_log (λ y. one_if (eqb y.number p)) ∙ r.passes p;
     whole = a.by_logs (length {A = Log}) refl (λ xs ys. length-append xs ys) ∙ r.whole;
@@ -71,6 +75,7 @@ module _ (k : Start) (s : Shared) (r : Agrees k s) (views : List View) (a : AreR
 pub splits_keep : SplitsKeep without_first first_alone
 splits_keep k id v idle still out s r at = reseated k s r _ (split logs start k IsIdle s.views id v at (idle, still, out)
     (λ l. record v { logs = l }) (λ l. refl) (λ l. (idle, still, out)) (λ l. refl) (r.each_view id v at).start)
+    (let mine = r.known id v at in of_appended (IsKnown r.history) (set s.views id (without_first v)) (of_replaced (IsKnown r.history) s.views r.known id (without_first v) mine) (first_alone v) mine)
 
 -- a pass that has chosen a node may forget it
 module _ (k : Start) (s : Shared) (r : Agrees k s) (id : ℕ) (v : View) (here : get_elem? s.views id ≡ some v) (free_of : HasNoFile v.work) where
@@ -121,6 +126,7 @@ module _ (k : Start) (s : Shared) (r : Agrees k s) (id : ℕ) (v : View) (here :
           empty = λ none. let e = (r.each_view id v here).empty none in (refl, e.1, e.2);
           start = (r.each_view id v here).start;
         }) (λ t. r.each_view j u t.1) (at_set s.views id j forgot u e);
+    known = of_replaced (IsKnown r.history) s.views r.known id forgot (r.known id v here);
     holds = λ n. let t = sum_set (held_of n) s.views id v forgot here in let e = ap (if_file n) (no_file free_of) in let h = r.holds n in omega arith;
     passes = λ p. let t = sum_set (logs_of p) s.views id v forgot here in let h = r.passes p in omega arith;
     whole = let t = sum_set lengths s.views id v forgot here in let h = r.whole in omega arith;
@@ -139,6 +145,7 @@ module _ {A : Type 0} where
   set_apart (x ∷ l) (suc i) (suc j) a b other = ap (λ (m : List A). x ∷ m) (set_apart l i j a b (λ e. other (ap suc e)))
 
 pub joins_keep : JoinsKeep together spent
+unfolding forgotten
 joins_keep k id v begun free_of still out other w w_free w_still w_out s r at apart there =
     let both = together v w in
     let w_at : get_elem? s.views other ≡ some w = sym (set_else s.views id other both apart) ∙ there in
@@ -158,4 +165,5 @@ joins_keep k id v begun free_of still out other w w_free w_still w_out s r at ap
     ∙ (set-set (set views₁ id both) other w₁ spent ∙ ap (λ (l : List View). set l other spent) (set-set s.views id v₁ both)) in
     subst (λ (l : List View). Agrees k record { words = s.words; homes = s.homes; views = l }) same (reseated k _ r₂ _
     (joined logs start k IsIdle views₂ id v₁ at₂ (refl, still, out) other w₁ both spent apart there₂ (refl, w_still, w_out) (refl, still, out) refl
-    begun (refl, refl, refl) refl))
+    begun (refl, refl, refl) refl)
+    (of_replaced (IsKnown r.history) (set views₂ id both) (of_replaced (IsKnown r.history) views₂ r₂.known id both (r.known id v at)) other spent (seen_from_start r.history)))

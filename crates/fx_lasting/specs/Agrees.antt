@@ -270,6 +270,8 @@ pub record Agrees (k : Start) (s : Shared) : Type 0 where
       → (state_after_all k history).fresh number ≡ true
   pub each_view : (seat : ℕ) (v : View) → get_elem? s.views seat ≡ some v
       → ViewAgrees k history s.words phase debt over seat v
+  -- each shown history stays an initial part of the history
+  pub known : (seat : ℕ) (v : View) → get_elem? s.views seat ≡ some v → IsSeenBy v.known history
   -- the holds of a file are the passes that hold it
   pub holds : (number : ℕ)
       → (state_after_all k history).holds number ≡ sum_by (held_of number) s.views

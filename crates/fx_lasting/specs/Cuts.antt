@@ -2,6 +2,7 @@
 use Rattle.std.specs.Prelude.{ℕ, List, [], ◌++◌, map, take, drop}
 use Rattle.std.specs.List.{range_with_len}
 use Rattle.fx_plain.specs.Contents.{Contents}
+use Rattle.fx_plain.specs.declared.event.Event.{Event}
 use Rattle.fx_lasting.specs.Passes.{new_log}
 use Rattle.fx_lasting.specs.declared.view.Change.TheVariants.{Outside}
 use Rattle.fx_lasting.specs.declared.view.Glance.TheVariants.{None as Nothing}
@@ -22,6 +23,7 @@ first_view k = record {
   work = Idle;
   glance = Nothing;
   change = Outside;
+  known = [];
 }
 
 -- a view without the first of its passes
@@ -52,4 +54,9 @@ spent = record {
   work = Idle;
   glance = Nothing;
   change = Outside;
+  known = [];
 }
+
+-- the view of a seat without passes that shows a history
+abbrev pub view_with : List Event → View
+view_with h = record spent { known = h }

@@ -21,3 +21,4 @@ pub mod Searches
 pub mod Visits
 pub mod Firsts
 pub mod Tries
+pub mod Showing

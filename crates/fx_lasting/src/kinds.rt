@@ -2,6 +2,7 @@
 use crate::view::{Start, View};
 use atomic_table::{Join, Play, Split, TableRule};
 use fx_base::OpenFile;
+use fx_seen::Learning;
 
 /// The rule: words, places and passes agree with the state that one legal history leads to.
 pub struct OneHistory;
@@ -256,4 +257,24 @@ impl Play<Option<OpenFile>, View> for Raising {
     ghost use Rattle.fx_lasting.specs.Tells.{Turns};
 
     ghost then = { Turns Outside };
+}
+
+/// Show: a seat shows all that its pass has seen.
+pub struct Show;
+
+impl Split<View> for Show {
+    ghost use Rattle.fx_lasting.specs.Showing.{shown_view};
+
+    ghost left = { λ v. v };
+
+    ghost right = { shown_view };
+}
+
+/// Learn: a pass has seen all that was shown, and all that it had seen before.
+pub struct Learn;
+
+impl Learning<View> for Learn {
+    ghost use Rattle.fx_lasting.specs.Showing.{HasLearned};
+
+    ghost then = { HasLearned };
 }

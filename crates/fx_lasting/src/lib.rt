@@ -21,6 +21,7 @@ mod put_any;
 mod queries;
 mod seek;
 mod shared_table;
+mod shown;
 mod table;
 mod tried;
 mod view;
@@ -28,5 +29,6 @@ mod visit;
 
 pub use layout::{MOST_INSTALLING, MOST_PASSES};
 pub use pass::LastingPass;
+pub use shown::LastingSeen;
 pub use table::LastingTable;
 pub use tried::TriedPut;

@@ -95,4 +95,6 @@ pub struct View {
     pub glance: Glance,
     /// Its account with the control word.
     pub change: Change,
+    /// The history that the seat shows, an initial part of the table's history.
+    pub known: LinkedList<Event>,
 }
