@@ -43,7 +43,7 @@ help:
 
 help-all: help
 	@echo 'Use, further:'
-	@echo '  make dist                     makes the archive build/yachtbanyan-VERSION-x86_64.tar.gz, for users without the toolchain'
+	@echo '  make dist                     makes archives of programs and libraries in build, for users without the toolchain'
 	@echo '  make libraries                proves and builds the libraries for C, Rust and Python'
 	@echo '  make install                  copies programs, libraries, manual pages, completions and examples to PREFIX (/usr/local), below DESTDIR'
 	@echo '  make uninstall                removes the installed files'
@@ -192,6 +192,7 @@ dist:
 	@scripts/build-program check_cli fixcheck
 	@scripts/build-libraries
 	@scripts/dist bin/fixfiles bin/fixcheck
+	@if command -v aarch64-linux-gnu-gcc > /dev/null; then scripts/dist --arm; fi
 
 install:
 	@scripts/build-program

@@ -1,12 +1,12 @@
 /* The judge: decides whether the rules of io_uring's registered file table (docs/MODEL.md) let a script print a text, and lists the texts
- * that a script may print. Both functions are verified: a contract says what each number means (docs/PROOFS.md).
+ * that a script may print. Both functions are verified. Their contracts say what YACHT_LEGAL, YACHT_NOT_LEGAL, YACHT_BAD_SCRIPT, YACHT_ALL
+ * and YACHT_SOME mean (docs/PROOFS.md). The other numbers and the note are tested.
  * C11 or C++17. Link with -lyachtjudge.
  *
- * Duties of every caller, which nothing checks:
- * - No pointer is NULL, not even with a length of 0. A length is below 2^63. No two of the written arguments overlap, nor one of them a
- *   read one.
+ * The caller must ensure the following, which nothing checks:
+ * - No pointer is NULL, not even with a length of 0. A length is below 2^63. A written argument overlaps no other argument.
  * - No function is called from a signal handler, or in the forked child of a process with threads.
- * - malloc, realloc and free are one allocator.
+ * - malloc, realloc and free are one allocator, whose blocks are aligned for any type, as C requires.
  * Threads may call the functions at the same time, each with arguments of its own. */
 #ifndef YACHTJUDGE_H
 #define YACHTJUDGE_H
@@ -15,6 +15,12 @@
 #ifdef __cplusplus
 extern "C" {
 #endif
+
+/* The version of this header. The shared library of the same major version has the name libyachtjudge.so.MAJOR. */
+#define YACHT_JUDGE_VERSION "3.0.0"
+#define YACHT_JUDGE_VERSION_MAJOR 3
+#define YACHT_JUDGE_VERSION_MINOR 0
+#define YACHT_JUDGE_VERSION_PATCH 0
 
 /* What the functions return. */
 enum {
@@ -28,10 +34,10 @@ enum {
     YACHT_NO_ROOM = 2      /* yacht_outcomes: there is no room for the texts */
 };
 
-/* The defaults of fixcheck: at most so many states, and so many MiB for them. */
+/* The defaults of fixcheck: the largest number of states, and the largest number of MiB for them. */
 enum { YACHT_STATES = 1000000, YACHT_MEMORY = 1024 };
 
-/* The details of a verdict. A field that the returned number doesn't speak of is 0. */
+/* The details of a verdict. A field is 0 unless its number is returned. */
 typedef struct yacht_verdict {
     uint64_t commands;    /* YACHT_NOT_LEGAL: the number of commands that may have printed the text before the break */
     uint64_t at;          /* YACHT_NOT_LEGAL: the number of bytes of the text before the break */
@@ -42,18 +48,18 @@ typedef struct yacht_verdict {
 
 /* Decides whether a script may print a text. For each part of a submission that has slots of its own, the search keeps at most `states`
  * states and `memory` MiB of them.
- * The note is advice for a person. Of a text that isn't legal it is what is expected at the break: the likeliest text, or a line in words,
- * or nothing if no order of a submission's requests explains its lines. Of bytes that aren't a script it is the name of the first fault, as
- * `word-count`. Its first bytes, as many as have room, are written; there is no 0 at the end. No contract speaks of it.
+ * The note is advice for a person. For a text that isn't legal it is what is expected at the break: the likeliest text, or a line in words,
+ * or nothing if no order of a submission's requests explains its lines. For bytes that aren't a script it is the name of the first fault,
+ * such as `word-count`. Its first bytes are written, at most note_length, without a 0 at the end. No contract speaks of it.
  * Returns YACHT_LEGAL, YACHT_NOT_LEGAL, YACHT_UNDECIDED, YACHT_BAD_SCRIPT or YACHT_JUDGE_NO_MEMORY, and writes *verdict. */
 uint32_t yacht_judge(const uint8_t *script, size_t script_length, const uint8_t *text, size_t text_length, uint32_t states, uint32_t memory,
                     uint8_t *note, size_t note_length, yacht_verdict *verdict);
 
-/* The details of a list of texts. A field that the returned number doesn't speak of is 0. */
+/* The details of a list of texts. A field is 0 unless its number is returned. */
 typedef struct yacht_texts {
     uint64_t count; /* the number of texts that were found */
     uint64_t bytes; /* the number of bytes of all of them */
-    uint32_t line;  /* YACHT_BAD_SCRIPT: as of a verdict */
+    uint32_t line;  /* YACHT_BAD_SCRIPT: as in a verdict */
 } yacht_texts;
 
 /* Lists the texts that a script may print if no allocation of the player fails, each once, by searches of at most `states` states and

@@ -1,5 +1,5 @@
-"""archive_pages.py FOLDER: writes the pages of the archive (scripts/dist) into a folder. They name the archive's commands in place of those
-of make, and links to files that the archive doesn't have become plain words."""
+"""archive_pages.py [--arm] FOLDER: writes the pages of the archive (scripts/dist), or of that for ARM64, into a folder. They name the archive's
+commands in place of those of make, and links to files that the archive doesn't have become plain words."""
 import os
 import re
 import sys
@@ -9,8 +9,10 @@ from repository import ROOT, read, write
 
 PAGES = {"docs/ARCHIVE.md": "README.md"} | {
     it: it for it in (*(f"docs/{name}.md" for name in ("BINDINGS", "CHECKING", "LIMITS", "LINUX", "LITMUS", "MODEL", "SCRIPT")), "examples/README.md")}
-# what the archive has beside pages and scripts
+ARM_PAGES = {"docs/ARCHIVE_ARM64.md": "README.md", "docs/BINDINGS.md": "docs/BINDINGS.md"}
+# what the archives have beside pages and scripts
 FOLDERS = ("LICENSE", "c", "completions", "docs/pictures", "examples", "kernel", "man")
+ARM_FOLDERS = ("LICENSE", "c", "examples", "man")
 # what is typed in the archive for a command of make, with the variables of the command
 COMMANDS = {
     "run": lambda given: f"bin/fixfiles < {given['SCRIPT']}" if given else "bin/fixfiles",
@@ -55,12 +57,13 @@ def with_commands(text):
     return re.sub(rf"`({MAKE.pattern})`", replaced, text)
 
 
-def is_kept(path, anchor):
+def is_kept(path, anchor, is_arm):
     """Checks whether the archive has what a link leads to, by the path from the top."""
-    if path in PAGES.values() and path != "README.md":
+    if path in (ARM_PAGES if is_arm else PAGES).values() and path != "README.md":
         return not anchor or anchor in anchors(read(path))
-    is_inside = any(path == it or path.startswith(f"{it}/") for it in FOLDERS)
-    return os.path.exists(os.path.join(ROOT, path)) and (is_inside or path in archive_scripts())
+    is_inside = any(path == it or path.startswith(f"{it}/") for it in (ARM_FOLDERS if is_arm else FOLDERS))
+    is_script = not is_arm and path in archive_scripts()
+    return os.path.exists(os.path.join(ROOT, path)) and (is_inside or is_script)
 
 
 def archive_scripts():
@@ -68,7 +71,7 @@ def archive_scripts():
     return set(read("scripts/archived.txt").split())
 
 
-def with_links(text, source, page):
+def with_links(text, source, page, is_arm=False):
     """Turns each link of a page to a file that the archive doesn't have into its words. The others lead from the page's new place."""
     def replaced(found):
         words, target = found.groups()
@@ -76,16 +79,16 @@ def with_links(text, source, page):
         if re.match(r"\w+:", target) or not path and anchor in anchors(text):
             return found[0]
         path = os.path.normpath(os.path.join(os.path.dirname(source), path))
-        return f"[{words}]({os.path.relpath(path, os.path.dirname(page) or '.')}{hash_}{anchor})" if is_kept(path, anchor) else words
+        return f"[{words}]({os.path.relpath(path, os.path.dirname(page) or '.')}{hash_}{anchor})" if is_kept(path, anchor, is_arm) else words
 
     return re.sub(r"\[([^][]*)\]\(([^)\s]+)\)", replaced, text)
 
 
-def main(folder):
-    for source, page in PAGES.items():
-        write(os.path.join(os.path.abspath(folder), page), with_links(with_commands(read(source)), source, page))
+def main(folder, is_arm):
+    for source, page in (ARM_PAGES if is_arm else PAGES).items():
+        write(os.path.join(os.path.abspath(folder), page), with_links(with_commands(read(source)), source, page, is_arm))
     return 0
 
 
 if __name__ == "__main__":
-    sys.exit(main(sys.argv[1]))
+    sys.exit(main(sys.argv[-1], "--arm" in sys.argv[1:-1]))

@@ -1,15 +1,12 @@
-/* The C interface of the verified core (crates/fx_server), for this library alone: its functions are not exported by the shared
- * library. A worker of the core is one pass of its table. */
+/* The C interface of the verified core (crates/fx_server), for this library alone: the shared library does not export its functions. A
+ * worker of the core is one pass of its table. The functions return the numbers of yachtbanyan.h: where that says YACHT_DROPPED, the core
+ * has returned the tag of a value that nobody uses any more. */
 #ifndef YACHT_CORE_H
 #define YACHT_CORE_H
 #include <stddef.h>
 #include <stdint.h>
 
 typedef struct yacht_core yacht_core;
-
-/* What the functions return beside the numbers of yachtbanyan.h: the call returned the tag of a value that nobody uses any more; the
- * call is done, and the value that was at the slot is still used; the slots changed during the round. */
-enum { YACHT_CLOSED = 1, YACHT_IN_USE = 2, YACHT_AGAIN = -7 };
 
 int64_t yacht_core_open(uint32_t slots, uint32_t installing, yacht_core **workers, size_t count);
 void yacht_core_close(yacht_core *worker);

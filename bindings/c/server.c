@@ -1,5 +1,5 @@
-/* An example: four threads serve requests over one table of open files. Each request looks a name up by its slot and reads it, replaces
- * it, opens it at any free slot, or closes it. A file is closed once, by its last user; the program ends with 1 if not.
+/* An example: four threads serve requests over one table of open files. A request reads the file at a slot, replaces it, opens a file at any
+ * free slot, or closes the file at a slot. The last user of a file closes it, once; the program ends with 1 if not.
  * server [ROUNDS]: the requests of each thread, 40,000 by default. */
 #include <pthread.h>
 #include <stdatomic.h>
@@ -36,27 +36,27 @@ static void close_file(void *value, void *with) {
     free(file);
 }
 
-static void read_file(yacht_worker *worker, uint32_t slot) {
+static void read_file(yacht_handle *handle, uint32_t slot) {
     void *value;
-    int answer = yacht_look(worker, slot, &value);
+    int answer = yacht_get_at(handle, slot, &value);
     if (answer == YACHT_EMPTY) return;
     struct file *file = value;
     char name[24];
     snprintf(name, sizeof name, "file-%u", file->number);
     if (answer != YACHT_DONE || !file->is_open || strcmp(name, file->name)) wrong++;
     reads++;
-    if (yacht_release(worker) != YACHT_DONE) wrong++;
+    if (yacht_release(handle) != YACHT_DONE) wrong++;
 }
 
-static void open_anywhere(yacht_worker *worker, unsigned number) {
+static void open_anywhere(yacht_handle *handle, unsigned number) {
     struct file *file = open_file(number);
-    if (yacht_put_any(worker, file) >= 0) return;
+    if (yacht_insert(handle, file) >= 0) return;
     refused++;
     close_file(file, &closed);
 }
 
 struct job {
-    yacht_worker *worker;
+    yacht_handle *handle;
     uint32_t seed, rounds;
 };
 
@@ -67,13 +67,13 @@ static void *serve(void *with) {
         random = random * 1664525u + 1013904223u;
         uint32_t slot = (random >> 8) % SLOTS, what = (random >> 20) % 16;
         if (what < 10)
-            read_file(job->worker, slot);
+            read_file(job->handle, slot);
         else if (what < 13)
-            wrong += yacht_put(job->worker, slot, open_file(round)) != YACHT_DONE;
+            wrong += yacht_replace_at(job->handle, slot, open_file(round)) < 0;
         else if (what < 15)
-            open_anywhere(job->worker, round);
+            open_anywhere(job->handle, round);
         else
-            yacht_take(job->worker, slot);
+            yacht_remove_at(job->handle, slot);
     }
     return NULL;
 }
@@ -81,11 +81,11 @@ static void *serve(void *with) {
 int main(int count, char **words) {
     uint32_t rounds = count > 1 ? (uint32_t)strtoul(words[1], NULL, 10) : 40000;
     yacht_table *table;
-    if (yacht_open(&table, SLOTS, THREADS, THREADS, close_file, &closed) != YACHT_DONE) return 2;
+    if (yacht_open(&table, SLOTS, THREADS, 0, close_file, &closed) != YACHT_DONE) return 2;
     pthread_t threads[THREADS];
     struct job jobs[THREADS];
     for (uint32_t i = 0; i < THREADS; i++) {
-        jobs[i] = (struct job){yacht_worker_of(table, i), 17 * i + 1, rounds};
+        jobs[i] = (struct job){yacht_handle_of(table, i), 17 * i + 1, rounds};
         if (pthread_create(&threads[i], NULL, serve, &jobs[i])) return 2;
     }
     for (int i = 0; i < THREADS; i++) pthread_join(threads[i], NULL);

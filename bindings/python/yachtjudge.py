@@ -1,34 +1,48 @@
 """The verified judge of io_uring's registered file table: judge(script, text) and outcomes(script).
 
-A script is what fixfiles plays, and a text what fixfiles, or a kernel, prints for it; both are bytes or str. The library libyachtjudge.so is
-looked for in the folder YACHTBANYAN_LIB_DIR, beside this file, in the folders lib above it, and where the system finds libraries.
+A script is what fixfiles plays. A text is what fixfiles, or a kernel, prints for it. Both are str or bytes. The library
+libyachtjudge.so.3 is looked for in the folder YACHTBANYAN_LIB_DIR if that is set; else beside this file, in the folders lib above it,
+and where the system finds libraries.
 
     >>> import yachtjudge
     >>> script = "file a.txt 68656c6c6f\\nsparse 2\\nopen a.txt at 0\\nsubmit\\n"
     >>> yachtjudge.judge(script, "sparse 0\\n1.1.1 0\\nteardown\\nclosed 1.1.1.0 a.txt\\n")
     Verdict(word='legal', ...)
 """
+from __future__ import annotations
+
 import ctypes
+import operator
 import os
+from collections.abc import Iterator
 from ctypes import POINTER, byref, c_size_t, c_uint8, c_uint32, c_uint64
 from dataclasses import dataclass
 from pathlib import Path
+from typing import Any, Literal, Union
 
 __all__ = ["BadScript", "NoMemory", "Outcomes", "Verdict", "judge", "outcomes"]
+__version__ = "3.0.0"
+
+# what a script or a text may be
+Words = Union[str, bytes, bytearray, memoryview]
 
 LEGAL, NOT_LEGAL, UNDECIDED, BAD_SCRIPT, NO_MEMORY = range(5)
 ALL, SOME, NO_ROOM = range(3)
 
-# fixcheck's own defaults
+# fixcheck's own defaults, and the largest number of each
 STATES = 1_000_000
 MEMORY = 1_024
+MOST = 2**32 - 1
 
 
 class BadScript(ValueError):
-    """The bytes are not a script. `line` has the first fault, from 1, or 0 if there are too many bytes; `fault` is its name, or ''."""
+    """The bytes are not a script. `line` has the first fault, from 1, or 0 if there are too many bytes; `fault` is its name."""
 
-    def __init__(self, line, fault):
-        super().__init__(f"line {line}: {fault}" if fault else f"line {line}")
+    line: int
+    fault: str
+
+    def __init__(self, line: int, fault: str) -> None:
+        super().__init__(f"line {line}: {fault}")
         self.line = line
         self.fault = fault
 
@@ -39,19 +53,19 @@ class NoMemory(MemoryError):
 
 @dataclass(frozen=True)
 class Verdict:
-    """A verdict: `word` is 'legal', 'not legal' or 'undecided'.
+    """A verdict: `word` is 'legal', 'not legal' or 'undecided'. It is true if it is 'legal'.
 
     Of a text that is not legal, `commands` is the number of commands that may have printed its first `at` bytes; no play prints a beginning
     of the text with one command more. `expected` is advice: the likeliest text there, or a line in words, or '' if no order of a submission's
-    requests explains its lines. Of an undecided one, `submission` was not decided within the limits, counted from 1."""
+    requests explains its lines. Of an undecided text, `submission` was not decided within the limits, counted from 1."""
 
-    word: str
+    word: Literal["legal", "not legal", "undecided"]
     commands: int = 0
     at: int = 0
     submission: int = 0
     expected: str = ""
 
-    def __bool__(self):
+    def __bool__(self) -> bool:
         return self.word == "legal"
 
 
@@ -59,13 +73,13 @@ class Verdict:
 class Outcomes:
     """The texts that a script may print if no allocation fails, each once. If `are_all` is False, there may be more."""
 
-    texts: tuple
+    texts: tuple[bytes, ...]
     are_all: bool
 
-    def __iter__(self):
+    def __iter__(self) -> Iterator[bytes]:
         return iter(self.texts)
 
-    def __len__(self):
+    def __len__(self) -> int:
         return len(self.texts)
 
 
@@ -83,23 +97,28 @@ class _Texts(ctypes.Structure):
     _fields_ = [("count", c_uint64), ("bytes", c_uint64), ("line", c_uint32)]
 
 
-def _paths():
-    name = "libyachtjudge.so"
+def _paths() -> Iterator[Path]:
+    """Yields where the library may be, but for the folders of the system."""
+    name = "libyachtjudge.so.3"
     given = os.environ.get("YACHTBANYAN_LIB_DIR")
     if given:
         yield Path(given) / name
+        return
     here = Path(__file__).resolve().parent
     yield here / name
     for above in here.parents:
         yield above / "lib" / name
-    yield Path(name)
 
 
-def _load():
-    for path in _paths():
-        if path.parent == Path(".") or path.exists():
-            return ctypes.CDLL(str(path))
-    raise OSError("there is no libyachtjudge.so")
+def _load() -> ctypes.CDLL:
+    paths = list(_paths())
+    found = next((str(it) for it in paths if it.exists()), paths[0].name)
+    try:
+        return ctypes.CDLL(found)
+    except OSError as fault:
+        is_missing = found == paths[0].name
+        why = "was not found" if is_missing else f"can't be loaded: {fault}"
+        raise ImportError(f"The library {found} {why}. Set YACHTBANYAN_LIB_DIR to the folder that has it.") from fault
 
 
 _library = _load()
@@ -129,20 +148,33 @@ _library.yacht_outcomes.argtypes = [
 ]
 
 
-def _bytes(of):
+def _bytes(of: Words, name: str) -> tuple[Any, int]:
     """Returns bytes that C may read, and their number."""
+    if not isinstance(of, (str, bytes, bytearray, memoryview)):
+        raise TypeError(f"{name} must be str or bytes, not {type(of).__name__}")
     data = of.encode() if isinstance(of, str) else bytes(of)
     return (c_uint8 * max(len(data), 1)).from_buffer_copy(data or b"\0"), len(data)
 
 
-def judge(script, text, states=STATES, memory=MEMORY):
+def _limits(states: int, memory: int) -> tuple[int, int]:
+    """Checks that both limits are numbers from 0 to MOST."""
+    numbers = operator.index(states), operator.index(memory)
+    for name, number in zip(("states", "memory"), numbers):
+        if not 0 <= number <= MOST:
+            raise ValueError(f"{name} must be from 0 to {MOST}, not {number}")
+    return numbers
+
+
+def judge(script: Words, text: Words, states: int = STATES, memory: int = MEMORY) -> Verdict:
     """Decides whether a script may print a text, by a search of at most `states` states and `memory` MiB.
 
-    Raises BadScript if `script` is not a script, and NoMemory if an allocation fails."""
-    script, text, verdict, room = _bytes(script), _bytes(text), _Verdict(), 65_536
+    Raises BadScript if `script` is not a script, NoMemory if an allocation fails, TypeError if an argument has another type, and
+    ValueError if a limit is negative or above 2**32 - 1."""
+    given, printed, limits = _bytes(script, "script"), _bytes(text, "text"), _limits(states, memory)
+    verdict, room = _Verdict(), 65_536
     while True:
         note = (c_uint8 * room)()
-        code = _library.yacht_judge(*script, *text, states, memory, note, room, byref(verdict))
+        code = _library.yacht_judge(*given, *printed, *limits, note, room, byref(verdict))
         if verdict.note <= room:
             break
         room = verdict.note
@@ -151,22 +183,25 @@ def judge(script, text, states=STATES, memory=MEMORY):
         raise BadScript(verdict.line, words)
     if code == NO_MEMORY:
         raise NoMemory("an allocation of the judge failed")
-    word = {LEGAL: "legal", NOT_LEGAL: "not legal", UNDECIDED: "undecided"}[code]
+    word: Literal["legal", "not legal", "undecided"] = "legal" if code == LEGAL else "not legal" if code == NOT_LEGAL else "undecided"
     return Verdict(word, verdict.commands, verdict.at, verdict.submission, words)
 
 
-def outcomes(script, states=STATES, memory=MEMORY):
+def outcomes(script: Words, states: int = STATES, memory: int = MEMORY) -> Outcomes:
     """Returns the texts, as bytes, that a script may print if no allocation fails, by searches of at most `states` states and `memory` MiB.
 
-    Raises BadScript if `script` is not a script, and NoMemory if an allocation fails."""
-    script, found, room, count = _bytes(script), _Texts(), 1 << 20, 4_096
+    Raises what `judge` raises."""
+    given, limits = _bytes(script, "script"), _limits(states, memory)
+    found, room, count = _Texts(), 1 << 20, 4_096
     while True:
         texts, lengths = (c_uint8 * room)(), (c_uint64 * count)()
-        code = _library.yacht_outcomes(*script, states, memory, texts, room, lengths, count, byref(found))
+        code = _library.yacht_outcomes(*given, *limits, texts, room, lengths, count, byref(found))
         if code != NO_ROOM:
             break
         room, count = max(found.bytes, 1), max(found.count, 1)
     if code == BAD_SCRIPT:
+        # the judge names the fault
+        judge(script, b"", 0, 0)
         raise BadScript(found.line, "")
     if code == NO_MEMORY:
         raise NoMemory("an allocation of the judge failed")

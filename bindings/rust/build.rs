@@ -1,6 +1,7 @@
-//! Links the verified core: the library in this folder's `lib`, or in the folder YACHTBANYAN_LIB_DIR, or else where pkg-config finds it.
+//! Links the verified core for the target: the library in the folder YACHTBANYAN_LIB_DIR; or in `lib/TARGET` of this folder; or, unless the
+//! target is another one than this machine's, where pkg-config finds it.
 use std::path::{Path, PathBuf};
-use std::{env, process::Command};
+use std::{env, fs, process::Command};
 
 const LIBRARY: &str = "libyachtbanyan.a";
 
@@ -17,16 +18,38 @@ fn by_pkg_config() -> Option<PathBuf> {
         .then(|| PathBuf::from(folder.trim()))
 }
 
+// Returns the targets that have a library in a folder, or a dash if there is none.
+fn targets_in(folder: &Path) -> String {
+    let entries = fs::read_dir(folder).into_iter().flatten().flatten();
+    let with_library = entries.filter(|it| it.path().join(LIBRARY).exists());
+    let mut names: Vec<_> = with_library
+        .map(|it| it.file_name().to_string_lossy().into_owned())
+        .collect();
+    names.sort();
+    if names.is_empty() {
+        return "-".to_string();
+    }
+    names.join(", ")
+}
+
 fn main() {
     println!("cargo:rerun-if-env-changed=YACHTBANYAN_LIB_DIR");
     if env::var_os("CARGO_CFG_YACHTBANYAN_STAND_IN").is_some() {
         return;
     }
-    let own = Path::new(&env::var("CARGO_MANIFEST_DIR").expect("cargo sets it")).join("lib");
+    let target = env::var("TARGET").expect("cargo sets it");
+    let is_host = env::var("HOST").as_deref() == Ok(target.as_str());
+    let all = Path::new(&env::var("CARGO_MANIFEST_DIR").expect("cargo sets it")).join("lib");
+    let own = all.join(&target);
     let given = env::var_os("YACHTBANYAN_LIB_DIR").map(PathBuf::from);
     let known = given.or_else(|| own.join(LIBRARY).exists().then_some(own));
-    let Some(folder) = known.or_else(by_pkg_config) else {
-        panic!("there is no {LIBRARY} in lib: set YACHTBANYAN_LIB_DIR to its folder");
+    let Some(folder) = known.or_else(|| is_host.then(by_pkg_config).flatten()) else {
+        panic!(
+            "there is no {LIBRARY} for {target}. The folder {} has one for each of these targets: {}. \
+             Set YACHTBANYAN_LIB_DIR to the folder of another",
+            all.display(),
+            targets_in(&all)
+        );
     };
     println!("cargo:rerun-if-changed={}", folder.join(LIBRARY).display());
     println!("cargo:rustc-link-search=native={}", folder.display());

@@ -33,7 +33,7 @@ def one(path):
         if other := is_other(lines, number):
             verdict = yachtjudge.judge(script, b"".join(other))
             want(verdict.word == "not legal" and not verdict, f"{path.name} is {verdict.word} with another line {number + 1}")
-            want(verdict.at <= sum(map(len, lines[:number])), f"{path.name} breaks behind line {number + 1}")
+            want(verdict.at <= sum(map(len, lines[:number])), f"{path.name} breaks after line {number + 1}")
 
 
 examples = sorted((root / "examples").glob("*.script"))
@@ -60,7 +60,7 @@ for fault in sorted((root / "examples/faults").glob("*.fault")):
         yachtjudge.outcomes(it.read_bytes())
         want(False, f"{it.name} has texts")
     except yachtjudge.BadScript as bad:
-        want(bad.line >= 0, f"{it.name} has no line")
+        want((bad.line, bad.fault) == (int(match[1]), match[2]), f"{it.name}: the list of its texts has the fault {bad}")
 
 # text and bytes alike, undecided within no states, empty input
 want(yachtjudge.judge("", "").word == "legal", "nothing isn't legal for nothing")

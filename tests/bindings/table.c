@@ -1,90 +1,144 @@
-/* Each answer of the C table, by hand; and the opening of a table with each allocation failing in turn. */
+/* Each answer of the C table, derived by hand; and the opening of a table with each allocation failing in turn. */
 #include "refusing.h"
 #include <stdlib.h>
 #include <string.h>
 #include <yachtbanyan.h>
 
-static int dropped[8], drops;
+static int dropped[8], drops, other;
+/* what a refused opening must leave in *table */
+static yacht_table *const untouched = (yacht_table *)&other;
+static yacht_handle *installs_again;
 
 static void drop(void *value, void *with) {
     WANT(with == &drops);
     drops++;
     dropped[(int *)value - dropped]++;
+    if (!installs_again) return;
+    yacht_handle *handle = installs_again;
+    installs_again = NULL;
+    WANT(yacht_insert(handle, &dropped[6]) == 0);
+}
+
+static int refused(uint32_t slots, uint32_t handles, uint32_t readers, yacht_drop *drops_by) {
+    yacht_table *table = untouched;
+    return yacht_open(&table, slots, handles, readers, drops_by, NULL) == YACHT_BAD_ARGUMENT && table == untouched;
 }
 
 static void numbers_out_of_range(void) {
-    yacht_table *table = NULL;
-    WANT(yacht_open(&table, 0, 1, 1, drop, NULL) == YACHT_BAD);
-    WANT(yacht_open(&table, YACHT_MOST_SLOTS + 1, 1, 1, drop, NULL) == YACHT_BAD);
-    WANT(yacht_open(&table, 1, 0, 1, drop, NULL) == YACHT_BAD);
-    WANT(yacht_open(&table, 1, 2, 1, drop, NULL) == YACHT_BAD);
-    WANT(yacht_open(&table, 1, YACHT_MOST_INSTALLING + 1, YACHT_MOST_WORKERS, drop, NULL) == YACHT_BAD);
-    WANT(yacht_open(&table, 1, 1, YACHT_MOST_WORKERS + 1, drop, NULL) == YACHT_BAD);
-    WANT(yacht_open(&table, 1, 1, 0, drop, NULL) == YACHT_BAD);
-    WANT(table == NULL);
-    WANT(yacht_open(&table, YACHT_MOST_SLOTS, YACHT_MOST_INSTALLING, YACHT_MOST_WORKERS, drop, &drops) == YACHT_DONE);
-    WANT(yacht_worker_of(table, YACHT_MOST_WORKERS - 1) != NULL);
-    WANT(yacht_worker_of(table, YACHT_MOST_WORKERS) == NULL);
+    yacht_table *table;
+    WANT(refused(0, 1, 0, drop));
+    WANT(refused(YACHT_MOST_SLOTS + 1, 1, 0, drop));
+    WANT(refused(1, 0, 1, drop));
+    WANT(refused(1, YACHT_MOST_HANDLES + 1, 0, drop));
+    WANT(refused(1, 1, YACHT_MOST_IN_ALL, drop));
+    WANT(refused(1, 1, UINT32_MAX, drop));
+    WANT(refused(1, 1, 0, NULL));
+    WANT(yacht_open(NULL, 1, 1, 0, drop, NULL) == YACHT_BAD_ARGUMENT);
+    WANT(yacht_open(&table, YACHT_MOST_SLOTS, YACHT_MOST_HANDLES, YACHT_MOST_IN_ALL - YACHT_MOST_HANDLES, drop, &drops) == YACHT_DONE);
+    WANT(yacht_handle_of(table, YACHT_MOST_HANDLES - 1) != NULL);
+    WANT(yacht_handle_of(table, YACHT_MOST_HANDLES) == NULL);
+    WANT(yacht_reader_of(table, YACHT_MOST_IN_ALL - YACHT_MOST_HANDLES - 1) != NULL);
+    WANT(yacht_reader_of(table, YACHT_MOST_IN_ALL - YACHT_MOST_HANDLES) == NULL);
+    WANT(yacht_reader_of(table, 0) != yacht_handle_of(table, YACHT_MOST_HANDLES - 1));
     yacht_free(table);
+    yacht_free(NULL);
+}
+
+static void errors(yacht_handle *a, yacht_handle *reader) {
+    void *value = NULL;
+    WANT(yacht_get_at(a, 0, &value) == YACHT_EMPTY);
+    WANT(yacht_get_at(a, 2, &value) == YACHT_NO_SLOT);
+    WANT(value == NULL);
+    WANT(yacht_release(a) == YACHT_IDLE);
+    WANT(yacht_remove_at(a, 1) == YACHT_EMPTY);
+    WANT(yacht_remove_at(a, 2) == YACHT_NO_SLOT);
+    WANT(yacht_replace_at(a, 2, &dropped[0]) == YACHT_NO_SLOT);
+    WANT(yacht_replace_at(a, 0, NULL) == YACHT_BAD_ARGUMENT);
+    WANT(yacht_insert(a, NULL) == YACHT_BAD_ARGUMENT);
+    WANT(yacht_try_insert(a, NULL) == YACHT_BAD_ARGUMENT);
+    WANT(yacht_replace_at(reader, 0, &dropped[0]) == YACHT_READER);
+    WANT(yacht_insert(reader, &dropped[0]) == YACHT_READER);
+    WANT(yacht_try_insert(reader, &dropped[0]) == YACHT_READER);
+    WANT(yacht_remove_at(reader, 0) == YACHT_READER);
+}
+
+static void busy(yacht_handle *b) {
+    void *value = NULL;
+    WANT(yacht_get_at(b, 0, &value) == YACHT_DONE && value == &dropped[0]);
+    WANT(yacht_get_at(b, 1, &value) == YACHT_BUSY && value == &dropped[0]);
+    WANT(yacht_replace_at(b, 0, &dropped[2]) == YACHT_BUSY);
+    WANT(yacht_insert(b, &dropped[2]) == YACHT_BUSY);
+    WANT(yacht_try_insert(b, &dropped[2]) == YACHT_BUSY);
+    WANT(yacht_remove_at(b, 0) == YACHT_BUSY);
 }
 
 static void each_answer(void) {
     yacht_table *table;
     void *value = NULL;
-    WANT(yacht_open(&table, 2, 1, 2, drop, &drops) == YACHT_DONE);
-    yacht_worker *a = yacht_worker_of(table, 0), *b = yacht_worker_of(table, 1);
-    WANT(yacht_look(a, 0, &value) == YACHT_EMPTY);
-    WANT(yacht_look(a, 2, &value) == YACHT_NO_SLOT);
-    WANT(value == NULL);
-    WANT(yacht_release(a) == YACHT_IDLE);
-    WANT(yacht_take(a, 1) == YACHT_EMPTY);
-    WANT(yacht_take(a, 2) == YACHT_NO_SLOT);
-    WANT(yacht_put(a, 2, &dropped[0]) == YACHT_NO_SLOT);
-    WANT(yacht_put(a, 0, NULL) == YACHT_BAD);
-    WANT(yacht_put_any(a, NULL) == YACHT_BAD);
-    WANT(yacht_put(b, 0, &dropped[0]) == YACHT_NO_BLOCK);
-    WANT(yacht_put_any(b, &dropped[0]) == YACHT_NO_BLOCK);
-    WANT(yacht_put_any(a, &dropped[0]) == 0);
-    WANT(yacht_put_any(a, &dropped[1]) == 1);
-    WANT(yacht_put_any(a, &dropped[2]) == YACHT_FULL);
-    /* a replaced value that is held is dropped by its holder */
-    WANT(yacht_look(b, 0, &value) == YACHT_DONE && value == &dropped[0]);
-    WANT(yacht_look(b, 1, &value) == YACHT_BUSY && value == &dropped[0]);
-    WANT(yacht_put(b, 0, &dropped[2]) == YACHT_BUSY);
-    WANT(yacht_put_any(b, &dropped[2]) == YACHT_BUSY);
-    WANT(yacht_take(b, 0) == YACHT_BUSY);
-    WANT(yacht_put(a, 0, &dropped[2]) == YACHT_DONE && drops == 0);
+    WANT(yacht_open(&table, 2, 2, 1, drop, &drops) == YACHT_DONE);
+    yacht_handle *a = yacht_handle_of(table, 0), *b = yacht_handle_of(table, 1), *reader = yacht_reader_of(table, 0);
+    errors(a, reader);
+    WANT(yacht_insert(a, &dropped[0]) == 0);
+    WANT(yacht_try_insert(a, &dropped[1]) == 1);
+    WANT(yacht_insert(a, &dropped[2]) == YACHT_FULL);
+    WANT(yacht_try_insert(a, &dropped[2]) == YACHT_FULL);
+    busy(b);
+    /* its holder drops a value that was replaced while it was held */
+    WANT(yacht_replace_at(a, 0, &dropped[2]) == YACHT_IN_USE && drops == 0);
     WANT(yacht_release(b) == YACHT_DONE && drops == 1 && dropped[0] == 1);
-    /* one that nobody holds, by the call that removes it */
-    WANT(yacht_put(a, 0, &dropped[3]) == YACHT_DONE && drops == 2 && dropped[2] == 1);
-    WANT(yacht_take(b, 1) == YACHT_DONE && drops == 3 && dropped[1] == 1);
-    WANT(yacht_look(b, 0, &value) == YACHT_DONE && value == &dropped[3]);
-    WANT(yacht_release(b) == YACHT_DONE && drops == 3);
+    /* the call that replaces or removes a value drops it if nobody holds it */
+    WANT(yacht_replace_at(a, 0, &dropped[3]) == YACHT_DROPPED && drops == 2 && dropped[2] == 1);
+    WANT(yacht_remove_at(b, 1) == YACHT_DROPPED && drops == 3 && dropped[1] == 1);
+    WANT(yacht_replace_at(b, 1, &dropped[4]) == YACHT_DONE && drops == 3);
+    WANT(yacht_get_at(reader, 1, &value) == YACHT_DONE && value == &dropped[4]);
+    WANT(yacht_remove_at(b, 1) == YACHT_IN_USE && drops == 3);
+    WANT(yacht_release(reader) == YACHT_DONE && drops == 4 && dropped[4] == 1);
+    WANT(yacht_get_at(reader, 0, &value) == YACHT_DONE && value == &dropped[3]);
+    WANT(yacht_release(reader) == YACHT_DONE && drops == 4);
+    /* within yacht_free, the drop of the value at slot 0 installs another one at slot 0 */
+    installs_again = b;
     yacht_free(table);
-    WANT(drops == 4 && dropped[3] == 1);
+    WANT(drops == 6 && dropped[3] == 1 && dropped[6] == 1);
+}
+
+static void words(void) {
+    WANT(!strcmp(yacht_strerror(YACHT_DONE), "done"));
+    WANT(!strcmp(yacht_strerror(YACHT_DROPPED), "the old value was dropped"));
+    WANT(!strcmp(yacht_strerror(YACHT_IN_USE), "the old value is in use"));
+    WANT(!strcmp(yacht_strerror(YACHT_EMPTY), "the slot is empty"));
+    WANT(!strcmp(yacht_strerror(YACHT_NO_SLOT), "the table has no such slot"));
+    WANT(!strcmp(yacht_strerror(YACHT_BUSY), "the handle holds a value"));
+    WANT(!strcmp(yacht_strerror(YACHT_IDLE), "the handle holds no value"));
+    WANT(!strcmp(yacht_strerror(YACHT_READER), "a reader only looks values up"));
+    WANT(!strcmp(yacht_strerror(YACHT_FULL), "every slot has a value"));
+    WANT(!strcmp(yacht_strerror(YACHT_AGAIN), "other threads are changing slots"));
+    WANT(!strcmp(yacht_strerror(YACHT_BAD_ARGUMENT), "an argument is NULL or out of its range"));
+    WANT(!strcmp(yacht_strerror(YACHT_NO_MEMORY), "an allocation failed"));
+    WANT(!strcmp(yacht_strerror(3), "not a number of yachtbanyan.h"));
 }
 
 static void refused_openings(void) {
-    int refused = 0;
+    int refusals = 0;
     for (long count = 0; count < 1000; count++) {
-        yacht_table *table = NULL;
+        yacht_table *table = untouched;
         allowed = count;
-        int answer = yacht_open(&table, 3, 2, 4, drop, &drops);
+        int answer = yacht_open(&table, 3, 2, 2, drop, &drops);
         allowed = -1;
         if (answer == YACHT_DONE) {
             yacht_free(table);
-            WANT(refused > 4);
+            WANT(refusals > 4);
             return;
         }
-        WANT(answer == YACHT_NO_MEMORY && table == NULL);
-        refused++;
+        if (answer != YACHT_NO_MEMORY || table != untouched) break;
+        refusals++;
     }
-    WANT(0);
+    WANT(!"each failed allocation is YACHT_NO_MEMORY, and leaves *table");
 }
 
 int main(void) {
     numbers_out_of_range();
     each_answer();
+    words();
     refused_openings();
     return report("table");
 }
