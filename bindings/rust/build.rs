@@ -32,10 +32,20 @@ fn targets_in(folder: &Path) -> String {
     names.join(", ")
 }
 
+/// Checks whether the crate is compiled for ThreadSanitizer.
+fn is_for_thread_sanitizer() -> bool {
+    let flags = env::var("CARGO_ENCODED_RUSTFLAGS").unwrap_or_default();
+    let sanitizer = env::var("CARGO_CFG_SANITIZE").unwrap_or_default();
+    sanitizer == "thread" || flags.contains("sanitizer=thread")
+}
+
 fn main() {
     println!("cargo:rerun-if-env-changed=YACHTBANYAN_LIB_DIR");
     if env::var_os("CARGO_CFG_YACHTBANYAN_STAND_IN").is_some() {
         return;
+    }
+    if is_for_thread_sanitizer() {
+        println!("cargo:rustc-cfg=yachtbanyan_thread_sanitizer");
     }
     let target = env::var("TARGET").expect("cargo sets it");
     let is_host = env::var("HOST").as_deref() == Ok(target.as_str());

@@ -1,4 +1,5 @@
 //! The errors. Those of a value that isn't installed give it back.
+use crate::access::{MOST_INSTALLING, MOST_SLOTS, MOST_WORKERS};
 use std::error::Error;
 use std::fmt;
 
@@ -6,115 +7,218 @@ use std::fmt;
 #[derive(Clone, Copy, Debug, PartialEq, Eq)]
 #[non_exhaustive]
 pub enum OpenError {
-    /// There are 1 to 256 slots, 1 to 64 workers, at least one guard for each, and at most 1,024 workers and guards in all.
-    OutOfRange,
+    /// The number of slots is out of range.
+    Slots(u32),
+    /// The number of handles is out of range.
+    Handles(u32),
+    /// The number of seats, two for each handle and one for each reader and each guard, is out of range.
+    Seats(u64),
     /// An allocation of the core failed.
     NoMemory,
 }
 
-/// All workers of the table are in use.
+/// All seats of a kind are in use. Nothing is lost: the call may be made again.
 #[derive(Clone, Copy, Debug, PartialEq, Eq)]
-pub struct NoWorker;
+#[non_exhaustive]
+pub enum NoSeat {
+    /// All seats that install have handles.
+    Handle {
+        /// The number of handles that are in use.
+        in_use: u32,
+    },
+    /// All readers are in use.
+    Reader {
+        /// The number of readers that are in use.
+        in_use: u32,
+    },
+    /// All seats of guards are in use.
+    Guard {
+        /// The number of guards that use them.
+        in_use: u32,
+    },
+}
+
+/// The table has no such slot.
+#[derive(Clone, Copy, Debug, PartialEq, Eq)]
+pub struct NoSlot {
+    /// The slot.
+    pub slot: u32,
+    /// The number of slots of the table, which are numbered from 0.
+    pub slots: u32,
+}
 
 /// The reason why a look-up returns no guard.
 #[derive(Clone, Copy, Debug, PartialEq, Eq)]
 #[non_exhaustive]
-pub enum LookError {
+pub enum GetError {
     /// The slot is empty.
-    Empty,
+    Empty {
+        /// The slot.
+        slot: u32,
+    },
     /// The table has no such slot.
-    NoSlot,
-    /// As many guards of this worker are alive as it may have.
-    NoGuard,
+    NoSlot(NoSlot),
+    /// There is no seat for a guard.
+    NoSeat(NoSeat),
 }
 
-/// The reason why [`Worker::take`](crate::Worker::take) removes nothing.
+/// The reason why [`Table::remove_at`](crate::Table::remove_at) removes nothing.
 #[derive(Clone, Copy, Debug, PartialEq, Eq)]
 #[non_exhaustive]
-pub enum TakeError {
-    /// The slot is empty.
-    Empty,
+pub enum RemoveError {
     /// The table has no such slot.
-    NoSlot,
+    NoSlot(NoSlot),
+    /// There is no seat for the call.
+    NoSeat(NoSeat),
 }
 
-/// The reason why a value is not installed, with the value.
+/// A value that is not installed, and the reason.
+///
+/// ```
+/// use yachtbanyan::Table;
+///
+/// let table = Table::<String>::with_slots(2)?;
+/// let refused = table.replace_at(2, "value".to_string()).unwrap_err();
+/// assert_eq!(refused.to_string(), "slot 2 is out of range: the table has slots 0 to 1");
+/// assert_eq!(refused.value, "value");
+/// # Ok::<(), Box<dyn std::error::Error>>(())
+/// ```
 #[derive(Clone, Copy, PartialEq, Eq)]
+pub struct Refused<T> {
+    /// The value.
+    pub value: T,
+    /// The reason.
+    pub reason: Reason,
+}
+
+/// The reason why a value is not installed.
+#[derive(Clone, Copy, Debug, PartialEq, Eq)]
 #[non_exhaustive]
-pub enum PutError<T> {
-    /// Every slot has a value.
-    Full(T),
+pub enum Reason {
+    /// At one moment during the call every slot had a value.
+    Full {
+        /// The number of slots.
+        slots: u32,
+    },
+    /// No slot was free when it was looked at, and others were filling or emptying slots.
+    Again,
     /// The table has no such slot.
-    NoSlot(T),
+    NoSlot(NoSlot),
+    /// There is no seat for the call.
+    NoSeat(NoSeat),
 }
 
-impl<T> PutError<T> {
-    /// Returns the value.
-    pub fn into_inner(self) -> T {
-        match self {
-            PutError::Full(value) | PutError::NoSlot(value) => value,
-        }
-    }
-
-    fn words(&self) -> &'static str {
-        match self {
-            PutError::Full(_) => "every slot has a value",
-            PutError::NoSlot(_) => "the table has no such slot",
-        }
+impl<T> Refused<T> {
+    pub(crate) fn new((value, reason): (Box<T>, Reason)) -> Refused<T> {
+        let value = *value;
+        Refused { value, reason }
     }
 }
 
-impl<T> fmt::Debug for PutError<T> {
+impl<T> fmt::Debug for Refused<T> {
     fn fmt(&self, f: &mut fmt::Formatter<'_>) -> fmt::Result {
-        f.write_str(match self {
-            PutError::Full(_) => "Full(..)",
-            PutError::NoSlot(_) => "NoSlot(..)",
-        })
+        f.debug_struct("Refused")
+            .field("reason", &self.reason)
+            .finish_non_exhaustive()
     }
 }
 
-impl<T> fmt::Display for PutError<T> {
+impl<T> fmt::Display for Refused<T> {
     fn fmt(&self, f: &mut fmt::Formatter<'_>) -> fmt::Result {
-        f.write_str(self.words())
+        self.reason.fmt(f)
+    }
+}
+
+impl fmt::Display for Reason {
+    fn fmt(&self, f: &mut fmt::Formatter<'_>) -> fmt::Result {
+        match self {
+            Reason::Full { slots: 1 } => f.write_str("the only slot has a value"),
+            Reason::Full { slots } => write!(f, "all {slots} slots have values"),
+            Reason::Again => f.write_str("other threads are filling or emptying slots"),
+            Reason::NoSlot(error) => error.fmt(f),
+            Reason::NoSeat(error) => error.fmt(f),
+        }
     }
 }
 
 impl fmt::Display for OpenError {
     fn fmt(&self, f: &mut fmt::Formatter<'_>) -> fmt::Result {
-        f.write_str(match self {
-            OpenError::OutOfRange => "a number of slots, workers or guards is out of range",
-            OpenError::NoMemory => "an allocation failed",
-        })
+        match self {
+            OpenError::Slots(slots) => {
+                write!(f, "{slots} slots: a table has 1 to {MOST_SLOTS}")
+            }
+            OpenError::Handles(handles) => {
+                write!(f, "{handles} handles: a table has 1 to {MOST_INSTALLING}")
+            }
+            OpenError::Seats(seats) => write!(
+                f,
+                "{seats} seats, two for each handle and one for each reader and each guard: a table has at most {MOST_WORKERS}"
+            ),
+            OpenError::NoMemory => f.write_str("an allocation failed"),
+        }
     }
 }
 
-impl fmt::Display for NoWorker {
+impl fmt::Display for NoSeat {
     fn fmt(&self, f: &mut fmt::Formatter<'_>) -> fmt::Result {
-        f.write_str("all workers of the table are in use")
+        let (in_use, kind, most) = match *self {
+            NoSeat::Handle { in_use } => (in_use, "handle", MOST_INSTALLING),
+            NoSeat::Reader { in_use } => (in_use, "reader", MOST_WORKERS - 2),
+            NoSeat::Guard { in_use } => (in_use, "guard", MOST_WORKERS - 2),
+        };
+        let are = if in_use == 1 { " is" } else { "s are" };
+        write!(
+            f,
+            "{in_use} {kind}{are} in use; Options::{kind}s sets at most {most}"
+        )
     }
 }
 
-impl fmt::Display for LookError {
+impl fmt::Display for NoSlot {
     fn fmt(&self, f: &mut fmt::Formatter<'_>) -> fmt::Result {
-        f.write_str(match self {
-            LookError::Empty => "the slot is empty",
-            LookError::NoSlot => "the table has no such slot",
-            LookError::NoGuard => "the worker has as many guards as it may have",
-        })
+        let NoSlot { slot, slots } = self;
+        let last = slots - 1;
+        write!(
+            f,
+            "slot {slot} is out of range: the table has slots 0 to {last}"
+        )
     }
 }
 
-impl fmt::Display for TakeError {
+impl fmt::Display for GetError {
     fn fmt(&self, f: &mut fmt::Formatter<'_>) -> fmt::Result {
-        f.write_str(match self {
-            TakeError::Empty => "the slot is empty",
-            TakeError::NoSlot => "the table has no such slot",
-        })
+        match self {
+            GetError::Empty { slot } => write!(f, "slot {slot} is empty"),
+            GetError::NoSlot(error) => error.fmt(f),
+            GetError::NoSeat(error) => error.fmt(f),
+        }
     }
 }
 
-impl<T> Error for PutError<T> {}
+impl fmt::Display for RemoveError {
+    fn fmt(&self, f: &mut fmt::Formatter<'_>) -> fmt::Result {
+        match self {
+            RemoveError::NoSlot(error) => error.fmt(f),
+            RemoveError::NoSeat(error) => error.fmt(f),
+        }
+    }
+}
+
+impl From<NoSlot> for RemoveError {
+    fn from(error: NoSlot) -> RemoveError {
+        RemoveError::NoSlot(error)
+    }
+}
+
+impl From<NoSeat> for RemoveError {
+    fn from(error: NoSeat) -> RemoveError {
+        RemoveError::NoSeat(error)
+    }
+}
+
+impl<T> Error for Refused<T> {}
 impl Error for OpenError {}
-impl Error for NoWorker {}
-impl Error for LookError {}
-impl Error for TakeError {}
+impl Error for NoSeat {}
+impl Error for NoSlot {}
+impl Error for GetError {}
+impl Error for RemoveError {}

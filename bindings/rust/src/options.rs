@@ -1,63 +1,84 @@
 //! The size of a table.
-use crate::access::{MOST_INSTALLING, MOST_SLOTS, MOST_WORKERS};
+use crate::access::{Table, MOST_INSTALLING, MOST_SLOTS, MOST_WORKERS};
 use crate::errors::OpenError;
-use crate::table::Table;
 
-/// The size of a table: its slots, its workers, and the guards of each.
+/// The size of a table: its slots, and its seats.
+///
+/// A handle takes two seats: one that installs, and one for its first living guard. A reader takes one, for its first living guard. Each
+/// other living guard takes one. A table has at most [`MOST_SEATS`](crate::MOST_SEATS) seats.
 ///
 /// ```
 /// use yachtbanyan::Options;
 ///
-/// let table = Options::new(256).workers(4).guards(20).open::<u64>()?;
+/// // a server of 4 threads, whose tasks hold up to 1,000 owned guards
+/// let table = Options::new(256).handles(8).readers(0).guards(1_000).open::<u64>()?;
 /// assert_eq!(table.slots(), 256);
 /// # Ok::<(), yachtbanyan::OpenError>(())
 /// ```
 #[derive(Clone, Copy, Debug)]
 #[must_use = "it opens a table by `open`"]
 pub struct Options {
-    slots: u32,
-    workers: usize,
-    guards: usize,
+    pub(crate) slots: u32,
+    pub(crate) handles: u32,
+    pub(crate) readers: u32,
+    pub(crate) guards: u32,
 }
 
 impl Options {
-    /// Returns the size of a table of `slots` slots, 1 to 256, for 16 workers of 8 guards each.
+    /// Returns the size of a table of `slots` slots, 1 to [`MOST_SLOTS`](crate::MOST_SLOTS), for 16 handles, 16 readers and 128 further
+    /// guards.
     pub fn new(slots: u32) -> Options {
         Options {
             slots,
-            workers: 16,
-            guards: 8,
+            handles: 16,
+            readers: 16,
+            guards: 128,
         }
     }
 
-    /// Sets the number of workers, 1 to 64: as many threads may use the table at a time.
-    pub fn workers(self, workers: usize) -> Options {
-        Options { workers, ..self }
+    /// Sets the number of handles, 1 to [`MOST_HANDLES`](crate::MOST_HANDLES). Calls of the table that install or remove use the
+    /// seats that no handle has.
+    pub fn handles(self, handles: u32) -> Options {
+        Options { handles, ..self }
     }
 
-    /// Sets the number of guards that each worker may have at a time, at least 1. There are at most 1,024 workers and guards in all.
-    pub fn guards(self, guards: usize) -> Options {
+    /// Sets the number of readers.
+    pub fn readers(self, readers: u32) -> Options {
+        Options { readers, ..self }
+    }
+
+    /// Sets the number of living guards besides the first of each handle and each reader. Each owned guard counts.
+    pub fn guards(self, guards: u32) -> Options {
         Options { guards, ..self }
     }
 
     /// Opens a table of this size, with empty slots.
     ///
     /// # Errors
-    /// `OutOfRange` if a number is out of its range, `NoMemory` if an allocation of the core fails.
+    /// `Slots`, `Handles` or `Seats` if that number is out of its range, `NoMemory` if an allocation of the core fails.
+    ///
+    /// ```
+    /// use yachtbanyan::{OpenError, Options};
+    ///
+    /// let error = Options::new(1).handles(64).readers(0).guards(900).open::<u64>().unwrap_err();
+    /// assert_eq!(error, OpenError::Seats(1_028));
+    /// ```
     pub fn open<T>(self) -> Result<Table<T>, OpenError> {
-        let Options {
-            slots,
-            workers,
-            guards,
-        } = self;
-        let seats = guards.checked_add(1).and_then(|it| it.checked_mul(workers));
-        let are_in_range = (1..=MOST_SLOTS).contains(&slots)
-            && (1..=MOST_INSTALLING as usize).contains(&workers)
-            && guards >= 1
-            && seats.is_some_and(|it| it <= MOST_WORKERS as usize);
-        if !are_in_range {
-            return Err(OpenError::OutOfRange);
+        if !(1..=MOST_SLOTS).contains(&self.slots) {
+            return Err(OpenError::Slots(self.slots));
         }
-        Table::open(slots, workers, guards)
+        if !(1..=MOST_INSTALLING).contains(&self.handles) {
+            return Err(OpenError::Handles(self.handles));
+        }
+        Table::open(&self)
+    }
+
+    /// Returns the number of seats.
+    pub(crate) fn seats(&self) -> Result<usize, OpenError> {
+        let seats = 2 * u64::from(self.handles) + u64::from(self.readers) + u64::from(self.guards);
+        if seats > u64::from(MOST_WORKERS) {
+            return Err(OpenError::Seats(seats));
+        }
+        Ok(seats as usize)
     }
 }

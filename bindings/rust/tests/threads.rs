@@ -1,8 +1,10 @@
-//! Threads over one table: each value is read only while it is alive, and dropped once by the end. `YACHTBANYAN_ROUNDS` sets the rounds of a
-//! thread.
-use std::ffi::c_void;
+//! Threads over one table: each value is read only while it is alive, and dropped once by the end. `YACHTBANYAN_ROUNDS` sets the
+//! rounds of a thread.
+mod support;
+
 use std::sync::atomic::{AtomicBool, AtomicUsize, Ordering::Relaxed, Ordering::SeqCst};
-use yachtbanyan::{LookError, Options, Table, Worker};
+use support::{begin, join, together, Job};
+use yachtbanyan::{GetError, Handle, NoSeat, Options, Table};
 
 static MADE: AtomicUsize = AtomicUsize::new(0);
 static DROPPED: AtomicUsize = AtomicUsize::new(0);
@@ -41,106 +43,97 @@ impl Drop for Value {
     }
 }
 
-fn serve(worker: &Worker<Value>, mut seed: u64, rounds: u64) {
-    let slots = u64::from(worker.slots());
+fn next(seed: &mut u64) -> u64 {
+    *seed = seed
+        .wrapping_mul(6_364_136_223_846_793_005)
+        .wrapping_add(1_442_695_040_888_963_407);
+    *seed >> 33
+}
+
+/// Serves by a handle.
+fn serve(handle: &Handle<Value>, mut seed: u64, rounds: u64) {
+    let slots = u64::from(handle.table().slots());
     for round in 0..rounds {
-        seed = seed
-            .wrapping_mul(6_364_136_223_846_793_005)
-            .wrapping_add(1_442_695_040_888_963_407);
-        let (slot, what) = (((seed >> 33) % slots) as u32, (seed >> 40) % 16);
+        let random = next(&mut seed);
+        let (slot, what) = ((random % slots) as u32, (random >> 7) % 16);
         match what {
-            0..=7 => {
-                if let Ok(guard) = worker.look(slot) {
-                    guard.check();
-                }
-            }
-            8..=9 => {
+            0..=6 => drop(handle.get_at(slot).map(|guard| guard.check())),
+            7..=8 => {
                 // two guards, dropped in the order in which they were made
-                let guards = (worker.look(slot), worker.look((slot + 1) % slots as u32));
+                let after = (slot + 1) % slots as u32;
+                let guards = (handle.get_at(slot), handle.get_at(after));
                 if let (Ok(a), Ok(b)) = &guards {
                     a.check();
                     b.check();
                 }
             }
-            10..=12 => drop(worker.put(slot, Value::new(round))),
-            13..=14 => drop(worker.put_any(Value::new(round))),
-            _ => drop(worker.take(slot)),
+            9 => drop(handle.contains(slot)),
+            10..=12 => drop(handle.replace_at(slot, Value::new(round))),
+            13 => drop(handle.insert(Value::new(round))),
+            14 => drop(handle.try_insert(Value::new(round))),
+            _ => drop(handle.remove_at(slot)),
         }
     }
 }
 
-type Job<'a> = Box<dyn FnOnce() + Send + 'a>;
-
-unsafe extern "C" {
-    fn pthread_create(
-        thread: *mut usize,
-        options: *const c_void,
-        start: extern "C" fn(*mut c_void) -> *mut c_void,
-        with: *mut c_void,
-    ) -> i32;
-    fn pthread_join(thread: usize, result: *mut *mut c_void) -> i32;
-}
-
-extern "C" fn start(job: *mut c_void) -> *mut c_void {
-    // SAFETY: `together` made it of such a box.
-    let job = unsafe { Box::from_raw(job.cast::<Job<'static>>()) };
-    job();
-    std::ptr::null_mut()
-}
-
-/// Starts a thread of the C library, since ThreadSanitizer reports races of std's threads, which aren't compiled for it.
-///
-/// # Safety
-/// The thread is joined while what the job borrows is there.
-unsafe fn begin(job: Job<'_>) -> usize {
-    let mut thread = 0;
-    let job = Box::into_raw(Box::new(job)).cast();
-    // SAFETY: as `start` asks.
-    let status = unsafe { pthread_create(&mut thread, std::ptr::null(), start, job) };
-    assert_eq!(status, 0);
-    thread
-}
-
-fn join(thread: usize) {
-    // SAFETY: each thread is joined once.
-    assert_eq!(unsafe { pthread_join(thread, std::ptr::null_mut()) }, 0);
-}
-
-/// Runs jobs, each on a thread of its own, until all have ended.
-fn together(jobs: Vec<Job<'_>>) {
-    // SAFETY: the threads end before this call does.
-    let threads: Vec<usize> = jobs.into_iter().map(|job| unsafe { begin(job) }).collect();
-    threads.into_iter().for_each(join);
-}
-
-/// Drops guards on other threads, while their worker looks up by the same seats.
-fn hand_over(rounds: u64) {
-    let table = Options::new(1).workers(1).guards(2).open().unwrap();
-    let worker = table.worker().unwrap();
-    worker.put(0, Value::new(0)).unwrap();
+/// Serves as a task does that has no handle.
+fn serve_by_table(table: &Table<Value>, mut seed: u64, rounds: u64) {
+    let slots = u64::from(table.slots());
     for round in 0..rounds {
-        let (kept, given) = (worker.look(0).unwrap(), worker.look(0).unwrap());
-        drop(worker.put(0, Value::new(round)).unwrap());
+        let random = next(&mut seed);
+        let (slot, what) = ((random % slots) as u32, (random >> 7) % 16);
+        match what {
+            0..=9 => drop(table.get_owned(slot).map(|guard| guard.check())),
+            10..=12 => drop(table.replace_at(slot, Value::new(round))),
+            13..=14 => drop(table.insert(Value::new(round))),
+            _ => drop(table.remove_at(slot)),
+        }
+    }
+}
+
+/// Drops owned guards on other threads, while this one takes the same seat again.
+fn hand_over(rounds: u64) {
+    let table = Options::new(1)
+        .handles(1)
+        .readers(0)
+        .guards(1)
+        .open()
+        .unwrap();
+    table.insert(Value::new(0)).unwrap();
+    for round in 0..rounds {
+        let given = table.get_owned(0).unwrap();
+        drop(table.replace_at(0, Value::new(round)).unwrap());
         // SAFETY: it is joined below.
         let thread = unsafe { begin(Box::new(move || given.check())) };
         let again = loop {
-            match worker.look(0) {
+            match table.get_owned(0) {
                 Ok(guard) => break guard,
-                Err(error) => assert_eq!(error, LookError::NoGuard),
+                Err(error) => assert_eq!(error, GetError::NoSeat(NoSeat::Guard { in_use: 1 })),
             }
         };
         again.check();
-        kept.check();
         join(thread);
     }
+}
+
+/// Has more threads than seats that install: each call of the table waits for one.
+fn share_seats(rounds: u64) {
+    let table = Options::new(4).handles(2).guards(4).open().unwrap();
+    let job = |seed| -> Job<'_> {
+        let table = &table;
+        Box::new(move || serve_by_table(table, seed, rounds))
+    };
+    together((0..4).map(job).collect());
+    assert!((table.handle().is_ok(), table.handle().is_ok()) == (true, true));
 }
 
 fn run(table: &Table<Value>, threads: u64, rounds: u64) {
     let mut jobs: Vec<Job<'_>> = Vec::new();
     for number in 0..threads {
-        let worker = table.worker().unwrap();
-        jobs.push(Box::new(move || serve(&worker, number, rounds)));
+        let handle = table.handle().unwrap();
+        jobs.push(Box::new(move || serve(&handle, number, rounds)));
     }
+    jobs.push(Box::new(|| serve_by_table(table, threads, rounds / 4)));
     together(jobs);
 }
 
@@ -151,18 +144,19 @@ fn main() {
         .and_then(|it| it.parse().ok())
         .unwrap_or(20_000);
     for (slots, threads) in [(2, 4), (8, 3), (256, 4)] {
-        let table = Options::new(slots)
-            .workers(threads as usize)
-            .guards(2)
-            .open()
-            .unwrap();
-        run(&table, threads, rounds);
+        let options = Options::new(slots).handles(threads + 1).guards(threads);
+        let table = options.open().unwrap();
+        run(&table, u64::from(threads), rounds);
+        // no guard is alive and no call runs: the values at the slots are the only ones that are left
+        let left = MADE.load(SeqCst) - DROPPED.load(SeqCst);
+        assert_eq!(left, table.handle().unwrap().len() as usize);
         drop(table);
         let (made, dropped) = (MADE.load(SeqCst), DROPPED.load(SeqCst));
         println!("{slots} slots, {threads} threads: {made} values made, {dropped} dropped");
         assert_eq!(made, dropped);
     }
     hand_over(rounds / 16);
+    share_seats(rounds / 4);
     assert_eq!(MADE.load(SeqCst), DROPPED.load(SeqCst));
     assert_eq!(WRONG.load(SeqCst), 0);
 }

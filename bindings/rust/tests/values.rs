@@ -3,7 +3,8 @@ use std::sync::atomic::{AtomicUsize, Ordering::SeqCst};
 use std::sync::Arc;
 use std::thread::ThreadId;
 use yachtbanyan::{
-    Guard, LookError, NoWorker, OpenError, Options, PutError, Table, TakeError, Worker,
+    GetError, Guard, Handle, NoSeat, NoSlot, Old, OpenError, Options, OwnedGuard, Reader, Reason,
+    RemoveError, Table, MOST_SLOTS,
 };
 
 /// Counts how often it was dropped, and notes where.
@@ -43,18 +44,19 @@ impl Notes {
 #[test]
 fn a_replaced_value_is_dropped_by_its_last_guard() {
     let notes = Notes::default();
-    let table = Options::new(4).workers(2).guards(2).open().unwrap();
-    let (a, b) = (table.worker().unwrap(), table.worker().unwrap());
-    assert!(a.put(3, notes.value(7)).unwrap().is_none());
-    let (first, second) = (a.look(3).unwrap(), b.look(3).unwrap());
-    assert!(b.put(3, notes.value(8)).unwrap().is_none());
+    let table = Options::new(4).handles(2).guards(2).open().unwrap();
+    let (a, b) = (table.handle().unwrap(), table.handle().unwrap());
+    assert!(a.replace_at(3, notes.value(7)).unwrap().is_none());
+    let (first, second) = (a.get_at(3).unwrap(), b.get_at(3).unwrap());
+    assert!(matches!(b.replace_at(3, notes.value(8)), Ok(Old::InUse)));
     assert_eq!((first.number, second.number, notes.drops()), (7, 7, 0));
     drop(first);
     assert_eq!(notes.drops(), 0);
     drop(second);
     assert_eq!(notes.drops(), 1);
-    assert_eq!(a.look(3).unwrap().number, 8);
-    assert_eq!(a.take(3).unwrap().map(|it| it.number), Some(8));
+    assert_eq!(a.get_at(3).unwrap().number, 8);
+    let old = a.remove_at(3).unwrap().unused();
+    assert_eq!(old.map(|it| it.number), Some(8));
     assert_eq!(notes.drops(), 2);
 }
 
@@ -62,10 +64,10 @@ fn a_replaced_value_is_dropped_by_its_last_guard() {
 fn the_last_guard_drops_it_on_its_own_thread() {
     let notes = Notes::default();
     let table = Table::with_slots(1).unwrap();
-    let worker = table.worker().unwrap();
-    worker.put(0, notes.value(1)).unwrap();
-    let guard = worker.look(0).unwrap();
-    assert!(worker.take(0).unwrap().is_none());
+    let handle = table.handle().unwrap();
+    handle.replace_at(0, notes.value(1)).unwrap();
+    let guard = table.get_owned(0).unwrap();
+    assert!(matches!(handle.remove_at(0), Ok(Old::InUse)));
     let there = std::thread::scope(|scope| {
         let thread = scope.spawn(move || drop(guard));
         let id = thread.thread().id();
@@ -76,93 +78,147 @@ fn the_last_guard_drops_it_on_its_own_thread() {
 }
 
 #[test]
-fn one_worker_has_several_guards() {
-    let table = Options::new(8).workers(1).guards(3).open().unwrap();
-    let worker = table.worker().unwrap();
+fn one_handle_has_several_guards() {
+    let table = Options::new(8).handles(1).guards(2).open().unwrap();
+    let handle = table.handle().unwrap();
     for slot in 0..8 {
-        assert_eq!(worker.put_any(slot * 10).unwrap(), slot);
+        assert_eq!(handle.insert(slot * 10).unwrap(), slot);
     }
-    let guards: Vec<Guard<'_, u32>> = (2..5).map(|slot| worker.look(slot).unwrap()).collect();
+    let guards: Vec<Guard<'_, u32>> = (2..5).map(|slot| handle.get_at(slot).unwrap()).collect();
     assert_eq!(
         guards.iter().map(|it| **it).collect::<Vec<_>>(),
         [20, 30, 40]
     );
-    assert_eq!(worker.look(5).unwrap_err(), LookError::NoGuard);
-    // a worker installs and removes while it has guards
-    assert_eq!(worker.put(2, 21), Ok(None));
-    assert_eq!(worker.take(7), Ok(Some(70)));
+    let none = GetError::NoSeat(NoSeat::Guard { in_use: 2 });
+    assert_eq!(handle.get_at(5).unwrap_err(), none);
+    assert_eq!(table.get_owned(5).unwrap_err(), none);
+    // a handle installs and removes while it has guards
+    assert_eq!(handle.replace_at(2, 21), Ok(Old::InUse));
+    assert_eq!(handle.remove_at(7), Ok(Old::Unused(70)));
     drop(guards);
-    assert_eq!(*worker.look(2).unwrap(), 21);
+    assert_eq!(*handle.get_at(2).unwrap(), 21);
 }
 
 #[test]
-fn each_error_has_its_reason_and_gives_the_value_back() {
-    let table = Options::new(2).workers(1).open().unwrap();
-    let worker = table.worker().unwrap();
-    assert_eq!(table.worker().unwrap_err(), NoWorker);
-    assert_eq!(worker.look(0).unwrap_err(), LookError::Empty);
-    assert_eq!(worker.look(2).unwrap_err(), LookError::NoSlot);
-    assert_eq!(worker.take(1), Err(TakeError::Empty));
-    assert_eq!(worker.take(2), Err(TakeError::NoSlot));
-    assert_eq!(worker.put(2, "a"), Err(PutError::NoSlot("a")));
-    assert_eq!(worker.put_any("b"), Ok(0));
-    assert_eq!(worker.put_any("c"), Ok(1));
-    assert_eq!(worker.put_any("d"), Err(PutError::Full("d")));
-    assert_eq!(worker.put_any("d").unwrap_err().into_inner(), "d");
-    assert_eq!(worker.put(1, "e"), Ok(Some("c")));
+fn each_error_has_its_numbers_and_gives_the_value_back() {
+    let table = Options::new(2).handles(1).readers(0).open().unwrap();
+    let handle = table.handle().unwrap();
+    assert_eq!(table.handle().unwrap_err(), NoSeat::Handle { in_use: 1 });
+    assert_eq!(table.reader().unwrap_err(), NoSeat::Reader { in_use: 0 });
+    let no_slot = NoSlot { slot: 2, slots: 2 };
+    assert_eq!(handle.get_at(0).unwrap_err(), GetError::Empty { slot: 0 });
+    assert_eq!(handle.get_at(2).unwrap_err(), GetError::NoSlot(no_slot));
+    assert_eq!(table.get_owned(2).unwrap_err(), GetError::NoSlot(no_slot));
+    assert_eq!(handle.remove_at(1), Ok(Old::None));
+    assert_eq!(handle.remove_at(2), Err(no_slot));
+    let refused = handle.replace_at(2, "a").unwrap_err();
     assert_eq!(
-        worker.put_any("d").unwrap_err().to_string(),
-        "every slot has a value"
+        (refused.value, refused.reason),
+        ("a", Reason::NoSlot(no_slot))
     );
+    assert_eq!(handle.insert("b"), Ok(0));
+    assert_eq!(handle.try_insert("c"), Ok(1));
+    let full = Reason::Full { slots: 2 };
+    let refused = [handle.insert("d"), handle.try_insert("d")].map(Result::unwrap_err);
+    assert_eq!(refused.map(|it| (it.value, it.reason)), [("d", full); 2]);
+    assert_eq!(handle.replace_at(1, "e"), Ok(Old::Unused("c")));
+    let texts = [refused[0].to_string(), no_slot.to_string()];
+    assert_eq!(texts[0], "all 2 slots have values");
+    assert_eq!(
+        texts[1],
+        "slot 2 is out of range: the table has slots 0 to 1"
+    );
+}
+
+#[test]
+fn the_table_lends_a_seat_for_a_call() {
+    let table = Options::new(1).handles(1).open().unwrap();
+    assert_eq!(table.insert("a"), Ok(0));
+    let no_slot = NoSlot { slot: 1, slots: 1 };
+    assert_eq!(table.remove_at(1), Err(RemoveError::NoSlot(no_slot)));
+    let refused = table.replace_at(1, "b").unwrap_err();
+    assert_eq!(
+        (refused.value, refused.reason),
+        ("b", Reason::NoSlot(no_slot))
+    );
+    assert_eq!(
+        table.insert("b").unwrap_err().reason,
+        Reason::Full { slots: 1 }
+    );
+    assert_eq!(
+        [table.contains(0), table.contains(1)],
+        [Ok(true), Ok(false)]
+    );
+    let handle = table.handle().unwrap();
+    let none = NoSeat::Handle { in_use: 1 };
+    assert_eq!(table.remove_at(0), Err(RemoveError::NoSeat(none)));
+    assert_eq!(table.contains(0), Err(none));
+    let refused = [table.insert("c"), table.replace_at(0, "c").map(|_| 0)];
+    let refused = refused
+        .map(Result::unwrap_err)
+        .map(|it| (it.value, it.reason));
+    assert_eq!(refused, [("c", Reason::NoSeat(none)); 2]);
+    drop(handle);
+    assert_eq!(table.remove_at(0), Ok(Old::Unused("a")));
 }
 
 #[test]
 fn a_table_that_is_too_large_or_too_small_is_refused() {
     let refused = |options: Options| options.open::<u8>().unwrap_err();
-    for slots in [0, 257, u32::MAX] {
-        assert_eq!(refused(Options::new(slots)), OpenError::OutOfRange);
+    for slots in [0, MOST_SLOTS + 1, u32::MAX] {
+        assert_eq!(refused(Options::new(slots)), OpenError::Slots(slots));
     }
-    assert_eq!(refused(Options::new(1).workers(0)), OpenError::OutOfRange);
+    for handles in [0, 65, u32::MAX] {
+        assert_eq!(
+            refused(Options::new(1).handles(handles)),
+            OpenError::Handles(handles)
+        );
+    }
+    let most = Options::new(MOST_SLOTS).handles(64).readers(400);
+    assert_eq!(refused(most.guards(497)), OpenError::Seats(1_025));
     assert_eq!(
-        refused(Options::new(1).workers(65).guards(1)),
-        OpenError::OutOfRange
+        refused(most.guards(u32::MAX)),
+        OpenError::Seats((1 << 32) + 527)
     );
-    assert_eq!(refused(Options::new(1).guards(0)), OpenError::OutOfRange);
+    let largest = most.guards(496).open::<u8>().unwrap();
+    let (handle, reader) = (largest.handle().unwrap(), largest.reader().unwrap());
+    assert_eq!(handle.insert(1), Ok(0));
+    let guards: Vec<OwnedGuard<u8>> = (0..496).map(|_| largest.get_owned(0).unwrap()).collect();
     assert_eq!(
-        refused(Options::new(1).workers(64).guards(16)),
-        OpenError::OutOfRange
+        (*handle.get_at(0).unwrap(), *reader.get_at(0).unwrap()),
+        (1, 1)
     );
     assert_eq!(
-        refused(Options::new(1).guards(usize::MAX)),
-        OpenError::OutOfRange
+        largest.get_owned(0).unwrap_err(),
+        GetError::NoSeat(NoSeat::Guard { in_use: 496 })
     );
-    let largest = Options::new(256)
-        .workers(64)
-        .guards(15)
-        .open::<u8>()
-        .unwrap();
-    assert_eq!(largest.worker().unwrap().put_any(1), Ok(0));
+    drop(guards);
 }
 
 #[test]
-fn a_forgotten_guard_keeps_its_value_until_its_worker_is_dropped() {
+fn a_forgotten_guard_keeps_its_value_until_its_handle_is_dropped() {
     let notes = Notes::default();
-    let table = Options::new(2).workers(1).guards(2).open().unwrap();
-    let worker = table.worker().unwrap();
-    worker.put(0, notes.value(1)).unwrap();
-    std::mem::forget(worker.look(0).unwrap());
-    assert!(worker.put(0, notes.value(2)).unwrap().is_none());
-    let guard = worker.look(0).unwrap();
+    let table = Options::new(2).handles(1).guards(2).open().unwrap();
+    let handle = table.handle().unwrap();
+    handle.replace_at(0, notes.value(1)).unwrap();
+    // by the handle's own seat, and by one of the table
+    std::mem::forget((handle.get_at(0).unwrap(), handle.get_at(0).unwrap()));
+    assert!(matches!(
+        handle.replace_at(0, notes.value(2)),
+        Ok(Old::InUse)
+    ));
+    let guard = handle.get_at(0).unwrap();
     assert_eq!((guard.number, notes.drops()), (2, 0));
-    assert_eq!(worker.look(1).unwrap_err(), LookError::NoGuard);
+    let none = GetError::NoSeat(NoSeat::Guard { in_use: 2 });
+    assert_eq!(handle.get_at(1).unwrap_err(), none);
     drop(guard);
-    drop(worker);
+    assert_eq!(notes.drops(), 0);
+    drop(handle);
     assert_eq!(notes.drops(), 1);
-    // the next worker has all its guards
-    let worker = table.worker().unwrap();
-    let guards = (worker.look(0).unwrap(), worker.look(0).unwrap());
-    drop(guards);
-    drop(worker);
+    // the next handle has all guards
+    let handle = table.handle().unwrap();
+    drop([0; 3].map(|slot| handle.get_at(slot).unwrap()));
+    drop(handle);
     drop(table);
     assert_eq!(notes.drops(), 2);
 }
@@ -171,16 +227,16 @@ fn a_forgotten_guard_keeps_its_value_until_its_worker_is_dropped() {
 fn a_panic_while_holding_releases() {
     let notes = Notes::default();
     let table = Table::with_slots(1).unwrap();
-    let worker = table.worker().unwrap();
-    worker.put(0, notes.value(1)).unwrap();
+    let handle = table.handle().unwrap();
+    handle.replace_at(0, notes.value(1)).unwrap();
     let caught = std::panic::catch_unwind(std::panic::AssertUnwindSafe(|| {
-        let _guard = worker.look(0).unwrap();
-        assert!(worker.take(0).unwrap().is_none());
+        let _guards = (handle.get_at(0).unwrap(), table.get_owned(0).unwrap());
+        assert!(matches!(handle.remove_at(0), Ok(Old::InUse)));
         panic!("while holding");
     }));
     assert!(caught.is_err());
     assert_eq!(notes.drops(), 1);
-    assert_eq!(worker.look(0).unwrap_err(), LookError::Empty);
+    assert_eq!(handle.get_at(0).unwrap_err(), GetError::Empty { slot: 0 });
 }
 
 /// Panics when it is dropped, if it is asked to.
@@ -193,15 +249,62 @@ impl Drop for Fragile {
 }
 
 #[test]
-fn a_drop_that_panics_leaves_the_worker_usable() {
-    let table = Options::new(1).workers(1).guards(1).open().unwrap();
-    let worker = table.worker().unwrap();
-    worker.put(0, Fragile(true)).unwrap();
-    let guard = worker.look(0).unwrap();
-    assert!(worker.put(0, Fragile(false)).unwrap().is_none());
-    let caught = std::panic::catch_unwind(std::panic::AssertUnwindSafe(|| drop(guard)));
-    assert!(caught.is_err());
-    assert!(!worker.look(0).unwrap().0);
+fn a_drop_that_panics_leaves_each_seat_usable() {
+    let table = Options::new(1)
+        .handles(1)
+        .readers(1)
+        .guards(1)
+        .open()
+        .unwrap();
+    let (handle, reader) = (table.handle().unwrap(), table.reader().unwrap());
+    let panics = |drop: &mut dyn FnMut()| {
+        let caught = std::panic::catch_unwind(std::panic::AssertUnwindSafe(drop));
+        assert!(caught.is_err());
+    };
+    for round in 0..3 {
+        handle.replace_at(0, Fragile(true)).unwrap();
+        // each kind of guard, as the last user
+        let mut guard = (round == 0).then(|| handle.get_at(0).unwrap());
+        let mut own = (round == 1).then(|| table.get_owned(0).unwrap());
+        let mut other = (round == 2).then(|| reader.get_at(0).unwrap());
+        assert!(matches!(
+            handle.replace_at(0, Fragile(false)),
+            Ok(Old::InUse)
+        ));
+        panics(&mut || drop((guard.take(), own.take(), other.take())));
+        // all seats at once
+        let (guard, own) = (handle.get_at(0).unwrap(), table.get_owned(0).unwrap());
+        assert!(!guard.0 && !own.0 && !reader.get_at(0).unwrap().0);
+    }
+}
+
+/// Looks, inserts and removes in its own table when it is dropped.
+struct Nested(Option<Table<Nested>>);
+
+impl Drop for Nested {
+    fn drop(&mut self) {
+        let Some(table) = self.0.take() else {
+            return;
+        };
+        let slot = table.insert(Nested(None)).unwrap();
+        assert!(table.get_owned(slot).unwrap().0.is_none());
+        assert!(matches!(table.remove_at(slot), Ok(Old::Unused(_))));
+        table.handle().unwrap().insert(Nested(None)).unwrap();
+    }
+}
+
+#[test]
+fn a_drop_may_use_the_same_table() {
+    let table = Options::new(4).handles(2).guards(2).open().unwrap();
+    let handle = table.handle().unwrap();
+    for round in 0..3 {
+        let slot = handle.insert(Nested(Some(table.clone()))).unwrap();
+        let guards = (round > 0).then(|| (handle.get_at(slot).unwrap(), table.get_owned(slot)));
+        drop(handle.remove_at(slot).unwrap());
+        drop(guards);
+        assert_eq!((handle.len(), round), (1, round));
+        handle.remove_at(slot).unwrap();
+    }
 }
 
 /// Counts its drops, and panics in the first.
@@ -216,31 +319,31 @@ impl Drop for Counted {
 #[test]
 fn a_drop_that_panics_loses_no_seat_and_no_other_value() {
     let drops = Arc::new(AtomicUsize::new(0));
-    let table = Options::new(3).workers(1).guards(2).open().unwrap();
-    let worker = table.worker().unwrap();
+    let table = Options::new(3).handles(1).guards(1).open().unwrap();
+    let handle = table.handle().unwrap();
     for slot in 0..2 {
-        worker.put(slot, Counted(drops.clone())).unwrap();
-        std::mem::forget(worker.look(slot).unwrap());
-        assert!(worker.take(slot).unwrap().is_none());
+        handle.replace_at(slot, Counted(drops.clone())).unwrap();
+        std::mem::forget(handle.get_at(slot).unwrap());
+        assert!(matches!(handle.remove_at(slot), Ok(Old::InUse)));
     }
-    let caught = std::panic::catch_unwind(std::panic::AssertUnwindSafe(|| drop(worker)));
+    let caught = std::panic::catch_unwind(std::panic::AssertUnwindSafe(|| drop(handle)));
     assert!(caught.is_err());
     assert_eq!(drops.load(SeqCst), 2);
-    // the next worker has all its guards
-    let worker = table.worker().unwrap();
-    worker.put(0, Counted(drops.clone())).unwrap();
-    drop((worker.look(0).unwrap(), worker.look(0).unwrap()));
+    // the next handle has all guards
+    let handle = table.handle().unwrap();
+    handle.replace_at(0, Counted(drops.clone())).unwrap();
+    drop((handle.get_at(0).unwrap(), handle.get_at(0).unwrap()));
 }
 
 #[test]
 fn a_drop_that_panics_leaves_the_other_values_of_a_table_to_be_dropped() {
     let drops = Arc::new(AtomicUsize::new(0));
     let table = Table::with_slots(4).unwrap();
-    let worker = table.worker().unwrap();
+    let handle = table.handle().unwrap();
     for _ in 0..4 {
-        worker.put_any(Counted(drops.clone())).unwrap();
+        handle.insert(Counted(drops.clone())).unwrap();
     }
-    drop(worker);
+    drop(handle);
     let caught = std::panic::catch_unwind(std::panic::AssertUnwindSafe(|| drop(table)));
     assert!(caught.is_err());
     assert_eq!(drops.load(SeqCst), 4);
@@ -251,24 +354,37 @@ fn what_is_left_is_dropped_with_the_last_handle() {
     let notes = Notes::default();
     let table = Table::with_slots(16).unwrap();
     let clone = table.clone();
-    let worker = table.worker().unwrap();
+    let handle = table.handle().unwrap();
     for number in 0..16 {
-        worker.put_any(notes.value(number)).unwrap();
+        handle.insert(notes.value(number)).unwrap();
     }
     drop((table, clone));
     assert_eq!(notes.drops(), 0);
-    drop(worker);
+    drop(handle);
     assert_eq!(notes.drops(), 16);
+}
+
+#[test]
+fn an_owned_guard_keeps_the_table() {
+    let notes = Notes::default();
+    let table = Table::with_slots(2).unwrap();
+    table.insert(notes.value(7)).unwrap();
+    table.insert(notes.value(8)).unwrap();
+    let own = table.get_owned(0).unwrap();
+    drop(table);
+    assert_eq!((own.number, notes.drops()), (7, 0));
+    drop(own);
+    assert_eq!(notes.drops(), 2);
 }
 
 #[test]
 fn a_table_serves_more_values_than_it_has_nodes() {
     let notes = Notes::default();
-    let table = Options::new(2).workers(1).guards(1).open().unwrap();
-    let worker = table.worker().unwrap();
+    let table = Options::new(2).handles(1).guards(1).open().unwrap();
+    let handle = table.handle().unwrap();
     for number in 0..200_000u32 {
-        worker.put(number % 2, notes.value(number)).unwrap();
-        assert_eq!(worker.look(number % 2).unwrap().number, number);
+        handle.replace_at(number % 2, notes.value(number)).unwrap();
+        assert_eq!(handle.get_at(number % 2).unwrap().number, number);
     }
     assert_eq!(notes.drops(), 199_998);
 }
@@ -283,26 +399,57 @@ fn values_without_bytes_are_counted() {
         }
     }
     let table = Table::with_slots(2).unwrap();
-    let worker = table.worker().unwrap();
-    worker.put(0, Empty).unwrap();
-    let guard = worker.look(0).unwrap();
-    assert!(worker.put(0, Empty).unwrap().is_none());
+    let handle = table.handle().unwrap();
+    handle.replace_at(0, Empty).unwrap();
+    let guard = handle.get_at(0).unwrap();
+    assert!(matches!(handle.replace_at(0, Empty), Ok(Old::InUse)));
     drop(guard);
     assert_eq!(DROPS.load(SeqCst), 1);
-    drop((worker, table));
+    drop((handle, table));
     assert_eq!(DROPS.load(SeqCst), 2);
 }
 
 #[test]
-fn debug_shows_the_value_of_a_guard() {
-    let table = Table::with_slots(1).unwrap();
-    let worker = table.worker().unwrap();
-    worker.put(0, Some(5)).unwrap();
-    assert_eq!(format!("{:?}", worker.look(0).unwrap()), "Some(5)");
+fn debug_and_display_show_the_value_of_a_guard() {
+    let table = Table::with_slots(2).unwrap();
+    let (handle, reader) = (table.handle().unwrap(), table.reader().unwrap());
+    handle.replace_at(1, "five").unwrap();
+    let (guard, own) = (handle.get_at(1).unwrap(), table.get_owned(1).unwrap());
     assert_eq!(
-        format!("{table:?} {worker:?}"),
-        "Table { slots: 1, guards: 8, .. } Worker { slots: 1, .. }"
+        format!("{guard:?} {own:?} {guard} {own}"),
+        "\"five\" \"five\" five five"
     );
+    assert_eq!((guard.slot(), own.slot()), (1, 1));
+    assert_eq!(
+        format!("{table:?} {handle:?} {reader:?} {:?}", handle.iter()),
+        "Table { slots: 2, .. } Handle { slots: 2, .. } Reader { slots: 2, .. } Iter { slot: 0, .. }"
+    );
+}
+
+#[test]
+fn an_iterator_has_what_each_slot_had_when_it_was_looked_at() {
+    let table = Options::new(5).handles(1).guards(1).open().unwrap();
+    let handle = table.handle().unwrap();
+    for slot in [0, 2, 3] {
+        handle.replace_at(slot, slot * 10).unwrap();
+    }
+    assert_eq!((handle.len(), handle.is_empty()), (3, false));
+    let mut seen = Vec::new();
+    for guard in &handle {
+        let guard = guard.unwrap();
+        seen.push((guard.slot(), *guard));
+        // a slot that was passed is not looked at again, and one that is still ahead is
+        handle.replace_at(1, 11).unwrap();
+        handle.remove_at(3).unwrap();
+    }
+    assert_eq!(seen, [(0, 0), (1, 11), (2, 20)]);
+    // two guards have seats, the handle's own and one of the table; three slots can't be looked at
+    let kept: Vec<_> = handle.iter().collect();
+    let counts = (kept.iter().filter(|it| it.is_ok()).count(), kept.len());
+    assert_eq!(counts, (2, 5));
+    drop(kept);
+    (0..5).for_each(|slot| assert!(handle.remove_at(slot).is_ok()));
+    assert!(handle.is_empty() && handle.iter().next().is_none());
 }
 
 #[test]
@@ -311,12 +458,14 @@ fn types_cross_threads_as_documented() {
     fn sync<T: Sync>() {}
     send::<Table<u8>>();
     sync::<Table<u8>>();
-    send::<Worker<u8>>();
-    send::<Guard<'static, u8>>();
+    send::<Handle<u8>>();
+    send::<Reader<u8>>();
+    send::<OwnedGuard<u8>>();
+    sync::<OwnedGuard<u8>>();
     sync::<Guard<'static, u8>>();
     // on one thread, a value of any type
     let table: Table<std::rc::Rc<u8>> = Table::with_slots(1).unwrap();
-    let worker = table.worker().unwrap();
-    worker.put(0, std::rc::Rc::new(1)).unwrap();
-    assert_eq!(**worker.look(0).unwrap(), 1);
+    let handle = table.handle().unwrap();
+    handle.replace_at(0, std::rc::Rc::new(1)).unwrap();
+    assert_eq!(**handle.get_at(0).unwrap(), 1);
 }

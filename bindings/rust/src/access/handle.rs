@@ -1,0 +1,279 @@
+//! Handles.
+use super::guard::Guard;
+use super::reader::Reader;
+use super::seats::Seat;
+use super::table::Table;
+use super::values::{Round, Values};
+use crate::errors::{GetError, NoSeat, NoSlot, Reason, Refused};
+use crate::iter::Iter;
+use crate::old::Old;
+use std::fmt;
+
+/// The access of one thread at a time to a [`Table`]: it looks slots up, and installs and removes values. It is `Send`, but not `Sync`.
+///
+/// ```
+/// use yachtbanyan::Table;
+///
+/// let table = Table::<u64>::with_slots(8)?;
+/// std::thread::scope(|scope| {
+///     for number in 0..4 {
+///         let handle = table.handle().unwrap();
+///         scope.spawn(move || {
+///             handle.replace_at(number, u64::from(number)).unwrap();
+///             assert_eq!(*handle.get_at(number).unwrap(), u64::from(number));
+///         });
+///     }
+/// });
+/// # Ok::<(), yachtbanyan::OpenError>(())
+/// ```
+///
+/// Each call takes `&self`, so a handle installs and removes while guards of it are alive. An asynchronous function takes
+/// `&mut Handle`, so that its future is `Send`:
+///
+/// ```
+/// use yachtbanyan::{Handle, Table};
+///
+/// # async fn read_from_network() -> u64 { 7 }
+/// async fn serve(handle: &mut Handle<u64>) -> u32 {
+///     let value = read_from_network().await;
+///     let slot = handle.insert(value).unwrap();
+///     read_from_network().await;
+///     slot
+/// }
+///
+/// # fn spawn(_: impl Future<Output = u32> + Send + 'static) {}
+/// # use std::future::Future;
+/// let table = Table::<u64>::with_slots(8)?;
+/// let mut handle = table.handle()?;
+/// spawn(async move { serve(&mut handle).await });
+/// # Ok::<(), Box<dyn std::error::Error>>(())
+/// ```
+#[must_use = "a handle is in use until it is dropped"]
+pub struct Handle<T> {
+    /// Its own seat has the number of the handle's installing seat as well.
+    reader: Reader<T>,
+}
+
+impl<T> Handle<T> {
+    /// Makes a handle of a reader whose seats a handle has.
+    pub(super) fn new(reader: Reader<T>) -> Handle<T> {
+        Handle { reader }
+    }
+
+    #[inline]
+    fn parts(&self) -> (&Values<T>, &Seat) {
+        let values = self.reader.table().values();
+        (values, &values.seats.installing[self.reader.own() as usize])
+    }
+
+    /// Returns a guard of the value at a slot. The look-up may drop another value: one that it saw first, and that others replaced
+    /// or removed while it ran. So a lock that the drop of a value takes must not be held here.
+    ///
+    /// # Errors
+    /// `Empty` if the slot has no value, `NoSlot` if the table has no such slot, `NoSeat` if a guard of this handle is alive
+    /// already and the table has no seat for another.
+    ///
+    /// ```
+    /// use yachtbanyan::{GetError, Table};
+    ///
+    /// let table = Table::<&str>::with_slots(4)?;
+    /// let handle = table.handle()?;
+    /// handle.replace_at(3, "three")?;
+    /// assert_eq!(*handle.get_at(3)?, "three");
+    /// assert_eq!(handle.get_at(2).unwrap_err(), GetError::Empty { slot: 2 });
+    /// let error = handle.get_at(4).unwrap_err();
+    /// assert_eq!(error.to_string(), "slot 4 is out of range: the table has slots 0 to 3");
+    /// # Ok::<(), Box<dyn std::error::Error>>(())
+    /// ```
+    #[inline]
+    pub fn get_at(&self, slot: u32) -> Result<Guard<'_, T>, GetError> {
+        self.reader.get_at(slot)
+    }
+
+    /// Installs a value at a free slot, and returns the slot. It may wait as long as one other thread is stopped within its own insert,
+    /// replace or remove: [`Handle::try_insert`] doesn't.
+    ///
+    /// # Errors
+    /// `Full` with the value if at one moment during the call every slot had a value.
+    ///
+    /// ```
+    /// use yachtbanyan::{Reason, Table};
+    ///
+    /// let table = Table::<&str>::with_slots(1)?;
+    /// let handle = table.handle()?;
+    /// assert_eq!(handle.insert("first")?, 0);
+    /// let refused = handle.insert("second").unwrap_err();
+    /// assert_eq!((refused.value, refused.reason), ("second", Reason::Full { slots: 1 }));
+    /// # Ok::<(), Box<dyn std::error::Error>>(())
+    /// ```
+    pub fn insert(&self, value: T) -> Result<u32, Refused<T>> {
+        let (values, seat) = self.parts();
+        // SAFETY: the seat is this handle's (one user), and holds nothing between two calls.
+        unsafe { values.insert(seat, Box::new(value)) }.map_err(|value| Refused {
+            value: *value,
+            reason: Reason::Full {
+                slots: values.slots(),
+            },
+        })
+    }
+
+    /// Looks for a free slot once, and installs a value there. Returns the slot. It waits for no thread.
+    ///
+    /// # Errors
+    /// `Full` with the value if at one moment during the call every slot had a value, `Again` with the value if no slot was free
+    /// when it was looked at, and others were filling or emptying slots.
+    ///
+    /// ```
+    /// use yachtbanyan::{Reason, Table};
+    ///
+    /// let table = Table::<&str>::with_slots(1)?;
+    /// let handle = table.handle()?;
+    /// match handle.try_insert("value") {
+    ///     Ok(slot) => assert_eq!(slot, 0),
+    ///     Err(refused) if refused.reason == Reason::Again => println!("later: {}", refused.value),
+    ///     Err(refused) => return Err(refused.into()),
+    /// }
+    /// # Ok::<(), Box<dyn std::error::Error>>(())
+    /// ```
+    pub fn try_insert(&self, value: T) -> Result<u32, Refused<T>> {
+        let (values, seat) = self.parts();
+        // SAFETY: the seat is this handle's (one user), and holds nothing between two calls.
+        let answer = unsafe { values.try_insert(seat, Box::new(value)) };
+        answer.map_err(|(value, round)| Refused {
+            value: *value,
+            reason: match round {
+                Round::Again => Reason::Again,
+                Round::Full => Reason::Full {
+                    slots: values.slots(),
+                },
+            },
+        })
+    }
+
+    /// Installs a value at a slot. Returns what became of the old value. An old value that is in use is dropped by its last user.
+    ///
+    /// # Errors
+    /// `NoSlot` with the value if the table has no such slot.
+    ///
+    /// ```
+    /// use yachtbanyan::{Old, Table};
+    ///
+    /// let table = Table::<&str>::with_slots(1)?;
+    /// let handle = table.handle()?;
+    /// assert_eq!(handle.replace_at(0, "first")?, Old::None);
+    /// assert_eq!(handle.replace_at(0, "second")?, Old::Unused("first"));
+    /// let guard = handle.get_at(0)?;
+    /// assert_eq!(handle.replace_at(0, "third")?, Old::InUse);
+    /// assert_eq!(*guard, "second");
+    /// # Ok::<(), Box<dyn std::error::Error>>(())
+    /// ```
+    #[inline]
+    pub fn replace_at(&self, slot: u32, value: T) -> Result<Old<T>, Refused<T>> {
+        let (values, seat) = self.parts();
+        // SAFETY: the seat is this handle's (one user), and holds nothing between two calls.
+        match unsafe { values.replace_at(seat, slot, Box::new(value)) } {
+            Ok(old) => Ok(old.map(|it| *it)),
+            Err(value) => Err(Refused {
+                value: *value,
+                reason: Reason::NoSlot(values.no_slot(slot)),
+            }),
+        }
+    }
+
+    /// Empties a slot. Returns what became of its value: `Old::None` if it was empty. A value that is in use is dropped by its last
+    /// user.
+    ///
+    /// # Errors
+    /// [`NoSlot`] if the table has no such slot.
+    ///
+    /// ```
+    /// use yachtbanyan::{Old, Table};
+    ///
+    /// let table = Table::<&str>::with_slots(2)?;
+    /// let handle = table.handle()?;
+    /// handle.replace_at(1, "value")?;
+    /// assert_eq!(handle.remove_at(1)?, Old::Unused("value"));
+    /// assert_eq!(handle.remove_at(1)?, Old::None);
+    /// assert!(handle.remove_at(2).is_err());
+    /// # Ok::<(), Box<dyn std::error::Error>>(())
+    /// ```
+    #[inline]
+    pub fn remove_at(&self, slot: u32) -> Result<Old<T>, NoSlot> {
+        let (values, seat) = self.parts();
+        // SAFETY: the seat is this handle's (one user), and holds nothing between two calls.
+        let old = unsafe { values.remove_at(seat, slot) };
+        Ok(old?.map(|it| *it))
+    }
+
+    /// Checks whether a slot has a value. A slot that the table hasn't has none.
+    ///
+    /// ```
+    /// let table = yachtbanyan::Table::<u64>::with_slots(2)?;
+    /// let handle = table.handle()?;
+    /// handle.replace_at(1, 7)?;
+    /// assert_eq!([0, 1, 2].map(|slot| handle.contains(slot)), [false, true, false]);
+    /// # Ok::<(), Box<dyn std::error::Error>>(())
+    /// ```
+    pub fn contains(&self, slot: u32) -> bool {
+        let (values, seat) = self.parts();
+        // SAFETY: the seat is this handle's (one user), and holds nothing between two calls.
+        let (sees, freed) = unsafe { values.sees(seat, slot) };
+        drop(freed);
+        sees
+    }
+
+    /// Returns the number of slots that had a value when each was looked at. It looks at every slot.
+    ///
+    /// ```
+    /// let table = yachtbanyan::Table::<u64>::with_slots(4)?;
+    /// let handle = table.handle()?;
+    /// assert!(handle.is_empty());
+    /// handle.insert(7)?;
+    /// assert_eq!(handle.len(), 1);
+    /// # Ok::<(), Box<dyn std::error::Error>>(())
+    /// ```
+    pub fn len(&self) -> u32 {
+        let slots = 0..self.table().slots();
+        slots.map(|it| u32::from(self.contains(it))).sum()
+    }
+
+    /// Checks whether no slot had a value when each was looked at.
+    pub fn is_empty(&self) -> bool {
+        !(0..self.table().slots()).any(|it| self.contains(it))
+    }
+
+    /// Returns an iterator over guards of the values, as [`Reader::iter`].
+    pub fn iter(&self) -> Iter<'_, T> {
+        self.reader.iter()
+    }
+
+    /// Returns the table.
+    ///
+    /// ```
+    /// let table = yachtbanyan::Table::<u64>::with_slots(2)?;
+    /// let handle = table.handle()?;
+    /// assert_eq!(handle.table().slots(), 2);
+    /// # Ok::<(), Box<dyn std::error::Error>>(())
+    /// ```
+    #[inline]
+    pub fn table(&self) -> &Table<T> {
+        self.reader.table()
+    }
+}
+
+impl<'r, T> IntoIterator for &'r Handle<T> {
+    type Item = Result<Guard<'r, T>, NoSeat>;
+    type IntoIter = Iter<'r, T>;
+
+    fn into_iter(self) -> Iter<'r, T> {
+        self.iter()
+    }
+}
+
+impl<T> fmt::Debug for Handle<T> {
+    fn fmt(&self, f: &mut fmt::Formatter<'_>) -> fmt::Result {
+        f.debug_struct("Handle")
+            .field("slots", &self.table().slots())
+            .finish_non_exhaustive()
+    }
+}

@@ -1,0 +1,230 @@
+//! Readers.
+use super::guard::Guard;
+use super::table::Table;
+use super::values::Looked;
+use crate::errors::{GetError, NoSeat};
+use crate::iter::Iter;
+use std::cell::Cell;
+use std::fmt;
+
+/// A seat that looks slots up, for one thread at a time. It is `Send`, but not `Sync`.
+///
+/// Its first living guard uses the reader's own seat. Each further one takes a guard's seat of the table, and returns it. So a guard
+/// takes the same time whatever the number of guards.
+///
+/// ```
+/// use yachtbanyan::Table;
+///
+/// let table = Table::<String>::with_slots(8)?;
+/// let handle = table.handle()?;
+/// handle.replace_at(3, "three".to_string())?;
+///
+/// let reader = table.reader()?;
+/// let thread = std::thread::spawn(move || reader.get_at(3).map(|it| it.len()));
+/// assert_eq!(thread.join().unwrap(), Ok(5));
+/// # Ok::<(), Box<dyn std::error::Error>>(())
+/// ```
+///
+/// Two threads can't share one:
+///
+/// ```compile_fail,E0277
+/// let table = yachtbanyan::Table::<u64>::with_slots(1).unwrap();
+/// let reader = table.reader().unwrap();
+/// std::thread::scope(|scope| {
+///     scope.spawn(|| drop(reader.get_at(0)));
+/// });
+/// ```
+#[must_use = "a reader is in use until it is dropped"]
+pub struct Reader<T> {
+    table: Table<T>,
+    /// The number of this reader's own seat, and whether that holds a value.
+    own: u32,
+    is_busy: Cell<bool>,
+    /// The first seat in the list of its other guards' seats.
+    others: Cell<Option<u32>>,
+}
+
+// SAFETY: the thread that gets the reader may read values (`T: Sync`) and drop them (`T: Send`). It has the reader's seats alone (one
+// user): a guard that is alive borrows the reader, which stays where it is until then.
+unsafe impl<T: Send + Sync> Send for Reader<T> {}
+
+impl<T> Reader<T> {
+    /// Makes a reader of a seat that the caller claimed.
+    pub(super) fn new(table: Table<T>, own: u32) -> Reader<T> {
+        Reader {
+            table,
+            own,
+            is_busy: Cell::new(false),
+            others: Cell::new(None),
+        }
+    }
+
+    /// Returns the number of the reader's own seat.
+    #[inline]
+    pub(super) fn own(&self) -> u32 {
+        self.own
+    }
+
+    /// Returns a guard of the value at a slot. The look-up may drop another value: one that it saw first, and that others replaced
+    /// or removed while it ran.
+    ///
+    /// # Errors
+    /// `Empty` if the slot has no value, `NoSlot` if the table has no such slot, `NoSeat` if a guard of this reader is alive
+    /// already and the table has no seat for another.
+    ///
+    /// ```
+    /// use yachtbanyan::{GetError, Table};
+    ///
+    /// let table = Table::<u64>::with_slots(2)?;
+    /// let reader = table.reader()?;
+    /// assert_eq!(reader.get_at(1).unwrap_err(), GetError::Empty { slot: 1 });
+    /// let slot = table.insert(7)?;
+    /// assert_eq!(*reader.get_at(slot)?, 7);
+    /// # Ok::<(), Box<dyn std::error::Error>>(())
+    /// ```
+    #[inline]
+    pub fn get_at(&self, slot: u32) -> Result<Guard<'_, T>, GetError> {
+        let values = self.table.values();
+        let number = self.begin().map_err(GetError::NoSeat)?;
+        let seat = &values.seats.looking[number as usize];
+        // SAFETY: the seat is this reader's (one user), and no guard uses it.
+        let Looked { found, freed } = unsafe { values.look(seat, slot) };
+        let found = match found {
+            Ok(value) => {
+                self.note(number);
+                Ok(Guard::new(self, value, number, slot))
+            }
+            Err(error) => {
+                self.end(number);
+                Err(error)
+            }
+        };
+        // last, since a drop may panic
+        drop(freed);
+        found
+    }
+
+    /// Returns an iterator over guards of the values: what each slot had when it was looked at. Slots that are empty then are left
+    /// out.
+    ///
+    /// ```
+    /// use yachtbanyan::Table;
+    ///
+    /// let table = Table::<&str>::with_slots(4)?;
+    /// let handle = table.handle()?;
+    /// handle.replace_at(1, "one")?;
+    /// handle.replace_at(3, "three")?;
+    /// let mut seen = Vec::new();
+    /// for guard in handle.iter() {
+    ///     let guard = guard?;
+    ///     seen.push((guard.slot(), *guard));
+    /// }
+    /// assert_eq!(seen, [(1, "one"), (3, "three")]);
+    /// # Ok::<(), Box<dyn std::error::Error>>(())
+    /// ```
+    pub fn iter(&self) -> Iter<'_, T> {
+        Iter::new(self)
+    }
+
+    /// Returns the table.
+    #[inline]
+    pub fn table(&self) -> &Table<T> {
+        &self.table
+    }
+
+    /// Returns a seat for one look-up.
+    #[inline]
+    fn begin(&self) -> Result<u32, NoSeat> {
+        if self.is_busy.get() {
+            self.table.values().seats.claim_guard()
+        } else {
+            Ok(self.own)
+        }
+    }
+
+    /// Notes that a guard has a seat from `begin`.
+    #[inline]
+    fn note(&self, number: u32) {
+        if number == self.own {
+            self.is_busy.set(true);
+            return;
+        }
+        let seats = &self.table.values().seats.looking;
+        let first = self.others.replace(Some(number));
+        seats[number as usize].next.set(first);
+        if let Some(first) = first {
+            seats[first as usize].previous.set(Some(number));
+        }
+    }
+
+    /// Gives a seat from `begin` back that no guard has got.
+    #[inline]
+    fn end(&self, number: u32) {
+        if number != self.own {
+            self.table.values().seats.give_back(number);
+        }
+    }
+
+    /// Gives the seat of a guard back, which holds no value any more.
+    #[inline]
+    pub(super) fn give_back(&self, number: u32) {
+        if number == self.own {
+            self.is_busy.set(false);
+            return;
+        }
+        let seats = &self.table.values().seats;
+        let looking = &seats.looking;
+        let seat = &looking[number as usize];
+        let (next, previous) = (seat.next.take(), seat.previous.take());
+        match previous {
+            Some(it) => looking[it as usize].next.set(next),
+            None => self.others.set(next),
+        }
+        if let Some(it) = next {
+            looking[it as usize].previous.set(previous);
+        }
+        seats.give_back(number);
+    }
+
+    /// Ends the hold of a seat whose guard was forgotten. Returns the value if this closed it.
+    fn end_forgotten(&self, number: u32) -> Option<Box<T>> {
+        let values = self.table.values();
+        let seat = &values.seats.looking[number as usize];
+        // SAFETY: a guard borrows the reader, so none is alive: this seat's guard was forgotten, and nobody has a reference to its value
+        // by this hold.
+        let freed = unsafe { values.release(seat, std::ptr::null()) };
+        self.give_back(number);
+        freed
+    }
+}
+
+impl<T> Drop for Reader<T> {
+    fn drop(&mut self) {
+        let mut freed: Vec<Box<T>> = Vec::new();
+        while let Some(number) = self.others.get() {
+            freed.extend(self.end_forgotten(number));
+        }
+        if self.is_busy.get() {
+            freed.extend(self.end_forgotten(self.own));
+        }
+        self.table.values().seats.give_back(self.own);
+        // The seats are back. The values are dropped with the list, one after another, even if the drop of one panics.
+    }
+}
+
+impl<'r, T> IntoIterator for &'r Reader<T> {
+    type Item = Result<Guard<'r, T>, NoSeat>;
+    type IntoIter = Iter<'r, T>;
+
+    fn into_iter(self) -> Iter<'r, T> {
+        self.iter()
+    }
+}
+
+impl<T> fmt::Debug for Reader<T> {
+    fn fmt(&self, f: &mut fmt::Formatter<'_>) -> fmt::Result {
+        f.debug_struct("Reader")
+            .field("slots", &self.table.slots())
+            .finish_non_exhaustive()
+    }
+}

@@ -1,0 +1,225 @@
+//! Seats: the workers of the core, and which of them are free.
+use super::core::{self, Core};
+use crate::errors::{NoSeat, OpenError};
+use crate::options::Options;
+use std::cell::Cell;
+use std::ptr::NonNull;
+use std::sync::atomic::{AtomicU32, AtomicU64, AtomicUsize, Ordering};
+
+/// A worker of the core, which this value owns. The seats of two threads share no cache line.
+#[repr(align(128))]
+pub(super) struct Seat {
+    core: NonNull<Core>,
+    /// The neighbours of this seat in the list of guards of one reader.
+    pub(super) next: Cell<Option<u32>>,
+    pub(super) previous: Cell<Option<u32>>,
+}
+
+impl Seat {
+    fn new(core: NonNull<Core>) -> Seat {
+        Seat {
+            core,
+            next: Cell::new(None),
+            previous: Cell::new(None),
+        }
+    }
+
+    #[inline]
+    pub(super) fn core(&self) -> *mut Core {
+        self.core.as_ptr()
+    }
+}
+
+impl Drop for Seat {
+    fn drop(&mut self) {
+        // SAFETY: the core's worker came from `yacht_core_open`, and nobody uses it after this.
+        unsafe { core::yacht_core_close(self.core()) }
+    }
+}
+
+/// 64 bits on cache lines of their own.
+#[repr(align(128))]
+struct Line(AtomicU64);
+
+/// A set of free numbers.
+pub(super) struct Free(Box<[Line]>);
+
+impl Free {
+    /// Returns the set of the numbers below `count`.
+    fn new(count: u32) -> Free {
+        let bits = |first: u32| match count - first {
+            rest if rest < 64 => (1 << rest) - 1,
+            _ => u64::MAX,
+        };
+        let firsts = (0..count).step_by(64);
+        Free(firsts.map(|it| Line(AtomicU64::new(bits(it)))).collect())
+    }
+
+    /// Removes a number from the set, or returns `None` if it found each of the words empty. A thread begins at a word of its own,
+    /// and takes the smallest number of a word, so few seats are ever used.
+    pub(super) fn claim(&self) -> Option<u32> {
+        let count = self.0.len();
+        let first = number_of_thread();
+        (0..count).find_map(|step| self.claim_in((first + step) % count))
+    }
+
+    fn claim_in(&self, word: usize) -> Option<u32> {
+        let bits = &self.0[word].0;
+        let mut found = bits.load(Ordering::Relaxed);
+        while found != 0 {
+            let without = found & (found - 1);
+            // Acquires what the last user of the number did with its seat.
+            match bits.compare_exchange_weak(found, without, Ordering::Acquire, Ordering::Relaxed) {
+                Ok(_) => return Some(word as u32 * 64 + found.trailing_zeros()),
+                Err(now) => found = now,
+            }
+        }
+        None
+    }
+
+    /// Adds a number to the set again. The caller has it from `claim`, and uses its seat no more.
+    pub(super) fn give_back(&self, number: u32) {
+        let word = &self.0[number as usize / 64].0;
+        word.fetch_or(1 << (number % 64), Ordering::Release);
+    }
+}
+
+/// Returns a number that few threads share.
+fn number_of_thread() -> usize {
+    static NEXT: AtomicUsize = AtomicUsize::new(0);
+    thread_local! {
+        static NUMBER: usize = NEXT.fetch_add(1, Ordering::Relaxed);
+    }
+    // while a thread ends it has none
+    NUMBER.try_with(|it| *it).unwrap_or(0)
+}
+
+/// The seats of a table. `installing` has a seat for each handle. `looking` has the own seat of each handle, that of each reader, and
+/// those of all other guards, in this order.
+pub(super) struct Seats {
+    pub(super) installing: Box<[Seat]>,
+    pub(super) looking: Box<[Seat]>,
+    readers: u32,
+    free_handles: Free,
+    free_readers: Free,
+    free_guards: Free,
+    /// The number of handles, which is at most the number of installing seats.
+    handles: AtomicU32,
+}
+
+impl Seats {
+    /// Opens a table of the core, with the seats that the options name.
+    pub(super) fn open(options: &Options) -> Result<Seats, OpenError> {
+        let count = options.seats()?;
+        let mut cores = vec![std::ptr::null_mut(); count];
+        // SAFETY: there is room for `count` pointers; the numbers are in range.
+        let answer = unsafe {
+            core::yacht_core_open(options.slots, options.handles, cores.as_mut_ptr(), count)
+        };
+        let mut seats: Vec<Seat> = cores
+            .into_iter()
+            .filter_map(NonNull::new)
+            .map(Seat::new)
+            .collect();
+        if answer != core::DONE || seats.len() != count {
+            return Err(OpenError::NoMemory);
+        }
+        let looking = seats.split_off(options.handles as usize);
+        Ok(Seats {
+            installing: seats.into(),
+            looking: looking.into(),
+            readers: options.readers,
+            free_handles: Free::new(options.handles),
+            free_readers: Free::new(options.readers),
+            free_guards: Free::new(options.guards),
+            handles: AtomicU32::new(0),
+        })
+    }
+
+    fn most_handles(&self) -> u32 {
+        self.installing.len() as u32
+    }
+
+    fn first_guard(&self) -> u32 {
+        self.most_handles() + self.readers
+    }
+
+    /// Claims the seats of a handle, both of which have the number that is returned. If a call of the table uses the last one, it
+    /// waits for the end of that call.
+    pub(super) fn claim_handle(&self) -> Result<u32, NoSeat> {
+        let most = self.most_handles();
+        let one_more = |count| (count < most).then_some(count + 1);
+        self.handles
+            .fetch_update(Ordering::Relaxed, Ordering::Relaxed, one_more)
+            .map_err(|in_use| NoSeat::Handle { in_use })?;
+        loop {
+            match self.free_handles.claim() {
+                Some(number) => return Ok(number),
+                None => std::thread::yield_now(),
+            }
+        }
+    }
+
+    /// Claims an installing seat for one call of the table. If other such calls use all that no handle has, it waits for the end of
+    /// one.
+    pub(super) fn claim_call(&self) -> Result<Call<'_>, NoSeat> {
+        loop {
+            if let Some(number) = self.free_handles.claim() {
+                return Ok(Call {
+                    seats: self,
+                    number,
+                });
+            }
+            let in_use = self.handles.load(Ordering::Relaxed);
+            if in_use == self.most_handles() {
+                return Err(NoSeat::Handle { in_use });
+            }
+            std::thread::yield_now();
+        }
+    }
+
+    /// Claims the seat of a reader.
+    pub(super) fn claim_reader(&self) -> Result<u32, NoSeat> {
+        let in_use = self.readers;
+        let number = self.free_readers.claim().ok_or(NoSeat::Reader { in_use })?;
+        Ok(self.most_handles() + number)
+    }
+
+    /// Claims a seat for a guard.
+    pub(super) fn claim_guard(&self) -> Result<u32, NoSeat> {
+        let first = self.first_guard();
+        let in_use = self.looking.len() as u32 - first;
+        let number = self.free_guards.claim().ok_or(NoSeat::Guard { in_use })?;
+        Ok(first + number)
+    }
+
+    /// Returns the seats of a handle, the seat of a reader, or that of a guard.
+    pub(super) fn give_back(&self, number: u32) {
+        if number >= self.first_guard() {
+            self.free_guards.give_back(number - self.first_guard());
+        } else if number >= self.most_handles() {
+            self.free_readers.give_back(number - self.most_handles());
+        } else {
+            self.free_handles.give_back(number);
+            self.handles.fetch_sub(1, Ordering::Relaxed);
+        }
+    }
+}
+
+/// An installing seat, for one call.
+pub(super) struct Call<'t> {
+    seats: &'t Seats,
+    number: u32,
+}
+
+impl Call<'_> {
+    pub(super) fn seat(&self) -> &Seat {
+        &self.seats.installing[self.number as usize]
+    }
+}
+
+impl Drop for Call<'_> {
+    fn drop(&mut self) {
+        self.seats.free_handles.give_back(self.number);
+    }
+}

@@ -1,0 +1,250 @@
+//! The table.
+use super::guard::OwnedGuard;
+use super::handle::Handle;
+use super::reader::Reader;
+use super::values::{Looked, Values};
+use crate::errors::{GetError, NoSeat, OpenError, Reason, Refused, RemoveError};
+use crate::old::Old;
+use crate::options::Options;
+use std::fmt;
+use std::sync::Arc;
+
+/// A table of slots, each of which is empty or has a value of type `T`.
+///
+/// A clone is the same table. Values that are in slots are dropped when the last clone, handle, reader and owned guard is dropped.
+/// Threads may share a table if `T: Send + Sync`: they share references to values, and any of them may drop a value.
+///
+/// A thread with a [`Handle`] calls that. A task without one calls the table, which lends a seat for the call.
+#[must_use = "a table is dropped with its last user"]
+pub struct Table<T> {
+    values: Arc<Values<T>>,
+}
+
+// SAFETY: threads get references to values (`T: Sync`), and any of them may get a value to drop it (`T: Send`). Places of `by_node`
+// are written by the thread that installs the node's file before it does, and read by those that hold that file (`looked`,
+// `nodes_are_of_one_file`). A seat has one user.
+unsafe impl<T: Send + Sync> Send for Table<T> {}
+// SAFETY: as above.
+unsafe impl<T: Send + Sync> Sync for Table<T> {}
+
+impl<T> Table<T> {
+    /// Opens a table of `slots` empty slots, for up to 16 handles, 16 readers and 128 further guards. [`Options`] sets other numbers.
+    ///
+    /// # Errors
+    /// `Slots` unless `slots` is from 1 to [`MOST_SLOTS`](crate::MOST_SLOTS), `NoMemory` if an allocation of the core fails.
+    ///
+    /// ```
+    /// use yachtbanyan::{OpenError, Table};
+    ///
+    /// assert_eq!(Table::<u64>::with_slots(100)?.slots(), 100);
+    /// assert_eq!(Table::<u64>::with_slots(0).unwrap_err(), OpenError::Slots(0));
+    /// # Ok::<(), OpenError>(())
+    /// ```
+    pub fn with_slots(slots: u32) -> Result<Table<T>, OpenError> {
+        Options::new(slots).open()
+    }
+
+    // A `Values` is shared between threads by a `Table` alone, which has the bounds.
+    #[allow(clippy::arc_with_non_send_sync)]
+    pub(crate) fn open(options: &Options) -> Result<Table<T>, OpenError> {
+        let values = Arc::new(Values::open(options)?);
+        Ok(Table { values })
+    }
+
+    #[inline]
+    pub(super) fn values(&self) -> &Values<T> {
+        &self.values
+    }
+
+    /// Returns the number of slots. They are numbered from 0.
+    pub fn slots(&self) -> u32 {
+        self.values.slots()
+    }
+
+    /// Takes a handle, which installs, for one thread at a time. It is free again when it is dropped.
+    ///
+    /// # Errors
+    /// [`NoSeat::Handle`] if all are in use.
+    ///
+    /// ```
+    /// use yachtbanyan::Options;
+    ///
+    /// let table = Options::new(4).handles(1).open::<u64>()?;
+    /// let handle = table.handle()?;
+    /// let error = table.handle().unwrap_err();
+    /// assert_eq!(error.to_string(), "1 handle is in use; Options::handles sets at most 64");
+    /// drop(handle);
+    /// assert!(table.handle().is_ok());
+    /// # Ok::<(), Box<dyn std::error::Error>>(())
+    /// ```
+    pub fn handle(&self) -> Result<Handle<T>, NoSeat> {
+        let number = self.values.seats.claim_handle()?;
+        Ok(Handle::new(Reader::new(self.clone(), number)))
+    }
+
+    /// Takes a reader, which looks slots up, for one thread at a time. It is free again when it is dropped.
+    ///
+    /// # Errors
+    /// [`NoSeat::Reader`] if all are in use.
+    ///
+    /// ```
+    /// let table = yachtbanyan::Options::new(4).readers(100).open::<u64>()?;
+    /// let readers: Vec<_> = (0..100).map(|_| table.reader().unwrap()).collect();
+    /// let error = table.reader().unwrap_err();
+    /// assert_eq!(error.to_string(), "100 readers are in use; Options::readers sets at most 1022");
+    /// # Ok::<(), Box<dyn std::error::Error>>(())
+    /// ```
+    pub fn reader(&self) -> Result<Reader<T>, NoSeat> {
+        let number = self.values.seats.claim_reader()?;
+        Ok(Reader::new(self.clone(), number))
+    }
+
+    /// Returns a guard of the value at a slot that borrows nothing. It takes a guard's seat of the table until it is dropped. The
+    /// look-up may drop another value: one that it saw first, and that others replaced or removed while it ran.
+    ///
+    /// # Errors
+    /// `Empty` if the slot has no value, `NoSlot` if the table has no such slot, `NoSeat` if all guards' seats are in use.
+    ///
+    /// ```
+    /// use yachtbanyan::{OwnedGuard, Table};
+    ///
+    /// # async fn answer(_: &str) {}
+    /// async fn serve(page: OwnedGuard<String>) {
+    ///     answer(&page).await; // `page` is held over the await
+    /// }
+    ///
+    /// # fn spawn(_: impl std::future::Future<Output = ()> + Send + 'static) {}
+    /// let table = Table::<String>::with_slots(4)?;
+    /// let slot = table.insert("page".to_string())?;
+    /// spawn(serve(table.get_owned(slot)?));
+    /// # Ok::<(), Box<dyn std::error::Error>>(())
+    /// ```
+    pub fn get_owned(&self, slot: u32) -> Result<OwnedGuard<T>, GetError> {
+        let seats = &self.values.seats;
+        let number = seats.claim_guard().map_err(GetError::NoSeat)?;
+        let seat = &seats.looking[number as usize];
+        // SAFETY: the seat is this call's (one user).
+        let Looked { found, freed } = unsafe { self.values.look(seat, slot) };
+        let found = match found {
+            Ok(value) => Ok(OwnedGuard::new(self.clone(), value, number, slot)),
+            Err(error) => {
+                seats.give_back(number);
+                Err(error)
+            }
+        };
+        // last, since a drop may panic
+        drop(freed);
+        found
+    }
+
+    /// Installs a value at a free slot, and returns the slot, by a seat for this call. It may wait as long as one other thread is stopped
+    /// within its own insert, replace or remove.
+    ///
+    /// # Errors
+    /// `Full` with the value if at one moment during the call every slot had a value, `NoSeat` with the value if all seats that
+    /// install have handles.
+    ///
+    /// ```
+    /// let table = yachtbanyan::Table::<String>::with_slots(4)?;
+    /// let slot = table.insert("value".to_string())?;
+    /// assert_eq!(slot, 0);
+    /// # Ok::<(), Box<dyn std::error::Error>>(())
+    /// ```
+    pub fn insert(&self, value: T) -> Result<u32, Refused<T>> {
+        let value = Box::new(value);
+        let answer = match self.values.seats.claim_call() {
+            // SAFETY: the seat is this call's (one user).
+            Ok(call) => unsafe { self.values.insert(call.seat(), value) }.map_err(|value| {
+                let slots = self.slots();
+                (value, Reason::Full { slots })
+            }),
+            Err(error) => Err((value, Reason::NoSeat(error))),
+        };
+        answer.map_err(Refused::new)
+    }
+
+    /// Installs a value at a slot, by a seat for this call. Returns what became of the old value.
+    ///
+    /// # Errors
+    /// `NoSlot` with the value if the table has no such slot, `NoSeat` with the value if all seats that install have handles.
+    ///
+    /// ```
+    /// use yachtbanyan::{Old, Table};
+    ///
+    /// let table = Table::<u64>::with_slots(4)?;
+    /// assert_eq!(table.replace_at(2, 7)?, Old::None);
+    /// assert_eq!(table.replace_at(2, 8)?, Old::Unused(7));
+    /// # Ok::<(), Box<dyn std::error::Error>>(())
+    /// ```
+    pub fn replace_at(&self, slot: u32, value: T) -> Result<Old<T>, Refused<T>> {
+        let value = Box::new(value);
+        let answer = match self.values.seats.claim_call() {
+            // SAFETY: the seat is this call's (one user).
+            Ok(call) => unsafe { self.values.replace_at(call.seat(), slot, value) }
+                .map_err(|value| (value, Reason::NoSlot(self.values.no_slot(slot)))),
+            Err(error) => Err((value, Reason::NoSeat(error))),
+        };
+        match answer {
+            Ok(old) => Ok(old.map(|it| *it)),
+            Err(parts) => Err(Refused::new(parts)),
+        }
+    }
+
+    /// Empties a slot, by a seat for this call. Returns what became of its value: `Old::None` if it was empty.
+    ///
+    /// # Errors
+    /// `NoSlot` if the table has no such slot, `NoSeat` if all seats that install have handles.
+    ///
+    /// ```
+    /// use yachtbanyan::{Old, Table};
+    ///
+    /// let table = Table::<u64>::with_slots(4)?;
+    /// let slot = table.insert(7)?;
+    /// assert_eq!(table.remove_at(slot)?, Old::Unused(7));
+    /// # Ok::<(), Box<dyn std::error::Error>>(())
+    /// ```
+    pub fn remove_at(&self, slot: u32) -> Result<Old<T>, RemoveError> {
+        let call = self.values.seats.claim_call()?;
+        // SAFETY: the seat is this call's (one user).
+        let old = unsafe { self.values.remove_at(call.seat(), slot) };
+        drop(call);
+        Ok(old?.map(|it| *it))
+    }
+
+    /// Checks whether a slot has a value, by a seat for this call. A slot that the table hasn't has none.
+    ///
+    /// # Errors
+    /// [`NoSeat::Handle`] if all seats that install have handles.
+    ///
+    /// ```
+    /// let table = yachtbanyan::Table::<u64>::with_slots(4)?;
+    /// let slot = table.insert(7)?;
+    /// assert!(table.contains(slot)?);
+    /// # Ok::<(), Box<dyn std::error::Error>>(())
+    /// ```
+    pub fn contains(&self, slot: u32) -> Result<bool, NoSeat> {
+        let call = self.values.seats.claim_call()?;
+        // SAFETY: the seat is this call's (one user).
+        let (sees, freed) = unsafe { self.values.sees(call.seat(), slot) };
+        drop(call);
+        // last, since a drop may panic
+        drop(freed);
+        Ok(sees)
+    }
+}
+
+impl<T> Clone for Table<T> {
+    fn clone(&self) -> Table<T> {
+        Table {
+            values: Arc::clone(&self.values),
+        }
+    }
+}
+
+impl<T> fmt::Debug for Table<T> {
+    fn fmt(&self, f: &mut fmt::Formatter<'_>) -> fmt::Result {
+        f.debug_struct("Table")
+            .field("slots", &self.slots())
+            .finish_non_exhaustive()
+    }
+}

@@ -1,0 +1,264 @@
+//! The values of a table, and the calls of the core on them.
+use super::core;
+use super::seats::{Seat, Seats};
+use crate::errors::{GetError, NoSlot, OpenError};
+use crate::old::Old;
+use crate::options::Options;
+use std::marker::PhantomData;
+use std::sync::atomic::{AtomicPtr, Ordering};
+
+/// The part of a table that its users share.
+pub(super) struct Values<T> {
+    by_node: Box<[AtomicPtr<T>]>,
+    pub(super) seats: Seats,
+    slots: u32,
+    _owns: PhantomData<T>,
+}
+
+/// The result of a look-up: the address of the value, which the seat holds now, and a value that this look-up was the last to use.
+pub(super) struct Looked<T> {
+    pub(super) found: Result<*const T, GetError>,
+    pub(super) freed: Option<Box<T>>,
+}
+
+/// The reason why a round of an installation at any slot installed nothing.
+pub(super) enum Round {
+    Full,
+    Again,
+}
+
+/// Returns the box of a value by its tag.
+///
+/// # Safety
+/// The core returned the tag to this call as that of a closed file, or the value with this tag was never installed.
+unsafe fn value_of<T>(tag: u64) -> Box<T> {
+    order::acquire(tag);
+    // SAFETY: the tag is the address of a box (`Values::prepare`), and no other call gets it (`closed_at_most_once`).
+    unsafe { Box::from_raw(tag as usize as *mut T) }
+}
+
+impl<T> Values<T> {
+    /// Opens a table of empty slots.
+    pub(super) fn open(options: &Options) -> Result<Values<T>, OpenError> {
+        let seats = Seats::open(options)?;
+        // SAFETY: the core's worker is of a seat that nobody uses.
+        let nodes = unsafe { core::yacht_core_nodes(seats.installing[0].core()) };
+        Ok(Values {
+            by_node: (0..nodes)
+                .map(|_| AtomicPtr::new(std::ptr::null_mut()))
+                .collect(),
+            seats,
+            slots: options.slots,
+            _owns: PhantomData,
+        })
+    }
+
+    #[inline]
+    pub(super) fn slots(&self) -> u32 {
+        self.slots
+    }
+
+    #[inline]
+    pub(super) fn no_slot(&self, slot: u32) -> NoSlot {
+        let slots = self.slots;
+        NoSlot { slot, slots }
+    }
+
+    /// Looks a slot up. If it finds a value, the seat holds that value until `release`.
+    ///
+    /// # Safety
+    /// The caller has the seat (one user), which holds nothing.
+    #[inline]
+    pub(super) unsafe fn look(&self, seat: &Seat, slot: u32) -> Looked<T> {
+        let mut freed = 0;
+        // SAFETY: no other call uses the core's worker meanwhile.
+        let answer = unsafe { core::yacht_core_look(seat.core(), slot, &mut freed) };
+        let found = if answer >= 0 {
+            // The address was written before the file was installed on this node (`placed`, `allocated`), and stays while the
+            // file is held: nobody chooses the node until then (`chosen_nodes_are_free`, `nodes_are_of_one_file`).
+            let value = self.by_node[answer as usize].load(Ordering::Relaxed);
+            order::acquire(value as usize as u64);
+            Ok(value.cast_const())
+        } else if answer == core::EMPTY {
+            Err(GetError::Empty { slot })
+        } else {
+            Err(GetError::NoSlot(self.no_slot(slot)))
+        };
+        // SAFETY: this look-up was overtaken, and the core closed this file in it (`looked`).
+        let freed = (freed != 0).then(|| unsafe { value_of(freed) });
+        Looked { found, freed }
+    }
+
+    /// Ends the hold of a seat. Returns its value if this call closed it. `value` is its address, for a sanitizer alone; it is null
+    /// if the caller doesn't know it.
+    ///
+    /// # Safety
+    /// The caller has the seat (one user), which holds a value. No reference to the value by this hold is left.
+    #[inline]
+    pub(super) unsafe fn release(&self, seat: &Seat, value: *const T) -> Option<Box<T>> {
+        order::release(value as usize as u64);
+        let mut closed = 0;
+        // SAFETY: no other call uses the core's worker meanwhile.
+        let answer = unsafe { core::yacht_core_release(seat.core(), &mut closed) };
+        // SAFETY: the core closed this file in this call (`released`).
+        (answer == core::CLOSED).then(|| unsafe { value_of(closed) })
+    }
+
+    /// Looks a slot up and releases what is there. Returns whether there was a value, and the values that these calls closed.
+    ///
+    /// # Safety
+    /// As of `look`.
+    pub(super) unsafe fn sees(&self, seat: &Seat, slot: u32) -> (bool, [Option<Box<T>>; 2]) {
+        // SAFETY: as the caller ensures.
+        let Looked { found, freed } = unsafe { self.look(seat, slot) };
+        match found {
+            // SAFETY: the seat holds this value, to which there is no reference.
+            Ok(value) => (true, [unsafe { self.release(seat, value) }, freed]),
+            Err(_) => (false, [None, freed]),
+        }
+    }
+
+    // Writes the address of a value where the next installation puts its file. Returns the tag.
+    #[inline]
+    unsafe fn prepare(&self, seat: &Seat, value: Box<T>) -> u64 {
+        let address = Box::into_raw(value);
+        // SAFETY: no other call uses the core's worker meanwhile, which installs.
+        let node = unsafe { core::yacht_core_next(seat.core()) };
+        // The seat has chosen this node (`chosen`), so no open file is on it, and no other seat chooses it
+        // (`chosen_nodes_are_free`): until this seat's installation nobody reads the place. A round that installs
+        // nothing keeps the choice (`allocated`).
+        self.by_node[node as usize].store(address, Ordering::Relaxed);
+        order::release(address as usize as u64);
+        address as usize as u64
+    }
+
+    /// Installs a value at a slot. Returns what was there, or `Err` with the value if there is no such slot.
+    ///
+    /// # Safety
+    /// The caller has the seat (one user), which installs and holds nothing.
+    #[inline]
+    pub(super) unsafe fn replace_at(
+        &self,
+        seat: &Seat,
+        slot: u32,
+        value: Box<T>,
+    ) -> Result<Old<Box<T>>, Box<T>> {
+        if slot >= self.slots {
+            return Err(value);
+        }
+        // SAFETY: as the caller ensures.
+        let tag = unsafe { self.prepare(seat, value) };
+        let mut closed = 0;
+        // SAFETY: no other call uses the core's worker meanwhile.
+        match unsafe { core::yacht_core_put(seat.core(), slot, tag, &mut closed) } {
+            // SAFETY: the core closed this file in this call (`placed`).
+            core::CLOSED => Ok(Old::Unused(unsafe { value_of(closed) })),
+            core::IN_USE => Ok(Old::InUse),
+            core::DONE => Ok(Old::None),
+            // SAFETY: the core refused the file, so the value was never installed (`placed`).
+            _ => Err(unsafe { value_of(tag) }),
+        }
+    }
+
+    /// Makes one round to install a value at a free slot. Returns the slot, or the value and the reason.
+    ///
+    /// # Safety
+    /// As of `replace_at`.
+    pub(super) unsafe fn try_insert(
+        &self,
+        seat: &Seat,
+        value: Box<T>,
+    ) -> Result<u32, (Box<T>, Round)> {
+        // SAFETY: as the caller ensures.
+        let tag = unsafe { self.prepare(seat, value) };
+        // SAFETY: no other call uses the core's worker meanwhile.
+        let answer = unsafe { core::yacht_core_put_any(seat.core(), tag) };
+        if answer >= 0 {
+            return Ok(answer as u32);
+        }
+        let reason = if answer == core::AGAIN {
+            Round::Again
+        } else {
+            Round::Full
+        };
+        // SAFETY: the core installed nothing, so the value is still this call's (`allocated`).
+        Err((unsafe { value_of(tag) }, reason))
+    }
+
+    /// Installs a value at a free slot. Returns the slot, or the value if at one moment every slot had one.
+    ///
+    /// # Safety
+    /// As of `replace_at`.
+    pub(super) unsafe fn insert(&self, seat: &Seat, value: Box<T>) -> Result<u32, Box<T>> {
+        let mut value = value;
+        loop {
+            // SAFETY: as the caller ensures.
+            match unsafe { self.try_insert(seat, value) } {
+                Ok(slot) => return Ok(slot),
+                Err((value, Round::Full)) => return Err(value),
+                Err((again, Round::Again)) => value = again,
+            }
+            std::thread::yield_now();
+        }
+    }
+
+    /// Empties a slot. Returns what was there.
+    ///
+    /// # Safety
+    /// The caller has the seat (one user), which holds nothing.
+    #[inline]
+    pub(super) unsafe fn remove_at(&self, seat: &Seat, slot: u32) -> Result<Old<Box<T>>, NoSlot> {
+        let mut closed = 0;
+        // SAFETY: no other call uses the core's worker meanwhile.
+        match unsafe { core::yacht_core_take(seat.core(), slot, &mut closed) } {
+            // SAFETY: the core closed this file in this call (`removed`).
+            core::CLOSED => Ok(Old::Unused(unsafe { value_of(closed) })),
+            core::IN_USE => Ok(Old::InUse),
+            core::EMPTY => Ok(Old::None),
+            _ => Err(self.no_slot(slot)),
+        }
+    }
+}
+
+impl<T> Drop for Values<T> {
+    fn drop(&mut self) {
+        let mut values: Vec<Box<T>> = Vec::new();
+        for slot in 0..self.slots {
+            // SAFETY: no handle is left and no call runs, so nobody uses this seat.
+            let old = unsafe { self.remove_at(&self.seats.installing[0], slot) };
+            values.extend(old.ok().and_then(Old::unused));
+        }
+        // The values are dropped with the list, one after another, even if the drop of one panics.
+    }
+}
+
+/// The order that the core makes between threads, for ThreadSanitizer, which can't see into the library. Each thread that finds a
+/// value comes after the one that installed it, and the one that drops it comes after all that released it.
+#[cfg(yachtbanyan_thread_sanitizer)]
+mod order {
+    use std::ffi::c_void;
+
+    unsafe extern "C" {
+        fn __tsan_acquire(address: *mut c_void);
+        fn __tsan_release(address: *mut c_void);
+    }
+
+    pub(super) fn acquire(tag: u64) {
+        // SAFETY: the sanitizer takes any address as a name.
+        unsafe { __tsan_acquire(tag as usize as *mut c_void) }
+    }
+
+    pub(super) fn release(tag: u64) {
+        // SAFETY: as above.
+        unsafe { __tsan_release(tag as usize as *mut c_void) }
+    }
+}
+
+#[cfg(not(yachtbanyan_thread_sanitizer))]
+mod order {
+    #[inline(always)]
+    pub(super) fn acquire(_: u64) {}
+
+    #[inline(always)]
+    pub(super) fn release(_: u64) {}
+}
