@@ -1,22 +1,28 @@
-/* A table of slots that threads share without a lock. The verified core counts the users of each value and decides which user is the last.
- * C11 or C++17, POSIX threads. Link with -lyachtbanyan. docs/BINDINGS.md says what is proved and what is tested.
+/* A table of slots that threads share without a lock. The verified core counts the users of each
+ * value and decides which user is the last. C11 or C++17, POSIX threads. Link with -lyachtbanyan.
+ * docs/BINDINGS.md says what is proved and what is tested.
  *
- * Drops. A value that was replaced or removed is dropped by its last user, before the call that ends this use returns. Its users are the
- * handles that hold it, the call that replaced or removed it, and each look-up (yacht_get_at) under way that first saw it. Such a look-up
- * is a user until it ends, even if it returns another value. So yacht_get_at may drop a value that its caller never got, and a thread that
- * is stopped within yacht_get_at may delay a drop. While no call is under way, each value that is in no slot and that no handle holds has
- * been dropped.
+ * Drops. A value that was replaced or removed is dropped by its last user, before the call that
+ * ends this use returns. Its users are the handles that hold it, the call that replaced or removed
+ * it, and each look-up (yacht_get_at) under way that first saw it. Such a look-up is a user until
+ * it ends, even if it returns another value. So yacht_get_at may drop a value that its caller never
+ * got, and a thread that is stopped within yacht_get_at may delay a drop. While no call is under
+ * way, each value that is in no slot and that no handle holds has been dropped.
  *
  * The caller must ensure the following, which nothing checks:
  * - A table or a handle comes from a function of this header, and its table is not yet freed.
- * - One call at a time uses a handle. If a handle goes to another thread, the caller synchronizes the calls: by a lock, by starting or
- *   joining a thread, or by a sequentially consistent atomic operation. The same holds of yacht_open before all other calls of a table,
- *   and of yacht_free after them.
- * - A value is installed once: it is neither in a table nor held when it is passed to yacht_insert, yacht_try_insert or yacht_replace_at.
- * - The drop function returns: it throws no C++ exception, makes no longjmp and doesn't end its thread. It doesn't use the handle in whose
- *   call it runs. It waits for no lock that a thread may hold around a call of this header.
+ * - One call at a time uses a handle. If a handle goes to another thread, the caller synchronizes
+ *   the calls: by a lock, by starting or joining a thread, or by a sequentially consistent atomic
+ *   operation. The same holds of yacht_open before all other calls of a table, and of yacht_free
+ *   after them.
+ * - A value is installed once: it is neither in a table nor held when it is passed to yacht_insert,
+ *   yacht_try_insert or yacht_replace_at.
+ * - The drop function returns: it throws no C++ exception, makes no longjmp and doesn't end its
+ *   thread. It doesn't use the handle in whose call it runs. It waits for no lock that a thread may
+ *   hold around a call of this header.
  * - No function is called from a signal handler, or in the forked child of a process with threads.
- * - malloc, calloc, realloc and free are one allocator, whose blocks are aligned for any type, as C requires. */
+ * - malloc, calloc, realloc and free are one allocator, whose blocks are aligned for any type, as C
+ *   requires. */
 #ifndef YACHTBANYAN_H
 #define YACHTBANYAN_H
 #include <stdint.h>
@@ -24,13 +30,15 @@
 extern "C" {
 #endif
 
-/* The version of this header. The shared library of the same major version has the name libyachtbanyan.so.MAJOR. */
+/* The version of this header. The shared library of the same major version has the name
+ * libyachtbanyan.so.MAJOR. */
 #define YACHT_VERSION "3.0.0"
 #define YACHT_VERSION_MAJOR 3
 #define YACHT_VERSION_MINOR 0
 #define YACHT_VERSION_PATCH 0
 
-/* The largest numbers of slots, of handles that install values, and of handles and readers together. */
+/* The largest numbers of slots, of handles that install values, and of handles and readers
+ * together. */
 enum { YACHT_MOST_SLOTS = 256, YACHT_MOST_HANDLES = 64, YACHT_MOST_IN_ALL = 1024 };
 
 /* What a function returns. A negative number is an error: the call has changed no slot. */
@@ -52,40 +60,50 @@ enum {
 /* A table. */
 typedef struct yacht_table yacht_table;
 
-/* The access of one thread at a time to a table. It holds at most one value at a time; a thread may use several handles. A reader is a
- * handle that only looks values up. */
+/* The access of one thread at a time to a table. It holds at most one value at a time; a thread may
+ * use several handles. A reader is a handle that only looks values up. */
 typedef struct yacht_handle yacht_handle;
 
-/* Drops a value that has no users left. Any thread that uses the table may call it, within yacht_get_at, yacht_release, yacht_replace_at,
- * yacht_remove_at or yacht_free. It may use other handles of the table; within yacht_free, any handle but the first. */
+/* Drops a value that has no users left. Any thread that uses the table may call it, within
+ * yacht_get_at, yacht_release, yacht_replace_at, yacht_remove_at or yacht_free. It may use other
+ * handles of the table; within yacht_free, any handle but the first. */
 typedef void yacht_drop(void *value, void *with);
 
-/* Opens a table of 1 to YACHT_MOST_SLOTS empty slots, with 1 to YACHT_MOST_HANDLES handles that install values, and with readers: at most
- * YACHT_MOST_IN_ALL handles and readers together. `drop` is called once for each value, with `with`.
- * Returns YACHT_DONE and writes *table; or YACHT_BAD_ARGUMENT or YACHT_NO_MEMORY, and writes nothing. */
-int yacht_open(yacht_table **table, uint32_t slots, uint32_t handles, uint32_t readers, yacht_drop *drop, void *with);
+/* Opens a table of 1 to YACHT_MOST_SLOTS empty slots, with 1 to YACHT_MOST_HANDLES handles that
+ * install values, and with readers: at most YACHT_MOST_IN_ALL handles and readers together. `drop`
+ * is called once for each value, with `with`.
+ * Returns YACHT_DONE and writes *table; or YACHT_BAD_ARGUMENT or YACHT_NO_MEMORY, and writes
+ * nothing. */
+int yacht_open(yacht_table **table, uint32_t slots, uint32_t handles, uint32_t readers,
+               yacht_drop *drop, void *with);
 
-/* Frees a table, and drops the values in its slots, even those that a drop installs meanwhile. The caller must ensure that no handle holds a
- * value or is in use. NULL is allowed. */
+/* Frees a table, and drops the values in its slots, even those that a drop installs meanwhile. The
+ * caller must ensure that no handle holds a value or is in use. NULL is allowed. */
 void yacht_free(yacht_table *table);
 
-/* Returns the handle with this number, from 0, or NULL if there is none. It is freed with its table. */
+/* Returns the handle with this number, from 0, or NULL if there is none. It is freed with its
+ * table. */
 yacht_handle *yacht_handle_of(yacht_table *table, uint32_t number);
 
-/* Returns the reader with this number, from 0, or NULL if there is none. It is freed with its table. */
+/* Returns the reader with this number, from 0, or NULL if there is none. It is freed with its
+ * table. */
 yacht_handle *yacht_reader_of(yacht_table *table, uint32_t number);
 
-/* Looks up the value at a slot, and writes it to *value. The handle holds the value until yacht_release: it isn't dropped before.
- * Returns YACHT_DONE; or YACHT_EMPTY, YACHT_NO_SLOT, or YACHT_BUSY, and writes nothing. */
+/* Looks up the value at a slot, and writes it to *value. The handle holds the value until
+ * yacht_release: it isn't dropped before. Returns YACHT_DONE; or YACHT_EMPTY, YACHT_NO_SLOT, or
+ * YACHT_BUSY, and writes nothing. */
 int yacht_get_at(yacht_handle *handle, uint32_t slot, void **value);
 
-/* Releases the value that the handle holds. Drops it if it was replaced or removed and has no other user.
+/* Releases the value that the handle holds. Drops it if it was replaced or removed and has no other
+ * user.
  * Returns YACHT_DONE, or YACHT_IDLE. */
 int yacht_release(yacht_handle *handle);
 
-/* Installs a value, not NULL, at a free slot. It waits while other threads change slots. It may wait for as long as one other thread is
- * stopped within yacht_insert, yacht_try_insert, yacht_replace_at or yacht_remove_at.
- * Returns the slot; or YACHT_FULL, YACHT_BUSY, YACHT_READER or YACHT_BAD_ARGUMENT: then the caller still owns the value. */
+/* Installs a value, not NULL, at a free slot. It waits while other threads change slots. It may
+ * wait for as long as one other thread is stopped within yacht_insert, yacht_try_insert,
+ * yacht_replace_at or yacht_remove_at.
+ * Returns the slot; or YACHT_FULL, YACHT_BUSY, YACHT_READER or YACHT_BAD_ARGUMENT: then the caller
+ * still owns the value. */
 int yacht_insert(yacht_handle *handle, void *value);
 
 /* Tries once to install a value, not NULL, at a free slot. It never waits.
@@ -93,16 +111,17 @@ int yacht_insert(yacht_handle *handle, void *value);
 int yacht_try_insert(yacht_handle *handle, void *value);
 
 /* Installs a value, not NULL, at a slot, in place of the value there.
- * Returns YACHT_DONE if the slot was empty, YACHT_DROPPED or YACHT_IN_USE; or YACHT_NO_SLOT, YACHT_BUSY, YACHT_READER or
- * YACHT_BAD_ARGUMENT: then the caller still owns the value. */
+ * Returns YACHT_DONE if the slot was empty, YACHT_DROPPED or YACHT_IN_USE; or YACHT_NO_SLOT,
+ * YACHT_BUSY, YACHT_READER or YACHT_BAD_ARGUMENT: then the caller still owns the value. */
 int yacht_replace_at(yacht_handle *handle, uint32_t slot, void *value);
 
 /* Removes the value at a slot.
- * Returns YACHT_DROPPED or YACHT_IN_USE; or YACHT_EMPTY, YACHT_NO_SLOT, YACHT_BUSY or YACHT_READER. */
+ * Returns YACHT_DROPPED or YACHT_IN_USE; or YACHT_EMPTY, YACHT_NO_SLOT, YACHT_BUSY or
+ * YACHT_READER. */
 int yacht_remove_at(yacht_handle *handle, uint32_t slot);
 
-/* Returns a number of this header in words, such as "the slot is empty". The string is never freed. A slot that yacht_insert returned is
- * no such number. */
+/* Returns a number of this header in words, such as "the slot is empty". The string is never freed.
+ * A slot that yacht_insert returned is no such number. */
 const char *yacht_strerror(int answer);
 
 #ifdef __cplusplus

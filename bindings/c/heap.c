@@ -1,5 +1,6 @@
-/* The three functions over malloc, realloc and free that the verified core calls. The toolchain has them for x86-64 alone; a library for
- * another processor has these. A block of no bytes has `align` of them, so that it has an address of its own. */
+/* The three functions over malloc, realloc and free that the verified core calls. The toolchain has
+ * them for x86-64 alone; a library for another processor has these. A block of no bytes has `align`
+ * of them, so that it has an address of its own. */
 #include <stdbool.h>
 #include <stddef.h>
 #include <stdlib.h>

@@ -1,5 +1,6 @@
-/* An example: four threads serve requests over one table of open files. A request reads the file at a slot, replaces it, opens a file at any
- * free slot, or closes the file at a slot. The last user of a file closes it, once; the program ends with 1 if not.
+/* An example: four threads serve requests over one table of open files. A request reads the file at
+ * a slot, replaces it, opens a file at any free slot, or closes the file at a slot. The last user
+ * of a file closes it, once; the program ends with 1 if not.
  * server [ROUNDS]: the requests of each thread, 40,000 by default. */
 #include <pthread.h>
 #include <stdatomic.h>
@@ -90,6 +91,7 @@ int main(int count, char **words) {
     }
     for (int i = 0; i < THREADS; i++) pthread_join(threads[i], NULL);
     yacht_free(table);
-    printf("%u reads; %u files opened, %u closed, %u of them refused; %u wrong\n", reads, opened, closed, refused, wrong);
+    printf("%u reads; %u files opened, %u closed, %u of them refused; %u wrong\n", reads, opened,
+           closed, refused, wrong);
     return opened != closed || wrong;
 }

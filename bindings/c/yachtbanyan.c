@@ -1,6 +1,7 @@
-/* The C part of libyachtbanyan: the pointers to values. A value's tag, which the core keeps with the value's file and returns to
- * exactly one call, is its pointer. A hold names a node of the table, and `by_node` has the pointer of the value whose file has that
- * node. It is written before the core installs the file: the core chooses the node, which no open file has (fx_lasting::laws,
+/* The C part of libyachtbanyan: the pointers to values. A value's tag, which the core keeps with
+ * the value's file and returns to exactly one call, is its pointer. A hold names a node of the
+ * table, and `by_node` has the pointer of the value whose file has that node. It is written before
+ * the core installs the file: the core chooses the node, which no open file has (fx_lasting::laws,
  * chosen_nodes_are_free), and installs the file on it (fx_server, PutsAt and PutsAny). */
 #include "yachtbanyan.h"
 #include "core.h"
@@ -8,7 +9,8 @@
 #include <stdatomic.h>
 #include <stdlib.h>
 
-/* The core is not compiled for ThreadSanitizer. If a program has the sanitizer's runtime, these calls report to it what the core orders. */
+/* The core is not compiled for ThreadSanitizer. If a program has the sanitizer's runtime, these
+ * calls report to it what the core orders. */
 void __tsan_acquire(void *) __attribute__((weak));
 void __tsan_release(void *) __attribute__((weak));
 
@@ -58,9 +60,11 @@ static int give_up(yacht_table *table, yacht_core **cores, uint32_t count, int e
     return error;
 }
 
-int yacht_open(yacht_table **table, uint32_t slots, uint32_t handles, uint32_t readers, yacht_drop *drop, void *with) {
+int yacht_open(yacht_table **table, uint32_t slots, uint32_t handles, uint32_t readers,
+               yacht_drop *drop, void *with) {
     if (!table || !drop || slots < 1 || slots > YACHT_MOST_SLOTS) return YACHT_BAD_ARGUMENT;
-    if (handles < 1 || handles > YACHT_MOST_HANDLES || readers > YACHT_MOST_IN_ALL - handles) return YACHT_BAD_ARGUMENT;
+    if (handles < 1 || handles > YACHT_MOST_HANDLES) return YACHT_BAD_ARGUMENT;
+    if (readers > YACHT_MOST_IN_ALL - handles) return YACHT_BAD_ARGUMENT;
     uint32_t count = handles + readers;
     yacht_table *it = calloc(1, sizeof *it + count * sizeof *it->all);
     yacht_core **cores = calloc(count, sizeof *cores);
@@ -69,9 +73,12 @@ int yacht_open(yacht_table **table, uint32_t slots, uint32_t handles, uint32_t r
     if (answer != YACHT_DONE) return give_up(it, cores, count, (int)answer);
     it->by_node = calloc((size_t)yacht_core_nodes(cores[0]), sizeof *it->by_node);
     if (!it->by_node) return give_up(it, cores, count, YACHT_NO_MEMORY);
-    it->drop = drop, it->with = with, it->slots = slots, it->handles = handles, it->readers = readers;
-    for (uint32_t i = 0; i < count; i++)
-        it->all[i] = (yacht_handle){.core = cores[i], .table = it, .by_node = it->by_node, .is_reader = i >= handles};
+    it->drop = drop, it->with = with;
+    it->slots = slots, it->handles = handles, it->readers = readers;
+    for (uint32_t i = 0; i < count; i++) {
+        yacht_handle handle = {cores[i], it, it->by_node, .is_reader = i >= handles};
+        it->all[i] = handle;
+    }
     free(cores);
     *table = it;
     return YACHT_DONE;
@@ -80,7 +87,8 @@ int yacht_open(yacht_table **table, uint32_t slots, uint32_t handles, uint32_t r
 /* empties each slot, and returns how many had a value */
 static uint32_t empty(yacht_table *table) {
     uint32_t removed = 0;
-    for (uint32_t slot = 0; slot < table->slots; slot++) removed += yacht_remove_at(&table->all[0], slot) >= 0;
+    for (uint32_t slot = 0; slot < table->slots; slot++)
+        removed += yacht_remove_at(&table->all[0], slot) >= 0;
     return removed;
 }
 
@@ -88,7 +96,8 @@ void yacht_free(yacht_table *table) {
     if (!table) return;
     /* a drop may have installed another value */
     while (empty(table)) continue;
-    for (uint32_t i = 0; i < table->handles + table->readers; i++) yacht_core_close(table->all[i].core);
+    for (uint32_t i = 0; i < table->handles + table->readers; i++)
+        yacht_core_close(table->all[i].core);
     free(table->by_node);
     free(table);
 }
@@ -122,7 +131,8 @@ int yacht_release(yacht_handle *handle) {
     return answer < 0 ? (int)answer : YACHT_DONE;
 }
 
-/* writes the pointer to the place of the next installed file; returns YACHT_DONE, or why there is no such place */
+/* writes the pointer to the place of the next installed file; returns YACHT_DONE, or why there is
+ * no such place */
 static int prepare(yacht_handle *handle, void *value) {
     if (!value) return YACHT_BAD_ARGUMENT;
     if (handle->held) return YACHT_BUSY;

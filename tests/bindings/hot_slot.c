@@ -1,6 +1,7 @@
-/* Four threads at one slot, with 63 look-ups for each replacement: look-ups are overtaken, and some of them drop a value that they never
- * got. Whenever the threads have met, every value but the one in the slot has been dropped once. It ends with 1 if not, or if too few
- * drops ran within yacht_get_at for the test to say something. */
+/* Four threads at one slot, with 63 look-ups for each replacement: look-ups are overtaken, and some
+ * of them drop a value that they never got. Whenever the threads have met, every value but the one
+ * in the slot has been dropped once. It ends with 1 if not, or if too few drops ran within
+ * yacht_get_at for the test to say something. */
 #include <pthread.h>
 #include <stdatomic.h>
 #include <stdio.h>
@@ -48,7 +49,8 @@ int main(void) {
         if (installed - dropped != 1) wrong++;
     }
     yacht_free(table);
-    printf("hot slot: %u installed, %u dropped, at least %u within a look-up: %s; %u wrong\n", installed, dropped, DROPS_WITHIN_LOOKS,
-           within_looks < DROPS_WITHIN_LOOKS ? "no" : "yes", wrong);
+    const char *enough = within_looks < DROPS_WITHIN_LOOKS ? "no" : "yes";
+    printf("hot slot: %u installed, %u dropped, at least %u within a look-up: %s; %u wrong\n",
+           installed, dropped, DROPS_WITHIN_LOOKS, enough, wrong);
     return installed != dropped || wrong || within_looks < DROPS_WITHIN_LOOKS;
 }

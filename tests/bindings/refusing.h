@@ -1,4 +1,5 @@
-/* Allocations that fail: link with -Wl,--wrap=malloc,--wrap=calloc,--wrap=realloc. The first `allowed` succeed. */
+/* Allocations that fail: link with -Wl,--wrap=malloc,--wrap=calloc,--wrap=realloc. The first
+ * `allowed` succeed. */
 #ifndef REFUSING_H
 #define REFUSING_H
 #include <stddef.h>

@@ -1,4 +1,5 @@
-/* Each answer of the C table, derived by hand; and the opening of a table with each allocation failing in turn. */
+/* Each answer of the C table, derived by hand; and the opening of a table with each allocation
+ * failing in turn. */
 #include "refusing.h"
 #include <stdlib.h>
 #include <string.h>

@@ -1,6 +1,8 @@
-/* The C part over a core whose calls are wrapped (-Wl,--wrap=yacht_core_look,--wrap=yacht_core_put,--wrap=yacht_core_put_any), so that
- * what only a race reaches happens each time: a look-up is overtaken, and the core returns the tag of a value to drop to it; another
- * handle looks a slot up before the call that installed its value returns; the core has changed slots during a round. */
+/* The C part over a core whose calls are wrapped
+ * (-Wl,--wrap=yacht_core_look,--wrap=yacht_core_put,--wrap=yacht_core_put_any), so that what only a
+ * race reaches happens each time: a look-up is overtaken, and the core returns the tag of a value
+ * to drop to it; another handle looks a slot up before the call that installed its value returns;
+ * the core has changed slots during a round. */
 #include "refusing.h"
 #include <stdint.h>
 #include <yachtbanyan.h>
