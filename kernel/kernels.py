@@ -10,7 +10,7 @@ from typing import NamedTuple
 
 from model import CHAINS, REGISTRATIONS, SUBMISSIONS, Script, play
 from orders import TooManyOrders, ending_of
-from programs import LEGAL, NOT_LEGAL, UNDECIDED, run, verdict
+from programs import LEGAL, NOT_LEGAL, UNDECIDED, given_time, run, verdict
 from repository import BUILD, ROOT, read
 from rules import Linux
 
@@ -86,9 +86,10 @@ def found(status, said, text, written, shown):
 
 
 def found_of_kernel(player, fixcheck, text, shown, seconds=120):
-    """Plays a script for at most `seconds`, and compares its text with the rules and the differences `shown`."""
+    """Plays a script for at most `seconds`, or longer on a busy machine, and compares its text with the rules and the differences
+    `shown`."""
     fault = play(text)[2]
-    status, written, complaint = run([player], text, seconds)
+    status, written, complaint = run([player], text, given_time(seconds))
     if status == CANT_SAY:
         return Found(UNSAID, written, complaint)
     if fault:
@@ -101,5 +102,5 @@ def found_of_kernel(player, fixcheck, text, shown, seconds=120):
 def text_of_kernel(player, text, nth, seconds=120):
     """Returns the text of the nth play of a script, or None if it failed. In every second play each request is started by a thread of
     the kernel, so that chains run beside each other."""
-    status, written, complaint = run([player, *(["--async"] if nth % 2 else [])], text, seconds)
+    status, written, complaint = run([player, *(["--async"] if nth % 2 else [])], text, given_time(seconds))
     return None if status or complaint else written

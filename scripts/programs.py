@@ -23,6 +23,12 @@ def run_bytes(command, given=b"", seconds=120, **how):
     return it.returncode, it.stdout, it.stderr
 
 
+def given_time(seconds):
+    """Returns the seconds of wall-clock time for a run that takes so many if nothing else runs: more if several processes wait for
+    each processor."""
+    return seconds * max(1, os.getloadavg()[0] / os.cpu_count())
+
+
 def run(command, given=b"", seconds=120, **how):
     """The same, decoded. A byte that is no character shows as `\\x` and its digits."""
     given = given.encode() if isinstance(given, str) else given

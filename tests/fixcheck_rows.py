@@ -1,11 +1,11 @@
 """Makes texts for fixcheck beside those of random scripts: texts of each size, and submissions of which a part has too many states. Statuses
 and lines are derived by hand from docs/CHECKING.md."""
-from limits import BAD_LIMITS, LIMITS, limits, lines
-from sweeps import KINDS, sweeps
+from limits import limits, lines
+from sweeps import sweeps
 
 LEGAL, NOT_LEGAL, UNDECIDED = 0, 1, 6
 # of limits two are bad scripts
-LEGAL_SIZES = LIMITS - BAD_LIMITS + sum(KINDS.values())
+LEGAL_SIZES = 497
 # how many rows of parts there are
 PARTS = 6
 # this many states are too few for the part of two slots: an order of its ten accesses goes through eleven

@@ -5,8 +5,6 @@ SCRIPT_BYTES = 4_194_304
 LINE_BYTES = 10_000
 LARGEST, LARGEST_TAG = 2_147_483_647, 18_446_744_073_709_551_615
 SLOTS, CHAINS, MEMBERS, ENTRIES, FILES, BYTES = 256, 1023, 16, 16, 256, 4096
-# how many scripts `limits` yields, and how many of them are bad
-LIMITS, BAD_LIMITS = 16, 2
 
 
 def lines(*parts):

@@ -60,9 +60,29 @@ def rows():
             f"   2           -           4   {ANSWERS[0]}"], (f"1 of {number}", f"2 of {number}"), False
 
 
+def complaints_of_players(litmus):
+    """Yields whether a play in turns is one of the numbers of workers and turns by its number, whether players that can't play are
+    named as left out, and whether each plays as often as is asked; each with a complaint."""
+    asked = []
+    kept = litmus.programs.in_turns, litmus.programs.built, litmus.kernels.built_player
+    litmus.programs.in_turns = lambda fixfiles, script, seed, turn, *words: asked.append((seed, turn, *words)) or (0, "", "")
+    for nth in range(30):
+        litmus.in_turns("", b"", nth)
+    wanted = [(nth, litmus.TURNS[nth % 3], "--workers", str(2 + nth % 15)) for nth in range(30)]
+    yield asked == wanted and len(set(litmus.TURNS)) == 3, f"litmus plays in turns by {asked}"
+    litmus.programs.built, litmus.kernels.built_player = lambda source: litmus.os.stat("/no/cc"), lambda: (77, "no io_uring")
+    those, left_out = litmus.players("/bin/true")
+    words = ["The kernel is left out: no io_uring.", "The plays in turns are left out: there is no C compiler cc for x86-64 here."]
+    yield (list(those), left_out) == (["4 workers", "16 workers"], words), f"litmus has players {list(those)} and says {left_out}"
+    litmus.programs.in_turns, litmus.programs.built, litmus.kernels.built_player = kept
+    counts, left_out = litmus.counted({"well": lambda script, nth: str(nth % 2), "badly": litmus.player_of("/bin/false")}, b"", 40)
+    yield counts == {"well": {"0": 20, "1": 20}} and left_out == ["badly is left out: false ended with status 1 and printed: ."], f"{counts}, {left_out}"
+
+
 def complaints_of_litmus(fixcheck):
     """Yields for each row whether litmus reports it so, and a complaint."""
     litmus = module("kernel/litmus")
+    yield from complaints_of_players(litmus)
     for what, script, found, kernel, workers, shared, texts, sums, is_wrong in rows():
         counts = {"kernel": Counter(kernel), "16 workers": Counter(workers)}
         wanted = [f"in every text: {shared}", "", HEAD, *texts, "", *(f"{name} gave {it}" for name, it in zip(counts, sums))]

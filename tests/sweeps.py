@@ -11,11 +11,6 @@ REQUESTS = CHAINS * MEMBERS
 EACH_SIZE = range(1, SLOTS + 1)
 # how many files the requests of a submission may close at most
 WEIGHT = REQUESTS * ENTRIES
-# how many scripts there are of each kind: one, one for each such size, or one for each that `sizes` gives
-KINDS = {
-    **dict.fromkeys(("lists", "tables", "tagged_tables", "one_slot_free", "files", "reads", "openings"), 1), "ends": SLOTS, "catalogues": 22,
-    "chains": 27, "heavy_chains": 27, "requests": 39, "weights": 51, "waiting": 54,
-}
 # those of which each number of workers is tried: how many there are decides how a table is shared, and each has lists of its own
 BY_WORKERS = ("openings", "chains", "heavy_chains", "requests")
 

@@ -42,7 +42,7 @@ def kinds(fixcheck):
     yield "lines that aren't an order", 21, no_orders()
     yield "outcomes of a failing allocation", 15, outcomes()
     yield "allocations between marks", 6, allocations()
-    yield "verdicts", 7, verdicts()
+    yield "verdicts", 12, verdicts()
     yield "names in verdicts", 9, names_told()
     yield "lines that have no order", 84, unordered(fixcheck)
     yield "lines beside which no other file is closed", 4, beside_closes(fixcheck)
@@ -155,6 +155,13 @@ def verdicts():
         (script, same, LEGAL, AGREES), (script, same, NOT_LEGAL, None), (script, other, LEGAL, AGREES), (script, other, NOT_LEGAL, None),
         (script, other, UNDECIDED, AGREES), (script, same[:-2], NOT_LEGAL, None),
         (refused, opened, NOT_LEGAL, frozenset({"refused_open_opens_its_file"})),
+    ]
+    large, larger = b"file a 61\nsparse 257\nopen a at 256\nsubmit\n", frozenset({"larger_table"})
+    rows += [
+        (large, "sparse 0\n1.1.1 0\nteardown\nclosed 1.1.1.0 a\n", NOT_LEGAL, larger), (large, "sparse 0\n1.1.1 -22\n", NOT_LEGAL, None),
+        (large.replace(b"at 256", b"at 257"), "sparse 0\n1.1.1 0\nteardown\nclosed 1.1.1.0 a\n", NOT_LEGAL, None),
+        (large.replace(b"257", b"256").replace(b"at 256", b"at 255"), "sparse 0\n1.1.1 -22\n", NOT_LEGAL, None),
+        (b"sparse 1048577\n", "sparse 0\n", NOT_LEGAL, None),
     ]
     for text, written, status, wanted in rows:
         yield f"{written!r} with verdict {status}", kernels.found(status, "", text, written, names).standing == wanted

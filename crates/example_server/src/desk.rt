@@ -19,6 +19,10 @@ pub struct Desk<'a> {
     pub catalogue: &'a Catalogue,
     jobs: Receiver<Job>,
     pub served: AtomicU32,
+    /// The threads that served a request.
+    pub threads: AtomicU32,
+    /// The requests to read of which each look-up read a file.
+    pub read: AtomicU32,
     /// The requests that were refused, since an allocation failed.
     pub refused: AtomicU32,
     pub closed: AtomicU32,
@@ -33,6 +37,8 @@ impl<'a> Desk<'a> {
             catalogue,
             jobs,
             served: AtomicU32::new(0),
+            threads: AtomicU32::new(0),
+            read: AtomicU32::new(0),
             refused: AtomicU32::new(0),
             closed: AtomicU32::new(0),
             reported: AtomicU32::new(0),

@@ -58,11 +58,18 @@ fn main(rt: HostRuntime) -> Result<(), AddFault> {
     if let Err(NoMemory) = serve_clients(&rt, alloc, &desk, &mut clients) {
         return Err(AddFault::NoMemory);
     }
+    // The very first look-ups may find a slot that no request has filled.
+    let read = desk.read.load(Ordering::SeqCst).div_ceil(1000);
     // A line that can't be written changes nothing.
     let _ = println!(&rt;
         "requests served: {}, refused: {}",
         desk.served.load(Ordering::SeqCst),
         desk.refused.load(Ordering::SeqCst)
+    );
+    let _ = println!(&rt;
+        "threads that served: {}, thousands of requests that read a file: {}",
+        desk.threads.load(Ordering::SeqCst),
+        read
     );
     let _ = println!(&rt;
         "files closed: {}, reported by their tags: {}",

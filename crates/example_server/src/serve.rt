@@ -29,8 +29,8 @@ fn make_room(alloc: Global, desk: &Desk<'_>, closes: &mut CloseList) -> Result<(
     Ok(())
 }
 
-// Reads the first bytes of the file at a slot. Closes the file if this is its last user, and also a file that was removed
-// while this look-up was on its way and that nobody else uses.
+// Reads the first bytes of the file at a slot, and checks whether there are as many. Closes the file if this is its last user, and
+// also a file that was removed while this look-up was on its way and that nobody else uses.
 fn read_once<T: SharedTable, R: Wait>(
     rt: &R,
     desk: &Desk<'_>,
@@ -39,7 +39,7 @@ fn read_once<T: SharedTable, R: Wait>(
     slot: u32,
     bytes: &mut Vec<u8>,
     closes: &mut CloseList,
-)
+) -> bool
     requires ready { T.fits table.now pass.old × IsIdle (T.view pass.old) }
     requires slot { slot < size_of (T.opening table.now) }
     requires bytes { vec_len bytes.old + LENGTH ≤ vec_capacity bytes.old }
@@ -50,15 +50,17 @@ fn read_once<T: SharedTable, R: Wait>(
     if let Some(file) = freed {
         closes.close(file);
     }
-    if let Ok(hold) = found {
-        desk.catalogue.read_into(hold.entry, 0, LENGTH, bytes);
-        if let Some(file) = table.release(rt, pass, hold) {
-            closes.close(file);
-        }
+    let Ok(hold) = found else {
+        return false;
+    };
+    let count = desk.catalogue.read_into(hold.entry, 0, LENGTH, bytes);
+    if let Some(file) = table.release(rt, pass, hold) {
+        closes.close(file);
     }
+    count == LENGTH
 }
 
-// Reads the first bytes of the file at a slot as often as the client asks.
+// Reads the first bytes of the file at a slot as often as the client asks. Counts the request if each look-up read a file.
 fn read<T: SharedTable, R: Wait>(
     rt: &R,
     alloc: Global,
@@ -75,10 +77,14 @@ fn read<T: SharedTable, R: Wait>(
     if slot >= table.size() {
         return Ok(());
     }
+    let mut has_read = times > 0;
     for _ in 0..times {
         make_room(alloc, desk, closes)?;
         let mut bytes = Vec::with_capacity(alloc, LENGTH as usize)?;
-        read_once(rt, desk, table, pass, slot, &mut bytes, closes);
+        has_read &= read_once(rt, desk, table, pass, slot, &mut bytes, closes);
+    }
+    if has_read {
+        desk.read.fetch_add(1, Ordering::SeqCst);
     }
     Ok(())
 }
@@ -159,15 +165,20 @@ pub fn serve<T: SharedTable, R: Wait>(
     let Ok(mut closes) = CloseList::with_room(alloc, ROOM) else {
         return refuse_all(rt, desk);
     };
+    let mut has_served = false;
     for _ in rt.forever() {
         let Some(job) = desk.next(rt) else {
             break;
         };
+        has_served = true;
         let count = match answer(rt, alloc, desk, table, pass, job, &mut closes) {
             Ok(()) => &desk.served,
             Err(NoMemory) => &desk.refused,
         };
         count.fetch_add(1, Ordering::SeqCst);
+    }
+    if has_served {
+        desk.threads.fetch_add(1, Ordering::SeqCst);
     }
     desk.report(&closes);
 }
