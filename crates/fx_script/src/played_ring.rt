@@ -1,22 +1,19 @@
 //! The ring of a play: the table may stay open between submissions that one worker plays one after another.
-ghost use Rattle.std.specs.Prelude.{◌≡◌, ◌≤◌, IfErr, IfOk, OnOk, string_bytes};
+ghost use Rattle.std.specs.Prelude.{◌≡◌, ◌≤◌, IfOk, string_bytes};
 ghost use Rattle.std.specs.Option.{MatchOption};
 ghost use Rattle.fx_table.specs.declared.limits.TheConstants.{CHAIN_NUMBERS, MAX_CHAINS};
 ghost use Rattle.fx_ring.specs.Ring.{ring_of};
 ghost use Rattle.fx_language.specs.Instruction.{instruction_of};
 ghost use Rattle.fx_script.specs.Play.{Prints};
 ghost use Rattle.fx_script.specs.PlayedRing.{ring_played};
-ghost use Rattle.fx_script.specs.Run.{IsPlayFault, Writes};
 
-use crate::player::{Setting, write_text};
+use crate::player::Setting;
 use crate::prints::{answer_text, command_text};
-use crate::runner::PlayFault;
 use fx_base::NoMemory;
 use fx_chain::{Gate, Request, check};
 use fx_language::Command;
 use fx_ring::{OpenRing, Ring};
 use fx_table::{CHAIN_NUMBERS, FileTable, MAX_CHAINS};
-use std::io::Write;
 use std::sync::Wait;
 use std::thread::Threads;
 
@@ -108,33 +105,33 @@ impl<T: FileTable> PlayedRing<OpenRing<T>> {
             PlayedRing::Open(opened) => opened.close(),
         }
     }
+}
 
-    // Opens the table for the submissions that `commands` begins with, if one worker plays them together. It stays
-    // closed if an allocation for opening it fails.
-    fn opened<R, G>(self, setting: &Setting<'_, R, G>, commands: &[Command]) -> Self
-        ensures { ring_of (ring_played result) ≡ ring_of (ring_played self) }
-    {
-        let ring = match self {
-            PlayedRing::Closed(ring) => ring,
-            PlayedRing::Open(opened) => return PlayedRing::Open(opened),
-        };
-        if setting.workers > 1 {
-            return PlayedRing::Closed(ring);
-        }
-        let needs = needs_together(commands, ring.size());
-        if needs.chains == 0 {
-            return PlayedRing::Closed(ring);
-        }
-        match ring.open::<T>(setting.alloc, needs.chains, needs.most) {
-            Ok(opened) => PlayedRing::Open(opened),
-            Err((back, NoMemory)) => PlayedRing::Closed(back),
-        }
+// Opens the table for the submissions that `commands` begins with, if one worker plays them together. It stays closed
+// if an allocation for opening it fails.
+fn opened<T: FileTable, R, G>(
+    setting: &Setting<'_, R, G>,
+    ring: Ring,
+    commands: &[Command],
+) -> PlayedRing<OpenRing<T>>
+    ensures { ring_of (ring_played result) ≡ ring_of ring }
+{
+    if setting.workers > 1 {
+        return PlayedRing::Closed(ring);
+    }
+    let needs = needs_together(commands, ring.size());
+    if needs.chains == 0 {
+        return PlayedRing::Closed(ring);
+    }
+    match ring.open::<T>(setting.alloc, needs.chains, needs.most) {
+        Ok(opened) => PlayedRing::Open(opened),
+        Err((back, NoMemory)) => PlayedRing::Closed(back),
     }
 }
 
 // Plays a command on an open table, and returns its text, or `None` if it isn't a submission for which the table has
 // room.
-fn open_text<T: FileTable, R: Threads + Wait + Sync, G: Gate>(
+fn text_on<T: FileTable, R: Threads + Wait + Sync, G: Gate>(
     setting: &Setting<'_, R, G>,
     opened: &mut OpenRing<T>,
     command: &Command,
@@ -153,50 +150,52 @@ fn open_text<T: FileTable, R: Threads + Wait + Sync, G: Gate>(
     }
 }
 
-// Plays a command on a ring without an open table, and writes its text.
-fn play_closed<T: FileTable, R: Threads + Wait + Sync, G: Gate, W: Write>(
+/// Plays a command on an open table, and returns its text, or `None` if no table is open or the command isn't a
+/// submission for which the table has room. The ring stays where it is, since it has a few hundred bytes: moving them for
+/// each command took a tenth of the instructions of a small submission.
+pub fn open_text<T: FileTable, R: Threads + Wait + Sync, G: Gate>(
+    setting: &Setting<'_, R, G>,
+    ring: &mut PlayedRing<OpenRing<T>>,
+    command: &Command,
+) -> Option<Result<String, NoMemory>>
+    ensures { MatchOption result (ring.new ≡ ring.old) (λ played. IfOk played (λ text.
+        Prints (ring_played ring.old) (instruction_of command.now) (ring_played ring.new)
+        (string_bytes text))) }
+{
+    match ring {
+        PlayedRing::Open(opened) => text_on(setting, opened, command),
+        PlayedRing::Closed(_) => None,
+    }
+}
+
+// Plays a command on a ring without an open table.
+fn closed_text<T: FileTable, R: Threads + Wait + Sync, G: Gate>(
     setting: &Setting<'_, R, G>,
     ring: Ring,
     command: &Command,
-    writer: &mut W,
-) -> (PlayedRing<OpenRing<T>>, Result<(), PlayFault>)
-    ensures ok { OnOk result.1 (Writes
-        (Prints ring (instruction_of command.now) (ring_played result.0))
-        (W.contents writer.old) (W.contents writer.new)) }
-    ensures fault { IfErr result.1 (λ fault. IsPlayFault fault
-        (W.contents writer.new ≡ W.contents writer.old)) }
+) -> (PlayedRing<OpenRing<T>>, Result<String, NoMemory>)
+    ensures { IfOk result.1 (λ text. Prints ring (instruction_of command.now)
+        (ring_played result.0) (string_bytes text)) }
 {
     let mut ring = ring;
     let text = command_text::<T, R, G>(setting, &mut ring, command);
-    (PlayedRing::Closed(ring), write_text(writer, text))
+    (PlayedRing::Closed(ring), text)
 }
 
-/// Plays a command, and writes its text: on a table that stays open if one worker plays it together with the
-/// submissions after it. `commands` begins with the command.
-///
-/// # Errors
-/// `Write` if a write fails, and `NoMemory` if an allocation of a submission or of a text fails.
-pub fn play_command<T: FileTable, R: Threads + Wait + Sync, G: Gate, W: Write>(
+/// Plays a command that [`open_text`] didn't play, and returns its text: on a table that stays open if one worker plays
+/// the command together with the submissions after it. `commands` begins with the command.
+pub fn text_anew<T: FileTable, R: Threads + Wait + Sync, G: Gate>(
     setting: &Setting<'_, R, G>,
     ring: PlayedRing<OpenRing<T>>,
     command: &Command,
     commands: &[Command],
-    writer: &mut W,
-) -> (PlayedRing<OpenRing<T>>, Result<(), PlayFault>)
-    ensures ok { OnOk result.1 (Writes
-        (Prints (ring_played ring) (instruction_of command.now) (ring_played result.0))
-        (W.contents writer.old) (W.contents writer.new)) }
-    ensures fault { IfErr result.1 (λ fault. IsPlayFault fault
-        (W.contents writer.new ≡ W.contents writer.old)) }
+) -> (PlayedRing<OpenRing<T>>, Result<String, NoMemory>)
+    ensures { IfOk result.1 (λ text. Prints (ring_played ring) (instruction_of command.now)
+        (ring_played result.0) (string_bytes text)) }
 {
-    let mut opened = match ring.opened(setting, commands) {
-        PlayedRing::Closed(ring) => return play_closed::<T, R, G, W>(
-            setting, ring, command, writer,
-        ),
-        PlayedRing::Open(opened) => opened,
-    };
-    match open_text(setting, &mut opened, command) {
-        Some(text) => (PlayedRing::Open(opened), write_text(writer, text)),
-        None => play_closed::<T, R, G, W>(setting, opened.close(), command, writer),
+    let mut next = opened::<T, R, G>(setting, ring.closed(), commands);
+    match open_text(setting, &mut next, command) {
+        Some(text) => (next, text),
+        None => closed_text::<T, R, G>(setting, next.closed(), command),
     }
 }

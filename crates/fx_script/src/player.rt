@@ -7,7 +7,7 @@ ghost use Rattle.fx_language.specs.Instruction.{instructions_of};
 ghost use Rattle.fx_script.specs.Play.{IsText, IsTextOfFirst, PrintsAll, PrintsFirst};
 ghost use Rattle.fx_script.specs.Run.{IsPlayFault, Writes};
 
-use crate::played_ring::{PlayedRing, play_command};
+use crate::played_ring::{PlayedRing, open_text, text_anew};
 use crate::prints::end_text;
 use crate::runner::PlayFault;
 use fx_base::NoMemory;
@@ -63,9 +63,15 @@ fn play_commands<T: FileTable, R: Threads + Wait + Sync, G: Gate, W: Write>(
 {
     let mut now: PlayedRing<OpenRing<T>> = PlayedRing::Closed(ring);
     for (i, command) in commands.iter().enumerate() {
-        let (next, written) = play_command(setting, now, command, &commands[i..], writer);
-        now = next;
-        if let Err(fault) = written {
+        let Some(text) = open_text(setting, &mut now, command) else {
+            let (next, text) = text_anew(setting, now, command, &commands[i..]);
+            now = next;
+            if let Err(fault) = write_text(writer, text) {
+                return (now.closed(), Err(fault));
+            }
+            continue;
+        };
+        if let Err(fault) = write_text(writer, text) {
             return (now.closed(), Err(fault));
         }
     }
