@@ -10,13 +10,13 @@ use crate::claim::{Claim, Leaves, Resident, Wants};
 pub struct Cell {
     /// The slot.
     pub slot: u32,
-    /// Whether the slot is in the allocation range.
+    /// True if the slot is in the allocation range.
     pub in_range: bool,
     /// The file at the slot, or `None`.
     pub file: Option<Resident>,
 }
 
-/// Returns the file at `slot`, or `None` where the slot is empty or not among `cells`.
+/// Returns the file at `slot`, or `None` if the slot is empty or not among `cells`.
 pub fn cell_at(cells: &[Cell], slot: u32) -> Option<Resident>
     ensures { result ≡ cell_at cells.now slot }
 {
@@ -54,7 +54,7 @@ pub(crate) fn may_stay(found: Option<Resident>) -> bool
     found.is_none_or(|resident| !resident.leaves)
 }
 
-/// Checks whether a claim may be made where this is at its slot.
+/// Checks whether a claim may be made if `found` is at its slot.
 pub(crate) fn may_find(claim: &Claim, found: Option<Resident>) -> bool
     ensures { result ≡ may_find claim.now found }
 {
@@ -82,7 +82,7 @@ pub(crate) fn are_staying(cells: &[Cell]) -> bool
     cells.iter().all(|cell| may_stay(cell.file))
 }
 
-/// Checks whether the access that a claim tells of may be made where the slots have these files.
+/// Checks whether the access of a claim may be made if the slots have these files.
 pub(crate) fn is_allowed(cells: &[Cell], claim: &Claim) -> bool
     ensures { result ≡ allows cells.now claim.now }
 {

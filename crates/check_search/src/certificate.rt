@@ -13,7 +13,7 @@ use crate::steps::Steps;
 use fx_base::NoMemory;
 use std::alloc::Global;
 
-/// The states that a search met, and the steps that it took. What the steps say of a state is a hint only, and is checked.
+/// The states that a search met, and the steps that it took. The result of a step is only a hint, and is checked.
 #[derive(Drop)]
 pub struct Web<'a> {
     /// The steps.
@@ -49,7 +49,7 @@ struct Here<'a> {
     row: &'a [u16],
 }
 
-// Checks whether the files of the slot of a chain's next claim don't come out even at a state behind it.
+// Checks whether the files at the slot of a chain's next claim don't balance in the state after that claim.
 fn is_uneven_behind(strands: &[Strand], node: &SearchNode, next: &SearchNode, chain: usize) -> bool
     ensures { IsTrue result → HasNoEnd strands.now (view next.now) }
 {
@@ -122,7 +122,7 @@ fn test_leads_inside(
     is_at(alloc, web, web.rows.get_index_of(&row), &next)
 }
 
-// Checks whether a state was looked at: by one step that only tests, where there is one, and else by all steps.
+// Checks whether a state was explored: by one step that only tests, if there is one, or else by all steps.
 #[tactic(auto, unfolding(crate::specs::Machine::IsExplored))]
 fn is_explored(
     alloc: Global,
@@ -139,7 +139,7 @@ fn is_explored(
     }
 }
 
-// Checks whether a state is no end, and was looked at.
+// Checks whether a state isn't an end, and was explored.
 fn is_looked_through(
     alloc: Global,
     strands: &[Strand],
@@ -156,7 +156,7 @@ fn is_looked_through(
     is_explored(alloc, strands, web, &Here { node: &node, row })
 }
 
-// Checks whether each state is no end, and was looked at.
+// Checks whether no state is an end, and each was explored.
 fn is_closed(alloc: Global, strands: &[Strand], web: &Web<'_>) -> Result<bool, NoMemory>
     ensures { IfOk result (λ yes. IsTrue yes → All (λ row. IsLookedThrough strands.now
         (all_unpacked web.now.steps.packing web.now.rows.keys) (unpacked web.now.steps.packing row.items))

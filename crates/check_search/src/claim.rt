@@ -11,7 +11,7 @@ use fx_base::Closed;
 pub struct Resident {
     /// The file.
     pub file: Closed,
-    /// Whether the file is in the list of closes.
+    /// True if the file is in the list of closes.
     pub leaves: bool,
 }
 
@@ -22,7 +22,7 @@ pub enum Wants {
     Anything,
     /// No file.
     Nothing,
-    /// No file, where a close looked for one.
+    /// No file, for a close that looked for one.
     NothingToTake,
     /// A file.
     Something,
@@ -33,7 +33,7 @@ pub enum Wants {
 /// The content of the slot after an access.
 #[derive(Clone, Copy, Debug)]
 pub enum Leaves {
-    /// What was there before.
+    /// The file that was there before, or no file.
     Same,
     /// No file.
     Empty,
@@ -60,7 +60,7 @@ pub fn resident_for(closes: &[Closed], file: Closed) -> Resident
     }
 }
 
-// Checks whether a file is where it belongs in a list that is in order of mark.
+// Checks whether a list in order of mark has a file, at its place in that order.
 fn is_in_order_there(files: &[Closed], file: Closed) -> bool
     ensures { IsTrue result → Contains files.now file }
 {
@@ -70,7 +70,7 @@ fn is_in_order_there(files: &[Closed], file: Closed) -> bool
     }
 }
 
-// Checks whether a list has a file. It is looked for first where it belongs, if the list is in order of mark, as closes are.
+// Checks whether a list has a file. The place that it has in the order of marks is tried first, since closes are in that order.
 fn has(files: &[Closed], file: Closed) -> bool
     ensures { IsTrue result ↔ Contains files.now file }
 {

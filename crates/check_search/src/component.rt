@@ -26,7 +26,7 @@ fn join_range(labels: &mut [usize], range: (u32, u32)) {
     }
 }
 
-// Returns the slot by which a claim is joined with others of its chain, if it is of a slot: a range without slots has none.
+// Returns the slot by which a claim is joined with other claims of its chain, or `None` for a claim about a range without slots.
 fn slot_of(range: (u32, u32), claim: &Claim) -> Option<usize> {
     match claim {
         Claim::At(slot, _, _) => Some(*slot as usize),

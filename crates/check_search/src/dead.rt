@@ -1,4 +1,4 @@
-//! States from which no end is reached: the files that come to a slot and leave it don't balance, or a claim waits for a file that is
+//! States from which no end is reached: the files that are installed at a slot and leave it don't balance, or a claim waits for a file that is
 //! never installed.
 ghost use Rattle.std.specs.Prelude.{◌≡◌, ◌⊎◌, ◌≤◌, IfSome, IsTrue, cond, count_by, drop, ℕ, Some, true, slice_get};
 ghost use Rattle.check_search.specs.Counted.{LastStays, TooFewLeave, TwoStay, changes, is_change, leaving_files, staying, to_come};
@@ -15,7 +15,7 @@ use crate::node::{SearchNode, place_of};
 pub enum SlotChange {
     /// The file that is there is taken.
     Takes,
-    /// What is there is removed, and no file is installed.
+    /// The slot is emptied, whether it has a file or not.
     Empties,
     /// A file is installed that is in the list of closes.
     Leaving,
@@ -54,7 +54,7 @@ fn one_if(yes: bool) -> usize
     if yes { 1 } else { 0 }
 }
 
-// Returns how many of the claims from a place on make such a change.
+// Returns the number of claims with this change from a place on.
 fn count_from(change: SlotChange, slot: u32, claims: &[Claim], first: usize) -> usize
     ensures { result ≡ count_by (changes change slot) (drop first claims.now) }
 {
@@ -65,7 +65,7 @@ fn count_from(change: SlotChange, slot: u32, claims: &[Claim], first: usize) -> 
     count
 }
 
-// Returns how many claims that make such a change are still to be made, where they can be counted.
+// Returns the number of claims with this change that are still to be made, or `None` if it exceeds `usize`.
 fn to_come(change: SlotChange, slot: u32, strands: &[Strand], places: &[usize]) -> Option<usize>
     ensures { IfSome result (λ count. count ≡ to_come change slot strands.now places.now) }
 {
@@ -77,14 +77,14 @@ fn to_come(change: SlotChange, slot: u32, strands: &[Strand], places: &[usize]) 
     Some(count)
 }
 
-// Returns how many files at a slot leave it: 0 or 1.
+// Returns the number of files at a slot that leave it: 0 or 1.
 fn leaving(found: Option<Resident>) -> usize
     ensures { result ≡ leaving_files found }
 {
     found.map_or(0, |resident| one_if(resident.leaves))
 }
 
-// Returns how many stay there.
+// Returns the number of files at a slot that stay there: 0 or 1.
 fn staying(found: Option<Resident>) -> usize
     ensures { result ≡ staying found }
 {
@@ -112,7 +112,7 @@ fn too_few_leave(strands: &[Strand], node: &SearchNode, slot: u32) -> bool
     count.is_some_and(|count| here.saturating_add(count) < takes)
 }
 
-// Checks whether each file leaves a slot, and the last one that comes stays there.
+// Checks whether each file must leave a slot, and no claim is left that removes the last one.
 fn last_stays(strands: &[Strand], node: &SearchNode, slot: u32) -> bool
     ensures { IsTrue result → LastStays strands.now (view node.now) slot }
 {
@@ -186,7 +186,7 @@ fn none_helps(strands: &[Strand], places: &[usize], slot: u32, claim: &Claim) ->
     true
 }
 
-// Checks whether a claim may not be made with what is at the slot, and that stays, or what may come is no better.
+// Checks whether a claim can't be made with the file found at its slot, and that file stays, or no other claim helps.
 fn is_hopeless(strands: &[Strand], node: &SearchNode, slot: u32, claim: &Claim) -> bool
     ensures { IsTrue result → IsHopeless strands.now (view node.now) slot claim.now }
 {

@@ -32,7 +32,7 @@ pub fn claim_of<'a>(strands: &'a [Strand], places: &[usize], chain: usize) -> Op
     strands.get(chain)?.claims.get(place_of(places, chain))
 }
 
-/// Returns the state where no claim is made yet and `cells` are the slots.
+/// Returns the state before the first claim, with `cells` as the slots.
 ///
 /// # Errors
 /// `NoMemory` if an allocation fails.
@@ -60,7 +60,7 @@ pub(crate) fn are_same(cells: &[Cell], others: &[Cell]) -> bool
 }
 
 impl SearchNode {
-    /// Returns where the next claim of a chain leads, if it may be made.
+    /// Returns the state after the next claim of a chain, if that claim may be made.
     pub(crate) fn next(
         &self,
         alloc: Global,

@@ -7,7 +7,7 @@ use fx_base::NoMemory;
 use indexmap::IndexSet;
 use std::alloc::Global;
 
-/// The reason that a search gives for leaving a submission undecided. It is advice: no contract says that the search would have
+/// The reason for which a search leaves a submission undecided. It is advice: no contract says that the search would have
 /// decided it within larger limits (this project's own).
 #[derive(Clone, Copy, Debug, PartialEq, Eq)]
 pub enum Doubt {
@@ -42,11 +42,14 @@ pub enum Found {
 /// The states that a search met, packed, in the order in which it met them.
 pub type Rows = IndexSet<Vec<u16>>;
 
-// How many bytes a state takes besides its numbers: a list with a block of memory, a place in the set and in its hash table,
-// and a place on the way. Each of these lists may just be moved to one of twice the length.
+// The number of bytes that a state takes beside its numbers: its list (24) and the head of that list's block of memory (16), its place
+// in the set of states (some 14), its sum and the sum's place in a set (some 22), and a stage of the way (32). That is some 108, in
+// lists that may each have room for twice as many.
 const BESIDE: usize = 256;
 
-/// How many states are met, whether they are kept, and what is said where these don't suffice.
+const _: () = prove!(size_of::<Vec<u16>>() == 24);
+
+/// The largest number of states, whether they are kept, and the doubt that is reported beyond that number.
 #[derive(Clone, Copy)]
 pub(crate) struct SearchRoom {
     pub states: usize,
@@ -54,7 +57,7 @@ pub(crate) struct SearchRoom {
     pub doubt: Doubt,
 }
 
-// Returns the room for states like this one, whose numbers have two bytes each.
+// Returns the room for states of the length of `row`, whose numbers have two bytes each.
 fn room_for(row: &[u16], limits: Limits) -> SearchRoom {
     let weight = row.len().saturating_mul(2).saturating_add(BESIDE);
     let states = limits.bytes.checked_div(weight).unwrap_or(0);
@@ -82,7 +85,7 @@ pub(crate) fn search(
     Ok((walk.rows, found))
 }
 
-// How many states are met with all chains before some are left out.
+// The number of states of the first search, of all orders. Measured with `plans::PLANS`, and not by itself.
 const FIRST_STATES: usize = 10_000;
 
 /// The number of states, beyond one for each claim, of a first search: the text of one worker needs one state for each claim.

@@ -23,17 +23,17 @@ pub(crate) struct SearchState<'a> {
     steps: &'a Steps<'a>,
     /// Its numbers.
     pub row: Vec<u16>,
-    /// What was drawn for them.
+    /// The sum of the numbers drawn for them.
     pub sum: u64,
     // For each slot the claims that are still to be made, and the bits of those that were.
     tallies: Vec<Tally<'a>>,
     made: Vec<u64>,
-    /// How many slots of the allocation range are empty.
+    /// The number of empty slots of the allocation range.
     pub empty: usize,
 }
 
 impl<'a> SearchState<'a> {
-    /// Returns the state where no step was made.
+    /// Returns the state before the first step.
     pub(crate) fn new(alloc: Global, steps: &'a Steps<'a>) -> Result<SearchState<'a>, NoMemory> {
         let row = steps.start(alloc)?;
         let tallies = steps.tallies(alloc)?;
@@ -58,7 +58,7 @@ impl<'a> SearchState<'a> {
         self.steps.allows(&self.row, step, self.empty)
     }
 
-    /// Returns the moment of its slot that a step leads to; none for a step of no slot.
+    /// Returns the slot of a step and the moment there after the step, or `None` for a step without a slot.
     pub(crate) fn moment_behind(&self, step: &ClaimStep<'_>) -> Option<(usize, u64)> {
         let cell = step.cell?;
         let made = self.made.get(cell)?;
@@ -88,12 +88,12 @@ impl<'a> SearchState<'a> {
         }
     }
 
-    // Adds what is drawn for the number at a place, or takes it away.
+    // Adds the number drawn for a place to the sum, or removes it from the sum.
     fn draw(&mut self, place: usize) {
         self.sum ^= drawn(place, number_at(&self.row, place));
     }
 
-    // Adds what is drawn for a slot, or takes it away, and counts the slot if it is an empty one of the allocation range.
+    // Adds the number drawn for a slot to the sum, or removes it, and counts the slot if it is empty and in the allocation range.
     fn count_slot(&mut self, cell: Option<usize>, is_more: bool) {
         let Some(cell) = cell else {
             return;
@@ -104,7 +104,7 @@ impl<'a> SearchState<'a> {
         }
     }
 
-    /// Makes the next step of a chain, and answers what was at its slot.
+    /// Makes the next step of a chain, and returns the number of the file that was at its slot.
     pub(crate) fn make(&mut self, chain: usize, step: &ClaimStep<'_>) -> u16 {
         self.draw(chain);
         self.count_slot(step.cell, false);
@@ -115,7 +115,7 @@ impl<'a> SearchState<'a> {
         before
     }
 
-    /// Takes back the step that a chain made last, at whose slot this was.
+    /// Undoes the last step of a chain. `before`: the number of the file that was at its slot.
     pub(crate) fn take_back(&mut self, chain: usize, before: u16) {
         self.draw(chain);
         let made = self.steps.take_back(&mut self.row, chain);

@@ -8,11 +8,11 @@ use crate::tally::Tally;
 use fx_base::NoMemory;
 use std::alloc::Global;
 
-/// Of so many claims of a slot each has a bit.
+/// The largest number of claims at a slot that have a bit each. 16 bits of a moment are left for the number of a file.
 pub const MOST_CLAIMS: usize = 48;
 
 /// A claim, the place of its slot among those of the part, the number of the file that it leaves there, the class that it is
-/// counted in, and its bit among the claims of the slot, 0 where these are too many.
+/// counted in, and its bit among the claims of the slot, or 0 if the slot has too many claims.
 #[derive(Clone, Copy)]
 pub struct ClaimStep<'a> {
     pub claim: &'a Claim,
@@ -25,7 +25,7 @@ pub struct ClaimStep<'a> {
 /// A claim, by its chain and its place among the chain's.
 pub type ClaimAt = (usize, usize);
 
-/// Returns the bit of a claim with so many in front of it at its slot.
+/// Returns the bit of a claim after `before` earlier claims at its slot.
 pub(crate) fn bit_behind(before: usize) -> u64 {
     if before < MOST_CLAIMS { 1 << before } else { 0 }
 }
@@ -57,11 +57,11 @@ pub struct Steps<'a> {
     chains: Vec<Vec<ClaimStep<'a>>>,
     // Those of each slot.
     slots: Vec<SlotClaims<'a>>,
-    // How many claims there are.
+    // The number of claims.
     count: usize,
 }
 
-// Notes a file of a slot, and answers its number.
+// Records a file of a slot, and returns its number.
 fn number_for(
     files: &mut [Vec<Option<Resident>>],
     cell: usize,
@@ -154,7 +154,7 @@ impl<'a> Steps<'a> {
         Ok(step)
     }
 
-    /// Returns the state where no claim was made.
+    /// Returns the state before the first claim.
     pub fn start(&self, alloc: Global) -> Result<Vec<u16>, NoMemory> {
         let mut row = vec![in alloc; 0; self.chains.len()]?;
         for cell in &self.packing.cells {
@@ -168,7 +168,7 @@ impl<'a> Steps<'a> {
         self.chains.len()
     }
 
-    /// Returns how many claims there are.
+    /// Returns the number of claims.
     pub(crate) fn count(&self) -> usize {
         self.count
     }
@@ -200,7 +200,7 @@ impl<'a> Steps<'a> {
             .map_or(&[][..], |own| own.places.as_slice())
     }
 
-    // Returns the claim of a chain at a place, where it is still to be made.
+    // Returns the claim of a chain at a place, if it is still to be made.
     fn left_at(&self, row: &[u16], at: ClaimAt) -> Option<&'a Claim> {
         let (chain, k) = at;
         if k < number_at(row, chain) as usize {
@@ -221,7 +221,7 @@ impl<'a> Steps<'a> {
             .file_at(cell, self.file_number(row, cell) as usize)
     }
 
-    /// Checks whether a claim may be made, where this many slots of the allocation range are empty.
+    /// Checks whether a claim may be made, if `empty` slots of the allocation range are empty.
     pub(crate) fn allows(&self, row: &[u16], step: &ClaimStep<'_>, empty: usize) -> bool {
         match step.cell {
             Some(cell) => may_find(step.claim, self.file(row, cell)),
@@ -234,7 +234,7 @@ impl<'a> Steps<'a> {
         matches!(self.packing.cells.get(cell), Some(cell) if cell.in_range)
     }
 
-    /// Returns how many slots of the allocation range are empty.
+    /// Returns the number of empty slots of the allocation range.
     pub(crate) fn empty(&self, row: &[u16]) -> usize {
         (0..self.packing.cells.len())
             .filter(|cell| self.is_in_range(*cell) && self.file_number(row, *cell) == 0)
@@ -259,7 +259,7 @@ impl<'a> Steps<'a> {
         (0..self.packing.cells.len()).all(|cell| may_stay(self.file(row, cell)))
     }
 
-    /// Returns a chain whose next claim only tests and may be made, where this many slots of the allocation range are empty.
+    /// Returns a chain whose next claim only tests and may be made, if `empty` slots of the allocation range are empty.
     pub(crate) fn test_of(&self, row: &[u16], empty: usize) -> Option<usize> {
         (0..self.chains.len()).find(|chain| {
             self.next_of(row, *chain).is_some_and(|step| is_test(step.claim)
@@ -267,7 +267,7 @@ impl<'a> Steps<'a> {
         })
     }
 
-    /// Makes the next claim of a chain, and answers what was at its slot.
+    /// Makes the next claim of a chain, and returns the number of the file that was at its slot.
     pub(crate) fn make(&self, row: &mut [u16], chain: usize, step: &ClaimStep<'_>) -> u16 {
         let place = number_at(row, chain).saturating_add(1);
         set_number(row, chain, place);
@@ -281,7 +281,7 @@ impl<'a> Steps<'a> {
         before
     }
 
-    /// Goes back by the step that a chain made last, which it answers; what is at its slot stays.
+    /// Undoes the last step of a chain, but for the file at its slot, and returns the step.
     pub(crate) fn take_back(&self, row: &mut [u16], chain: usize) -> Option<ClaimStep<'a>> {
         let place = number_at(row, chain).saturating_sub(1);
         set_number(row, chain, place);
@@ -295,8 +295,8 @@ impl<'a> Steps<'a> {
         }
     }
 
-    // Checks whether a claim that is still to be made leaves a file at the slot that the claim at this place may find. The claims
-    // in front are looked at first, since a chain mostly waits for what stands in front of it.
+    // Checks whether a claim that is still to be made leaves a file at the slot that the claim at this place may find. The earlier
+    // claims are tried first, the last of them first, since a chain mostly waits for one of these.
     fn is_helped(
         &self,
         row: &[u16],
@@ -313,7 +313,7 @@ impl<'a> Steps<'a> {
         front.iter().rev().any(helps) || behind.iter().any(helps)
     }
 
-    /// Returns the state behind the next claim of a chain.
+    /// Returns the state after the next claim of a chain.
     pub(crate) fn row_after(
         &self,
         alloc: Global,
@@ -327,7 +327,7 @@ impl<'a> Steps<'a> {
         Ok(after)
     }
 
-    /// Returns a claim that waits in vain behind the next claim of a chain, which led from one state to another.
+    /// Returns a claim that waits for a file which is never installed, in the state `after` the next claim of a chain.
     pub(crate) fn hopeless_behind(
         &self,
         row: &[u16],
@@ -338,7 +338,7 @@ impl<'a> Steps<'a> {
         self.hopeless(after, step.cell?)
     }
 
-    /// Returns a claim of a slot, still to be made, that waits for a file which doesn't come.
+    /// Returns a claim of a slot, still to be made, that waits for a file which is never installed.
     pub fn hopeless(&self, row: &[u16], cell: usize) -> Option<ClaimAt> {
         let claims = self.places_at(cell);
         let slot = self.packing.cells.get(cell)?.slot;

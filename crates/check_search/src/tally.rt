@@ -11,9 +11,9 @@ use std::alloc::Global;
 struct Class<'a> {
     // One of them.
     claim: &'a Claim,
-    // How many are still to be made.
+    // The number of these that are still to be made.
     left: usize,
-    // How many claims that are still to be made leave what these may be made with.
+    // The number of claims, still to be made, that leave a file or an empty slot with which these may be made.
     helpers: usize,
 }
 
@@ -21,13 +21,13 @@ struct Class<'a> {
 #[derive(Drop)]
 pub struct Tally<'a> {
     classes: Vec<Class<'a>>,
-    // How many take a file that is there.
+    // The number of claims that take a file.
     takes: usize,
-    // How many remove what is there, and bring no file.
+    // The number of claims that empty the slot.
     empties: usize,
-    // How many bring a file that the closes have.
+    // The number of claims that install a file which is in the list of closes.
     leaving: usize,
-    // How many bring one that they don't have.
+    // The number of claims that install a file which isn't in that list.
     staying: usize,
 }
 
@@ -41,7 +41,7 @@ fn is_alike(one: &Claim, other: &Claim) -> bool {
     }
 }
 
-/// One more, or one less.
+/// Adds one to a number, or subtracts one.
 pub(crate) fn count(number: &mut usize, is_more: bool) {
     *number = if is_more {
         number.saturating_add(1)
@@ -62,7 +62,7 @@ impl<'a> Tally<'a> {
         }
     }
 
-    /// Returns the same classes once more, with what was counted.
+    /// Returns a copy.
     pub fn copy(&self, alloc: Global) -> Result<Tally<'a>, NoMemory> {
         Ok(Tally {
             classes: Vec::from_slice(alloc, &self.classes)?,
@@ -84,7 +84,7 @@ impl<'a> Tally<'a> {
         Ok(self.classes.len().saturating_sub(1))
     }
 
-    // Counts what a claim leaves for the others.
+    // Counts the classes that a claim helps by what it leaves at the slot.
     fn count_left(&mut self, left: Option<Resident>, is_more: bool) {
         for class in self.classes.iter_mut() {
             if may_find(class.claim, left) {
@@ -121,7 +121,7 @@ impl<'a> Tally<'a> {
         }
     }
 
-    // Checks whether a claim waits for a file that doesn't come, where this is at the slot ([`crate::dead`]).
+    // Checks whether a claim waits for a file that is never installed, if `found` is at the slot ([`crate::dead`]).
     fn is_hopeless(&self, found: Option<Resident>) -> bool {
         let stays = !may_leave(found);
         self.classes.iter().any(|class| {
@@ -129,7 +129,7 @@ impl<'a> Tally<'a> {
         })
     }
 
-    // Checks whether the files don't come out even, where this is at the slot ([`crate::dead`]).
+    // Checks whether the files don't balance, if `found` is at the slot ([`crate::dead`]).
     fn is_uneven(&self, found: Option<Resident>) -> bool {
         let (mut leaving, mut staying) = (self.leaving, self.staying);
         match found {

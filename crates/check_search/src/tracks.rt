@@ -1,5 +1,6 @@
-//! Orders of the claims of a slot by itself, in which chains come nearly in turn, as workers begin them: what is at a slot when which of
-//! its claims were made, where the others can be made so. Nothing is promised of it.
+//! Orders of the claims of each slot by itself in which chains reach the slot nearly in turn, as workers begin them. A moment of a slot is
+//! the set of its claims that were made, and the file that is there. A track is the set of moments from which the other claims can
+//! be made. Nothing is promised of it.
 
 use crate::cell::may_find;
 use crate::steps::{ClaimStep, MOST_CLAIMS, Steps};
@@ -10,10 +11,11 @@ use std::alloc::Global;
 // A moment: the bits of the claims that were made, and above them the number of the file.
 const MADE: u64 = (1 << MOST_CLAIMS) - 1;
 
-// How many moments of a slot are looked at.
+// The largest number of moments of a slot. Measured with `plans::NEAR`, and not by itself.
 const MOST_MOMENTS: usize = 4_096;
 
-// How often a track is widened, and by how much, until the slot has an order by itself; and by how much where it kept chains.
+// The number of times that a track is widened until its slot has an order by itself, and the factor; and the factor at a slot that
+// blocked a search. Measured with `plans::NEAR`, and not by themselves.
 const WIDENINGS: usize = 16;
 
 const WIDER: usize = 4;
@@ -23,9 +25,9 @@ const MUCH_WIDER: usize = 8;
 /// The moments of a slot from which its claims can all be made.
 #[derive(Drop)]
 struct Track {
-    // How many chains one may come before another that stands in front of it.
+    // The number of chains by which one may reach the slot too early: a claim may be made before those of fewer than `near` earlier chains.
     near: usize,
-    // None where any moment is as good.
+    // The moments, or `None` if the slot has too many: then each moment is allowed.
     moments: Option<IndexSet<u64>>,
 }
 
@@ -46,7 +48,7 @@ struct Slot<'a> {
     near: usize,
 }
 
-/// Returns the moment of a slot where these claims were made, and where this file is there.
+/// Returns the moment of a slot at which the claims of the bits `made` were made and a file is there, by its number.
 pub fn moment_of(made: u64, file: u16) -> u64 {
     made | (u64::from(file) << MOST_CLAIMS)
 }
@@ -57,13 +59,13 @@ fn file_in(moment: u64) -> u16 {
 }
 
 impl Slot<'_> {
-    // Returns the first chain that has claims which weren't made.
+    // Returns the first chain with a claim that is still to be made.
     fn first(&self, made: u64) -> usize {
         let left = self.claims.iter().find(|claim| made & claim.1.bit == 0);
         left.map_or(usize::MAX, |claim| claim.0)
     }
 
-    // Returns the moment behind the claim at a place, if it may be made.
+    // Returns the moment after the claim at a place, if that claim may be made.
     fn behind(&self, moment: u64, at: usize) -> Option<u64> {
         let (chain, step) = self.claims.get(at).copied()?;
         let (made, file) = (moment & MADE, file_in(moment));
@@ -78,7 +80,7 @@ impl Slot<'_> {
         Some(moment_of(made ^ step.bit, step.left.unwrap_or(file)))
     }
 
-    // Returns the moments that a claim leads to from one.
+    // Returns the moments after each claim that may be made next.
     fn all_behind(&self, moment: u64) -> Result<Vec<u64>, NoMemory> {
         let mut moments = Vec::new(self.alloc);
         let far = self.first(moment & MADE).saturating_add(self.near);
@@ -93,7 +95,7 @@ impl Slot<'_> {
         Ok(moments)
     }
 
-    // Returns the moments that are reached from the first one; none where they are too many.
+    // Returns the moments that are reached from the first one, or `None` if they are too many.
     fn reached(&self, first: u64) -> Result<Option<IndexSet<u64>>, NoMemory> {
         let mut reached = IndexSet::new(self.alloc);
         reached.insert(first)?;
@@ -119,7 +121,7 @@ impl Slot<'_> {
         Ok(behind.iter().any(|other| others.contains(other)))
     }
 
-    // Returns those from which all claims can be made; none where they are too many.
+    // Returns the moments from which all other claims can be made, or `None` if too many are reached.
     fn moments(&self, first: u64) -> Result<Option<IndexSet<u64>>, NoMemory> {
         let Some(reached) = self.reached(first)? else {
             return Ok(None);
@@ -160,7 +162,7 @@ impl Slot<'_> {
     }
 }
 
-// Returns the track of a slot, as near as one is from this on. Where the slot has too many claims any order is as good.
+// Returns the track of a slot, with at least this `near`. If the slot has too many claims, each order is allowed.
 fn track_of(
     alloc: Global,
     steps: &Steps<'_>,
@@ -181,7 +183,7 @@ fn track_of(
 }
 
 impl Tracks {
-    /// Returns the tracks of all slots, each as near as one is from this on.
+    /// Returns the tracks of all slots, each with at least this `near`.
     pub fn new(alloc: Global, steps: &Steps<'_>, near: usize) -> Result<Tracks, NoMemory> {
         let start = steps.start(alloc)?;
         let mut tracks = Vec::new(alloc);
@@ -204,7 +206,7 @@ impl Tracks {
         }
     }
 
-    /// Lets the chains of a slot come less in turn. It answers whether they may now.
+    /// Widens the track of a slot. Returns true unless it was as wide as it can be.
     pub fn widen(&mut self, steps: &Steps<'_>, cell: usize) -> Result<bool, NoMemory> {
         if cell >= self.tracks.len() || self.tracks[cell].near >= steps.chains() {
             return Ok(false);

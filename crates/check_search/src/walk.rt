@@ -1,4 +1,4 @@
-//! A search on its way. Nothing is proved of what it finds.
+//! A depth-first search. Nothing is proved of what it finds.
 
 use crate::node::is_test;
 use crate::plans::Plan;
@@ -10,8 +10,8 @@ use fx_base::NoMemory;
 use indexmap::IndexSet;
 use std::alloc::Global;
 
-// A state on the way from the start to where a search is: the chain of the step that led to it, what was at the slot of that
-// step, the last chain on the way there that did more than test, and how many of the steps from there were tried.
+// A state on the way from the start to the current state: the chain of the step that led to it, the number of the file that was at
+// the slot of that step, the last chain on the way that did more than test, and the number of steps that were tried from the state.
 #[derive(Clone, Copy, Default)]
 struct Stage {
     by: usize,
@@ -20,26 +20,29 @@ struct Stage {
     tried: usize,
 }
 
+// `search::BESIDE` counts this size.
+const _: () = prove!(size_of::<Stage>() == 32);
+
 // All steps were tried.
 const ALL: usize = usize::MAX;
 
-/// A search: where it is, and the way there.
+/// A search: its current state, and the way there.
 #[derive(Drop)]
 pub(crate) struct Walk<'a> {
     alloc: Global,
     steps: &'a Steps<'a>,
-    // Which orders of a slot's claims are tried; none for any.
+    // The tracks that a step must keep to, or `None` to allow each step.
     tracks: Option<&'a Tracks>,
     /// The states that were met, if they are kept.
     pub rows: Rows,
-    // The states that were met, by what was drawn for their numbers. Where two have one sum the second isn't looked at, and an
-    // answer without it isn't confirmed.
+    // The states that were met, by their sums. If two states have the same sum, the second one is skipped, and a result that
+    // needs it isn't confirmed.
     met: IndexSet<u64>,
     here: SearchState<'a>,
     way: Vec<Stage>,
-    // How long the longest way was from which no step led on, and the slots of the steps that its chains would have made.
+    // The length of the longest way from which no step led on.
     longest: usize,
-    /// These slots.
+    /// The slots of the steps that the chains at the end of that way would have made.
     pub blocked: Vec<usize>,
     plan: Plan,
     room: SearchRoom,
@@ -69,7 +72,7 @@ impl<'a> Walk<'a> {
         })
     }
 
-    /// Goes on until it is known how the search ends.
+    /// Continues until the search ends.
     pub(crate) fn run(&mut self) -> Result<Found, NoMemory> {
         if self.room.states == 0 {
             return Ok(Found::Stopped(self.room.doubt));
@@ -86,8 +89,8 @@ impl<'a> Walk<'a> {
         Ok(Found::Stopped(self.room.doubt))
     }
 
-    // Returns the next step to be tried, with how many were tried then. Where a step may be made that only tests, no other one need
-    // be. A played order mostly goes on with the chain that it was at, and begins the chains in turn.
+    // Returns the chain of the next step to be tried, and the number of tried steps after it. If a step that only tests may be made,
+    // no other step need be tried. A played order mostly continues with the chain of the last step, and begins the chains in turn.
     fn choice(&self, stage: &Stage) -> Option<(usize, usize)> {
         if stage.tried == ALL {
             return None;
@@ -113,7 +116,7 @@ impl<'a> Walk<'a> {
         None
     }
 
-    // Returns the next step where the first of the chains that may go on is drawn, and the others follow, going round.
+    // Returns the same by a plan with a seed: the first of the chains that may be continued is drawn, and the others follow in a circle.
     fn choice_drawn(&self, stage: &Stage, low: usize, high: usize) -> Option<(usize, usize)> {
         let count = high.saturating_sub(low);
         let first = drawn(self.plan.seed.saturating_add(self.way.len()), 0) >> 33;
@@ -128,7 +131,7 @@ impl<'a> Walk<'a> {
         None
     }
 
-    // Returns the first chain that isn't done, and the one behind the last that may go on.
+    // Returns the first unfinished chain, and the one after the last that may be continued.
     fn window(&self) -> (usize, usize) {
         let chains = self.steps.chains();
         if self.plan.open >= chains {
@@ -147,7 +150,7 @@ impl<'a> Walk<'a> {
         (low, chains)
     }
 
-    // Returns a chain whose next step only tests and may be made. Where orders are left out, it is one of those that may go on.
+    // Returns a chain whose next step only tests and may be made. With tracks, it is one that may be continued.
     fn test(&self) -> Option<usize> {
         if self.tracks.is_none() {
             return self.steps.test_of(&self.here.row, self.here.empty);
@@ -164,7 +167,7 @@ impl<'a> Walk<'a> {
         step.is_some_and(|step| self.here.allows(&step) && self.keeps_track(&step))
     }
 
-    // Checks whether a step leads to a moment of its slot from which the others there are tried.
+    // Checks whether a step leads to a moment of the track of its slot.
     fn keeps_track(&self, step: &ClaimStep<'_>) -> bool {
         let Some(tracks) = self.tracks else {
             return true;
@@ -175,8 +178,8 @@ impl<'a> Walk<'a> {
         }
     }
 
-    // Notes what keeps the chains that may go on, where no step leads on and the way is the longest. Slots where only the order
-    // of the claims does come first.
+    // Records the slots that block the chains that may be continued, if no step leads on and the way is the longest yet: those that
+    // block by their tracks alone, or else those whose files block.
     fn note(&mut self) -> Result<(), NoMemory> {
         if self.tracks.is_none() || self.way.len() <= self.longest {
             return Ok(());
@@ -195,7 +198,7 @@ impl<'a> Walk<'a> {
         Ok(())
     }
 
-    // Notes the slot of a chain's next step, if only the order keeps it, or if it waits for a file.
+    // Records the slot of a chain's next step, if its track blocks the step (`by_order`), or if the step waits for a file.
     fn note_chain(&mut self, chain: usize, by_order: bool) -> Result<(), NoMemory> {
         let Some(step) = self.here.next_of(chain) else {
             return Ok(());
@@ -215,7 +218,7 @@ impl<'a> Walk<'a> {
         Ok(())
     }
 
-    // Makes a step, unless it leads to a state that was met or from which no end is reached. It answers whether there was
+    // Makes a step, unless it leads to a state that was met, or to one from which no end is reached. Returns false if there is no
     // room for the state.
     fn go(&mut self, chain: usize, last: usize) -> Result<bool, NoMemory> {
         let Some(step) = self.here.next_of(chain) else {
@@ -251,7 +254,7 @@ impl<'a> Walk<'a> {
         }
     }
 
-    // Checks whether all claims were made, and no file is left that the closes have.
+    // Checks whether all claims were made, and each file in the list of closes has left.
     fn is_end(&self) -> bool {
         self.way.len() > self.steps.count() && self.steps.is_staying(&self.here.row)
     }
@@ -262,7 +265,7 @@ impl<'a> Walk<'a> {
         Ok(steps.map(|stage| stage.by).collect(self.alloc)?)
     }
 
-    // Tries one step, or goes back by one where none is left. It answers how the search ended, if it did.
+    // Tries one step, or goes back by one if none is left. Returns the result once the search ends.
     fn advance(&mut self) -> Result<Option<Found>, NoMemory> {
         let Some(stage) = self.way.last().copied() else {
             return Ok(Some(Found::NoEnd));
