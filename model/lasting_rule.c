@@ -102,6 +102,8 @@ static void check_pass(const struct state *s, int who) {
     int most = is_look ? 8 : it->call == RELEASE ? 3 : it->call == REMOVE ? 3 : is_put ? 3 : 2 * family->passes + words;
     want(it->call == PUT_ANY || it->step == SEEK || it->steps + (is_look ? 1 : 0) < most || it->step == IDLE, "a call has too many steps");
     int hold = s->hold[who] & ~MARK;
+    bool has_bit = s->list[who / PER_WORD] >> who % PER_WORD & 1;
+    want(has_bit == it->is_listed, "the list has the wrong bit for a pass");
     want(hold == 0 || (has_announced(it) && hold == it->node + 1) || (it->step == GUARDED && hold == it->holds),
          "a hold word names what its pass doesn't announce");
 }
@@ -119,6 +121,7 @@ static void check_state(const void *state) {
     }
     for (int slot = 0; slot < family->slots; slot++) {
         full += family->in_range && s->named[slot] != 0;
+        want(s->heat[slot] <= family->passes, "a pass heats a slot twice");
     }
     want((int8_t)s->full + uncounted == full, "the control word is wrong");
 }

@@ -28,7 +28,7 @@ static void close_file(struct state *s, int node) {
 
 static void install(struct state *s, const struct pass *it) {
     s->named[it->slot] = it->node + 1;
-    s->takes[it->slot] = s->hot[it->slot] = 0;
+    s->takes[it->slot] = s->heat[it->slot] = 0;
     s->file[it->node] = AT_SLOT;
     s->place[it->node] = OPEN_FILE;
 }
@@ -88,9 +88,9 @@ static void rest(struct state *s, const struct pass *it) {
 static void glance(struct state *s, struct pass *it) {
     if (s->named[it->slot] == 0) {
         begin_call(it, 0, IDLE);
-    } else if (!it->is_listed && wrong != listed_after_the_second_look) {
+    } else if (wrong == listed_at_each_look || (!it->is_listed && wrong != listed_after_the_second_look)) {
         it->step = LIST;
-    } else if (s->hot[it->slot]) {
+    } else if (s->heat[it->slot]) {
         it->node = s->named[it->slot] - 1;
         it->step = wrong == announced_after_the_second_look ? CONFIRM : ANNOUNCE;
     } else {
@@ -98,10 +98,10 @@ static void glance(struct state *s, struct pass *it) {
     }
 }
 
-/* Sets the bit of the pass. Its first look-up takes what the slot names, hot or cold. */
+/* Adds the bit of the pass to the list. Its first look-up takes what the slot names, hot or cold. */
 static void list(struct state *s, struct pass *it, int who) {
     uint8_t *word = &s->list[who / PER_WORD], bit = 1 << who % PER_WORD;
-    *word = wrong == listed_by_a_store ? bit : *word | bit;
+    *word = wrong == listed_by_a_store ? bit : *word + bit;
     it->is_listed = 1;
     if (it->holds) {
         hold_until_release(it, GUARDED);
@@ -123,7 +123,7 @@ static void announce(struct state *s, struct pass *it, int who) {
 }
 
 static void confirm(struct state *s, struct pass *it, int who) {
-    bool names = s->named[it->slot] == it->node + 1 && (s->hot[it->slot] || wrong == hot_not_asked_at_the_second_look);
+    bool names = s->named[it->slot] == it->node + 1 && (s->heat[it->slot] || wrong == hot_not_asked_at_the_second_look);
     bool is_announced = wrong != announced_after_the_second_look;
     if (!names) {
         it->step = is_announced ? WITHDRAW : TAKE;
@@ -167,7 +167,7 @@ static void take(struct state *s, struct pass *it) {
 }
 
 static void heat(struct state *s, struct pass *it) {
-    s->hot[it->slot] = 1;
+    s->heat[it->slot] += wrong == heat_counts_two ? 2 : 1;
     if (it->holds) {
         hold_until_release(it, COUNTED);
     } else {
@@ -221,23 +221,23 @@ static void retire_found(struct pass *it, int who) {
     it->marks = found.marks;
     it->words = found.words;
     it->last = found.last;
-    it->next = found.was_hot && wrong != no_visits && wrong != scan_before_the_swap ? 0 : family->passes;
+    it->next = found.heat && wrong != no_visits && wrong != scan_before_the_swap ? 0 : family->passes;
     go_on(it, who);
 }
 
 static void swap(struct state *s, struct pass *it, int who) {
-    int found = s->named[it->slot], takes = s->takes[it->slot], was_hot = s->hot[it->slot];
+    int found = s->named[it->slot], takes = s->takes[it->slot], heat = s->heat[it->slot];
     if (it->call == PUT) {
         install(s, it);
     } else {
-        s->named[it->slot] = s->takes[it->slot] = s->hot[it->slot] = 0;
+        s->named[it->slot] = s->takes[it->slot] = s->heat[it->slot] = 0;
     }
     if (found) {
         s->file[found - 1] = REMOVED;
         it->node = found - 1;
     }
     it->takes = found ? takes : UINT8_MAX;
-    it->was_hot = was_hot;
+    it->heat = heat > 0;
     bool is_late = it->call == PUT ? wrong == counted_before_it_is_full : wrong == counted_until_it_is_empty;
     it->step = is_late ? LOWER_LATE : RAISE;
     if (!family->in_range || is_late == (found == 0)) {
@@ -344,13 +344,13 @@ static void peek(struct state *s, struct pass *it) {
         return;
     }
     it->takes = s->takes[it->slot];
-    it->was_hot = s->hot[it->slot];
+    it->heat = s->heat[it->slot];
     it->step = EXCHANGE;
 }
 
 static void exchange(struct state *s, struct pass *it) {
-    bool wins = s->named[it->slot] == 0 && s->takes[it->slot] == it->takes && s->hot[it->slot] == it->was_hot;
-    it->takes = it->was_hot = 0;
+    bool wins = s->named[it->slot] == 0 && s->takes[it->slot] == it->takes && s->heat[it->slot] == it->heat;
+    it->takes = it->heat = 0;
     if (wins) {
         install(s, it);
         it->step = RAISE;
@@ -378,11 +378,11 @@ static bool begin_nth(struct state *s, struct pass *it, int who, int nth) {
     if ((calls & REMOVE) && nth < family->slots) {
         it->slot = nth;
         begin_call(it, REMOVE, family->in_range && wrong != counted_until_it_is_empty ? LOWER : SWAP);
-        if (wrong == scan_before_the_swap && s->named[nth] && s->hot[nth]) {
+        if (wrong == scan_before_the_swap && s->named[nth] && s->heat[nth]) {
             it->node = s->named[nth] - 1;
             go_on(it, who);
         }
-        if (wrong == skimmed_before_the_swap && s->hot[nth]) {
+        if (wrong == skimmed_before_the_swap && s->heat[nth]) {
             it->step = SKIM;
         }
         return true;

@@ -27,7 +27,8 @@ enum step {
     X(announced_after_the_second_look) X(withdrawal_by_a_store) X(release_by_a_store) X(failed_marks_counted) \
     X(hot_not_asked_at_the_second_look) X(takes_left_out_of_a_retirement) X(last_pass_not_visited) X(no_visits) \
     X(closed_one_too_early) X(closed_one_too_late) X(slot_never_heated) X(counted_before_it_is_full) \
-    X(counted_until_it_is_empty) X(listed_after_the_second_look) X(skimmed_before_the_swap) X(listed_by_a_store)
+    X(counted_until_it_is_empty) X(listed_after_the_second_look) X(skimmed_before_the_swap) X(listed_by_a_store) \
+    X(listed_at_each_look) X(heat_counts_two)
 enum wrong { TABLES(AS_MEMBER) WRONG_TABLES };
 
 struct family {
@@ -48,8 +49,8 @@ struct pass {
     uint8_t is_listed;
     /* The place of a search in the pass's block, and the nodes that it found taken. */
     uint8_t nth, tried;
-    /* The hot bit that a look at an empty slot found. */
-    uint8_t was_hot;
+    /* The heat that a look at an empty slot found; after a swap 1 if the slot was hot. */
+    uint8_t heat;
     /* The atomic steps of the call so far; 0 in an allocation, which may go on without end. */
     uint8_t steps;
     /* In the model: the node of the file that the pass holds, plus 1, or 0. */
@@ -57,8 +58,8 @@ struct pass {
 };
 
 struct state {
-    /* Slot words: the node plus 1, or 0. */
-    uint8_t named[MOST_SLOTS], takes[MOST_SLOTS], hot[MOST_SLOTS];
+    /* Slot words: the node plus 1, or 0; the takes; and the number of passes that heated the slot. */
+    uint8_t named[MOST_SLOTS], takes[MOST_SLOTS], heat[MOST_SLOTS];
     uint8_t hold[MOST_PASSES];
     /* The bits of the passes that ever looked a file up. */
     uint8_t list[MOST_WORDS];

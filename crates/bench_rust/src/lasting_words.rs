@@ -11,8 +11,9 @@ const FREE: u64 = 0;
 const CLOSED: u64 = 1;
 const BORN: u64 = (1 << 32) + 1;
 
-// A slot's word: the node + 1 from bit 40 on, the entry, the hot bit, and the takes.
-const HOT: u64 = 1 << 31;
+// A slot's word: the node + 1 from bit 40 on, the entry from bit 32 on, the number of passes that heated the slot, and the takes.
+const HEAT: u64 = 1 << 21;
+const TAKES: u64 = HEAT - 1;
 const COLD_TAKES: u64 = 16;
 
 // A marked hold word.
@@ -64,6 +65,10 @@ struct Held {
     by_take: bool,
 }
 
+fn is_hot(word: u64) -> bool {
+    word >> 21 & 0x7FF != 0
+}
+
 fn node_in(word: u64) -> Option<usize> {
     ((word >> 40) as usize).checked_sub(1)
 }
@@ -89,8 +94,8 @@ impl LastingWords {
 
     fn take_at(&self, slot: usize) -> Option<Held> {
         let word = self.slots[slot].0.fetch_add(1, SeqCst);
-        if word & (HOT - 1) >= COLD_TAKES {
-            self.slots[slot].0.fetch_or(HOT, SeqCst);
+        if word & TAKES >= COLD_TAKES {
+            self.slots[slot].0.fetch_add(HEAT, SeqCst);
         }
         let node = node_in(word)?;
         Some(Held {
@@ -102,7 +107,7 @@ impl LastingWords {
 
     // Puts the pass into the list, and takes what the slot names.
     fn look_first(&self, pass: &mut Pass, slot: usize) -> Option<Held> {
-        self.list.0[pass.number / 64].fetch_or(1 << (pass.number % 64), SeqCst);
+        self.list.0[pass.number / 64].fetch_add(1 << (pass.number % 64), SeqCst);
         pass.listed = true;
         self.take_at(slot)
     }
@@ -113,12 +118,12 @@ impl LastingWords {
         if !pass.listed {
             return self.look_first(pass, slot);
         }
-        if word & HOT == 0 {
+        if !is_hot(word) {
             return self.take_at(slot);
         }
         self.holds[pass.number].0.store(node as u64 + 1, SeqCst);
         let again = self.slots[slot].0.load(SeqCst);
-        if again >> 40 == word >> 40 && again & HOT != 0 {
+        if again >> 40 == word >> 40 && is_hot(again) {
             return Some(Held {
                 word,
                 node,
@@ -165,8 +170,8 @@ impl LastingWords {
         let Some(node) = node_in(word) else {
             return;
         };
-        let mut left = word & (HOT - 1);
-        if word & HOT != 0 {
+        let mut left = word & TAKES;
+        if is_hot(word) {
             left += self.mark_holds(pass, node);
         }
         let amount = BORN - CLOSED - left;

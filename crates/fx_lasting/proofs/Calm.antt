@@ -6,7 +6,7 @@ use Rattle.fx_lasting.proofs.Words.{count_in, name_in, HoldAgrees, GuardAgrees, 
 use Rattle.fx_lasting.proofs.Words.{owed, seated, [], IsSeenBy, part_of_pass, ◌≤◌, inl, true, list_place, IsListedIn}
 use Rattle.fx_lasting.proofs.Histories.{Grows}
 use Rattle.fx_lasting.proofs.Frames.{busy, owner_stays, owner_same, slot_same, node_same, control_same, Leaves, keeps_other, guards_same, covers_same}
-use Rattle.fx_lasting.proofs.Frames.{sees_same, heats_same}
+use Rattle.fx_lasting.proofs.Frames.{sees_same}
 use Rattle.fx_lasting.proofs.Keeping.{Turn, After, Keeps, word_at, slot_word, step_kept, w, end, its_log, in_range}
 use Rattle.fx_lasting.proofs.Lists.{ListGoesOn}
 use Rattle.fx_lasting.proofs.Places.{hold_words, hold_here, hold_node, hold_slot, hold_else, hold_control, hold_list}
@@ -24,7 +24,7 @@ module _ (turn : Turn) (h' front : List Event) (words' : List ℕ) (d : Work) (g
     phase = r.phase;
     next_number = r.next_number;
     debt = r.debt;
-    over = r.over;
+    deed = r.deed;
     work = d;
     glance = g;
     change = c;
@@ -49,7 +49,7 @@ module _ (turn : Turn) (h' front : List Event) (words' : List ℕ) (d : Work) (g
     pub owners : (d ≡ v.work) ⊎ (busy v.work ≡ 0)
     pub held : held_by h' x.number ≡ held_in d
     pub allowed : IsAllowed v.start x.number l d
-    pub lists : (p : ℕ) → p ≤ 1024 → ListGoesOn x.number p (word_at st.words (list_place p)) (word_at words' (list_place p))
+    pub lists : (p : ℕ) → p ≤ 1024 → ListGoesOn x.number l p (word_at st.words (list_place p)) (word_at words' (list_place p))
     pub its_bit : l ≡ true → (x.listed ≡ true) ⊎ IsListedIn (word_at words' (list_place x.number)) x.number
     pub its : Keeps turn calm_after id x.number d g
     pub holds : (n : ℕ) → (state_after_all v.start h').holds n + held_of n v ≡ (state_after_all v.start r.history).holds n + held_of n (w turn calm_after)
@@ -63,7 +63,7 @@ module _ (turn : Turn) (h' front : List Event) (words' : List ℕ) (d : Work) (g
         legal = s.legal;
         seen = s.seen;
         own = s.own;
-        slots = λ i l. slot_same (s.slot_words i l) (at_is i) refl (λ f there seat. refl) (r.each_slot i l);
+        slots = λ i l. slot_same (s.slot_words i l) (at_is i) (λ q low high. refl) (λ f there seat. refl) (r.each_slot i l);
         nodes = λ n l. node_same (slots_of v.start) r.node_of n (omega arith) (s.node_words n)
             (let t = sum_set (taken_of n) st.views id v (w turn calm_after) here in let e = s.taken n in omega arith)
             refl refl (r.phase n) (λ i f is there. (at_is i, ap count_in (s.slot_words i (inside n l i f is)))) (r.each_node n l);
@@ -76,7 +76,7 @@ module _ (turn : Turn) (h' front : List Event) (words' : List ℕ) (d : Work) (g
         held = s.held;
         allowed = s.allowed;
         lists = s.lists;
-        over_on = λ i q l is. inl is;
+        deed_on = λ i q l is. inl is;
         its_bit = s.its_bit;
         its = s.its;
         holds = s.holds;
@@ -147,8 +147,8 @@ module _ (turn : Turn) (new : ℕ) (d : Work) where
         its = record {
           hold = rw (hold_here turn x.number low high new) s.hold;
           guarded = s.guarded;
-          sees = sees_same v.start (λ s. r.over s x.number) same v.glance o.sees;
-          heats = heats_same v.start (λ s. r.over s x.number) same v.glance o.heats;
+          sees = sees_same v.start (λ s. r.deed s x.number) same v.glance o.sees;
+          heats = o.heats;
           work = s.work;
         };
         holds = s.holds;

@@ -9,7 +9,7 @@ use Rattle.fx_lasting.proofs.Words.{state_after_all, IsHistory, Change, Outside,
 use Rattle.fx_lasting.proofs.Words.{LowersKeep, RaisesKeep, AsksKeep, length-set, inl, held_by, Idle, Announced, Counted, Guarded, Owing, Yielding}
 use Rattle.fx_lasting.proofs.Words.{Searching, Placing, Retiring, Emptying, State, Phase}
 use Rattle.fx_lasting.proofs.Histories.{Grows, grows_none, grows_one, legal_more, part_mine, held_mine, same_shape}
-use Rattle.fx_lasting.proofs.Frames.{control_same, sees_same, heats_same, guards_same, covers_same}
+use Rattle.fx_lasting.proofs.Frames.{control_same, sees_same, guards_same, covers_same}
 use Rattle.fx_lasting.proofs.Keeping.{Turn, turn_of, After, word_at, slot_word, Made, by_turn, its_log, its_work, in_range, tells, w, end}
 use Rattle.fx_lasting.proofs.Calm.{calm_after, calm_kept}
 use Rattle.fx_table.proofs.FullSlots.{full_few, full_all}
@@ -131,8 +131,8 @@ module _ (turn : Turn) where
           its = record {
             hold = own.0;
             guarded = own.1;
-            sees = sees_same v.start (λ s. r.over s x.number) same v.glance o.sees;
-            heats = heats_same v.start (λ s. r.over s x.number) same v.glance o.heats;
+            sees = sees_same v.start (λ s. r.deed s x.number) same v.glance o.sees;
+            heats = o.heats;
             work = its_work turn;
           };
           holds = λ n. let e = ap (λ (z : State). z.holds n) q.state in omega arith;

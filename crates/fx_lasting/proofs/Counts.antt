@@ -38,6 +38,11 @@ tally_at f (suc n) p low high is = dite (ℕ_discrete p (suc n))
     (λ same. let b = ap one_if (sym (ap f same) ∙ is) in omega arith)
     (λ other. let a = tally_at f n p low (omega arith) is in omega arith)
 
+-- not each pass counts, if one doesn't
+pub tally_room : (f : ℕ → Bool) (n p : ℕ) → 0 < p → p ≤ n → f p ≡ false → tally f n + 1 ≤ n
+tally_room f n p low high is = let a = tally_one (changed_at f p true) f n p low high (λ q other. changed_else f p true q other) in
+    let b = tally_few (changed_at f p true) n in let c = ap one_if is in let d = ap one_if (changed_here f p true p refl) in omega arith
+
 -- a debt of one pass becomes another one
 pub owed_changed : (debt : ℕ → ℕ) (n p value : ℕ) → 0 < p → p ≤ n → (node : ℕ)
     → owed (changed_at debt p value) n node + one_if (eqb (debt p) (node + 1)) ≡ owed debt n node + one_if (eqb value (node + 1))
@@ -54,7 +59,7 @@ bit_true : (b : Bool) → one_if b ≡ 1 → b ≡ true
 bit_true true is = refl
 bit_true false is = absurd (omega arith)
 
-bit_few : (b : Bool) → one_if b ≤ 1
+pub bit_few : (b : Bool) → one_if b ≤ 1
 bit_few true = omega arith
 bit_few false = omega arith
 
@@ -71,9 +76,9 @@ owed_found debt n node some = let z = tally_found (λ q. eqb (debt q) (node + 1)
     (z.0, z.1, z.2, eqb-true (debt z.0) (node + 1) z.3)
 
 -- a cold slot leaves room in its word
-pub few_cold : (passes : ℕ) → cold_takes passes ≤ 1073741824
+pub few_cold : (passes : ℕ) → cold_takes passes ≤ 1048576
 few_cold passes = go (eqb passes 1)
   where
-    go : (b : Bool) → cond b 1073741824 16 ≤ 1073741824
+    go : (b : Bool) → cond b 1048576 16 ≤ 1048576
     go true = omega arith
     go false = omega arith

@@ -7,7 +7,8 @@ use Rattle.fx_lasting.proofs.Words.{IsFileOfNode, IsVacant, name_in, count_in, w
 use Rattle.fx_lasting.proofs.Words.{block_for, block_start, Start, tally, Phase, free, placed, seated, leaving, retired, emptied, owner, Glance, Log}
 use Rattle.fx_lasting.proofs.Words.{View, Work, Idle, Announced, Counted, Guarded, Owing, Yielding, Searching, Placing, Retiring, Emptying, Nothing}
 use Rattle.fx_lasting.proofs.Words.{Hot, Cold, Heating, taken_of, owed, sum_by, suc, owing_of, owing}
-use Rattle.fx_lasting.proofs.Words.{full_in}
+use Rattle.fx_lasting.proofs.Words.{full_in, Deed, untouched, over, heated, has_acted, has_heated}
+use Rattle.fx_lasting.proofs.Counts.{tally_same}
 use Rattle.fx_lasting.proofs.Keeping.{Turn, After, Keeps, w, word_at, slot_word}
 
 -- the node that a pass alone works with, plus 1, or 0
@@ -114,30 +115,37 @@ module _ {at at' : ℕ → Option File} (size : ℕ) {takes_at takes_at' : ℕ �
   node_same (emptied j) same o = vacant_same o
 
 -- a slot whose word and file stay
-pub slot_same : {k : Start} {node_of : Nodes} {phase phase' : ℕ → Phase} {over over' : ℕ → Bool} {slot word word' : ℕ}
-    {there there' : Option File} → word' ≡ word → there' ≡ there → tally over' k.passes ≡ tally over k.passes
+pub slot_same : {k : Start} {node_of : Nodes} {phase phase' : ℕ → Phase} {deed deed' : ℕ → Deed} {slot word word' : ℕ}
+    {there there' : Option File} → word' ≡ word → there' ≡ there → ((p : ℕ) → 0 < p → p ≤ k.passes → deed' p ≡ deed p)
     → ((f : File) → there ≡ Some f → phase (node_of f.number) ≡ seated slot f → phase' (node_of f.number) ≡ phase (node_of f.number))
-    → SlotAgrees k node_of phase over slot there word → SlotAgrees k node_of phase' over' slot there' word'
-slot_same {k} {node_of} {phase} {phase'} {over} {over'} {slot} {word} {word'} {there} same_word same_file as_many same so =
+    → SlotAgrees k node_of phase deed slot there word → SlotAgrees k node_of phase' deed' slot there' word'
+slot_same {k} {node_of} {phase} {phase'} {deed} {deed'} {slot} {word} {word'} {there} same_word same_file did same so =
     rw (same_word, same_file) (go there refl so)
   where
-    go : (found : Option File) → there ≡ found → SlotAgrees k node_of phase over slot found word
-        → SlotAgrees k node_of phase' over' slot found word
-    go None is o = record { names = o.names; seat = tt; takes = let t = o.takes in omega arith }
+    as_many : tally (λ p. has_acted (deed' p)) k.passes ≡ tally (λ p. has_acted (deed p)) k.passes
+    as_many = tally_same _ _ k.passes (λ p low high. ap has_acted (did p low high))
+
+    as_hot : tally (λ p. has_heated (deed' p)) k.passes ≡ tally (λ p. has_heated (deed p)) k.passes
+    as_hot = tally_same _ _ k.passes (λ p low high. ap has_heated (did p low high))
+
+    go : (found : Option File) → there ≡ found → SlotAgrees k node_of phase deed slot found word
+        → SlotAgrees k node_of phase' deed' slot found word
+    go None is o = record { names = o.names; seat = tt; takes = let t = o.takes in omega (arith, as_many); heat = o.heat ∙ sym as_hot }
     go (Some f) is o = record {
       names = o.names;
       seat = (o.seat.0, same f is o.seat.1 ∙ o.seat.1);
-      takes = let t = o.takes in omega arith;
+      takes = let t = o.takes in omega (arith, as_many);
+      heat = o.heat ∙ sym as_hot;
     }
 
 -- a slot's word as other passes see it: it has another file, or goes on with the same one
-abbrev pub SlotGoesOn : ℕ → ℕ → Bool → Bool → Type 0
-SlotGoesOn old new over over' = (over' ≡ false) ⊎ ((over' ≡ over) × (name_in new ≡ name_in old) × (IsHot old → IsHot new))
+abbrev pub SlotGoesOn : ℕ → ℕ → Deed → Deed → Type 0
+SlotGoesOn old new deed deed' = (deed' ≡ untouched) ⊎ ((deed' ≡ deed) × (name_in new ≡ name_in old) × (IsHot old → IsHot new))
 
 -- how far a look-up is, and what it has still to heat, where slots go on so
-module _ (k : Start) (word word' : ℕ → ℕ) (over over' : ℕ → Bool)
-    (slots : (s : ℕ) → s < slots_of k → SlotGoesOn (word s) (word' s) (over s) (over' s)) where
-  pub sees_on : (g : Glance) → GlanceAgrees k word over g → GlanceAgrees k word' over' g
+module _ (k : Start) (word word' : ℕ → ℕ) (deed deed' : ℕ → Deed)
+    (slots : (s : ℕ) → s < slots_of k → SlotGoesOn (word s) (word' s) (deed s) (deed' s)) where
+  pub sees_on : (g : Glance) → GlanceAgrees k word deed g → GlanceAgrees k word' deed' g
   sees_on Nothing at = tt
   sees_on (Hot s m) at = (
     at.0,
@@ -146,11 +154,11 @@ module _ (k : Start) (word word' : ℕ → ℕ) (over over' : ℕ → Bool)
         (λ same. ⊎_elim (λ h. inl (same.1 ∙ h.0, same.2 h.1)) (λ out. inr (same.0 ∙ out)) at.2) (slots s at.0),
   )
   sees_on (Cold s) at = (at.0, ⊎_elim (λ new. new) (λ same. same.0 ∙ at.1) (slots s at.0))
-  sees_on (Heating s) at = at
+  sees_on (Heating s) at = (at.0, λ is. ⊎_elim (λ new. let bad : untouched ≡ heated = sym new ∙ is in cc bad) (λ same. at.1 (sym same.0 ∙ is)) (slots s at.0))
 
-  pub heats_on : (g : Glance) → Heats k word over g → Heats k word' over' g
-  heats_on g h = λ s l is. ⊎_elim (λ new. let bad : false ≡ true = sym new ∙ is in absurd (cc bad))
-      (λ same. ⊎_elim (λ hot. inl (same.2 hot)) (λ mine. inr mine) (h s l (sym same.0 ∙ is))) (slots s l)
+  pub heats_on : (g : Glance) → Heats k deed g → Heats k deed' g
+  heats_on g h = λ s l is. ⊎_elim (λ new. let bad : untouched ≡ over = sym new ∙ is in absurd (cc bad))
+      (λ same. h s l (sym same.0 ∙ is)) (slots s l)
 
 -- The facts that other passes rely on, after a step.
 module _ (turn : Turn) (a : After turn) where
@@ -166,11 +174,11 @@ module _ (turn : Turn) (a : After turn) where
     pub open_file : (j : ℕ) (u : View) (f : File) (n : ℕ) → j ≢ id → get_elem? st.views j ≡ some u → held_in u.work ≡ Some f
         → HoldsAt v.start r.phase f n → HoldsAt v.start a.phase f n
     pub slots : (s q : ℕ) → s < slots_of v.start → q ≢ x.number
-        → SlotGoesOn (slot_word st.words s) (slot_word a.words s) (r.over s q) (a.over s q)
+        → SlotGoesOn (slot_word st.words s) (slot_word a.words s) (r.deed s q) (a.deed s q)
 
   module _ (leaves : Leaves) (j : ℕ) (u : View) (z : Log) (other : j ≢ id) (there : get_elem? st.views j ≡ some u) (n : z.number ≢ x.number)
       (range : (0 < z.number) × (z.number ≤ v.start.passes))
-      (o : LogAgrees v.start r.history st.words r.phase r.debt r.over u.work u.glance z) where
+      (o : LogAgrees v.start r.history st.words r.phase r.debt r.deed u.work u.glance z) where
     same_for : {m : ℕ} {ph : Phase} → r.phase m ≡ ph → owner ph ≡ j + 1 → a.phase m ≡ ph
     same_for {m} {ph} is own = leaves.owned m (λ y. let e : owner (r.phase m) ≡ owner ph = ap owner is in
         omega arith) (λ y. other (let e : owner (r.phase m) ≡ owner ph = ap owner is in omega arith)) ∙ is
@@ -191,9 +199,9 @@ module _ (turn : Turn) (a : After turn) where
     keeps_other at = let g = leaves.guards z.number u.work n range o.hold o.guarded in record {
       hold = g.0;
       guarded = g.1;
-      sees = sees_on v.start (slot_word st.words) (slot_word a.words) (λ s. r.over s z.number) (λ s. a.over s z.number)
+      sees = sees_on v.start (slot_word st.words) (slot_word a.words) (λ s. r.deed s z.number) (λ s. a.deed s z.number)
           (λ s l. leaves.slots s z.number l n) u.glance o.sees;
-      heats = heats_on v.start (slot_word st.words) (slot_word a.words) (λ s. r.over s z.number) (λ s. a.over s z.number)
+      heats = heats_on v.start (slot_word st.words) (slot_word a.words) (λ s. r.deed s z.number) (λ s. a.deed s z.number)
           (λ s l. leaves.slots s z.number l n) u.glance o.heats;
       work = work_stays u.work refl at;
     }
@@ -218,17 +226,13 @@ module _ (turn : Turn) (a : After turn) where
       go (Emptying n) g = tt
 
 -- how far a look-up is, where no slot's word and no take of the pass has changed
-pub sees_same : (k : Start) {word word' : ℕ → ℕ} (over : ℕ → Bool) → ((s : ℕ) → s < slots_of k → word' s ≡ word s) → (g : Glance)
-    → GlanceAgrees k word over g → GlanceAgrees k word' over g
-sees_same k over same Nothing at = tt
-sees_same k {word} {word'} over same (Hot s m) at =
+pub sees_same : (k : Start) {word word' : ℕ → ℕ} (deed : ℕ → Deed) → ((s : ℕ) → s < slots_of k → word' s ≡ word s) → (g : Glance)
+    → GlanceAgrees k word deed g → GlanceAgrees k word' deed g
+sees_same k deed same Nothing at = tt
+sees_same k {word} {word'} deed same (Hot s m) at =
     (at.0, at.1, ⊎_elim (λ h. inl (ap name_in (same s at.0) ∙ h.0, rw (same s at.0) h.1)) (λ out. inr out) at.2)
-sees_same k over same (Cold s) at = at
-sees_same k over same (Heating s) at = at
-
-pub heats_same : (k : Start) {word word' : ℕ → ℕ} (over : ℕ → Bool) → ((s : ℕ) → s < slots_of k → word' s ≡ word s) → (g : Glance)
-    → Heats k word over g → Heats k word' over g
-heats_same k {word} {word'} over same g h = λ s l is. ⊎_elim (λ hot. inl (rw (same s l) hot)) (λ mine. inr mine) (h s l is)
+sees_same k deed same (Cold s) at = at
+sees_same k deed same (Heating s) at = at
 
 -- who may be unmarked, where no slot's word has changed
 module _ (turn : Turn) (words' : List ℕ) (same : (s : ℕ) → s < slots_of turn.v.start → slot_word words' s ≡ slot_word turn.st.words s) where

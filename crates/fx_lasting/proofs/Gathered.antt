@@ -118,7 +118,7 @@ module _ (id : TableId) (k : Start) where
     all_idle = each_seat (λ (u : View). u.logs) s.views seat v at whole_here (λ u. HasNoFile u.work) idle
         (λ i u e none. inl ((r.each_view i u e).empty none).0)
 
-    pub known : (p : LastingPass) → Contains ps p → LogAgrees k r.history s.words r.phase r.debt r.over v.work v.glance (log_of p)
+    pub known : (p : LastingPass) → Contains ps p → LogAgrees k r.history s.words r.phase r.debt r.deed v.work v.glance (log_of p)
     known p h = (r.each_view seat v at).logs (log_of p) (rw these_logs (contains_mapped log_of (reverse ps) p (contains_reversed ps p h)))
 
     sum_of_all : (f : Log → ℕ) → sum_by f v.logs ≡ sum_by (λ p. f (log_of p)) ps

@@ -7,7 +7,7 @@ use Rattle.fx_lasting.proofs.Words.{LogAgrees, ViewAgrees, lengths, Agrees, Cont
 use Rattle.fx_lasting.proofs.Words.{count_in, control_place, slot_place, word_of, hold_word_of, Shared, slots_of, nodes_of, range_at_start, state_after_all}
 use Rattle.fx_lasting.proofs.Words.{IsHistory, held_in, held_of, taken_of, logs_of, owed, Sat, Stepped, IsInside, pass_event, HasPass, Phase}
 use Rattle.fx_lasting.proofs.Words.{free, removed_in, Change, Glance, Log, Start, View, Work, found_sum, found_by, at_index}
-use Rattle.fx_lasting.proofs.Words.{◌⊎◌, list_place, IsListedIn}
+use Rattle.fx_lasting.proofs.Words.{◌⊎◌, list_place, IsListedIn, Deed, untouched}
 use Rattle.fx_lasting.proofs.Histories.{Grows, legal_before}
 use Rattle.fx_seen.proofs.Views.{of_replaced}
 use Rattle.fx_lasting.proofs.Lists.{ListGoesOn, stays_listed, was_listed}
@@ -108,7 +108,7 @@ module _ (turn : Turn) where
   has_x : Contains v.logs x
   has_x = subst (λ (l : List Log). Contains l x) (sym one) (contains_head x [])
 
-  pub its_log : LogAgrees v.start r.history st.words r.phase r.debt r.over v.work v.glance x
+  pub its_log : LogAgrees v.start r.history st.words r.phase r.debt r.deed v.work v.glance x
   its_log = (r.each_view id v here).logs x has_x
 
   pub its_work : WorkAgrees v.start r.phase id v.work
@@ -127,7 +127,7 @@ module _ (turn : Turn) where
     pub phase : ℕ → Phase
     pub next_number : ℕ
     pub debt : ℕ → ℕ
-    pub over : ℕ → ℕ → Bool
+    pub deed : ℕ → ℕ → Deed
     pub work : Work
     pub glance : Glance
     pub change : Change
@@ -148,8 +148,8 @@ module _ (turn : Turn) where
     pub record Keeps (j q : ℕ) (d : Work) (g : Glance) : Type 0 where
       pub hold : HoldAgrees (word_at a.words (hold_word_of v.start q)) (a.debt q) d
       pub guarded : GuardAgrees (slot_word a.words) a.phase q (a.debt q) d
-      pub sees : GlanceAgrees v.start (slot_word a.words) (λ s. a.over s q) g
-      pub heats : Heats v.start (slot_word a.words) (λ s. a.over s q) g
+      pub sees : GlanceAgrees v.start (slot_word a.words) (λ s. a.deed s q) g
+      pub heats : Heats v.start (λ s. a.deed s q) g
       pub work : WorkAgrees v.start a.phase j d
 
     -- what a step has to keep
@@ -161,7 +161,7 @@ module _ (turn : Turn) where
       pub seen : IsSeenBy a.front a.h
       pub own : part_of_pass x.number a.h ≡ part_of_pass x.number a.front
       pub slots : (s : ℕ) → s < slots_of v.start
-          → SlotAgrees v.start r.node_of a.phase (a.over s) s ((state_after_all v.start a.h).at s) (slot_word a.words s)
+          → SlotAgrees v.start r.node_of a.phase (a.deed s) s ((state_after_all v.start a.h).at s) (slot_word a.words s)
       pub nodes : (n : ℕ) → n < nodes_of v.start → NodeAgrees (state_after_all v.start a.h).at (slots_of v.start)
           (λ s. count_in (slot_word a.words s)) r.node_of a.next_number n (word_at a.words (word_of v.start n))
           (sum_by (taken_of n) views') (owed a.debt v.start.passes n) (get_elem? a.homes n) (a.phase n)
@@ -171,20 +171,20 @@ module _ (turn : Turn) where
       pub fresh : (number : ℕ) → a.next_number ≤ number → (state_after_all v.start a.h).fresh number ≡ true
       pub others : (j : ℕ) (u : View) (z : Log) → j ≢ id → get_elem? st.views j ≡ some u → Contains u.logs z → z.number ≢ x.number
           → (0 < z.number) × (z.number ≤ v.start.passes)
-          → LogAgrees v.start r.history st.words r.phase r.debt r.over u.work u.glance z → WorkAgrees v.start r.phase j u.work
+          → LogAgrees v.start r.history st.words r.phase r.debt r.deed u.work u.glance z → WorkAgrees v.start r.phase j u.work
           → Keeps j z.number u.work u.glance
       pub held : held_by a.h x.number ≡ held_in a.work
       pub allowed : IsAllowed v.start x.number a.listed a.work
       pub its : Keeps id x.number a.work a.glance
       pub holds : (n : ℕ) → (state_after_all v.start a.h).holds n + held_of n v ≡ (state_after_all v.start r.history).holds n + held_of n w
-      pub lists : (p : ℕ) → p ≤ 1024 → ListGoesOn x.number p (word_at st.words (list_place p)) (word_at a.words (list_place p))
-      pub over_on : (s q : ℕ) → s < slots_of v.start → a.over s q ≡ true → (r.over s q ≡ true) ⊎ ((q ≡ x.number) × (a.listed ≡ true))
+      pub lists : (p : ℕ) → p ≤ 1024 → ListGoesOn x.number a.listed p (word_at st.words (list_place p)) (word_at a.words (list_place p))
+      pub deed_on : (s q : ℕ) → s < slots_of v.start → a.deed s q ≢ untouched → (r.deed s q ≢ untouched) ⊎ ((q ≡ x.number) × (a.listed ≡ true))
       pub its_bit : a.listed ≡ true → (x.listed ≡ true) ⊎ IsListedIn (word_at a.words (list_place x.number)) x.number
       pub control : ControlCounts (state_after_all v.start a.h).at (range_at_start v.start) views' (word_at a.words control_place)
 
     module _ (s : Step) where
       other_log : (j : ℕ) (u : View) (z : Log) → j ≢ id → get_elem? st.views j ≡ some u → Contains u.logs z
-          → LogAgrees v.start a.h a.words a.phase a.debt a.over u.work u.glance z
+          → LogAgrees v.start a.h a.words a.phase a.debt a.deed u.work u.glance z
       other_log j u z other there at = let o = (r.each_view j u there).logs z at in let n = not_there r here one other there z at in
           let k = s.others j u z other there at n (its_range r j there at) o (r.each_view j u there).work in
           let few : z.number ≤ 1024 = omega (arith, (its_range r j there at).1, r.shape.passes) in
@@ -193,13 +193,15 @@ module _ (turn : Turn) where
             own = s.grows.parts z.number (λ same. n (sym same)) ∙ o.own;
             held = s.grows.helds z.number (λ same. n (sym same)) ∙ o.held;
             allowed = o.allowed;
-            list = λ l. stays_listed x.number z.number (s.lists z.number few) (o.list l);
+            list = λ l. stays_listed x.number a.listed z.number (s.lists z.number few) (o.list l);
+            unlisted = λ is. ⊎_elim (λ before. o.unlisted before) (λ same. absurd (n same))
+                (was_listed x.number a.listed z.number in_range.0 (its_range r j there at).0 (s.lists z.number few) is);
             hold = k.hold;
             guarded = k.guarded;
             sees = k.sees;
             heats = k.heats;
             takes_listed = λ i l is. ⊎_elim (λ before. o.takes_listed i l before)
-                (λ (own : (z.number ≡ x.number) × (a.listed ≡ true)). absurd (n own.0)) (s.over_on i z.number l is);
+                (λ (own : (z.number ≡ x.number) × (a.listed ≡ true)). absurd (n own.0)) (s.deed_on i z.number l is);
           }
 
       -- a seat without passes does nothing
@@ -212,19 +214,21 @@ module _ (turn : Turn) where
               (s.others j u z other there at (not_there r here one other there z at) (its_range r j there at)
               ((r.each_view j u there).logs z at) (r.each_view j u there).work).work
 
-      its_own : LogAgrees v.start a.h a.words a.phase a.debt a.over a.work a.glance (logged x a.listed a.front)
+      its_own : LogAgrees v.start a.h a.words a.phase a.debt a.deed a.work a.glance (logged x a.listed a.front)
       its_own = let few : x.number ≤ 1024 = omega (arith, in_range.1, r.shape.passes) in record {
         seen = s.seen;
         own = s.own;
         held = s.held;
         allowed = s.allowed;
-        list = λ l. ⊎_elim (λ was. stays_listed x.number x.number (s.lists x.number few) (its_log.list was)) (λ set. set) (s.its_bit l);
+        list = λ l. ⊎_elim (λ was. stays_listed x.number a.listed x.number (s.lists x.number few) (its_log.list was)) (λ set. set) (s.its_bit l);
+        unlisted = λ is. ⊎_elim (λ (same : word_at a.words (list_place x.number) ≡ word_at st.words (list_place x.number)).
+            a.still_listed (its_log.unlisted (subst (λ (z : ℕ). IsListedIn z x.number) same is))) (λ set. set.2) (s.lists x.number few);
         hold = s.its.hold;
         guarded = s.its.guarded;
         sees = s.its.sees;
         heats = s.its.heats;
         takes_listed = λ i l is. ⊎_elim (λ before. a.still_listed (its_log.takes_listed i l before))
-            (λ (own : (x.number ≡ x.number) × (a.listed ≡ true)). own.1) (s.over_on i x.number l is);
+            (λ (own : (x.number ≡ x.number) × (a.listed ≡ true)). own.1) (s.deed_on i x.number l is);
       }
 
       pub step_kept : Agrees v.start end
@@ -236,7 +240,7 @@ module _ (turn : Turn) where
         numbering = r.numbering;
         next_number = a.next_number;
         debt = a.debt;
-        over = a.over;
+        deed = a.deed;
         legal = s.legal;
         each_slot = s.slots;
         each_node = s.nodes;
@@ -245,8 +249,8 @@ module _ (turn : Turn) where
         unborn = s.unborn;
         fresh = s.fresh;
         each_view = λ j u e. ⊎_elim (λ (t : (j ≡ id) × (w ≡ u)).
-            subst (λ (z : ℕ × View). ViewAgrees v.start a.h a.words a.phase a.debt a.over z.0 z.1) (λ i. (sym t.0 i, t.1 i)) record {
-              logs = λ z h. subst (LogAgrees v.start a.h a.words a.phase a.debt a.over a.work a.glance)
+            subst (λ (z : ℕ × View). ViewAgrees v.start a.h a.words a.phase a.debt a.deed z.0 z.1) (λ i. (sym t.0 i, t.1 i)) record {
+              logs = λ z h. subst (LogAgrees v.start a.h a.words a.phase a.debt a.deed a.work a.glance)
                   (sym (contains_only (logged x a.listed a.front) z h)) its_own;
               work = s.its.work;
               empty = λ none. absurd (omega (arith, ap (length {A = Log}) none));
@@ -266,7 +270,7 @@ module _ (turn : Turn) where
             λ same. of_one (λ z. one_if (eqb z.number p)) one ∙ rw (eq-eqb x.number p same) refl in
             s.grows.parts p (λ same. let a = its_one same in omega arith) ∙ r.authors p none;
         listed = λ p low high is. ⊎_elim (λ before. r.listed p low high before) (λ same. let z = in_range.1 in omega (arith, same, z))
-            (was_listed x.number p in_range.0 low (s.lists p high) is);
+            (was_listed x.number a.listed p in_range.0 low (s.lists p high) is);
         control = s.control;
       }
 

@@ -2,10 +2,11 @@
 use Rattle.fx_lasting.proofs.Words.{ℕ, ◌≤◌, ◌^◌, List, Option, Closed, refl, inl, inr, arith, none, keeps, Idle, Announced, Counted, Guarded, Owing, Yielding, Searching, Placing, Retiring, Emptying, true, bit_or, bit_of, list_place}
 use Rattle.fx_lasting.proofs.Words.{step, length-set, dite, ℕ_discrete, Work, IsAllowed, Lists, ListsKeep, [], Bool, Start}
 use Rattle.fx_lasting.proofs.Histories.{grows_none}
-use Rattle.fx_lasting.proofs.Frames.{guards_same, covers_same, sees_same, heats_same, control_same}
+use Rattle.fx_lasting.proofs.Frames.{guards_same, covers_same, sees_same, control_same}
 use Rattle.fx_lasting.proofs.Keeping.{Turn, turn_of, After, word_at, Made, by_turn, its_log, its_work, in_range, logged, w, end}
 use Rattle.fx_lasting.proofs.Calm.{calm_after, calm_kept}
-use Rattle.fx_lasting.proofs.Lists.{ListGoesOn, now_listed}
+use Rattle.fx_lasting.proofs.Words.{◌≡◌, ◌+◌, ◌%◌, ◌<◌, ◌∙◌, sym, false}
+use Rattle.fx_lasting.proofs.Lists.{ListGoesOn, now_listed, bit_added}
 use Rattle.fx_lasting.proofs.ControlSteps.{its_inside}
 use Rattle.fx_lasting.proofs.Places.{list_words, list_here, list_apart, list_node, list_hold, list_slot, list_control}
 use Rattle.fx_lasting.specs.Agrees.{Agrees}
@@ -23,14 +24,19 @@ allowed_more k p l (Yielding f n) ok = tt
 allowed_more k p l (Retiring f n t nx m) ok = tt
 allowed_more k p l (Emptying n) ok = tt
 
-module _ (turn : Turn) where
+module _ (turn : Turn) (not_yet : turn.x.listed ≡ false) (fits : word_at turn.st.words (list_place turn.x.number) < 18446744073709551616) where
   open turn use {st, v, r, id, x, here, one}
 
   few : x.number ≤ 1024
   few = omega (arith, (in_range turn).1, r.shape.passes)
 
   abbrev new : ℕ
-  new = bit_or (word_at st.words (list_place x.number)) (2 ^ bit_of x.number)
+  new = (word_at st.words (list_place x.number) + 2 ^ bit_of x.number) % 2 ^ 64
+
+  -- the bit was clear
+  is_set : new ≡ bit_or (word_at st.words (list_place x.number)) (2 ^ bit_of x.number)
+  is_set = bit_added (word_at st.words (list_place x.number)) (bit_of x.number) fits (omega arith)
+      (λ has. let bad : true ≡ false = sym ((its_log turn).unlisted has) ∙ not_yet in cc bad)
 
   abbrev words' : List ℕ
   words' = list_words turn x.number few new
@@ -39,9 +45,9 @@ module _ (turn : Turn) where
   listed_after = calm_after turn r.history r.history words' v.work v.glance v.change true (λ l. refl)
 
   -- each word of the list
-  goes_on : (p : ℕ) → ListGoesOn x.number p (word_at st.words (list_place p)) (word_at words' (list_place p))
+  goes_on : (p : ℕ) → ListGoesOn x.number true p (word_at st.words (list_place p)) (word_at words' (list_place p))
   goes_on p = dite (ℕ_discrete (list_place p) (list_place x.number))
-      (λ same. inr (same, rw same (list_here turn x.number few new)))
+      (λ same. inr (same, rw same (list_here turn x.number few new ∙ is_set), refl))
       (λ other. inl (list_apart turn x.number few new other))
 
   kept : Agrees v.start (end turn listed_after)
@@ -66,18 +72,18 @@ module _ (turn : Turn) where
         held = o.held;
         allowed = allowed_more v.start x.number x.listed v.work o.allowed;
         lists = λ p few. goes_on p;
-        its_bit = λ l. inr (rw (list_here turn x.number few new) (now_listed x.number (word_at st.words (list_place x.number))));
+        its_bit = λ l. inr (rw (list_here turn x.number few new ∙ is_set) (now_listed x.number (word_at st.words (list_place x.number))));
         its = record {
           hold = own.0;
           guarded = own.1;
-          sees = sees_same v.start (λ s. r.over s x.number) same v.glance o.sees;
-          heats = heats_same v.start (λ s. r.over s x.number) same v.glance o.heats;
+          sees = sees_same v.start (λ s. r.deed s x.number) same v.glance o.sees;
+          heats = o.heats;
           work = its_work turn;
         };
         holds = λ n. refl;
       }
 
-  lists : (slots : ℕ) (carried : List (ℕ × Option Closed)) → Made turn carried (list_place x.number) (λ word. bit_or word (2 ^ bit_of x.number))
+  lists : (slots : ℕ) (carried : List (ℕ × Option Closed)) → Made turn carried (list_place x.number) (λ word. (word + 2 ^ bit_of x.number) % 2 ^ 64)
       (Lists (step slots (list_place x.number) (2 ^ bit_of x.number) 0 none) (v, carried))
   lists slots carried = (
     w turn listed_after,
@@ -106,6 +112,6 @@ module _ (turn : Turn) where
   )
 
 pub lists_keep : ListsKeep Lists
-lists_keep k slots id i m x has place = by_turn slots (λ _. Unit {0}) (λ _. list_place x.number) (λ word. bit_or word (2 ^ bit_of x.number))
+lists_keep k slots id i m x has not_yet place = by_turn slots (λ _. Unit {0}) (λ _. list_place x.number) (λ word. (word + 2 ^ bit_of x.number) % 2 ^ 64)
     (λ i. Lists (step slots i (2 ^ bit_of x.number) 0 none) m) has tt place
-    (λ st r here _ fits. lists (turn_of m x has.1 id st r here) slots m.1)
+    (λ st r here _ fits. lists (turn_of m x has.1 id st r here) not_yet fits slots m.1)

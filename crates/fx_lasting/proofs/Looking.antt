@@ -4,11 +4,13 @@ use Rattle.fx_lasting.proofs.Words.{◌≡◌, ◌≢◌, ℕ, ◌+◌, ◌-◌,
 use Rattle.fx_lasting.proofs.Words.{Closed, File, Event, Look, ◌▷◌, WorkAgrees, GuardAgrees, GlanceAgrees, Heats, NamesNode, Names, IsSeated}
 use Rattle.fx_lasting.proofs.Words.{state_after_all, slots_of, nodes_of, held_in, if_file, taking, pass_event, seated, file_in, Work, Glance, Idle}
 use Rattle.fx_lasting.proofs.Words.{Announced, Guarded, Hot, Cold, Heating, Nothing, Glances, Confirms, GlancesKeep, ConfirmsKeep, Goes, Shows, IsHot}
-use Rattle.fx_lasting.proofs.Words.{hot_in, name_in, slot_place, step, inl, inr, ⊎_elim, ◌⊎◌, dite, ℕ_discrete, one_more_at, Bool, true, false}
+use Rattle.fx_lasting.proofs.Words.{heat_in, Deed, untouched, over, heated, has_heated}
+use Rattle.fx_lasting.proofs.Words.{name_in, slot_place, step, inl, inr, ⊎_elim, ◌⊎◌, dite, ℕ_discrete, one_more_at, Bool, true, false}
 use Rattle.fx_lasting.proofs.Words.{hold_word_of, IsHistory, Start, IsInside, HasNoFile}
 use Rattle.fx_lasting.proofs.Histories.{grows_none, grows_one, legal_more, part_mine, held_mine, same_shape}
 use Rattle.fx_lasting.proofs.Frames.{busy}
-use Rattle.fx_lasting.proofs.Keeping.{Turn, turn_of, After, word_at, slot_word, Made, by_turn, its_log, its_work, tells, w}
+use Rattle.fx_lasting.proofs.Counts.{tally_at}
+use Rattle.fx_lasting.proofs.Keeping.{Turn, turn_of, After, word_at, slot_word, Made, by_turn, its_log, its_work, in_range, tells, w}
 use Rattle.fx_lasting.proofs.Calm.{read_after, Reads, read_kept}
 use Rattle.fx_lasting.proofs.Choosing.{no_file, no_take, not_busy, holds_none}
 use Rattle.fx_lasting.proofs.Places.{slot_back}
@@ -47,21 +49,24 @@ module _ (turn : Turn) (s : ℕ) (inside : s < slots_of turn.v.start) where
   pub name_cases : (name_in word ≡ 0) ⊎ ((n : ℕ) × (name_in word ≡ n + 1))
   name_cases = dite (ℕ_discrete (name_in word) 0) (λ e. inl e) (λ some. inr (name_in word - 1, omega (arith, some)))
 
-  -- a slot that isn't hot: the pass isn't over
-  not_over : (IsHot word → ⊥) → ((t : ℕ) → v.glance ≢ Heating t) → r.over s x.number ≡ false
-  not_over cold calm = go (r.over s x.number) refl
+  -- a slot that isn't hot: the pass has done nothing there
+  not_over : (IsHot word → ⊥) → ((t : ℕ) → v.glance ≢ Heating t) → r.deed s x.number ≡ untouched
+  not_over cold calm = go (r.deed s x.number) refl
     where
-      go : (b : Bool) → r.over s x.number ≡ b → r.over s x.number ≡ false
-      go false is = is
-      go true is = absurd (⊎_elim cold (λ e. calm s e) ((its_log turn).heats s inside is))
+      go : (e : Deed) → r.deed s x.number ≡ e → r.deed s x.number ≡ untouched
+      go untouched is = is
+      go over is = absurd (calm s ((its_log turn).heats s inside is))
+      go heated is = absurd (cold (let a = (r.each_slot s inside).heat in
+          let b = tally_at (λ p. has_heated (r.deed s p)) v.start.passes x.number (in_range turn).0 (in_range turn).1 (ap has_heated is) in omega arith))
 
   -- a pass that isn't listed took nothing
-  not_over_yet : (x.listed ≡ true → ⊥) → r.over s x.number ≡ false
-  not_over_yet unlisted = go (r.over s x.number) refl
+  not_over_yet : (x.listed ≡ true → ⊥) → r.deed s x.number ≡ untouched
+  not_over_yet unlisted = go (r.deed s x.number) refl
     where
-      go : (b : Bool) → r.over s x.number ≡ b → r.over s x.number ≡ false
-      go false is = is
-      go true is = absurd (unlisted ((its_log turn).takes_listed s inside is))
+      go : (e : Deed) → r.deed s x.number ≡ e → r.deed s x.number ≡ untouched
+      go untouched is = is
+      go over is = absurd (unlisted ((its_log turn).takes_listed s inside (λ e. let bad : over ≡ untouched = sym is ∙ e in cc bad)))
+      go heated is = absurd (unlisted ((its_log turn).takes_listed s inside (λ e. let bad : heated ≡ untouched = sym is ∙ e in cc bad)))
 
   listed_cases : (x.listed ≡ true → ⊥) ⊎ (x.listed ≡ true)
   listed_cases = go x.listed refl
@@ -71,15 +76,15 @@ module _ (turn : Turn) (s : ℕ) (inside : s < slots_of turn.v.start) where
       go false is = inl (λ l. let bad : false ≡ true = sym is ∙ l in cc bad)
 
   hot_cases : (IsHot word → ⊥) ⊎ IsHot word
-  hot_cases = dite (ℕ_discrete (hot_in word) 1) (λ h. inr h) (λ c. inl c)
+  hot_cases = dite (ℕ_discrete (heat_in word) 0) (λ c. inl (λ h. omega (arith, c, h))) (λ h. inr (omega (arith, h)))
 
-  -- each slot where the pass is over is hot, whatever it does next
-  pub heats_all : ((t : ℕ) → v.glance ≢ Heating t) → (e : Glance) → Heats v.start (slot_word st.words) (λ i. r.over i x.number) e
-  heats_all calm e = λ i l is. ⊎_elim (λ h. inl h) (λ z. absurd (calm i z)) ((its_log turn).heats i l is)
+  -- the pass has nothing to heat, whatever it does next
+  pub heats_all : ((t : ℕ) → v.glance ≢ Heating t) → (e : Glance) → Heats v.start (λ i. r.deed i x.number) e
+  heats_all calm e = λ i l is. absurd (calm i ((its_log turn).heats i l is))
 
   -- a load that adds nothing to the history
   module _ (d : Work) (works : (v.work ≡ d) ⊎ (HasNoFile v.work × (d ≡ Idle))) (g : Glance) (calm : (t : ℕ) → v.glance ≢ Heating t)
-      (sees : GlanceAgrees v.start (slot_word st.words) (λ i. r.over i x.number) g) (knows : IsInside v.start d) where
+      (sees : GlanceAgrees v.start (slot_word st.words) (λ i. r.deed i x.number) g) (knows : IsInside v.start d) where
     abbrev pub quiet_after : After turn
     quiet_after = read_after turn d g r.history
 
@@ -159,8 +164,8 @@ module _ (turn : Turn) (s : ℕ) (inside : s < slots_of turn.v.start) where
         },
       ))
       (λ (z : (n : ℕ) × (name_in word ≡ n + 1)). let o = named z.1 in ⊎_elim
-      (λ (cold : (IsHot word × (x.listed ≡ true) → ⊥) × (r.over s x.number ≡ false)).
-      let sees : GlanceAgrees v.start (slot_word st.words) (λ i. r.over i x.number) (Cold s) = (inside, cold.1) in (
+      (λ (cold : (IsHot word × (x.listed ≡ true) → ⊥) × (r.deed s x.number ≡ untouched)).
+      let sees : GlanceAgrees v.start (slot_word st.words) (λ i. r.deed i x.number) (Cold s) = (inside, cold.1) in (
         w turn (quiet_after Idle (inr (works, refl)) (Cold s) calm sees tt),
         keeps,
         tt,
@@ -172,7 +177,7 @@ module _ (turn : Turn) (s : ℕ) (inside : s < slots_of turn.v.start) where
         },
       ))
       (λ (hot : IsHot word × (x.listed ≡ true)).
-      let sees : GlanceAgrees v.start (slot_word st.words) (λ i. r.over i x.number) (Hot s z.0) = (inside, o.3, inl (z.1, hot.0)) in (
+      let sees : GlanceAgrees v.start (slot_word st.words) (λ i. r.deed i x.number) (Hot s z.0) = (inside, o.3, inl (z.1, hot.0)) in (
         w turn (quiet_after Idle (inr (works, refl)) (Hot s z.0) calm sees tt),
         keeps,
         tt,
@@ -196,7 +201,7 @@ module _ (turn : Turn) (s : ℕ) (inside : s < slots_of turn.v.start) where
       calm_now t e = cc (sym nothing ∙ e)
 
       -- the pass is to take what the slot names, or to announce the node
-      way : ((IsHot word × (x.listed ≡ true) → ⊥) × (r.over s x.number ≡ false)) ⊎ (IsHot word × (x.listed ≡ true))
+      way : ((IsHot word × (x.listed ≡ true) → ⊥) × (r.deed s x.number ≡ untouched)) ⊎ (IsHot word × (x.listed ≡ true))
       way = ⊎_elim (λ cold. inl (λ z. cold z.0, not_over cold calm_now))
           (λ hot. ⊎_elim (λ none. inl (λ z. none z.1, not_over_yet none)) (λ has. inr (hot, has)) listed_cases) hot_cases
 
@@ -232,7 +237,7 @@ module _ (turn : Turn) (s : ℕ) (inside : s < slots_of turn.v.start) where
             let b = ap (λ (e : Work). if_file m (held_in e)) works in omega arith;
       }
 
-    moved_on : ((name_in word ≡ n + 1) × IsHot word → ⊥) → r.over s x.number ≡ false
+    moved_on : ((name_in word ≡ n + 1) × IsHot word → ⊥) → r.deed s x.number ≡ untouched
     moved_on not_so = let o = rw saw at (its_log turn).sees in ⊎_elim (λ z. absurd (not_so z)) (λ out. out) o.2
 
     pub confirm : (slots : ℕ) (carried : List (ℕ × Option Closed))
@@ -257,7 +262,7 @@ module _ (turn : Turn) (s : ℕ) (inside : s < slots_of turn.v.start) where
             moved = λ i k saw' works' not_so. let same : n ≡ k = cc (sym saw ∙ saw') in absurd (not_so (rw (← same) so));
           },
         ))
-        (λ not_so. let sees : GlanceAgrees v.start (slot_word st.words) (λ i. r.over i x.number) (Cold s) = (inside, moved_on not_so) in let l = subst (WorkAgrees v.start r.phase id) works (its_work turn) in (
+        (λ not_so. let sees : GlanceAgrees v.start (slot_word st.words) (λ i. r.deed i x.number) (Cold s) = (inside, moved_on not_so) in let l = subst (WorkAgrees v.start r.phase id) works (its_work turn) in (
           w turn (quiet_after (Announced n) (inl works) (Cold s) calm_hot sees l),
           keeps,
           tt,

@@ -7,7 +7,7 @@ use Rattle.fx_lasting.proofs.Words.{name_in, IsInBlock, sum_by, sum_set, HoldAgr
 use Rattle.fx_lasting.proofs.Words.{inl, list_place}
 use Rattle.fx_lasting.proofs.Histories.{Grows, each_changed}
 use Rattle.fx_lasting.proofs.Frames.{busy, owner_stays, slot_same, node_same, control_same, Leaves, keeps_other, one_block}
-use Rattle.fx_lasting.proofs.Frames.{sees_same, heats_same, covers_same, guards_same}
+use Rattle.fx_lasting.proofs.Frames.{sees_same, covers_same, guards_same}
 use Rattle.fx_lasting.proofs.Keeping.{Turn, After, Keeps, Homes, word_at, slot_word, step_kept, w, end, in_range, its_log}
 
 module _ (turn : Turn) (q : ℕ) (its : q < nodes_of turn.v.start) (ph : Phase) (h' : List Event) (words' : List ℕ) (homes' : Homes)
@@ -23,7 +23,7 @@ module _ (turn : Turn) (q : ℕ) (its : q < nodes_of turn.v.start) (ph : Phase) 
     phase = changed_at r.phase q ph;
     next_number = r.next_number;
     debt = debt';
-    over = r.over;
+    deed = r.deed;
     work = d;
     glance = g;
     change = v.change;
@@ -80,8 +80,8 @@ module _ (turn : Turn) (q : ℕ) (its : q < nodes_of turn.v.start) (ph : Phase) 
   own_keeps same is hold guard work = let o = its_log turn in record {
     hold = hold;
     guarded = guard;
-    sees = sees_same v.start (λ s. r.over s x.number) same g (rw is at o.sees);
-    heats = heats_same v.start (λ s. r.over s x.number) same g (rw is at o.heats);
+    sees = sees_same v.start (λ s. r.deed s x.number) same g (rw is at o.sees);
+    heats = rw is at o.heats;
     work = work;
   }
 
@@ -126,7 +126,7 @@ module _ (turn : Turn) (q : ℕ) (its : q < nodes_of turn.v.start) (ph : Phase) 
       legal = s.legal;
       seen = ([], refl);
       own = refl;
-      slots = λ i l. slot_same (s.slot_words i l) (at_is i) refl
+      slots = λ i l. slot_same (s.slot_words i l) (at_is i) (λ q low high. refl)
           (λ f there seat. each_changed (λ m z. z ≡ r.phase m) r.phase
           (λ same. let e = ap r.phase (sym same) ∙ seat in s.at_slot i f e ∙ (sym e ∙ ap r.phase (sym same))) (λ _. refl))
           (r.each_slot i l);
@@ -148,7 +148,7 @@ module _ (turn : Turn) (q : ℕ) (its : q < nodes_of turn.v.start) (ph : Phase) 
       held = s.held;
       allowed = s.allowed;
       lists = λ p few. inl (s.lists p few);
-      over_on = λ i p l is. inl is;
+      deed_on = λ i p l is. inl is;
       its_bit = λ l. inl l;
       its = s.its_own;
       holds = s.holds;

@@ -12,6 +12,7 @@ use Rattle.std.proofs.Common.{not}
 use Rattle.std.proofs.Math.Nat.{mod-eq_of_lt}
 use Rattle.atomic_table.specs.Table.{opening}
 use Rattle.fx_lasting.proofs.Counts.{tally_none, tally_same}
+use Rattle.fx_lasting.proofs.Words.{Deed, untouched, has_heated, list_place}
 use Rattle.fx_table.proofs.FullSlots.{full_few}
 use Rattle.fx_plain.proofs.Prepared.{numbered_anew}
 use Rattle.fx_seen.proofs.Views.{of_one}
@@ -50,16 +51,17 @@ module _ (k : Start) (words : List ℕ) (homes : List (Option Closed)) (o : Open
   its_node slot l f is = let e = its_number slot f is in let m = more_nodes in mod-eq_of_lt {n = f.number} {m = nodes_of k} (omega arith) ∙ e
 
   slot_opens : (slot : ℕ) → slot < slots_of k
-      → SlotAgrees k (node_of_number k) (first_phase k) (λ p. false) slot (first_file k slot) (slice_index words (slot_place slot))
+      → SlotAgrees k (node_of_number k) (first_phase k) (λ p. untouched) slot (first_file k slot) (slice_index words (slot_place slot))
   slot_opens slot l = rw (o.slot_words slot l) (go (first_file k slot) refl)
     where
-      go : (found : Option File) → first_file k slot ≡ found → SlotAgrees k (node_of_number k) (first_phase k) (λ p. false) slot found (word_for found)
-      go None is = record { names = refl; seat = tt; takes = omega arith }
+      go : (found : Option File) → first_file k slot ≡ found → SlotAgrees k (node_of_number k) (first_phase k) (λ p. untouched) slot found (word_for found)
+      go None is = record { names = refl; seat = tt; takes = omega arith; heat = sym (tally_none k.passes) }
       go (Some f) is = let small = o.entries slot f is in let e = its_number slot f is in let m = more_nodes in
           let z = takes_made f.number f.identity.entry in let on = its_node slot l f is in record {
             names = (name_made f.number f.identity.entry small ∙ ap (λ (n : ℕ). n + 1) (e ∙ sym on), entry_made f.number f.identity.entry small);
             seat = (rw on (omega arith), ap (first_phase k) on ∙ (low_phase l ∙ ap (phase_for slot) is));
             takes = omega arith;
+            heat = omega (arith, tally_none k.passes);
           }
 
   abbrev Node : ℕ → Phase → Type 0
@@ -112,19 +114,24 @@ module _ (k : Start) (words : List ℕ) (homes : List (Option Closed)) (o : Open
       low None = refl
       low (Some f) = refl
 
+  -- the list has no bits
+  no_bits : (p : ℕ) → p ≤ 1024 → IsListedIn (slice_index words (list_place p)) p → ⊥
+  no_bits p high is = let z = subst (λ (i : ℕ). IsListedIn i p) (o.list_words p high) is in let a = bit_at-zero (bit_of p) in omega (arith, z, a)
+
   -- the view of the seat that opens the table
-  log_opens : (p : ℕ) → 0 < p → p ≤ k.passes → LogAgrees k [] words (first_phase k) (λ q. 0) (λ i q. false) Idle Nothing (new_log p)
+  log_opens : (p : ℕ) → 0 < p → p ≤ k.passes → LogAgrees k [] words (first_phase k) (λ q. 0) (λ i q. untouched) Idle Nothing (new_log p)
   log_opens p low high = record {
     seen = ([], refl);
     own = refl;
     held = refl;
     allowed = tt;
     list = λ is. absurd (cc is);
+    unlisted = λ is. absurd (no_bits p (omega (arith, high, o.passes)) is);
     hold = (o.hold_words p low high, refl);
     guarded = tt;
     sees = tt;
     heats = λ i l is. absurd (cc is);
-    takes_listed = λ i l is. absurd (cc is);
+    takes_listed = λ i l is. absurd (is refl);
   }
 
   -- the numbers of new passes
@@ -136,10 +143,10 @@ module _ (k : Start) (words : List ℕ) (homes : List (Option Closed)) (o : Open
       (z.0, omega (arith, a, b, c, once_is k.passes z.0), omega (arith, a, b, c, once_is k.passes z.0), z.2)
 
   view_opens : (j : ℕ) (v : View) → get_elem? (first_view k ∷ []) j ≡ some v
-      → ViewAgrees k [] words (first_phase k) (λ q. 0) (λ i q. false) j v
-  view_opens zero v e = subst (ViewAgrees k [] words (first_phase k) (λ q. 0) (λ i q. false) 0) (some-injective (first_view k) v e) record {
+      → ViewAgrees k [] words (first_phase k) (λ q. 0) (λ i q. untouched) j v
+  view_opens zero v e = subst (ViewAgrees k [] words (first_phase k) (λ q. 0) (λ i q. untouched) 0) (some-injective (first_view k) v e) record {
     logs = λ x h. let z = in_order x h in
-        subst (LogAgrees k [] words (first_phase k) (λ q. 0) (λ i q. false) Idle Nothing) (sym z.3) (log_opens z.0 z.1 z.2);
+        subst (LogAgrees k [] words (first_phase k) (λ q. 0) (λ i q. untouched) Idle Nothing) (sym z.3) (log_opens z.0 z.1 z.2);
     work = tt;
     empty = λ _. (refl, refl, refl);
     start = inr refl;
@@ -155,7 +162,7 @@ module _ (k : Start) (words : List ℕ) (homes : List (Option Closed)) (o : Open
     numbering = λ number. refl;
     next_number = slots_of k;
     debt = λ q. 0;
-    over = λ i q. false;
+    deed = λ i q. untouched;
     legal = record { leads = (tt, refl); releases = tt };
     each_slot = slot_opens;
     each_node = node_opens;
@@ -169,6 +176,6 @@ module _ (k : Start) (words : List ℕ) (homes : List (Option Closed)) (o : Open
     passes = λ p. let a = counted_once (λ (y : Log). y.number) new_log (λ n. refl) p k.passes in omega arith;
     whole = let a = length-map-range_with_len new_log 1 k.passes in omega arith;
     authors = λ p none. refl;
-    listed = λ p low high is. let z = subst (λ (i : ℕ). IsListedIn i p) (o.list_words p high) is in let a = bit_at-zero (bit_of p) in absurd (omega (arith, z, a));
+    listed = λ p low high is. absurd (no_bits p high is);
     control = let a = o.control in let b = full_few (first_file k) (range_at_start k).0 (range_at_start k).1 in record { counts = omega arith };
   }

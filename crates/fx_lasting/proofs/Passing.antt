@@ -9,7 +9,7 @@ use Rattle.std.specs.Prelude.{option_map, Result, Ok, Err, ok_or, is_err, is_som
 use Rattle.std.proofs.lemmas.Bool.{not-false, not-true}
 use Rattle.fx_table.specs.Calls.{Use, no_use, one_number, one_look, Adds, IsNewFile, Placed, Cleared, Taken, ReleasesFile, LookedAfter, LookedUp}
 use Rattle.fx_table.proofs.Calls.{adds_then, adds_nothing}
-use Rattle.fx_lasting.proofs.Words.{new_round, LooksByTake, LetsMarkGo, Announced, first_visit, hot_in, cond, inl, inr}
+use Rattle.fx_lasting.proofs.Words.{new_round, LooksByTake, LetsMarkGo, Announced, first_visit, heat_in, cond, inl, inr}
 use Rattle.fx_table.specs.Opening.{Opening}
 use Rattle.fx_table.specs.declared.limits.TheConstants.{PASS_LOOKS}
 use Rattle.fx_table.specs.Pass.{PassView, IsIdle, IsFileRemoval}
@@ -119,7 +119,7 @@ at_rest {p = p} fits {m'} {xs} {w} {n} r =
 
 -- a pass that has a file to retire, and has visited nobody yet
 abbrev pub IsToRetire : ℕ → ℕ → File → Retired → Work → Type 0
-IsToRetire passes visit f retired w = (w ≡ Retiring f retired.node retired.takes (new_round visit) 0) × (retired.takes < 2 ^ 31)
+IsToRetire passes visit f retired w = (w ≡ Retiring f retired.node retired.takes (new_round visit) 0) × (retired.takes < 2 ^ 21)
     × ((visit ≡ 1) ⊎ (visit ≡ passes + 1))
 
 -- The work of a pass between two calls, by its activity
@@ -175,7 +175,7 @@ module _ (passes visit next : ℕ) (idle guarded : Bool) where
   work_retiring f retired (Guarded g n) knows is = absurd (cc is)
   work_retiring f retired (Retiring g n t nx m) knows is = let same : g ≡ f = cc is in let value : retired_at g n t ≡ retired = cc is in (
     λ i. Retiring (same i) (ap (λ (r : Retired). r.node) value i) (ap (λ (r : Retired). r.takes) value i) (knows.1 i) (knows.2 i),
-    subst (λ (z : ℕ). z < 2 ^ 31) (ap (λ (r : Retired). r.takes) value) knows.3,
+    subst (λ (z : ℕ). z < 2 ^ 21) (ap (λ (r : Retired). r.takes) value) knows.3,
     knows.4,
   )
   work_retiring f retired _ knows is = absurd knows
@@ -346,12 +346,12 @@ knows_removed k found (Some f) removed idle guarded visit next is says first = (
   ap new_round (sym first),
   refl,
   omega arith,
-  subst (λ (z : ℕ). (z ≡ 1) ⊎ (z ≡ k.passes + 1)) (sym first) (visits_first (hot_in found == 1)),
+  subst (λ (z : ℕ). (z ≡ 1) ⊎ (z ≡ k.passes + 1)) (sym first) (visits_first (heat_in found == 0)),
 )
   where
-    visits_first : (b : Bool) → (cond b 1 (k.passes + 1) ≡ 1) ⊎ (cond b 1 (k.passes + 1) ≡ k.passes + 1)
-    visits_first true = inl refl
-    visits_first false = inr refl
+    visits_first : (b : Bool) → (cond b (k.passes + 1) 1 ≡ 1) ⊎ (cond b (k.passes + 1) 1 ≡ k.passes + 1)
+    visits_first true = inr refl
+    visits_first false = inl refl
 
 -- its account with the control word
 pub account_so : (range : ℕ × ℕ) (slot found : ℕ) (file : Option File) (removed : Option Retired) (inside was_empty : Bool)

@@ -44,7 +44,7 @@ module _ (k : Start) (s : Shared) (r : Agrees k s) (views : List View) (a : AreR
     numbering = r.numbering;
     next_number = r.next_number;
     debt = r.debt;
-    over = r.over;
+    deed = r.deed;
     legal = r.legal;
     each_slot = r.each_slot;
     each_node = λ n l. subst (λ (t : ℕ). NodeAgrees (state_after_all k r.history).at (slots_of k) (λ i. count_in (slot_word s.words i)) r.node_of
@@ -57,7 +57,7 @@ module _ (k : Start) (s : Shared) (r : Agrees k s) (views : List View) (a : AreR
     fresh = r.fresh;
     each_view = λ j u e. ⊎_elim (λ new. record {
       logs = λ x h. let w = new.its x h in
-          subst (λ (d : Work × Glance). LogAgrees k r.history s.words r.phase r.debt r.over d.0 d.1 x)
+          subst (λ (d : Work × Glance). LogAgrees k r.history s.words r.phase r.debt r.deed d.0 d.1 x)
           (λ i. ((w.3.0 ∙ sym new.idle.0) i, (w.3.1 ∙ sym new.idle.1) i)) ((r.each_view w.0 w.1 w.2).logs x w.4);
       work = subst (WorkAgrees k r.phase j) (sym new.idle.0) tt;
       empty = λ _. new.idle;
@@ -85,14 +85,15 @@ module _ (k : Start) (s : Shared) (r : Agrees k s) (id : ℕ) (v : View) (here :
   abbrev views' : List View
   views' = set s.views id forgot
 
-  its_log : (x : Log) → LogAgrees k r.history s.words r.phase r.debt r.over v.work v.glance x
-      → LogAgrees k r.history s.words r.phase r.debt r.over Idle v.glance x
+  its_log : (x : Log) → LogAgrees k r.history s.words r.phase r.debt r.deed v.work v.glance x
+      → LogAgrees k r.history s.words r.phase r.debt r.deed Idle v.glance x
   its_log x o = record {
     seen = o.seen;
     own = o.own;
     held = o.held ∙ no_file free_of;
     allowed = tt;
     list = o.list;
+    unlisted = o.unlisted;
     hold = holds_none free_of o.hold;
     guarded = tt;
     sees = o.sees;
@@ -109,7 +110,7 @@ module _ (k : Start) (s : Shared) (r : Agrees k s) (id : ℕ) (v : View) (here :
     numbering = r.numbering;
     next_number = r.next_number;
     debt = r.debt;
-    over = r.over;
+    deed = r.deed;
     legal = r.legal;
     each_slot = r.each_slot;
     each_node = λ n l. subst (λ (t : ℕ). NodeAgrees (state_after_all k r.history).at (slots_of k) (λ i. count_in (slot_word s.words i)) r.node_of
@@ -120,7 +121,7 @@ module _ (k : Start) (s : Shared) (r : Agrees k s) (id : ℕ) (v : View) (here :
     unborn = r.unborn;
     fresh = r.fresh;
     each_view = λ j u e. ⊎_elim (λ (t : (j ≡ id) × (forgot ≡ u)).
-        subst (λ (z : ℕ × View). ViewAgrees k r.history s.words r.phase r.debt r.over z.0 z.1) (λ i. (sym t.0 i, t.1 i)) record {
+        subst (λ (z : ℕ × View). ViewAgrees k r.history s.words r.phase r.debt r.deed z.0 z.1) (λ i. (sym t.0 i, t.1 i)) record {
           logs = λ x h. its_log x ((r.each_view id v here).logs x h);
           work = tt;
           empty = λ none. let e = (r.each_view id v here).empty none in (refl, e.1, e.2);

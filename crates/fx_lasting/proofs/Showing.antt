@@ -39,7 +39,7 @@ module _ (k : Start) (s : Shared) (r : Agrees k s) (h : List Event) (seen : IsSe
     numbering = r.numbering;
     next_number = r.next_number;
     debt = r.debt;
-    over = r.over;
+    deed = r.deed;
     legal = r.legal;
     each_slot = r.each_slot;
     each_node = λ n l. subst (λ (t : ℕ). NodeAgrees (state_after_all k r.history).at (slots_of k) (λ i. count_in (slot_word s.words i)) r.node_of
@@ -50,7 +50,7 @@ module _ (k : Start) (s : Shared) (r : Agrees k s) (h : List Event) (seen : IsSe
     unborn = r.unborn;
     fresh = r.fresh;
     each_view = λ j x e. ⊎_elim (λ old. r.each_view j x old)
-        (λ (new : u ≡ x). subst (ViewAgrees k r.history s.words r.phase r.debt r.over j) new record {
+        (λ (new : u ≡ x). subst (ViewAgrees k r.history s.words r.phase r.debt r.deed j) new record {
           logs = λ y c. absurd (contains_none y c);
           work = tt;
           empty = λ _. (refl, refl, refl);
@@ -75,7 +75,7 @@ may_show k id v {x} one s r at =
 -- a seat with one pass may learn the whole history
 module _ (k : Start) (id : ℕ) (v w : View) (x : Log) (one : v.logs ≡ x ∷ []) (begun : v.start ≡ k) (within : IsInside v.start v.work) (s : Shared) (r : Agrees k s)
     (at : get_elem? s.views id ≡ some v) (other : ℕ) (there : get_elem? s.views other ≡ some w) where
-  its_log : LogAgrees k r.history s.words r.phase r.debt r.over v.work v.glance x
+  its_log : LogAgrees k r.history s.words r.phase r.debt r.deed v.work v.glance x
   its_log = (r.each_view id v at).logs x (contains_alone one)
 
   abbrev log : Log
@@ -84,13 +84,14 @@ module _ (k : Start) (id : ℕ) (v w : View) (x : Log) (one : v.logs ≡ x ∷ [
   abbrev learned : View
   learned = record v { logs = log ∷ [] }
 
-  now_log : LogAgrees k r.history s.words r.phase r.debt r.over v.work v.glance log
+  now_log : LogAgrees k r.history s.words r.phase r.debt r.deed v.work v.glance log
   now_log = let o = its_log in record {
     seen = ([], refl);
     own = refl;
     held = o.held;
     allowed = o.allowed;
     list = o.list;
+    unlisted = o.unlisted;
     hold = o.hold;
     guarded = o.guarded;
     sees = o.sees;
@@ -107,7 +108,7 @@ module _ (k : Start) (id : ℕ) (v w : View) (x : Log) (one : v.logs ≡ x ∷ [
     numbering = r.numbering;
     next_number = r.next_number;
     debt = r.debt;
-    over = r.over;
+    deed = r.deed;
     legal = r.legal;
     each_slot = r.each_slot;
     each_node = λ n l. subst (λ (t : ℕ). NodeAgrees (state_after_all k r.history).at (slots_of k) (λ i. count_in (slot_word s.words i)) r.node_of
@@ -118,8 +119,8 @@ module _ (k : Start) (id : ℕ) (v w : View) (x : Log) (one : v.logs ≡ x ∷ [
     unborn = r.unborn;
     fresh = r.fresh;
     each_view = λ j u e. ⊎_elim (λ (t : (j ≡ id) × (learned ≡ u)).
-        subst (λ (z : ℕ × View). ViewAgrees k r.history s.words r.phase r.debt r.over z.0 z.1) (λ i. (sym t.0 i, t.1 i)) record {
-          logs = λ y h. subst (LogAgrees k r.history s.words r.phase r.debt r.over v.work v.glance) (sym (contains_only log y h)) now_log;
+        subst (λ (z : ℕ × View). ViewAgrees k r.history s.words r.phase r.debt r.deed z.0 z.1) (λ i. (sym t.0 i, t.1 i)) record {
+          logs = λ y h. subst (LogAgrees k r.history s.words r.phase r.debt r.deed v.work v.glance) (sym (contains_only log y h)) now_log;
           work = (r.each_view id v at).work;
           empty = λ none. absurd (omega (arith, ap (length {A = Log}) none));
           start = inr begun;

@@ -76,6 +76,7 @@ module _ (act : ℕ → Option File → Action) (does : IsRemoval act) (turn : T
     removed_else = λ m. refl;
     names = refl;
     no_takes = refl;
+    no_heat = refl;
     seat = tt;
     seat_apart = λ f is. absurd (cc is);
     kept = λ n. inl refl;
@@ -247,6 +248,7 @@ module _ (turn : Turn) (s : ℕ) (inside : s < slots_of turn.v.start) (old : Opt
       removed_else = removed_same;
       names = (name_made n file.entry small ∙ ap (λ (i : ℕ). i + 1) (sym on_n), entry_made n file.entry small);
       no_takes = no_count;
+      no_heat = let e = takes_made n file.entry in omega arith;
       seat = rw on_n (its.0, changed_here r.phase n (seated s new_file) n refl);
       seat_apart = λ f is. let e : number ≡ f.number = (let z : new_file ≡ f = cc is in ap (λ (y : File). y.number) z) in
           subst (λ (i : ℕ). NotOf r.node_of (r.node_of i) old) e (rw on_n apart);

@@ -1,17 +1,16 @@
 -- A step on the word of a slot, whose file stays there.
-use Rattle.fx_lasting.proofs.Words.{inl, true}
+use Rattle.fx_lasting.proofs.Words.{inl, true, Deed, untouched, has_acted, has_heated, heat_in}
 use Rattle.fx_lasting.proofs.Words.{◌≡◌, ◌≢◌, ℕ, ◌+◌, ◌<◌, ◌≤◌, List, [], set, sym, refl, ap, ◌∙◌, subst, arith, Option, Some, None, Bool, held_by, File}
 use Rattle.fx_lasting.proofs.Words.{Event, NodeAgrees, IsAllowed, SlotAgrees, Names, Agrees, slots_of, nodes_of, IsHistory, state_after_all}
 use Rattle.fx_lasting.proofs.Words.{held_in, held_of, taken_of, taking, Phase, free, placed, seated, leaving, retired, emptied, Work, Glance, ⊎_elim}
 use Rattle.fx_lasting.proofs.Words.{◌⊎◌, inr, dite, ℕ_discrete, slot_place, word_of, count_in, name_in, entry_in, IsHot, cold_takes, tally, birth_word}
 use Rattle.fx_lasting.proofs.Words.{owed, sum_set, sum_by, get_elem?, length-set, MayBeUnmarked, dec_le, suc}
-use Rattle.fx_lasting.proofs.Counts.{tally_same}
 use Rattle.fx_lasting.proofs.Histories.{Grows}
 use Rattle.fx_lasting.proofs.Frames.{busy, owner_stays, owner_same, slot_same, node_same, control_same, Leaves, keeps_other, guards_same}
 use Rattle.fx_lasting.proofs.Keeping.{Turn, After, Keeps, word_at, slot_word, step_kept, w, end}
 use Rattle.fx_lasting.proofs.Places.{slot_words, slot_here, slot_node, slot_else, slot_hold, slot_control, slot_list}
 
-module _ (turn : Turn) (s : ℕ) (inside : s < slots_of turn.v.start) (new : ℕ) (h' : List Event) (d : Work) (g : Glance) (over' : ℕ → ℕ → Bool) where
+module _ (turn : Turn) (s : ℕ) (inside : s < slots_of turn.v.start) (new : ℕ) (h' : List Event) (d : Work) (g : Glance) (deed' : ℕ → ℕ → Deed) where
   open turn use {st, v, r, id, x, here, one}
 
   abbrev pub words' : List ℕ
@@ -26,7 +25,7 @@ module _ (turn : Turn) (s : ℕ) (inside : s < slots_of turn.v.start) (new : ℕ
     phase = r.phase;
     next_number = r.next_number;
     debt = r.debt;
-    over = over';
+    deed = deed';
     work = d;
     glance = g;
     change = v.change;
@@ -47,10 +46,11 @@ module _ (turn : Turn) (s : ℕ) (inside : s < slots_of turn.v.start) (new : ℕ
     pub name : name_in new ≡ name_in old
     pub entry : entry_in new ≡ entry_in old
     pub hot : IsHot old → IsHot new
-    pub takes : count_in new ≤ cold_takes v.start.passes + tally (over' s) v.start.passes
-    pub over_else : (i q : ℕ) → i ≢ s → over' i q ≡ r.over i q
-    pub over_other : (q : ℕ) → q ≢ x.number → over' s q ≡ r.over s q
-    pub over_own : over' s x.number ≡ true → (r.over s x.number ≡ true) ⊎ (x.listed ≡ true)
+    pub takes : count_in new ≤ cold_takes v.start.passes + tally (λ p. has_acted (deed' s p)) v.start.passes
+    pub heat : heat_in new ≡ tally (λ p. has_heated (deed' s p)) v.start.passes
+    pub deed_else : (i q : ℕ) → i ≢ s → deed' i q ≡ r.deed i q
+    pub deed_other : (q : ℕ) → q ≢ x.number → deed' s q ≡ r.deed s q
+    pub deed_own : deed' s x.number ≢ untouched → (r.deed s x.number ≢ untouched) ⊎ (x.listed ≡ true)
     -- the takes of the file's node, and those of others
     pub counts : (n : ℕ) (f : File) → n < nodes_of v.start → r.phase n ≡ seated s f
         → word_at st.words (word_of v.start n) + count_in new ≡ birth_word + sum_by (taken_of n) (set st.views id (w turn slot_after))
@@ -90,9 +90,9 @@ module _ (turn : Turn) (s : ℕ) (inside : s < slots_of turn.v.start) (new : ℕ
         (ap name_in (slot_here turn s inside new) ∙ p.name))
         (λ other. ap name_in (slot_else turn s inside new i other))
 
-    slot_now : SlotAgrees v.start r.node_of r.phase (over' s) s ((state_after_all v.start h').at s) (slot_word words' s)
+    slot_now : SlotAgrees v.start r.node_of r.phase (deed' s) s ((state_after_all v.start h').at s) (slot_word words' s)
     slot_now = let o = r.each_slot s inside in rw (slot_here turn s inside new, at_is s)
-        record { names = names ((state_after_all v.start r.history).at s) o.names; seat = o.seat; takes = p.takes }
+        record { names = names ((state_after_all v.start r.history).at s) o.names; seat = o.seat; takes = p.takes; heat = p.heat }
       where
         names : (found : Option File) → Names r.node_of old found → Names r.node_of new found
         names None o = p.name ∙ o
@@ -106,11 +106,11 @@ module _ (turn : Turn) (s : ℕ) (inside : s < slots_of turn.v.start) (new : ℕ
       open_file = λ j u f n other there holds at. at;
       slots = λ i q l other. dite (ℕ_discrete i s)
           (λ same. inr (
-            ap (λ (j : ℕ). over' j q) same ∙ (p.over_other q other ∙ sym (ap (λ (j : ℕ). r.over j q) same)),
+            ap (λ (j : ℕ). deed' j q) same ∙ (p.deed_other q other ∙ sym (ap (λ (j : ℕ). r.deed j q) same)),
             same_name i,
             subst (λ (j : ℕ). IsHot (slot_word st.words j) → IsHot (slot_word words' j)) (sym same) (λ h. rw (slot_here turn s inside new) (p.hot h)),
           ))
-          (λ ne. inr (p.over_else i q ne, same_name i, λ h. rw (slot_else turn s inside new i ne) h));
+          (λ ne. inr (p.deed_else i q ne, same_name i, λ h. rw (slot_else turn s inside new i ne) h));
     }
 
     abbrev Node : ℕ → Phase → Type 0
@@ -157,7 +157,7 @@ module _ (turn : Turn) (s : ℕ) (inside : s < slots_of turn.v.start) (new : ℕ
       own = refl;
       slots = λ i l. dite (ℕ_discrete i s) (λ same. rw same slot_now)
           (λ other. slot_same (slot_else turn s inside new i other) (at_is i)
-          (tally_same (over' i) (r.over i) v.start.passes (λ q low high. p.over_else i q other)) (λ f there seat. refl) (r.each_slot i l));
+          (λ q low high. p.deed_else i q other) (λ f there seat. refl) (r.each_slot i l));
       nodes = λ n l. node_now n l (r.phase n) refl;
       owners = λ n l. ⊎_elim (λ same. owner_same st.views id v (w turn slot_after) here same n (r.phase n) (r.each_owner n l))
           (λ none. owner_stays st.views id v (w turn slot_after) here n (λ bad. omega arith) (r.phase n) (r.each_owner n l)) p.owners;
@@ -168,11 +168,11 @@ module _ (turn : Turn) (s : ℕ) (inside : s < slots_of turn.v.start) (new : ℕ
       held = p.held;
       allowed = p.allowed;
       lists = λ i few. inl (slot_list turn s inside new i few);
-      over_on = λ i q l is. dite (ℕ_discrete i s)
-          (λ same. let here : over' s q ≡ true = ap (λ (j : ℕ). over' j q) (sym same) ∙ is in dite (ℕ_discrete q x.number)
-          (λ own. ⊎_elim (λ before. inl ((λ k. r.over (same k) (own k)) ∙ before)) (λ has. inr (own, has)) (p.over_own (ap (over' s) (sym own) ∙ here)))
-          (λ other. inl (ap (λ (j : ℕ). r.over j q) same ∙ (sym (p.over_other q other) ∙ here))))
-          (λ ne. inl (sym (p.over_else i q ne) ∙ is));
+      deed_on = λ i q l is. dite (ℕ_discrete i s)
+          (λ same. let here : deed' s q ≢ untouched = λ e. is (ap (λ (j : ℕ). deed' j q) same ∙ e) in dite (ℕ_discrete q x.number)
+          (λ own. ⊎_elim (λ before. inl (λ e. before (sym (λ k. r.deed (same k) (own k)) ∙ e))) (λ has. inr (own, has)) (p.deed_own (λ e. here (ap (deed' s) own ∙ e))))
+          (λ other. inl (λ e. here (p.deed_other q other ∙ (sym (ap (λ (j : ℕ). r.deed j q) same) ∙ e)))))
+          (λ ne. inl (λ e. is (p.deed_else i q ne ∙ e)));
       its_bit = λ l. inl l;
       its = p.its;
       holds = p.holds;

@@ -5,10 +5,10 @@ use Rattle.fx_lasting.proofs.Words.{get_elem?, Bool, true, false, inl, inr, ⊎_
 use Rattle.fx_lasting.proofs.Words.{State, held_by, with_removed, changed_at, changed_here, changed_else, Agrees, NodeAgrees, OwnerAgrees, WorkAgrees}
 use Rattle.fx_lasting.proofs.Words.{SlotAgrees, Names, IsSeated, HoldAgrees, GuardAgrees, MayBeUnmarked, IsAllowed, ControlCounts, Nodes}
 use Rattle.fx_lasting.proofs.Words.{IsHistory, state_after_all, slots_of, nodes_of, range_at_start, slot_place, word_of, hold_word_of, control_place, count_in}
-use Rattle.fx_lasting.proofs.Words.{name_in, hot_in, IsHot, owed, taken_of, taking, held_in, if_file, sum_by, sum_set, Phase, free, placed, seated}
+use Rattle.fx_lasting.proofs.Words.{name_in, heat_in, IsHot, Deed, untouched, has_heated, owed, taken_of, taking, held_in, if_file, sum_by, sum_set, Phase, free, placed, seated}
 use Rattle.fx_lasting.proofs.Words.{leaving, retired, emptied, owner, file_in, removed_in, first_visit, retiring_work, Found, Work, Change, Idle, Retiring}
 use Rattle.fx_lasting.proofs.Words.{length-set}
-use Rattle.fx_lasting.proofs.Counts.{tally_same}
+use Rattle.fx_lasting.proofs.Counts.{tally_same, tally_none}
 use Rattle.fx_lasting.proofs.Histories.{Grows, each_changed}
 use Rattle.fx_lasting.proofs.Frames.{does_now, slot_same, file_same, Leaves, keeps_other, guards_same, SlotGoesOn, sees_on, heats_on}
 use Rattle.fx_lasting.proofs.Keeping.{Turn, After, Homes, word_at, slot_word, step_kept, w, end, its_log, in_range}
@@ -79,8 +79,8 @@ module _ (turn : Turn) (s : ℕ) (inside : s < slots_of turn.v.start) where
     gone_as f = leaving id (count_in found) (new_round (first_visit v.start.passes found)) 0 f
 
     module _ (h' : List Event) (new_word : ℕ) (new : Option File) (homes' : Homes) (phase₁ : ℕ → Phase) (next' : ℕ) (c : Change) where
-      abbrev over' : ℕ → ℕ → Bool
-      over' = changed_at r.over s (λ p. false)
+      abbrev deed' : ℕ → ℕ → Deed
+      deed' = changed_at r.deed s (λ p. untouched)
 
       -- phases are changed by the old file, if there was one
       abbrev gone : Option File → (ℕ → Phase) → ℕ → Phase
@@ -99,7 +99,7 @@ module _ (turn : Turn) (s : ℕ) (inside : s < slots_of turn.v.start) where
         phase = phase';
         next_number = next';
         debt = r.debt;
-        over = over';
+        deed = deed';
         work = d;
         glance = v.glance;
         change = c;
@@ -128,6 +128,7 @@ module _ (turn : Turn) (s : ℕ) (inside : s < slots_of turn.v.start) where
         -- the new file of the slot
         pub names : Names r.node_of new_word new
         pub no_takes : count_in new_word ≡ 0
+        pub no_heat : heat_in new_word ≡ 0
         pub seat : IsSeated v.start r.node_of phase₁ s new
         pub seat_apart : (f : File) → new ≡ Some f → NotOf r.node_of (r.node_of f.number) old
         -- the phases change at most where the pass was placing
@@ -177,16 +178,16 @@ module _ (turn : Turn) (s : ℕ) (inside : s < slots_of turn.v.start) where
             }
           where
             first_some : 0 < first_visit v.start.passes found
-            first_some = dite (ℕ_discrete (hot_in found) 1) (λ h. rw (eq-eqb (hot_in found) 1 h) (omega arith))
-                (λ c. rw (ne_eqb (hot_in found) 1 c) (omega arith))
+            first_some = dite (ℕ_discrete (heat_in found) 0) (λ c. rw (eq-eqb (heat_in found) 0 c) (omega arith))
+                (λ h. rw (ne_eqb (heat_in found) 0 h) (omega arith))
 
             first_few : first_visit v.start.passes found ≤ 2 ^ 16
-            first_few = let a = r.shape.passes in dite (ℕ_discrete (hot_in found) 1) (λ h. rw (eq-eqb (hot_in found) 1 h) (omega arith))
-                (λ c. rw (ne_eqb (hot_in found) 1 c) (omega arith))
+            first_few = let a = r.shape.passes in dite (ℕ_discrete (heat_in found) 0) (λ c. rw (eq-eqb (heat_in found) 0 c) (omega arith))
+                (λ h. rw (ne_eqb (heat_in found) 0 h) (omega arith))
 
         -- who guards the old file is still to be visited
         guard_old : {f : File} (q : ℕ) → 0 < q → q ≤ v.start.passes → old ≡ Some f → IsHot found → IsToVisit (new_round (first_visit v.start.passes found)) q
-        guard_old q low high is hot = (rw (eq-eqb (hot_in found) 1 hot) (omega arith), λ idle. let a = idle.0 in omega arith)
+        guard_old q low high is hot = (rw (ne_eqb (heat_in found) 0 (λ none. omega (arith, hot, none))) (omega arith), λ idle. let a = idle.0 in omega arith)
 
         covers : (q : ℕ) → (0 < q) × (q ≤ v.start.passes) → (n : ℕ) → MayBeUnmarked (slot_word st.words) q (r.phase n)
             → MayBeUnmarked (slot_word (slot_words turn s inside new_word)) q (phase' n)
@@ -214,11 +215,11 @@ module _ (turn : Turn) (s : ℕ) (inside : s < slots_of turn.v.start) where
             go apart (retired f) is m = absurd m
             go apart (emptied j) is m = absurd m
 
-        slots_on : (q i : ℕ) → SlotGoesOn (slot_word st.words i) (slot_word (slot_words turn s inside new_word) i) (r.over i q) (over' i q)
+        slots_on : (q i : ℕ) → SlotGoesOn (slot_word st.words i) (slot_word (slot_words turn s inside new_word) i) (r.deed i q) (deed' i q)
         slots_on q i = dite (ℕ_discrete i s)
-            (λ same. inl (ap (λ (f : ℕ → Bool). f q) (changed_here r.over s (λ p. false) i same)))
+            (λ same. inl (ap (λ (f : ℕ → Deed). f q) (changed_here r.deed s (λ p. untouched) i same)))
             (λ other. inr (
-              ap (λ (f : ℕ → Bool). f q) (changed_else r.over s (λ p. false) i other),
+              ap (λ (f : ℕ → Deed). f q) (changed_else r.deed s (λ p. untouched) i other),
               ap name_in (slot_else turn s inside new_word i other),
               λ h. rw (slot_else turn s inside new_word i other) h,
             ))
@@ -257,9 +258,9 @@ module _ (turn : Turn) (s : ℕ) (inside : s < slots_of turn.v.start) where
         seat_now (Some f) is z = (z.0, else_phase (p.seat_apart f is) ∙ z.1)
 
         slot_other : (i : ℕ) → i < slots_of v.start → i ≢ s
-            → SlotAgrees v.start r.node_of phase' (over' i) i (after.at i) (slot_word (slot_words turn s inside new_word) i)
+            → SlotAgrees v.start r.node_of phase' (deed' i) i (after.at i) (slot_word (slot_words turn s inside new_word) i)
         slot_other i l other = slot_same (slot_else turn s inside new_word i other) (at_else i other)
-            (tally_same (over' i) (r.over i) v.start.passes (λ q low high. ap (λ (f : ℕ → Bool). f q) (changed_else r.over s (λ p. false) i other)))
+            (λ q low high. ap (λ (f : ℕ → Deed). f q) (changed_else r.deed s (λ p. untouched) i other))
             (λ f there seat. let its = subst (IsSeated v.start r.node_of r.phase i) there (r.each_slot i l).seat in
             same_phase its.1 (not_old its.1 (λ g bad. other (cc bad))) (λ bad. cc bad) ∙ sym its.1)
             (r.each_slot i l)
@@ -276,6 +277,8 @@ module _ (turn : Turn) (s : ℕ) (inside : s < slots_of turn.v.start) where
             names = p.names;
             seat = seat_now new refl p.seat;
             takes = let a = p.no_takes in omega arith;
+            heat = p.no_heat ∙ sym (tally_same (λ q. has_heated (deed' s q)) (λ q. false) v.start.passes
+                (λ q low high. ap (λ (f : ℕ → Deed). has_heated (f q)) (changed_here r.deed s (λ p. untouched) s refl)) ∙ tally_none v.start.passes);
           }) (λ other. slot_other i l other);
           nodes = λ n l. rw (slot_node turn s inside new_word n) (by_old r.node_of old {n = n} (Node n (phase' n))
               (λ f is same. rw (same, out_here is) (old_node is)) (λ apart. rw (else_phase apart) (p.nodes n l apart)));
@@ -290,15 +293,15 @@ module _ (turn : Turn) (s : ℕ) (inside : s < slots_of turn.v.start) where
           held = p.held ∙ (o.held ∙ (hands.0 ∙ by_retiring (λ q. None ≡ held_in q) refl (λ f is. refl)));
           allowed = by_retiring (IsAllowed v.start x.number x.listed) tt (λ f is. tt);
           lists = λ i few. inl (slot_list turn s inside new_word i few);
-          over_on = λ i q l is. ⊎_elim (λ new. let bad : false ≡ true = sym new ∙ is in absurd (cc bad)) (λ same. inl (sym same.0 ∙ is)) (slots_on q i);
+          deed_on = λ i q l is. ⊎_elim (λ new. absurd (is new)) (λ same. inl (λ e. is (same.0 ∙ e))) (slots_on q i);
           its_bit = λ l. inl l;
           its = record {
             hold = rw (slot_hold turn s inside new_word x.number (in_range turn).0)
                 (by_retiring (HoldAgrees (word_at st.words (hold_word_of v.start x.number)) (r.debt x.number)) (hands.2, hands.3) (λ f is. (hands.2, hands.3)));
             guarded = by_retiring (GuardAgrees (slot_word (slot_words turn s inside new_word)) phase' x.number (r.debt x.number)) tt (λ f is. tt);
-            sees = sees_on v.start (slot_word st.words) (slot_word (slot_words turn s inside new_word)) (λ i. r.over i x.number) (λ i. over' i x.number)
+            sees = sees_on v.start (slot_word st.words) (slot_word (slot_words turn s inside new_word)) (λ i. r.deed i x.number) (λ i. deed' i x.number)
                 (λ i l. slots_on x.number i) v.glance o.sees;
-            heats = heats_on v.start (slot_word st.words) (slot_word (slot_words turn s inside new_word)) (λ i. r.over i x.number) (λ i. over' i x.number)
+            heats = heats_on v.start (slot_word st.words) (slot_word (slot_words turn s inside new_word)) (λ i. r.deed i x.number) (λ i. deed' i x.number)
                 (λ i l. slots_on x.number i) v.glance o.heats;
             work = by_retiring (WorkAgrees v.start phase' id) tt (λ f is. ((old_at is).0, out_here is));
           };

@@ -1,7 +1,7 @@
 -- The bounds of the words.
 use Rattle.fx_lasting.proofs.Words.{◌≡◌, ℕ, ◌+◌, ◌<◌, ◌≤◌, Option, Some, None, subst, arith, File, sum_by, sum_le_at, get_elem?, Agrees, Names, IsSeated}
 use Rattle.fx_lasting.proofs.Words.{NodeAgrees, WorkAgrees, lengths, owing_of, slots_of, word_of, state_after_all, taken_of, owed, count_in, name_in}
-use Rattle.fx_lasting.proofs.Words.{Phase, Shared, Start, cold_takes}
+use Rattle.fx_lasting.proofs.Words.{Phase, Shared, Start, cold_takes, has_acted, has_heated}
 use Rattle.fx_lasting.specs.Bounds.{AreBounded, slot_word_in, node_word_in}
 use Rattle.fx_lasting.proofs.ControlSteps.{few_owing, few_full}
 use Rattle.fx_lasting.proofs.Counts.{tally_few, few_cold}
@@ -9,7 +9,7 @@ use Rattle.fx_lasting.proofs.Keeping.{word_at, slot_word}
 
 module _ (k : Start) (s : Shared) (r : Agrees k s) where
   pub few_takes : (slot : ℕ) → slot < slots_of k → count_in (slot_word_in s slot) ≤ cold_takes k.passes + k.passes
-  few_takes slot inside = let a = (r.each_slot slot inside).takes in let b = tally_few (r.over slot) k.passes in omega arith
+  few_takes slot inside = let a = (r.each_slot slot inside).takes in let b = tally_few (λ p. has_acted (r.deed slot p)) k.passes in omega arith
 
   abbrev Node : ℕ → Phase → Type 0
   Node n = NodeAgrees (state_after_all k r.history).at (slots_of k) (λ i. count_in (slot_word s.words i)) r.node_of r.next_number n
@@ -30,6 +30,8 @@ module _ (k : Start) (s : Shared) (r : Agrees k s) where
   words_are_bounded = record {
     takes = few_takes;
     room = omega (arith, few_cold k.passes, r.shape.passes);
+    heat = λ slot inside. let a = (r.each_slot slot inside).heat in let b = tally_few (λ p. has_heated (r.deed slot p)) k.passes in omega arith;
+    heat_room = omega (arith, r.shape.passes);
     named = λ slot node inside is. let a = r.each_slot slot inside in of_slot slot node inside _ a.names a.seat is;
     leaving = λ seat node takes marks round v f there is.
         let work = subst (WorkAgrees k r.phase seat) is (r.each_view seat v there).work in

@@ -17,7 +17,8 @@ pub use Rattle.fx_lasting.specs.Laws.{PeeksKeep, InstallsKeep, StepsDownKeep, Le
 pub use Rattle.fx_lasting.specs.Laws.{RetiresKeep, IsInRange, ListsKeep, SkimsKeep, IsPassed}
 pub use Rattle.fx_lasting.specs.Layout.{control_place, list_place, slot_place, hold_place, node_place, block_for, block_start}
 pub use Rattle.fx_lasting.specs.Opens.{word_for, node_for, home_for, first_file, OpensWith}
-pub use Rattle.fx_lasting.specs.Parts.{hot_bit, count_in, hot_in, IsHot, cold_takes, birth_word, closed_word, retirement_amount, announced, mark}
+pub use Rattle.fx_lasting.specs.Deeds.{Deed, untouched, over, heated, has_acted, has_heated}
+pub use Rattle.fx_lasting.specs.Parts.{heat_unit, count_in, heat_in, IsHot, cold_takes, birth_word, closed_word, retirement_amount, announced, mark}
 pub use Rattle.fx_lasting.specs.Parts.{bit_of, IsListedIn}
 pub use Rattle.fx_lasting.specs.Passes.{node_of_number, HasNoFile, Shared, Sat, state_at_start, slots_of, range_at_start, nodes_of, IsInBlock}
 pub use Rattle.fx_lasting.specs.Passes.{word_of, hold_word_of, logs_of, lengths, state_after_all, IsHistory, new_log, first_log, held_in, if_file}

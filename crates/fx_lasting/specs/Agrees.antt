@@ -1,6 +1,6 @@
 -- The rule of a lasting table: words, places and views agree with the state that one legal history
 -- leads to.
-use Rattle.std.specs.Prelude.{◌≡◌, ℕ, ◌+◌, ◌-◌, ◌/◌, ◌^◌, ◌<◌, ◌≤◌, ◌⊎◌, Bool, true, false, List}
+use Rattle.std.specs.Prelude.{◌≡◌, ◌≢◌, ℕ, ◌+◌, ◌-◌, ◌/◌, ◌^◌, ◌<◌, ◌≤◌, ◌⊎◌, Bool, true, List}
 use Rattle.std.specs.Prelude.{[], length}
 use Rattle.std.specs.Prelude.{Option, Some, None, Contains, sum_by, slice_index}
 use Rattle.std.specs.Int.{bit_at}
@@ -16,8 +16,9 @@ use Rattle.fx_table.specs.Numbers.{once}
 use Rattle.fx_words.specs.Words.{name_in, entry_in}
 use Rattle.fx_lasting.specs.Control.{ControlCounts}
 use Rattle.fx_lasting.specs.Counts.{tally, owed}
+use Rattle.fx_lasting.specs.Deeds.{Deed, untouched, over, heated, has_acted, has_heated}
 use Rattle.fx_lasting.specs.Layout.{control_place, list_place, slot_place, words_for}
-use Rattle.fx_lasting.specs.Parts.{IsHot, count_in, cold_takes, birth_word, closed_word}
+use Rattle.fx_lasting.specs.Parts.{IsHot, count_in, heat_in, cold_takes, birth_word, closed_word}
 use Rattle.fx_lasting.specs.Parts.{announced, mark, bit_of, IsListedIn}
 use Rattle.fx_lasting.specs.Passes.{Shared, slots_of, range_at_start, nodes_of, IsInBlock}
 use Rattle.fx_lasting.specs.Passes.{word_of}
@@ -55,13 +56,13 @@ IsSeated k node_of phase slot None = Unit {0}
 IsSeated k node_of phase slot (Some f) =
     (node_of f.number < nodes_of k) × (phase (node_of f.number) ≡ seated slot f)
 
--- One slot, and its word. A pass is over if it took what the slot names now while the slot had its
--- takes
-pub record SlotAgrees (k : Start) (node_of : Nodes) (phase : ℕ → Phase) (over : ℕ → Bool)
+-- One slot, and its word
+pub record SlotAgrees (k : Start) (node_of : Nodes) (phase : ℕ → Phase) (deed : ℕ → Deed)
     (slot : ℕ) (there : Option File) (word : ℕ) : Type 0 where
   pub names : Names node_of word there
   pub seat : IsSeated k node_of phase slot there
-  pub takes : count_in word ≤ cold_takes k.passes + tally over k.passes
+  pub takes : count_in word ≤ cold_takes k.passes + tally (λ p. has_acted (deed p)) k.passes
+  pub heat : heat_in word ≡ tally (λ p. has_heated (deed p)) k.passes
 
 -- what lies in a node's place: nothing, while the place is with a pass, or else a file or none
 abbrev pub Home : Type 0
@@ -96,7 +97,7 @@ module _ (at : ℕ → Option File) (size : ℕ) (takes_at : ℕ → ℕ) (node_
   pub record IsLeaving (takes : ℕ) (round : Round) (marks : ℕ) (f : File) : Type 0 where
     pub file : IsFileOfNode node_of next_number node home f
     pub counts : word + takes + marks ≡ birth_word + taken + owing
-    pub few_takes : takes < 2 ^ 31
+    pub few_takes : takes < 2 ^ 21
     pub few_marks : marks < round.next
     pub few_visits : round.next ≤ 2 ^ 16
 
@@ -191,41 +192,42 @@ GuardAgrees slot_word phase pass debt (Guarded f node) =
     debt ≡ 0 → MayBeUnmarked slot_word pass (phase node)
 GuardAgrees slot_word phase pass debt _ = Unit {0}
 
--- the progress of a look-up: the slot has still what it saw, or the pass isn't over
-abbrev pub GlanceAgrees : Start → (ℕ → ℕ) → (ℕ → Bool) → Glance → Type 0
-GlanceAgrees k slot_word over Nothing = Unit {0}
-GlanceAgrees k slot_word over (Hot slot node) = (slot < slots_of k) × (node < nodes_of k)
-    × (((name_in (slot_word slot) ≡ node + 1) × IsHot (slot_word slot)) ⊎ (over slot ≡ false))
-GlanceAgrees k slot_word over (Cold slot) = (slot < slots_of k) × (over slot ≡ false)
-GlanceAgrees k slot_word over (Heating slot) = slot < slots_of k
+-- the progress of a look-up: the slot has still what it saw, or the pass has done nothing there
+abbrev pub GlanceAgrees : Start → (ℕ → ℕ) → (ℕ → Deed) → Glance → Type 0
+GlanceAgrees k slot_word deed Nothing = Unit {0}
+GlanceAgrees k slot_word deed (Hot slot node) = (slot < slots_of k) × (node < nodes_of k)
+    × (((name_in (slot_word slot) ≡ node + 1) × IsHot (slot_word slot)) ⊎ (deed slot ≡ untouched))
+GlanceAgrees k slot_word deed (Cold slot) = (slot < slots_of k) × (deed slot ≡ untouched)
+GlanceAgrees k slot_word deed (Heating slot) = (slot < slots_of k) × (deed slot ≢ heated)
 
--- a slot where a pass is over is hot, or the pass is about to make it so
-abbrev pub Heats : Start → (ℕ → ℕ) → (ℕ → Bool) → Glance → Type 0
-Heats k slot_word over glance = (slot : ℕ) → slot < slots_of k → over slot ≡ true
-    → IsHot (slot_word slot) ⊎ (glance ≡ Heating slot)
+-- a pass that took while a slot had its takes heats the slot before its next look-up
+abbrev pub Heats : Start → (ℕ → Deed) → Glance → Type 0
+Heats k deed glance = (slot : ℕ) → slot < slots_of k → deed slot ≡ over → glance ≡ Heating slot
 
 -- one pass of a seat that does this work
 pub record LogAgrees (k : Start) (h : List Event) (words : List ℕ) (phase : ℕ → Phase)
-    (debt : ℕ → ℕ) (over : ℕ → ℕ → Bool) (work : Work) (glance : Glance) (x : Log) : Type 0 where
+    (debt : ℕ → ℕ) (deed : ℕ → ℕ → Deed) (work : Work) (glance : Glance) (x : Log) : Type 0 where
   -- it has seen a beginning of the history, and all that it did itself
   pub seen : IsSeenBy x.front h
   pub own : part_of_pass x.number h ≡ part_of_pass x.number x.front
   pub held : held_by h x.number ≡ held_in work
   pub allowed : IsAllowed k x.number x.listed work
-  -- the list has its bit, if it is listed
+  -- the list has its bit if it is listed, and only then
   pub list : x.listed ≡ true → IsListedIn (slice_index words (list_place x.number)) x.number
+  pub unlisted : IsListedIn (slice_index words (list_place x.number)) x.number → x.listed ≡ true
   pub hold : HoldAgrees (slice_index words (hold_word_of k x.number)) (debt x.number) work
   pub guarded : GuardAgrees (λ s. slice_index words (slot_place s)) phase x.number
       (debt x.number) work
-  pub sees : GlanceAgrees k (λ s. slice_index words (slot_place s)) (λ s. over s x.number) glance
-  pub heats : Heats k (λ s. slice_index words (slot_place s)) (λ s. over s x.number) glance
+  pub sees : GlanceAgrees k (λ s. slice_index words (slot_place s)) (λ s. deed s x.number) glance
+  pub heats : Heats k (λ s. deed s x.number) glance
   -- who took is listed
-  pub takes_listed : (slot : ℕ) → slot < slots_of k → over slot x.number ≡ true → x.listed ≡ true
+  pub takes_listed : (slot : ℕ) → slot < slots_of k → deed slot x.number ≢ untouched
+      → x.listed ≡ true
 
 -- one seat, and its view
 pub record ViewAgrees (k : Start) (h : List Event) (words : List ℕ) (phase : ℕ → Phase)
-    (debt : ℕ → ℕ) (over : ℕ → ℕ → Bool) (seat : ℕ) (v : View) : Type 0 where
-  pub logs : (x : Log) → Contains v.logs x → LogAgrees k h words phase debt over v.work v.glance x
+    (debt : ℕ → ℕ) (deed : ℕ → ℕ → Deed) (seat : ℕ) (v : View) : Type 0 where
+  pub logs : (x : Log) → Contains v.logs x → LogAgrees k h words phase debt deed v.work v.glance x
   pub work : WorkAgrees k phase seat v.work
   pub empty : v.logs ≡ [] → (v.work ≡ Idle) × (v.glance ≡ Nothing) × (v.change ≡ Outside)
   pub start : (v.logs ≡ []) ⊎ (v.start ≡ k)
@@ -250,11 +252,11 @@ pub record Agrees (k : Start) (s : Shared) : Type 0 where
   pub next_number : ℕ
   -- which node a pass owes a mark to, plus 1, or 0
   pub debt : ℕ → ℕ
-  -- by slot and pass, who took what the slot names now while the slot had its takes
-  pub over : ℕ → ℕ → Bool
+  -- by slot and pass, what the pass did there since the slot's word was last swapped
+  pub deed : ℕ → ℕ → Deed
   pub legal : IsHistory k history
   pub each_slot : (slot : ℕ) → slot < slots_of k
-      → SlotAgrees k node_of phase (over slot) slot ((state_after_all k history).at slot)
+      → SlotAgrees k node_of phase (deed slot) slot ((state_after_all k history).at slot)
       (slice_index s.words (slot_place slot))
   pub each_node : (n : ℕ) → n < nodes_of k
       → NodeAgrees (state_after_all k history).at (slots_of k)
@@ -269,7 +271,7 @@ pub record Agrees (k : Start) (s : Shared) : Type 0 where
   pub fresh : (number : ℕ) → next_number ≤ number
       → (state_after_all k history).fresh number ≡ true
   pub each_view : (seat : ℕ) (v : View) → get_elem? s.views seat ≡ some v
-      → ViewAgrees k history s.words phase debt over seat v
+      → ViewAgrees k history s.words phase debt deed seat v
   -- each shown history stays an initial part of the history
   pub known : (seat : ℕ) (v : View) → get_elem? s.views seat ≡ some v → IsSeenBy v.known history
   -- the holds of a file are the passes that hold it

@@ -6,7 +6,7 @@ use Rattle.fx_plain.specs.declared.event.File.{File}
 use Rattle.fx_words.specs.Words.{name_in}
 use Rattle.fx_lasting.specs.Agrees.{Agrees}
 use Rattle.fx_lasting.specs.Layout.{control_place, slot_place}
-use Rattle.fx_lasting.specs.Parts.{count_in, cold_takes}
+use Rattle.fx_lasting.specs.Parts.{count_in, heat_in, cold_takes}
 use Rattle.fx_lasting.specs.Passes.{Shared, slots_of, word_of}
 use Rattle.fx_lasting.specs.declared.view.Round.{Round}
 use Rattle.fx_lasting.specs.declared.view.Start.{Start}
@@ -27,10 +27,13 @@ control_word_in s = slice_index s.words control_place
 
 -- the bounds of a table's words
 pub record AreBounded (k : Start) (s : Shared) : Type 0 where
-  -- a slot has at most the takes of a cold one, and one more for each pass: 31 bits have room
+  -- a slot has at most the takes of a cold one, and one more for each pass: 21 bits have room
   pub takes : (slot : ℕ) → slot < slots_of k
       → count_in (slot_word_in s slot) ≤ cold_takes k.passes + k.passes
-  pub room : cold_takes k.passes + k.passes < 2 ^ 31
+  pub room : cold_takes k.passes + k.passes < 2 ^ 21
+  -- each pass heats a slot at most once until its word is swapped: 11 bits have room
+  pub heat : (slot : ℕ) → slot < slots_of k → heat_in (slot_word_in s slot) ≤ k.passes
+  pub heat_room : k.passes < 2 ^ 11
   -- no drop finds 2 while a slot names the node
   pub named : (slot node : ℕ) → slot < slots_of k → name_in (slot_word_in s slot) ≡ node + 1
       → 2 < node_word_in k s node

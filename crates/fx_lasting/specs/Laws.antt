@@ -1,7 +1,7 @@
 -- The kinds of step keep the rule, whatever the table and the other passes are. A law takes the
 -- place of its word as a premise.
 use Rattle.std.specs.Prelude.{◌≡◌, ◌≢◌, ℕ, ◌+◌, ◌-◌, ◌*◌, ◌%◌, ◌^◌, ◌<◌, ◌≤◌, ◌==◌, ◌⊎◌}
-use Rattle.std.specs.Prelude.{bit_or, true, [], ◌∷◌, Some, None}
+use Rattle.std.specs.Prelude.{true, false, [], ◌∷◌, Some, None}
 use mathlib.Core.Option.{none}
 use prog.Atomic.{either}
 use Rattle.atomic_table.specs.Table.{step, Splits, Joins, Allows}
@@ -11,7 +11,8 @@ use Rattle.fx_words.specs.Words.{name_in, slot_word_of}
 use Rattle.fx_lasting.specs.Agrees.{Agrees, IsIdleIn}
 use Rattle.fx_lasting.specs.Control.{is_in, uncounted}
 use Rattle.fx_lasting.specs.Layout.{control_place, list_place, slot_place}
-use Rattle.fx_lasting.specs.Parts.{hot_bit, birth_word, announced, mark, retirement_amount, bit_of}
+use Rattle.fx_lasting.specs.Parts.{heat_unit, birth_word, announced, mark, retirement_amount}
+use Rattle.fx_lasting.specs.Parts.{bit_of}
 use Rattle.fx_lasting.specs.Passes.{Sat, HasNoFile, slots_of, range_at_start, word_of}
 use Rattle.fx_lasting.specs.Passes.{hold_word_of, IsInBlock}
 use Rattle.fx_lasting.specs.Tells.{At}
@@ -58,11 +59,11 @@ AnnouncesKeep tells = (k : Start) (slots id i slot node : ℕ) (m : Sat) (x : Lo
     → Allows (Agrees k) slots id m i (λ _. announced node)
     (λ _. tells (step slots i (announced node) 0 none) m (announced node))
 
--- a pass sets its bit in the list
+-- a pass that isn't listed adds its bit to the list
 abbrev pub ListsKeep : Kind → Type 0
 ListsKeep tells = (k : Start) (slots id i : ℕ) (m : Sat) (x : Log) → HasPass k m x
-    → i ≡ list_place x.number
-    → Allows (Agrees k) slots id m i (λ word. bit_or word (2 ^ bit_of x.number))
+    → x.listed ≡ false → i ≡ list_place x.number
+    → Allows (Agrees k) slots id m i (λ word. (word + 2 ^ bit_of x.number) % 2 ^ 64)
     (tells (step slots i (2 ^ bit_of x.number) 0 none) m)
 
 -- it loads the slot's word again
@@ -83,12 +84,12 @@ TakesOnceKeep tells = (k : Start) (slots id i slot : ℕ) (m : Sat) (x : Log) �
     → x.listed ≡ true → m.0.work ≡ Idle → m.0.glance ≡ Cold slot → i ≡ slot_place slot
     → Allows (Agrees k) slots id m i (λ word. (word + 1) % 2 ^ 64) (tells (step slots i 1 0 none) m)
 
--- a pass makes a slot hot that had its takes
+-- a listed pass that took at a slot with its takes heats the slot
 abbrev pub HeatsKeep : Kind → Type 0
 HeatsKeep tells = (k : Start) (slots id i slot : ℕ) (m : Sat) (x : Log) → HasPass k m x
-    → m.0.glance ≡ Heating slot → i ≡ slot_place slot
-    → Allows (Agrees k) slots id m i (λ word. bit_or word hot_bit)
-    (tells (step slots i hot_bit 0 none) m)
+    → x.listed ≡ true → m.0.glance ≡ Heating slot → i ≡ slot_place slot
+    → Allows (Agrees k) slots id m i (λ word. (word + heat_unit) % 2 ^ 64)
+    (tells (step slots i heat_unit 0 none) m)
 
 -- a pass swaps 0 for the name of the node whose file it holds
 abbrev pub StepsDownKeep : Kind → Type 0

@@ -1,6 +1,7 @@
 pub mod Parts
 pub mod Layout
 pub mod Counts
+pub mod Deeds
 pub mod Phases
 pub mod Passes
 pub mod Control

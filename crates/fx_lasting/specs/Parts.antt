@@ -1,25 +1,25 @@
 -- The parts of words, as numbers.
-use Rattle.std.specs.Prelude.{◌≡◌, ℕ, ◌+◌, ◌-◌, ◌/◌, ◌%◌, ◌^◌, ◌==◌, if◌then◌else◌}
+use Rattle.std.specs.Prelude.{◌≡◌, ℕ, ◌+◌, ◌-◌, ◌/◌, ◌%◌, ◌^◌, ◌<◌, ◌==◌, if◌then◌else◌}
 use Rattle.std.specs.Int.{bit_at}
 
--- the name, the entry and the node of a slot's word are those of `fx_words`. Bit 31 says whether
--- the slot is hot, and the lower ones count its takes
-abbrev pub hot_bit : ℕ
-hot_bit = 2 ^ 31
+-- the name, the entry and the node of a slot's word are those of `fx_words`. The 32 bits below them
+-- count the passes that heated the slot, 11 bits, and its takes, 21 bits
+abbrev pub heat_unit : ℕ
+heat_unit = 2 ^ 21
 
 abbrev pub count_in : ℕ → ℕ
-count_in word = word % 2 ^ 31
+count_in word = word % 2 ^ 21
 
-abbrev pub hot_in : ℕ → ℕ
-hot_in word = word / 2 ^ 31 % 2
+abbrev pub heat_in : ℕ → ℕ
+heat_in word = word / 2 ^ 21 % 2 ^ 11
 
--- the slot is hot
+-- the slot is hot: a pass heated it
 abbrev pub IsHot : ℕ → Type 0
-IsHot word = hot_in word ≡ 1
+IsHot word = 0 < heat_in word
 
 -- the takes from which on a slot becomes hot: a pass that is alone disturbs nobody
 abbrev pub cold_takes : ℕ → ℕ
-cold_takes passes = if passes == 1 then 2 ^ 30 else 16
+cold_takes passes = if passes == 1 then 2 ^ 20 else 16
 
 -- the place of a pass's bit in its word of the list
 abbrev pub bit_of : ℕ → ℕ

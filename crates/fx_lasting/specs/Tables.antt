@@ -84,7 +84,7 @@ IsBetweenCalls passes idle guarded visit next (Searching node) = (idle ≡ true)
 IsBetweenCalls passes idle guarded visit next (Counted f node) = (idle ≡ false) × (guarded ≡ false)
 IsBetweenCalls passes idle guarded visit next (Guarded f node) = (idle ≡ false) × (guarded ≡ true)
 IsBetweenCalls passes idle guarded visit next (Retiring f node takes round marks) =
-    (idle ≡ false) × (round ≡ new_round visit) × (marks ≡ 0) × (takes < 2 ^ 31)
+    (idle ≡ false) × (round ≡ new_round visit) × (marks ≡ 0) × (takes < 2 ^ 21)
     × ((visit ≡ 1) ⊎ (visit ≡ passes + 1))
 IsBetweenCalls passes idle guarded visit next _ = ⊥
 

@@ -14,7 +14,7 @@ use Rattle.fx_plain.specs.declared.event.Action.TheVariants.{Look, Release, Put,
 use Rattle.fx_plain.specs.declared.event.Action.TheVariants.{Close}
 use Rattle.fx_words.specs.Words.{name_in, entry_in, bias}
 use Rattle.fx_lasting.specs.Layout.{list_place}
-use Rattle.fx_lasting.specs.Parts.{hot_in, IsHot, count_in, cold_takes, announced, IsListedIn}
+use Rattle.fx_lasting.specs.Parts.{heat_in, IsHot, count_in, cold_takes, announced, IsListedIn}
 use Rattle.fx_lasting.specs.Control.{account}
 use Rattle.fx_lasting.specs.Passes.{Sat, slots_of, nodes_of, range_at_start, IsInBlock, word_of}
 use Rattle.fx_lasting.specs.Passes.{IsHistory, node_of_number}
@@ -150,7 +150,7 @@ pub record Takes (st : At) (m : Sat) (found : ℕ) (m' : Sat) : Type 0 where
       × Goes m ([] ▷ Look slot (Some f)) (Counted f node)
       (glance_after m.0.start.passes slot found) m'
 
--- Heat: the slot is hot
+-- Heat: one pass more heated the slot
 pub record HeatTells (st : At) (m : Sat) (found : ℕ) (m' : Sat) : Type 0 where
   pub goes : Goes m [] m.0.work Nothing m'
 
@@ -261,7 +261,7 @@ pub record Retires (st : At) (m : Sat) (found : ℕ) (m' : Sat) : Type 0 where
 
 -- where the visits of a retirement begin: a file of a slot that wasn't hot is held by takes alone
 abbrev pub first_visit : ℕ → ℕ → ℕ
-first_visit passes found = if hot_in found == 1 then 1 else passes + 1
+first_visit passes found = if heat_in found == 0 then passes + 1 else 1
 
 -- a round that begins with this pass, and has loaded no word of the list
 abbrev pub new_round : ℕ → Round

@@ -1,7 +1,7 @@
 //! The calls of a pass that never wait, allocate or retry: each makes at most as many atomic steps as its clause says.
 //! They are inlined into their caller, except for a withdrawal, for the visits of a retirement and for taking a file out.
 //! These hints change no proof.
-ghost use Rattle.std.specs.Prelude.{◌≡◌, ◌≢◌, ◌+◌, ◌*◌, ◌-◌, ◌/◌, ◌<◌, ◌≤◌, Option, option_map, Err};
+ghost use Rattle.std.specs.Prelude.{◌≡◌, ◌≢◌, ◌+◌, ◌*◌, ◌-◌, ◌/◌, ◌<◌, ◌≤◌, false, Option, option_map, Err};
 ghost use Rattle.fx_plain.specs.declared.event.File.{File};
 ghost use Rattle.fx_table.specs.Calls.{Looked, LookedUp, Released, Placed, Cleared, Taken, HasRetired};
 ghost use Rattle.fx_table.specs.Opening.{size_of};
@@ -67,6 +67,7 @@ impl LastingTable {
     fn look_first(&self, pass: &mut LastingPass, slot: u32) -> LookUp
         requires seated { IsSeatOfTable self.now pass.old }
         requires idle { pass.old.seat.me.0.work ≡ Idle }
+        requires unlisted { pass.old.listed ≡ false }
         requires cold { pass.old.seat.me.0.glance ≡ Cold slot }
         requires slot { slot < self.now.size }
         ensures fits { IsPassOfTable self.now pass.new }
@@ -77,7 +78,7 @@ impl LastingTable {
     {
         let shared = &self.table.shared;
         let place = list_place(pass.number);
-        shared.fetch_or::<Listing>(&mut pass.seat, place, list_bit(pass.number));
+        shared.fetch_add::<Listing>(&mut pass.seat, place, list_bit(pass.number));
         pass.listed = true;
         let found = self.look_cold(pass, slot);
         LookUp { found, freed: None }

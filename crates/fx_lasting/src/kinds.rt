@@ -47,7 +47,7 @@ impl Play<Option<OpenFile>, View> for Glancing {
     ghost then = { Glances };
 }
 
-/// List: the list of passes that ever looked a file up has the pass's bit.
+/// List: a pass adds its bit to the list of passes that ever looked a file up.
 pub struct Listing;
 
 impl Play<Option<OpenFile>, View> for Listing {
@@ -92,7 +92,7 @@ impl Play<Option<OpenFile>, View> for Taking {
     ghost then = { Takes };
 }
 
-/// Heat: a slot that had its takes is hot for the rest of its file's stay.
+/// Heat: a pass adds itself to the heat of a slot that had its takes. The slot is hot until its word is swapped.
 pub struct HeatingUp;
 
 impl Play<Option<OpenFile>, View> for HeatingUp {

@@ -34,7 +34,7 @@ pub fn glance_keeps_rule()
     ensures { GlancesKeep ⟦<Glancing as Play<Option<OpenFile>, View>>⟧.then }
 {}
 
-/// A pass that sets its bit in the list keeps the rule, and is listed.
+/// A pass that isn't listed and adds its bit to the list keeps the rule, and is listed.
 pub fn list_keeps_rule()
     ensures { ListsKeep ⟦<Listing as Play<Option<OpenFile>, View>>⟧.then }
 {}
@@ -60,7 +60,8 @@ pub fn take_keeps_rule()
     ensures { TakesOnceKeep ⟦<Taking as Play<Option<OpenFile>, View>>⟧.then }
 {}
 
-/// A pass that sets the hot bit of a slot's word keeps the rule.
+/// A listed pass that adds 2^21 to the word of a slot that had its takes when it took there keeps the rule. No carry leaves the 11 bits
+/// of the slot's heat.
 pub fn heat_keeps_rule()
     ensures { HeatsKeep ⟦<HeatingUp as Play<Option<OpenFile>, View>>⟧.then }
 {}
@@ -166,7 +167,8 @@ pub fn exchange_keeps_rule()
     ensures { ExchangesKeep ⟦<Exchanging as Play<Option<OpenFile>, View>>⟧.then }
 {}
 
-/// While the rule holds, no word overflows. A slot has at most the takes of a cold one, and one more for each pass. The word of a node
+/// While the rule holds, no word overflows, and no part of a slot's word carries into the next. A slot has at most the takes of a cold one,
+/// and one more for each pass, in 21 bits; its heat is at most the number of passes, in 11 bits. The word of a node
 /// is above 2 until its file is retired, so no drop finds 2 before that. The control word is between 64,512 and 65,792.
 pub fn words_are_bounded()
     ensures { WordsAreBounded }

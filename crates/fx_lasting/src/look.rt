@@ -9,7 +9,7 @@ ghost use Rattle.fx_lasting.specs.declared.view.Work.TheVariants.{Idle};
 
 use crate::kinds::{Announcing, Confirming, HeatingUp, Taking};
 use crate::layout::{hold_place, slot_place};
-use crate::parts::{HOT, announced, cold_takes, count_of, is_hot_at};
+use crate::parts::{HEAT, announced, cold_takes, count_of, is_hot_at};
 use crate::table::LastingTable;
 use crate::view::View;
 use atomic_table::Seat;
@@ -49,8 +49,8 @@ impl LastingTable {
         }
     }
 
-    // Adds a take to the slot's word, and makes the slot hot if it had its takes, in at most two steps. Returns the hold
-    // of the file there.
+    // Adds a take to the slot's word, and heats the slot if it had its takes, in at most two steps. Returns the hold of the
+    // file there.
     #[inline(always)]
     pub(crate) fn take_at(
         &self,
@@ -79,10 +79,11 @@ impl LastingTable {
         }
     }
 
-    // Makes the slot hot if the word that the pass found had its takes, in at most one step.
+    // Heats the slot if the word that the pass found had its takes, in at most one step.
     fn heat(&self, seat: &mut Seat<Option<OpenFile>, View>, slot: u32, word: u64)
         requires table { seat.old.table_id ≡ self.now.table.shared.table_id }
         requires at { (number : ℕ) × IsAtWork self.now.table.shared.key number seat.old.me }
+        requires listed { IsOnList seat.old.me }
         requires took { seat.old.me.0.glance ≡ glance_after self.now.passes slot word }
         requires slot { slot < self.now.size }
         ensures table { seat.new.table_id ≡ seat.old.table_id }
@@ -92,7 +93,7 @@ impl LastingTable {
     {
         if cold_takes(self.passes) <= count_of(word) {
             let shared = &self.table.shared;
-            shared.fetch_or::<HeatingUp>(seat, slot_place(slot), HOT);
+            shared.fetch_add::<HeatingUp>(seat, slot_place(slot), HEAT);
         }
     }
 }

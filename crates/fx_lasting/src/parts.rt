@@ -1,10 +1,10 @@
 //! The parts of words that `fx_words` doesn't have: a slot's heat and takes, and what a retirement subtracts.
 ghost use Rattle.std.specs.Prelude.{◌≡◌, ◌+◌, ◌≤◌, ◌^◌, ◌↔◌, IsTrue};
 ghost use Rattle.fx_words.specs.Words.{name_in, bias};
-ghost use Rattle.fx_lasting.specs.Parts.{hot_bit, count_in, hot_in, IsHot, bit_of, announced, mark, retirement_amount, birth_word, cold_takes};
+ghost use Rattle.fx_lasting.specs.Parts.{count_in, IsHot, bit_of, announced, mark, retirement_amount, cold_takes};
 
-// The bit of a slot's word that says that its file is looked up by hold words.
-pub(crate) const HOT: u64 = 1 << 31;
+// The amount that a pass adds to a slot's word to heat the slot: its file is looked up by hold words then.
+pub(crate) const HEAT: u64 = 1 << 21;
 
 // The word of a node before anybody has let its file go.
 pub(crate) const BORN: u64 = (1 << 32) + 1;
@@ -13,21 +13,21 @@ pub(crate) const BORN: u64 = (1 << 32) + 1;
 pub(crate) fn cold_takes(passes: u32) -> u32
     ensures { result ≡ cold_takes passes }
 {
-    if passes == 1 { 1 << 30 } else { 16 }
+    if passes == 1 { 1 << 20 } else { 16 }
 }
 
 // Returns the number of takes in a slot's word.
 pub(crate) fn count_of(word: u64) -> u32
     ensures { result ≡ count_in word }
 {
-    (word % (1 << 31)) as u32
+    (word % (1 << 21)) as u32
 }
 
 // Checks whether a slot's word is hot.
 pub(crate) fn is_hot(word: u64) -> bool
     ensures { IsTrue result ↔ IsHot word }
 {
-    word / (1 << 31) % 2 == 1
+    0 < word / (1 << 21) % (1 << 11)
 }
 
 // Checks whether a slot's word is hot and names the node.

@@ -1,15 +1,16 @@
-use Rattle.fx_lasting.proofs.Words.{cold_takes, ap, ◌∙◌, arith, cond, Bool, Nothing, Heating, le-ltb, count_in, ◌≤◌}
+use Rattle.fx_lasting.proofs.Words.{◌≡◌, true, sym, List, Log, first_log, cold_takes, ap, ◌∙◌, arith, cond, Bool, Nothing, Heating, le-ltb, count_in, ◌≤◌}
 use Rattle.fx_lasting.proofs.Calling.{slot_inside}
 use Rattle.fx_lasting.proofs.Taking.{heats_keep}
 use Rattle.fx_lasting.proofs.table.LastingTable.heat.Goals as goal
 
-pub fetch_or-requires : goal.fetch_or-requires
-fetch_or-requires c =
+pub fetch_add-requires : goal.fetch_add-requires
+fetch_add-requires c =
     let t = c.args.self.now in
     let at = c.requires.at.1 in
+    let its_listed : at.log.listed ≡ true = sym (ap (λ (l : List Log). (first_log l).listed) at.pass.1) ∙ c.requires.listed in
     let many : cold_takes t.passes ≤ count_in c.args.word = omega arith in (
       c.requires.table,
       slot_inside t c.requires.slot c.slot_place.ensures,
-      heats_keep _ _ _ _ c.args.slot c.args.seat.now.me _ at.pass
+      heats_keep _ _ _ _ c.args.slot c.args.seat.now.me _ at.pass its_listed
           (c.requires.took ∙ ap (λ (b : Bool). cond b Nothing (Heating c.args.slot)) (le-ltb (count_in c.args.word) (cold_takes t.passes) many)) c.slot_place.ensures,
     )

@@ -50,6 +50,7 @@ look_first-requires c =
     record {
       seated = still_seat s _ (at_ease s (runs_goes goes)) (refl, refl) c.load-word.ensures.0 (goes.carried ∙ s.places) s.block;
       idle = goes.stepped.work;
+      unlisted = c.if-not-pass.true;
       cold = goes.stepped.glance ∙ ap (λ (z : ℕ). Cold z) here;
       slot = omega (arith, c.requires.slot, c.args.self.now.same_size);
     }

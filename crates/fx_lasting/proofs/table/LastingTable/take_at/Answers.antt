@@ -17,6 +17,9 @@ fetch_add-word-requires c =
 pub heat-requires-clause-at : goal.heat-requires-clause-at
 heat-requires-clause-at c = (c.requires.at.0, still_at_work c.requires.at.1 (runs_goes (took c.requires.cold c.fetch_add-word.ensures.2).2))
 
+pub heat-requires-clause-listed : goal.heat-requires-clause-listed
+heat-requires-clause-listed c = (took c.requires.cold c.fetch_add-word.ensures.2).2.stepped.listed ∙ c.requires.listed
+
 pub heat-requires-clause-took : goal.heat-requires-clause-took
 heat-requires-clause-took c = let t = c.args.self.now in (took c.requires.cold c.fetch_add-word.ensures.2).2.stepped.glance
     ∙ ap (λ (n : ℕ). glance_after n c.args.slot c.fetch_add-word.result) (ap (λ (z : Start). z.passes) c.requires.at.1.pass.0 ∙ sym t.key.0)
