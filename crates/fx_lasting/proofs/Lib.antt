@@ -42,3 +42,4 @@ pub mod WordBounds
 pub mod Holds
 pub mod Choices
 pub mod Showing
+pub mod WholeHistory

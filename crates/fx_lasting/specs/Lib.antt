@@ -13,6 +13,7 @@ pub mod Laws
 pub mod Bounds
 pub mod Holds
 pub mod Choices
+pub mod WholeHistory
 pub mod Opens
 pub mod AtWork
 pub mod Ends

@@ -6,6 +6,7 @@ ghost use Rattle.fx_lasting.specs.Choices.{ChosenNodesAreFree};
 ghost use Rattle.fx_lasting.specs.Holds.{NodesAreOfOneFile};
 ghost use Rattle.fx_lasting.specs.Layout.{PlacesAreInside, PlacesAreApart};
 ghost use Rattle.fx_lasting.specs.Opens.{OpeningKeeps};
+ghost use Rattle.fx_lasting.specs.WholeHistory.{HasOneHistory, RemovedFilesHaveUsers};
 ghost use Rattle.fx_lasting.specs.declared.layout.TheConstants.{MOST_PASSES, MOST_INSTALLING};
 ghost use Rattle.fx_lasting.specs.Laws.{GlancesKeep, ListsKeep, AnnouncesKeep, ConfirmsKeep, WithdrawsKeep, TakesOnceKeep, HeatsKeep, StepsDownKeep, LettingGoKeeps, SeeksKeep, BirthsKeep, RestsKeep, SkimsKeep, VisitsKeep, MarksKeep, RetiresKeep, LowersKeep, RaisesKeep, AsksKeep, PeeksKeep, SplitsKeep, JoinsKeep, ClearsKeep, TakesOutKeep, InstallsKeep, ExchangesKeep};
 
@@ -185,6 +186,19 @@ pub fn nodes_are_of_one_file()
 /// slot's word names it, it is that of no file that is at a slot, held, or removed and not closed. No other pass has chosen it.
 pub fn chosen_nodes_are_free()
     ensures { ChosenNodesAreFree }
+{}
+
+/// While the rule holds, one legal history is that of all passes: what a pass has seen is a beginning of it, and its events of the
+/// pass are the pass's own. So the laws of histories (`fx_plain::laws`) hold of what all passes do, at any time before the close: no file
+/// comes out of two calls, and none while a pass holds it.
+pub fn has_one_history()
+    ensures { HasOneHistory }
+{}
+
+/// While the rule holds, each file that was removed and isn't closed has a user: a pass that retires it, one that holds it, or one that is
+/// within a look-up and has announced its node. So while no look-up is under way, no retired file that nobody holds is open.
+pub fn removed_files_have_users()
+    ensures { RemovedFilesHaveUsers }
 {}
 
 /// Each word of a table of `size` slots, with `passes` passes and `nodes` nodes, has its place inside the table's memory.

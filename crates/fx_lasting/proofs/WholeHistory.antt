@@ -1,0 +1,158 @@
+-- One history has what all passes did, and each removed file that is open has a user.
+use Rattle.fx_lasting.proofs.Words.{Contains, contains_head, ◌≡◌, ℕ, suc, ◌+◌, ◌<◌, ◌≤◌, List, [], ◌∷◌, length, map, sym, refl, ap, ◌∙◌, subst, arith}
+use Rattle.fx_lasting.proofs.Words.{Option, Some, None, some, get_elem?, ⊎_elim, ◌⊎◌, inl, inr, dite, dec_le, eqb, Bool, true, false, cond, at_index, found_sum}
+use Rattle.fx_lasting.proofs.Words.{File, Event, Agrees, NodeAgrees, WorkAgrees, HoldAgrees, HoldsAt, OwnerAgrees, Shared, Start, View, Work, Log, Phase}
+use Rattle.fx_lasting.proofs.Words.{Idle, Announced, Counted, Guarded, Owing, Yielding, Searching, Placing, Retiring, Emptying}
+use Rattle.fx_lasting.proofs.Words.{free, placed, seated, leaving, retired, emptied, file_in, removed_in, file_if_numbered, eq-eqb, taken_of, taking, owed, count_in, sum_by, bit_else}
+use Rattle.fx_lasting.proofs.Words.{slots_of, nodes_of, word_of, hold_word_of, state_after_all, state_at_start, node_of_number, opening_of, pass_of, doing_in}
+use Rattle.fx_lasting.proofs.Words.{state_of, action_of, hold_at, ne_eqb, le-ltb, lt-ltb, ℕ_discrete}
+use Rattle.std.proofs.Common.{not}
+use Rattle.std.proofs.lemmas.Bool.{eqb-true}
+use Rattle.fx_plain.proofs.Cells.{named, named_same}
+use Rattle.fx_plain.proofs.LawHolds.{tally, tally_start, tally_all, placed_one, present, closed_at_most_once}
+use Rattle.fx_plain.proofs.Prepared.{opening_is_start, numbered_anew}
+use Rattle.fx_plain.specs.Laws.{IsStart, closes_of}
+use Rattle.fx_table.specs.Pass.{PassView}
+use Rattle.fx_table.specs.declared.values.Doing.TheVariants.{Holding}
+use Rattle.fx_table.specs.declared.values.Hold.{Hold}
+use Rattle.fx_lasting.proofs.Counts.{owed_found}
+use Rattle.fx_lasting.proofs.Histories.{same_shape}
+use Rattle.fx_lasting.proofs.Holds.{holds_at}
+use Rattle.fx_lasting.proofs.Keeping.{word_at, slot_word, find_pass}
+use Rattle.fx_lasting.specs.WholeHistory.{IsPassAt, IsPartOf, IsOfAllPasses, Uses, HasUser}
+
+-- the passes begin in a state from which the laws of histories speak
+start_is : (k : Start) → IsStart (state_at_start k)
+start_is k = let o = opening_is_start (state_of k.plain.value) 0 in record {
+  settled = record { unheld = o.settled.unheld; closed = o.settled.closed };
+  distinct = o.distinct;
+  used = λ slot f l there. let e = numbered_anew _ slot f there in ap not (lt-ltb f.number (slots_of k) (omega arith));
+}
+
+-- the file of a phase, if it has the number
+found_file : (number : ℕ) (g f : File) → file_if_numbered number g ≡ Some f → (g ≡ f) × (f.number ≡ number)
+found_file number g f is = go (eqb g.number number) refl is
+  where
+    go : (b : Bool) → eqb g.number number ≡ b → cond b (Some g) None ≡ Some f → (g ≡ f) × (f.number ≡ number)
+    go true e is = let same : g ≡ f = cc is in (same, sym (ap (λ (x : File). x.number) same) ∙ eqb-true g.number number e)
+    go false e is = absurd (cc is)
+
+module _ (k : Start) (s : Shared) (r : Agrees k s) where
+  abbrev Node : ℕ → Phase → Type 0
+  Node n = NodeAgrees (state_after_all k r.history).at (slots_of k) (λ i. count_in (slot_word s.words i)) r.node_of r.next_number n
+      (word_at s.words (word_of k n)) (sum_by (taken_of n) s.views) (owed r.debt k.passes n) (get_elem? s.homes n)
+
+  parts : (seat : ℕ) (pass : PassView) → IsPassAt s seat pass → IsPartOf pass r.history
+  parts seat pass at = let o = (r.each_view seat at.view at.there).logs at.log (subst (λ (l : List Log). Contains l at.log) (sym at.one) (contains_head at.log [])) in
+      subst (λ (w : PassView). IsPartOf w r.history) at.shown (rw at.one record { seen = o.seen; own = o.own })
+
+  once : (number : ℕ) → length (closes_of number r.history) ≤ 1
+  once number = closed_at_most_once (state_at_start k) r.history number (start_is k) r.legal.leads.0
+
+  has_number : (f : File) → file_if_numbered f.number f ≡ Some f
+  has_number f = rw (eq-eqb f.number f.number refl) refl
+
+  removed_there : (n : ℕ) (f : File) (ph : Phase) → r.phase n ≡ ph → r.node_of f.number ≡ n → removed_in f.number ph ≡ Some f
+      → 1 ≤ tally f.number (state_after_all k r.history)
+  removed_there n f ph at on is =
+      let a = ap present (r.removed f.number ∙ (ap (λ (m : ℕ). removed_in f.number (r.phase m)) on ∙ (ap (removed_in f.number) at ∙ is))) in omega arith
+
+  -- a file that is open counts in the state that the history leads to
+  is_there : (n : ℕ) (f : File) (ph : Phase) → r.phase n ≡ ph → Node n ph → file_in ph ≡ Some f
+      → 1 ≤ tally f.number (state_after_all k r.history)
+  is_there n f (seated slot g) at o is = let same : g ≡ f = cc is in
+      let z = (same_shape k r.history).0 in
+      let low : slot < (state_after_all k r.history).size = let i = o.inside in omega arith in
+      let a = placed_one f.number (state_after_all k r.history).at slot (state_after_all k r.history).size low in
+      let b = ap (named f.number) (o.there ∙ ap (λ (x : File). Some x) same) ∙ named_same f f.number refl in omega arith
+  is_there n f (leaving seat t rd m g) at o is = removed_there n f (leaving seat t rd m g) at (let same : g ≡ f = cc is in rw (← same) o.file.its_node)
+      (let same : g ≡ f = cc is in rw same (has_number f))
+  is_there n f (retired g) at o is = removed_there n f (retired g) at (let same : g ≡ f = cc is in rw (← same) o.file.its_node)
+      (let same : g ≡ f = cc is in rw same (has_number f))
+  is_there n f free at o is = absurd (cc is)
+  is_there n f (placed seat) at o is = absurd (cc is)
+  is_there n f (emptied seat) at o is = absurd (cc is)
+
+  -- so no file of its number was closed
+  unclosed : (n : ℕ) (f : File) → HoldsAt k r.phase f n → closes_of f.number r.history ≡ []
+  unclosed n f its = let start = tally_start (state_at_start k) f.number (start_is k) in
+      let all = tally_all (state_at_start k) r.history f.number start r.legal.leads.0 in
+      let now = is_there n f (r.phase n) refl (r.each_node n its.0) its.1 in none (closes_of f.number r.history) (omega arith)
+    where
+      none : (l : List File) → length l ≡ 0 → l ≡ []
+      none [] is = refl
+      none (g ∷ l) is = absurd (omega arith)
+
+  pub is_of_all_passes : IsOfAllPasses k s r
+  is_of_all_passes = record {
+    legal = r.legal;
+    start = start_is k;
+    parts = parts;
+    once = once;
+    held = λ seat pass f hold at holds. unclosed hold.node f
+        (holds_at k s r (seat, at.view, at.there, ap (λ (w : PassView). w.doing) at.shown ∙ holds));
+  }
+
+  -- who uses a node that isn't free
+  module _ (n : ℕ) (f : File) (file : file_in (r.phase n) ≡ Some f) where
+    same_file : (g : File) → HoldsAt k r.phase g n → g ≡ f
+    same_file g at = cc (sym at.1 ∙ file)
+
+    takes : (seat : ℕ) (v : View) → get_elem? s.views seat ≡ some v → 1 ≤ taken_of n v → Uses f n v.work
+    takes seat v there some_taken = go v.work some_taken (r.each_view seat v there).work
+      where
+        go : (w : Work) → 1 ≤ taking n w → WorkAgrees k r.phase seat w → Uses f n w
+        go (Counted g m) is at = dite (ℕ_discrete m n) (λ same. same_file g (rw same at at)) (λ other. absurd (let a = bit_else n m other in omega arith))
+        go Idle is at = absurd (omega arith)
+        go (Announced m) is at = absurd (omega arith)
+        go (Guarded g m) is at = absurd (omega arith)
+        go (Owing m) is at = absurd (omega arith)
+        go (Yielding g m) is at = absurd (omega arith)
+        go (Searching m) is at = absurd (omega arith)
+        go (Placing m) is at = absurd (omega arith)
+        go (Retiring g m t rd k) is at = absurd (omega arith)
+        go (Emptying m) is at = absurd (omega arith)
+
+    owes : (seat : ℕ) (w : Work) (word debt : ℕ) → debt ≡ n + 1 → HoldAgrees word debt w → WorkAgrees k r.phase seat w → Uses f n w
+    owes seat (Announced m) word debt is h at = ⊎_elim (λ clean. let a = clean.1 in absurd (omega arith)) (λ full. let a = full.1 in omega arith) h
+    owes seat (Guarded g m) word debt is h at = ⊎_elim (λ clean. let a = clean.1 in absurd (omega arith))
+        (λ full. let same : m ≡ n = (let a = full.1 in omega arith) in same_file g (rw same at at)) h
+    owes seat (Owing m) word debt is h at = let a = h.1 in omega arith
+    owes seat (Yielding g m) word debt is h at = let same : m ≡ n = (let a = h.1 in omega arith) in same_file g (rw same at at)
+    owes seat Idle word debt is h at = let a = h.1 in absurd (omega arith)
+    owes seat (Counted g m) word debt is h at = let a = h.1 in absurd (omega arith)
+    owes seat (Searching m) word debt is h at = let a = h.1 in absurd (omega arith)
+    owes seat (Placing m) word debt is h at = let a = h.1 in absurd (omega arith)
+    owes seat (Retiring g m t rd k) word debt is h at = let a = h.1 in absurd (omega arith)
+    owes seat (Emptying m) word debt is h at = let a = h.1 in absurd (omega arith)
+
+    abbrev HasOne : Type 0
+    HasOne = (seat : ℕ) × (v : View) × (get_elem? s.views seat ≡ some v) × Uses f n v.work
+
+    somebody : 0 < sum_by (taken_of n) s.views + owed r.debt k.passes n → HasOne
+    somebody more = dite (ℕ_discrete (sum_by (taken_of n) s.views) 0)
+        (λ none. let z = owed_found r.debt k.passes n (omega (arith, more, none)) in let y = find_pass r z.1 z.2 in
+        let o = (r.each_view y.0 y.1 y.3).logs y.2 y.4 in
+        (y.0, y.1, y.3, owes y.0 y.1.work _ _ (ap r.debt y.5 ∙ z.3) o.hold (r.each_view y.0 y.1 y.3).work))
+        (λ taken. let z = found_sum (taken_of n) s.views (omega (arith, taken)) in
+        let there = at_index s.views z.1.0 z.0 z.1.1 (sym z.1.2) in (z.1.0, z.0, there, takes z.1.0 z.0 there z.2))
+
+  -- the user of a removed file
+  user_of : (number n : ℕ) (f : File) (ph : Phase) → r.phase n ≡ ph → Node n ph → OwnerAgrees s.views n ph → removed_in number ph ≡ Some f
+      → (f.number ≡ number) × ((seat : ℕ) × (v : View) × (get_elem? s.views seat ≡ some v) × Uses f n v.work)
+  user_of number n f (leaving seat t rd m g) at o who is = let e = found_file number g f is in
+      (e.1, (seat, who.0, who.1, subst (Uses f n) (sym who.2) e.0))
+  user_of number n f (retired g) at o who is = let e = found_file number g f is in
+      (e.1, somebody n f (ap file_in at ∙ ap (λ (x : File). Some x) e.0) o.somebody)
+  user_of number n f free at o who is = absurd (cc is)
+  user_of number n f (placed seat) at o who is = absurd (cc is)
+  user_of number n f (seated slot g) at o who is = absurd (cc is)
+  user_of number n f (emptied seat) at o who is = absurd (cc is)
+
+  pub user_is : (number : ℕ) (f : File) → (state_after_all k r.history).removed number ≡ Some f → HasUser k s f
+  user_is number f is = let on = r.node_of number in let now : removed_in number (r.phase on) ≡ Some f = sym (r.removed number) ∙ is in
+      dite (dec_le (suc on) (nodes_of k))
+      (λ low. let u = user_of number on f (r.phase on) refl (r.each_node on (omega (arith, low))) (r.each_owner on (omega (arith, low))) now in
+      let node : on ≡ node_of_number k f.number = r.numbering number ∙ ap (node_of_number k) (sym u.0) in
+      (u.1.0, u.1.1, u.1.2, subst (λ (m : ℕ). Uses f m u.1.1.work) node u.1.3))
+      (λ high. let e = ap (removed_in number) (r.unborn on (omega (arith, high))) in let bad : None ≡ Some f = sym e ∙ now in absurd (cc bad))

@@ -1,0 +1,69 @@
+-- The history of all passes of a table, and who uses a removed file, between any two steps.
+use Rattle.std.specs.Prelude.{◌≡◌, ℕ, ◌≤◌, List, [], ◌∷◌, length, Some}
+use mathlib.Core.Option.{some}
+use lib.ListN.{get_elem?}
+use Rattle.fx_plain.specs.History.{IsLegal, IsSeenBy, part_of_pass}
+use Rattle.fx_plain.specs.Laws.{IsStart, closes_of}
+use Rattle.fx_plain.specs.declared.event.Event.{Event}
+use Rattle.fx_plain.specs.declared.event.File.{File}
+use Rattle.fx_table.specs.Opening.{start_of, state_at}
+use Rattle.fx_table.specs.Pass.{PassView}
+use Rattle.fx_table.specs.declared.values.Doing.TheVariants.{Holding}
+use Rattle.fx_table.specs.declared.values.Hold.{Hold}
+use Rattle.fx_lasting.specs.Agrees.{Agrees}
+use Rattle.fx_lasting.specs.Passes.{Shared, node_of_number, state_after_all}
+use Rattle.fx_lasting.specs.Tables.{opening_of, pass_of}
+use Rattle.fx_lasting.specs.declared.view.Log.{Log}
+use Rattle.fx_lasting.specs.declared.view.Start.{Start}
+use Rattle.fx_lasting.specs.declared.view.View.{View}
+use Rattle.fx_lasting.specs.declared.view.Work.{Work}
+use Rattle.fx_lasting.specs.declared.view.Work.TheVariants.{Announced, Counted, Guarded, Owing}
+use Rattle.fx_lasting.specs.declared.view.Work.TheVariants.{Yielding, Retiring}
+
+-- the pass of a seat that has one pass, as calls show it
+pub record IsPassAt (s : Shared) (seat : ℕ) (pass : PassView) : Type 0 where
+  pub view : View
+  pub log : Log
+  pub there : get_elem? s.views seat ≡ some view
+  pub one : view.logs ≡ log ∷ []
+  pub shown : pass_of view ≡ pass
+
+-- the pass has seen a beginning of the history, whose events of the pass are the pass's own
+pub record IsPartOf (pass : PassView) (h : List Event) : Type 0 where
+  pub seen : IsSeenBy pass.front h
+  pub own : part_of_pass pass.number h ≡ pass.own
+
+-- one legal history is that of all passes
+pub record IsOfAllPasses (k : Start) (s : Shared) (r : Agrees k s) : Type 0 where
+  pub legal : IsLegal (start_of (opening_of k)) r.history (state_at (opening_of k) r.history)
+  pub start : IsStart (start_of (opening_of k))
+  pub parts : (seat : ℕ) (pass : PassView) → IsPassAt s seat pass → IsPartOf pass r.history
+  -- no number is closed twice, by whichever passes
+  pub once : (number : ℕ) → length (closes_of number r.history) ≤ 1
+  -- no pass has closed a file that a pass holds
+  pub held : (seat : ℕ) (pass : PassView) (f : File) (hold : Hold) → IsPassAt s seat pass
+      → pass.doing ≡ Holding f hold → closes_of f.number r.history ≡ []
+
+abbrev pub HasOneHistory : Type 0
+HasOneHistory = (k : Start) (s : Shared) (r : Agrees k s) → IsOfAllPasses k s r
+
+-- a pass with this work retires the file of the node, holds it, or is within a look-up that
+-- announced the node
+abbrev pub Uses : File → ℕ → Work → Type 0
+Uses f node (Retiring other n takes round marks) = other ≡ f
+Uses f node (Counted other n) = other ≡ f
+Uses f node (Guarded other n) = other ≡ f
+Uses f node (Yielding other n) = other ≡ f
+Uses f node (Announced n) = n ≡ node
+Uses f node (Owing n) = n ≡ node
+Uses f node _ = ⊥
+
+-- a pass uses the file
+abbrev pub HasUser : Start → Shared → File → Type 0
+HasUser k s f = (seat : ℕ) × (v : View) × (get_elem? s.views seat ≡ some v)
+    × Uses f (node_of_number k f.number) v.work
+
+-- each file that was removed and isn't closed has a user
+abbrev pub RemovedFilesHaveUsers : Type 0
+RemovedFilesHaveUsers = (k : Start) (s : Shared) (r : Agrees k s) (number : ℕ) (f : File)
+    → (state_after_all k r.history).removed number ≡ Some f → HasUser k s f
