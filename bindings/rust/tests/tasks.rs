@@ -91,7 +91,7 @@ fn a_thousand_tasks_insert_and_remove() {
     let table = Options::new(64)
         .handles(2)
         .readers(0)
-        .guards(64)
+        .guards(128)
         .open()
         .unwrap();
     let task = |number: u32| -> Task { Box::pin(come_and_go(table.clone(), number)) };

@@ -1,6 +1,8 @@
 //! Guards of values.
 use super::reader::Reader;
+use super::seats::Place;
 use super::table::Table;
+use super::values::drop_last;
 use std::fmt;
 use std::ops::Deref;
 
@@ -27,7 +29,7 @@ use std::ops::Deref;
 pub struct Guard<'r, T> {
     value: *const T,
     reader: &'r Reader<T>,
-    number: u32,
+    place: Place,
     slot: u32,
 }
 
@@ -35,18 +37,18 @@ pub struct Guard<'r, T> {
 unsafe impl<T: Sync> Sync for Guard<'_, T> {}
 
 impl<'r, T> Guard<'r, T> {
-    /// Makes a guard of a value that the reader's seat with this number holds.
+    /// Makes a guard of a value that this seat of the reader holds.
     #[inline]
     pub(super) fn new(
         reader: &'r Reader<T>,
         value: *const T,
-        number: u32,
+        place: Place,
         slot: u32,
     ) -> Guard<'r, T> {
         Guard {
             value,
             reader,
-            number,
+            place,
             slot,
         }
     }
@@ -72,13 +74,11 @@ impl<T> Drop for Guard<'_, T> {
     #[inline]
     fn drop(&mut self) {
         let values = self.reader.table().values();
-        let seat = &values.seats.looking[self.number as usize];
         // SAFETY: the seat is the reader's (one user), on whose thread this guard is. It holds this guard's value, and every reference
         // to the value borrowed the guard.
-        let freed = unsafe { values.release(seat, self.value) };
-        self.reader.give_back(self.number);
-        // last, since a drop may panic
-        drop(freed);
+        let freed = unsafe { values.release(self.place.core, self.value) };
+        self.reader.give_back(self.place.number);
+        drop_last(freed);
     }
 }
 
@@ -113,7 +113,7 @@ impl<T: fmt::Display> fmt::Display for Guard<'_, T> {
 #[must_use = "the value is released when the guard is dropped"]
 pub struct OwnedGuard<T> {
     value: *const T,
-    number: u32,
+    place: Place,
     slot: u32,
     // it is dropped after `drop` has run
     table: Table<T>,
@@ -126,12 +126,12 @@ unsafe impl<T: Send + Sync> Send for OwnedGuard<T> {}
 unsafe impl<T: Sync> Sync for OwnedGuard<T> {}
 
 impl<T> OwnedGuard<T> {
-    /// Makes a guard of a value that the table's seat with this number holds.
+    /// Makes a guard of a value that this seat of the table holds.
     #[inline]
-    pub(super) fn new(table: Table<T>, value: *const T, number: u32, slot: u32) -> OwnedGuard<T> {
+    pub(super) fn new(table: Table<T>, value: *const T, place: Place, slot: u32) -> OwnedGuard<T> {
         OwnedGuard {
             value,
-            number,
+            place,
             slot,
             table,
         }
@@ -159,13 +159,11 @@ impl<T> Drop for OwnedGuard<T> {
     #[inline]
     fn drop(&mut self) {
         let values = self.table.values();
-        let seat = &values.seats.looking[self.number as usize];
         // SAFETY: the seat is this guard's (one user). It holds this guard's value, and every reference to the value borrowed the
         // guard.
-        let freed = unsafe { values.release(seat, self.value) };
-        values.seats.give_back(self.number);
-        // last, since a drop may panic
-        drop(freed);
+        let freed = unsafe { values.release(self.place.core, self.value) };
+        values.seats.give_back(self.place.number);
+        drop_last(freed);
     }
 }
 

@@ -1,7 +1,8 @@
 //! Handles.
+use super::core::Core;
 use super::guard::Guard;
 use super::reader::Reader;
-use super::seats::Seat;
+use super::seats::Place;
 use super::table::Table;
 use super::values::{Round, Values};
 use crate::errors::{GetError, NoSeat, NoSlot, Reason, Refused};
@@ -52,18 +53,20 @@ use std::fmt;
 pub struct Handle<T> {
     /// Its own seat has the number of the handle's installing seat as well.
     reader: Reader<T>,
+    installer: Place,
 }
 
 impl<T> Handle<T> {
     /// Makes a handle of a reader whose seats a handle has.
     pub(super) fn new(reader: Reader<T>) -> Handle<T> {
-        Handle { reader }
+        let seats = &reader.table().values().seats;
+        let installer = seats.installing_place(reader.number());
+        Handle { reader, installer }
     }
 
     #[inline]
-    fn parts(&self) -> (&Values<T>, &Seat) {
-        let values = self.reader.table().values();
-        (values, &values.seats.installing[self.reader.own() as usize])
+    fn parts(&self) -> (&Values<T>, *mut Core) {
+        (self.reader.table().values(), self.installer.core)
     }
 
     /// Returns a guard of the value at a slot. The look-up may drop another value: one that it saw first, and that others replaced
@@ -107,9 +110,9 @@ impl<T> Handle<T> {
     /// # Ok::<(), Box<dyn std::error::Error>>(())
     /// ```
     pub fn insert(&self, value: T) -> Result<u32, Refused<T>> {
-        let (values, seat) = self.parts();
+        let (values, core) = self.parts();
         // SAFETY: the seat is this handle's (one user), and holds nothing between two calls.
-        unsafe { values.insert(seat, Box::new(value)) }.map_err(|value| Refused {
+        unsafe { values.insert(core, Box::new(value)) }.map_err(|value| Refused {
             value: *value,
             reason: Reason::Full {
                 slots: values.slots(),
@@ -136,9 +139,9 @@ impl<T> Handle<T> {
     /// # Ok::<(), Box<dyn std::error::Error>>(())
     /// ```
     pub fn try_insert(&self, value: T) -> Result<u32, Refused<T>> {
-        let (values, seat) = self.parts();
+        let (values, core) = self.parts();
         // SAFETY: the seat is this handle's (one user), and holds nothing between two calls.
-        let answer = unsafe { values.try_insert(seat, Box::new(value)) };
+        let answer = unsafe { values.try_insert(core, Box::new(value)) };
         answer.map_err(|(value, round)| Refused {
             value: *value,
             reason: match round {
@@ -169,9 +172,9 @@ impl<T> Handle<T> {
     /// ```
     #[inline]
     pub fn replace_at(&self, slot: u32, value: T) -> Result<Old<T>, Refused<T>> {
-        let (values, seat) = self.parts();
+        let (values, core) = self.parts();
         // SAFETY: the seat is this handle's (one user), and holds nothing between two calls.
-        match unsafe { values.replace_at(seat, slot, Box::new(value)) } {
+        match unsafe { values.replace_at(core, slot, Box::new(value)) } {
             Ok(old) => Ok(old.map(|it| *it)),
             Err(value) => Err(Refused {
                 value: *value,
@@ -199,9 +202,9 @@ impl<T> Handle<T> {
     /// ```
     #[inline]
     pub fn remove_at(&self, slot: u32) -> Result<Old<T>, NoSlot> {
-        let (values, seat) = self.parts();
+        let (values, core) = self.parts();
         // SAFETY: the seat is this handle's (one user), and holds nothing between two calls.
-        let old = unsafe { values.remove_at(seat, slot) };
+        let old = unsafe { values.remove_at(core, slot) };
         Ok(old?.map(|it| *it))
     }
 
@@ -215,9 +218,9 @@ impl<T> Handle<T> {
     /// # Ok::<(), Box<dyn std::error::Error>>(())
     /// ```
     pub fn contains(&self, slot: u32) -> bool {
-        let (values, seat) = self.parts();
+        let (values, core) = self.parts();
         // SAFETY: the seat is this handle's (one user), and holds nothing between two calls.
-        let (sees, freed) = unsafe { values.sees(seat, slot) };
+        let (sees, freed) = unsafe { values.sees(core, slot) };
         drop(freed);
         sees
     }

@@ -1,7 +1,8 @@
 //! Readers.
 use super::guard::Guard;
+use super::seats::Place;
 use super::table::Table;
-use super::values::Looked;
+use super::values::{drop_last, Looked};
 use crate::errors::{GetError, NoSeat};
 use crate::iter::Iter;
 use std::cell::Cell;
@@ -37,8 +38,8 @@ use std::fmt;
 #[must_use = "a reader is in use until it is dropped"]
 pub struct Reader<T> {
     table: Table<T>,
-    /// The number of this reader's own seat, and whether that holds a value.
-    own: u32,
+    /// This reader's own seat, and whether that holds a value.
+    own: Place,
     is_busy: Cell<bool>,
     /// The first seat in the list of its other guards' seats.
     others: Cell<Option<u32>>,
@@ -50,7 +51,7 @@ unsafe impl<T: Send + Sync> Send for Reader<T> {}
 
 impl<T> Reader<T> {
     /// Makes a reader of a seat that the caller claimed.
-    pub(super) fn new(table: Table<T>, own: u32) -> Reader<T> {
+    pub(super) fn new(table: Table<T>, own: Place) -> Reader<T> {
         Reader {
             table,
             own,
@@ -60,9 +61,8 @@ impl<T> Reader<T> {
     }
 
     /// Returns the number of the reader's own seat.
-    #[inline]
-    pub(super) fn own(&self) -> u32 {
-        self.own
+    pub(super) fn number(&self) -> u32 {
+        self.own.number
     }
 
     /// Returns a guard of the value at a slot. The look-up may drop another value: one that it saw first, and that others replaced
@@ -85,23 +85,22 @@ impl<T> Reader<T> {
     #[inline]
     pub fn get_at(&self, slot: u32) -> Result<Guard<'_, T>, GetError> {
         let values = self.table.values();
-        let number = self.begin().map_err(GetError::NoSeat)?;
-        let seat = &values.seats.looking[number as usize];
+        let place = self.begin().map_err(GetError::NoSeat)?;
         // SAFETY: the seat is this reader's (one user), and no guard uses it.
-        let Looked { found, freed } = unsafe { values.look(seat, slot) };
-        let found = match found {
+        let Looked { found, freed } = unsafe { values.look(place.core, slot) };
+        match found {
             Ok(value) => {
-                self.note(number);
-                Ok(Guard::new(self, value, number, slot))
+                self.note(place.number);
+                let guard = Guard::new(self, value, place, slot);
+                drop_last(freed);
+                Ok(guard)
             }
             Err(error) => {
-                self.end(number);
+                self.end(place.number);
+                drop_last(freed);
                 Err(error)
             }
-        };
-        // last, since a drop may panic
-        drop(freed);
-        found
+        }
     }
 
     /// Returns an iterator over guards of the values: what each slot had when it was looked at. Slots that are empty then are left
@@ -134,7 +133,7 @@ impl<T> Reader<T> {
 
     /// Returns a seat for one look-up.
     #[inline]
-    fn begin(&self) -> Result<u32, NoSeat> {
+    fn begin(&self) -> Result<Place, NoSeat> {
         if self.is_busy.get() {
             self.table.values().seats.claim_guard()
         } else {
@@ -145,7 +144,7 @@ impl<T> Reader<T> {
     /// Notes that a guard has a seat from `begin`.
     #[inline]
     fn note(&self, number: u32) {
-        if number == self.own {
+        if number == self.own.number {
             self.is_busy.set(true);
             return;
         }
@@ -160,7 +159,7 @@ impl<T> Reader<T> {
     /// Gives a seat from `begin` back that no guard has got.
     #[inline]
     fn end(&self, number: u32) {
-        if number != self.own {
+        if number != self.own.number {
             self.table.values().seats.give_back(number);
         }
     }
@@ -168,7 +167,7 @@ impl<T> Reader<T> {
     /// Gives the seat of a guard back, which holds no value any more.
     #[inline]
     pub(super) fn give_back(&self, number: u32) {
-        if number == self.own {
+        if number == self.own.number {
             self.is_busy.set(false);
             return;
         }
@@ -189,10 +188,10 @@ impl<T> Reader<T> {
     /// Ends the hold of a seat whose guard was forgotten. Returns the value if this closed it.
     fn end_forgotten(&self, number: u32) -> Option<Box<T>> {
         let values = self.table.values();
-        let seat = &values.seats.looking[number as usize];
+        let core = values.seats.looking[number as usize].core();
         // SAFETY: a guard borrows the reader, so none is alive: this seat's guard was forgotten, and nobody has a reference to its value
         // by this hold.
-        let freed = unsafe { values.release(seat, std::ptr::null()) };
+        let freed = unsafe { values.release(core, std::ptr::null()) };
         self.give_back(number);
         freed
     }
@@ -205,9 +204,9 @@ impl<T> Drop for Reader<T> {
             freed.extend(self.end_forgotten(number));
         }
         if self.is_busy.get() {
-            freed.extend(self.end_forgotten(self.own));
+            freed.extend(self.end_forgotten(self.own.number));
         }
-        self.table.values().seats.give_back(self.own);
+        self.table.values().seats.give_back(self.own.number);
         // The seats are back. The values are dropped with the list, one after another, even if the drop of one panics.
     }
 }

@@ -37,6 +37,18 @@ impl Drop for Seat {
     }
 }
 
+/// A seat that a handle, a reader or a guard has: its number, and its worker of the core, which is at hand without a load.
+#[derive(Clone, Copy)]
+pub(super) struct Place {
+    pub(super) number: u32,
+    pub(super) core: *mut Core,
+}
+
+// SAFETY: a place is a number and an address. Each call that uses the core's worker is unsafe, and has its own argument.
+unsafe impl Send for Place {}
+// SAFETY: as above.
+unsafe impl Sync for Place {}
+
 /// 64 bits on cache lines of their own.
 #[repr(align(128))]
 struct Line(AtomicU64);
@@ -55,11 +67,11 @@ impl Free {
         Free(firsts.map(|it| Line(AtomicU64::new(bits(it)))).collect())
     }
 
-    /// Removes a number from the set, or returns `None` if it found each of the words empty. A thread begins at a word of its own,
-    /// and takes the smallest number of a word, so few seats are ever used.
+    /// Removes a number from the set, or returns `None` if it found each of the words empty. A thread begins at the word that it used
+    /// last, and takes the smallest number of a word, so few seats are ever used.
     pub(super) fn claim(&self) -> Option<u32> {
         let count = self.0.len();
-        let first = number_of_thread();
+        let first = FIRST_WORD.try_with(Cell::get).unwrap_or(0);
         (0..count).find_map(|step| self.claim_in((first + step) % count))
     }
 
@@ -70,7 +82,10 @@ impl Free {
             let without = found & (found - 1);
             // Acquires what the last user of the number did with its seat.
             match bits.compare_exchange_weak(found, without, Ordering::Acquire, Ordering::Relaxed) {
-                Ok(_) => return Some(word as u32 * 64 + found.trailing_zeros()),
+                Ok(_) => {
+                    begin_at(word);
+                    return Some(word as u32 * 64 + found.trailing_zeros());
+                }
                 Err(now) => found = now,
             }
         }
@@ -79,19 +94,25 @@ impl Free {
 
     /// Adds a number to the set again. The caller has it from `claim`, and uses its seat no more.
     pub(super) fn give_back(&self, number: u32) {
-        let word = &self.0[number as usize / 64].0;
-        word.fetch_or(1 << (number % 64), Ordering::Release);
+        let word = number as usize / 64;
+        self.0[word]
+            .0
+            .fetch_or(1 << (number % 64), Ordering::Release);
+        begin_at(word);
     }
 }
 
-/// Returns a number that few threads share.
-fn number_of_thread() -> usize {
-    static NEXT: AtomicUsize = AtomicUsize::new(0);
-    thread_local! {
-        static NUMBER: usize = NEXT.fetch_add(1, Ordering::Relaxed);
-    }
-    // while a thread ends it has none
-    NUMBER.try_with(|it| *it).unwrap_or(0)
+thread_local! {
+    /// The word at which the thread begins to look for a free number: at first one that few threads begin at.
+    static FIRST_WORD: Cell<usize> = {
+        static NEXT: AtomicUsize = AtomicUsize::new(0);
+        Cell::new(NEXT.fetch_add(1, Ordering::Relaxed) % 16)
+    };
+}
+
+fn begin_at(word: usize) {
+    // a thread that ends has no such word, and needs none
+    let _ = FIRST_WORD.try_with(|it| it.set(word));
 }
 
 /// The seats of a table. `installing` has a seat for each handle. `looking` has the own seat of each handle, that of each reader, and
@@ -144,9 +165,21 @@ impl Seats {
         self.most_handles() + self.readers
     }
 
-    /// Claims the seats of a handle, both of which have the number that is returned. If a call of the table uses the last one, it
-    /// waits for the end of that call.
-    pub(super) fn claim_handle(&self) -> Result<u32, NoSeat> {
+    /// Returns the seat that looks up and has this number.
+    fn place(&self, number: u32) -> Place {
+        let core = self.looking[number as usize].core();
+        Place { number, core }
+    }
+
+    /// Returns the installing seat of a handle.
+    pub(super) fn installing_place(&self, number: u32) -> Place {
+        let core = self.installing[number as usize].core();
+        Place { number, core }
+    }
+
+    /// Claims the seats of a handle, both of which have the number of the place that is returned. If a call of the table uses the
+    /// last one, it waits for the end of that call.
+    pub(super) fn claim_handle(&self) -> Result<Place, NoSeat> {
         let most = self.most_handles();
         let one_more = |count| (count < most).then_some(count + 1);
         self.handles
@@ -154,7 +187,7 @@ impl Seats {
             .map_err(|in_use| NoSeat::Handle { in_use })?;
         loop {
             match self.free_handles.claim() {
-                Some(number) => return Ok(number),
+                Some(number) => return Ok(self.place(number)),
                 None => std::thread::yield_now(),
             }
         }
@@ -179,18 +212,18 @@ impl Seats {
     }
 
     /// Claims the seat of a reader.
-    pub(super) fn claim_reader(&self) -> Result<u32, NoSeat> {
+    pub(super) fn claim_reader(&self) -> Result<Place, NoSeat> {
         let in_use = self.readers;
         let number = self.free_readers.claim().ok_or(NoSeat::Reader { in_use })?;
-        Ok(self.most_handles() + number)
+        Ok(self.place(self.most_handles() + number))
     }
 
     /// Claims a seat for a guard.
-    pub(super) fn claim_guard(&self) -> Result<u32, NoSeat> {
+    pub(super) fn claim_guard(&self) -> Result<Place, NoSeat> {
         let first = self.first_guard();
         let in_use = self.looking.len() as u32 - first;
         let number = self.free_guards.claim().ok_or(NoSeat::Guard { in_use })?;
-        Ok(first + number)
+        Ok(self.place(first + number))
     }
 
     /// Returns the seats of a handle, the seat of a reader, or that of a guard.
@@ -213,8 +246,8 @@ pub(super) struct Call<'t> {
 }
 
 impl Call<'_> {
-    pub(super) fn seat(&self) -> &Seat {
-        &self.seats.installing[self.number as usize]
+    pub(super) fn core(&self) -> *mut Core {
+        self.seats.installing[self.number as usize].core()
     }
 }
 

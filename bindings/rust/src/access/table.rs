@@ -2,7 +2,7 @@
 use super::guard::OwnedGuard;
 use super::handle::Handle;
 use super::reader::Reader;
-use super::values::{Looked, Values};
+use super::values::{drop_last, Looked, Values};
 use crate::errors::{GetError, NoSeat, OpenError, Reason, Refused, RemoveError};
 use crate::old::Old;
 use crate::options::Options;
@@ -78,8 +78,8 @@ impl<T> Table<T> {
     /// # Ok::<(), Box<dyn std::error::Error>>(())
     /// ```
     pub fn handle(&self) -> Result<Handle<T>, NoSeat> {
-        let number = self.values.seats.claim_handle()?;
-        Ok(Handle::new(Reader::new(self.clone(), number)))
+        let place = self.values.seats.claim_handle()?;
+        Ok(Handle::new(Reader::new(self.clone(), place)))
     }
 
     /// Takes a reader, which looks slots up, for one thread at a time. It is free again when it is dropped.
@@ -95,8 +95,8 @@ impl<T> Table<T> {
     /// # Ok::<(), Box<dyn std::error::Error>>(())
     /// ```
     pub fn reader(&self) -> Result<Reader<T>, NoSeat> {
-        let number = self.values.seats.claim_reader()?;
-        Ok(Reader::new(self.clone(), number))
+        let place = self.values.seats.claim_reader()?;
+        Ok(Reader::new(self.clone(), place))
     }
 
     /// Returns a guard of the value at a slot that borrows nothing. It takes a guard's seat of the table until it is dropped. The
@@ -121,20 +121,21 @@ impl<T> Table<T> {
     /// ```
     pub fn get_owned(&self, slot: u32) -> Result<OwnedGuard<T>, GetError> {
         let seats = &self.values.seats;
-        let number = seats.claim_guard().map_err(GetError::NoSeat)?;
-        let seat = &seats.looking[number as usize];
+        let place = seats.claim_guard().map_err(GetError::NoSeat)?;
         // SAFETY: the seat is this call's (one user).
-        let Looked { found, freed } = unsafe { self.values.look(seat, slot) };
-        let found = match found {
-            Ok(value) => Ok(OwnedGuard::new(self.clone(), value, number, slot)),
+        let Looked { found, freed } = unsafe { self.values.look(place.core, slot) };
+        match found {
+            Ok(value) => {
+                let guard = OwnedGuard::new(self.clone(), value, place, slot);
+                drop_last(freed);
+                Ok(guard)
+            }
             Err(error) => {
-                seats.give_back(number);
+                seats.give_back(place.number);
+                drop_last(freed);
                 Err(error)
             }
-        };
-        // last, since a drop may panic
-        drop(freed);
-        found
+        }
     }
 
     /// Installs a value at a free slot, and returns the slot, by a seat for this call. It may wait as long as one other thread is stopped
@@ -154,7 +155,7 @@ impl<T> Table<T> {
         let value = Box::new(value);
         let answer = match self.values.seats.claim_call() {
             // SAFETY: the seat is this call's (one user).
-            Ok(call) => unsafe { self.values.insert(call.seat(), value) }.map_err(|value| {
+            Ok(call) => unsafe { self.values.insert(call.core(), value) }.map_err(|value| {
                 let slots = self.slots();
                 (value, Reason::Full { slots })
             }),
@@ -180,7 +181,7 @@ impl<T> Table<T> {
         let value = Box::new(value);
         let answer = match self.values.seats.claim_call() {
             // SAFETY: the seat is this call's (one user).
-            Ok(call) => unsafe { self.values.replace_at(call.seat(), slot, value) }
+            Ok(call) => unsafe { self.values.replace_at(call.core(), slot, value) }
                 .map_err(|value| (value, Reason::NoSlot(self.values.no_slot(slot)))),
             Err(error) => Err((value, Reason::NoSeat(error))),
         };
@@ -206,7 +207,7 @@ impl<T> Table<T> {
     pub fn remove_at(&self, slot: u32) -> Result<Old<T>, RemoveError> {
         let call = self.values.seats.claim_call()?;
         // SAFETY: the seat is this call's (one user).
-        let old = unsafe { self.values.remove_at(call.seat(), slot) };
+        let old = unsafe { self.values.remove_at(call.core(), slot) };
         drop(call);
         Ok(old?.map(|it| *it))
     }
@@ -225,10 +226,9 @@ impl<T> Table<T> {
     pub fn contains(&self, slot: u32) -> Result<bool, NoSeat> {
         let call = self.values.seats.claim_call()?;
         // SAFETY: the seat is this call's (one user).
-        let (sees, freed) = unsafe { self.values.sees(call.seat(), slot) };
+        let (sees, freed) = unsafe { self.values.sees(call.core(), slot) };
         drop(call);
-        // last, since a drop may panic
-        drop(freed);
+        freed.into_iter().for_each(drop_last);
         Ok(sees)
     }
 }

@@ -1,6 +1,6 @@
 //! The values of a table, and the calls of the core on them.
-use super::core;
-use super::seats::{Seat, Seats};
+use super::core::{self, Core};
+use super::seats::Seats;
 use crate::errors::{GetError, NoSlot, OpenError};
 use crate::old::Old;
 use crate::options::Options;
@@ -25,6 +25,20 @@ pub(super) struct Looked<T> {
 pub(super) enum Round {
     Full,
     Again,
+}
+
+/// Drops a value, if there is one. A call does this last, since the drop may panic.
+#[inline]
+pub(super) fn drop_last<T>(freed: Option<Box<T>>) {
+    #[cold]
+    #[inline(never)]
+    fn drop_value<T>(value: Box<T>) {
+        drop(value);
+    }
+
+    if let Some(value) = freed {
+        drop_value(value);
+    }
 }
 
 /// Returns the box of a value by its tag.
@@ -67,12 +81,12 @@ impl<T> Values<T> {
     /// Looks a slot up. If it finds a value, the seat holds that value until `release`.
     ///
     /// # Safety
-    /// The caller has the seat (one user), which holds nothing.
+    /// The core's worker is of a seat that the caller has (one user). It holds nothing.
     #[inline]
-    pub(super) unsafe fn look(&self, seat: &Seat, slot: u32) -> Looked<T> {
+    pub(super) unsafe fn look(&self, core: *mut Core, slot: u32) -> Looked<T> {
         let mut freed = 0;
         // SAFETY: no other call uses the core's worker meanwhile.
-        let answer = unsafe { core::yacht_core_look(seat.core(), slot, &mut freed) };
+        let answer = unsafe { core::yacht_core_look(core, slot, &mut freed) };
         let found = if answer >= 0 {
             // The address was written before the file was installed on this node (`placed`, `allocated`), and stays while the
             // file is held: nobody chooses the node until then (`chosen_nodes_are_free`, `nodes_are_of_one_file`).
@@ -93,13 +107,13 @@ impl<T> Values<T> {
     /// if the caller doesn't know it.
     ///
     /// # Safety
-    /// The caller has the seat (one user), which holds a value. No reference to the value by this hold is left.
+    /// The core's worker is of a seat that the caller has (one user). It holds a value, to which no reference by this hold is left.
     #[inline]
-    pub(super) unsafe fn release(&self, seat: &Seat, value: *const T) -> Option<Box<T>> {
+    pub(super) unsafe fn release(&self, core: *mut Core, value: *const T) -> Option<Box<T>> {
         order::release(value as usize as u64);
         let mut closed = 0;
         // SAFETY: no other call uses the core's worker meanwhile.
-        let answer = unsafe { core::yacht_core_release(seat.core(), &mut closed) };
+        let answer = unsafe { core::yacht_core_release(core, &mut closed) };
         // SAFETY: the core closed this file in this call (`released`).
         (answer == core::CLOSED).then(|| unsafe { value_of(closed) })
     }
@@ -108,22 +122,22 @@ impl<T> Values<T> {
     ///
     /// # Safety
     /// As of `look`.
-    pub(super) unsafe fn sees(&self, seat: &Seat, slot: u32) -> (bool, [Option<Box<T>>; 2]) {
+    pub(super) unsafe fn sees(&self, core: *mut Core, slot: u32) -> (bool, [Option<Box<T>>; 2]) {
         // SAFETY: as the caller ensures.
-        let Looked { found, freed } = unsafe { self.look(seat, slot) };
+        let Looked { found, freed } = unsafe { self.look(core, slot) };
         match found {
             // SAFETY: the seat holds this value, to which there is no reference.
-            Ok(value) => (true, [unsafe { self.release(seat, value) }, freed]),
+            Ok(value) => (true, [unsafe { self.release(core, value) }, freed]),
             Err(_) => (false, [None, freed]),
         }
     }
 
     // Writes the address of a value where the next installation puts its file. Returns the tag.
     #[inline]
-    unsafe fn prepare(&self, seat: &Seat, value: Box<T>) -> u64 {
+    unsafe fn prepare(&self, core: *mut Core, value: Box<T>) -> u64 {
         let address = Box::into_raw(value);
         // SAFETY: no other call uses the core's worker meanwhile, which installs.
-        let node = unsafe { core::yacht_core_next(seat.core()) };
+        let node = unsafe { core::yacht_core_next(core) };
         // The seat has chosen this node (`chosen`), so no open file is on it, and no other seat chooses it
         // (`chosen_nodes_are_free`): until this seat's installation nobody reads the place. A round that installs
         // nothing keeps the choice (`allocated`).
@@ -135,11 +149,11 @@ impl<T> Values<T> {
     /// Installs a value at a slot. Returns what was there, or `Err` with the value if there is no such slot.
     ///
     /// # Safety
-    /// The caller has the seat (one user), which installs and holds nothing.
+    /// The core's worker is of a seat that the caller has (one user). It installs, and holds nothing.
     #[inline]
     pub(super) unsafe fn replace_at(
         &self,
-        seat: &Seat,
+        core: *mut Core,
         slot: u32,
         value: Box<T>,
     ) -> Result<Old<Box<T>>, Box<T>> {
@@ -147,10 +161,10 @@ impl<T> Values<T> {
             return Err(value);
         }
         // SAFETY: as the caller ensures.
-        let tag = unsafe { self.prepare(seat, value) };
+        let tag = unsafe { self.prepare(core, value) };
         let mut closed = 0;
         // SAFETY: no other call uses the core's worker meanwhile.
-        match unsafe { core::yacht_core_put(seat.core(), slot, tag, &mut closed) } {
+        match unsafe { core::yacht_core_put(core, slot, tag, &mut closed) } {
             // SAFETY: the core closed this file in this call (`placed`).
             core::CLOSED => Ok(Old::Unused(unsafe { value_of(closed) })),
             core::IN_USE => Ok(Old::InUse),
@@ -166,13 +180,13 @@ impl<T> Values<T> {
     /// As of `replace_at`.
     pub(super) unsafe fn try_insert(
         &self,
-        seat: &Seat,
+        core: *mut Core,
         value: Box<T>,
     ) -> Result<u32, (Box<T>, Round)> {
         // SAFETY: as the caller ensures.
-        let tag = unsafe { self.prepare(seat, value) };
+        let tag = unsafe { self.prepare(core, value) };
         // SAFETY: no other call uses the core's worker meanwhile.
-        let answer = unsafe { core::yacht_core_put_any(seat.core(), tag) };
+        let answer = unsafe { core::yacht_core_put_any(core, tag) };
         if answer >= 0 {
             return Ok(answer as u32);
         }
@@ -189,11 +203,11 @@ impl<T> Values<T> {
     ///
     /// # Safety
     /// As of `replace_at`.
-    pub(super) unsafe fn insert(&self, seat: &Seat, value: Box<T>) -> Result<u32, Box<T>> {
+    pub(super) unsafe fn insert(&self, core: *mut Core, value: Box<T>) -> Result<u32, Box<T>> {
         let mut value = value;
         loop {
             // SAFETY: as the caller ensures.
-            match unsafe { self.try_insert(seat, value) } {
+            match unsafe { self.try_insert(core, value) } {
                 Ok(slot) => return Ok(slot),
                 Err((value, Round::Full)) => return Err(value),
                 Err((again, Round::Again)) => value = again,
@@ -205,12 +219,16 @@ impl<T> Values<T> {
     /// Empties a slot. Returns what was there.
     ///
     /// # Safety
-    /// The caller has the seat (one user), which holds nothing.
+    /// The core's worker is of a seat that the caller has (one user). It holds nothing.
     #[inline]
-    pub(super) unsafe fn remove_at(&self, seat: &Seat, slot: u32) -> Result<Old<Box<T>>, NoSlot> {
+    pub(super) unsafe fn remove_at(
+        &self,
+        core: *mut Core,
+        slot: u32,
+    ) -> Result<Old<Box<T>>, NoSlot> {
         let mut closed = 0;
         // SAFETY: no other call uses the core's worker meanwhile.
-        match unsafe { core::yacht_core_take(seat.core(), slot, &mut closed) } {
+        match unsafe { core::yacht_core_take(core, slot, &mut closed) } {
             // SAFETY: the core closed this file in this call (`removed`).
             core::CLOSED => Ok(Old::Unused(unsafe { value_of(closed) })),
             core::IN_USE => Ok(Old::InUse),
@@ -225,7 +243,7 @@ impl<T> Drop for Values<T> {
         let mut values: Vec<Box<T>> = Vec::new();
         for slot in 0..self.slots {
             // SAFETY: no handle is left and no call runs, so nobody uses this seat.
-            let old = unsafe { self.remove_at(&self.seats.installing[0], slot) };
+            let old = unsafe { self.remove_at(self.seats.installing[0].core(), slot) };
             values.extend(old.ok().and_then(Old::unused));
         }
         // The values are dropped with the list, one after another, even if the drop of one panics.
