@@ -6,3 +6,4 @@ pub mod SeatsKeepRule
 pub mod Passing
 pub mod Calling
 pub mod Closing
+pub mod Showing

@@ -7,6 +7,10 @@ use Rattle.fx_baton.proofs.Words.{Shared, logs_of, holds_by, removals_by, file_i
 use Rattle.fx_baton.proofs.Words.{joined_view, empty_view, ◌+◌, rules, TableId, Seat, PassView, IsFront, new_pass, HasDrawnInTurn, BatonPass, Seated}
 use Rattle.fx_baton.proofs.Words.{opening_of, chains_of_pass, first_front, first_own, view_of, is_idle, IsPassOf, dealt, IsNewPass, Leaving}
 use Rattle.fx_baton.proofs.Words.{counted_once, IsAnew, AreReseated, split, joined, none-some, take, drop, first_left, last_left, activity_of}
+use Rattle.fx_baton.proofs.Words.{set, ⊎_elim, sym}
+use Rattle.fx_seen.proofs.Views.{OfEach, of_one, of_replaced, of_appended}
+use Rattle.fx_table.proofs.Calls.{seen_from_start}
+use Rattle.fx_baton.proofs.StepsKeepRule.{IsKnown}
 use Rattle.atomic_table.specs.Table.{opening as table_opening}
 use Rattle.std.specs.List.{range_with_len}
 use Rattle.std.proofs.lemmas.List.FromFn.{length-map-range_with_len}
@@ -42,6 +46,7 @@ module _ (k : Start) (c : Contents) (begins : state_of c ≡ begin_of k) (sound 
     sound = sound;
     place = inl (refl, refl, λ i u e. ap (λ (z : View). z.loan) (sym (single_at i e)));
     views = λ i u e. subst (IsView k [] c) (single_at i e) opening_view;
+    known = of_one (IsKnown []) (first_view k) ([], refl);
     numbers = λ p. let a = counted_once (λ (x : Log). x.number) new_log (λ n. refl) p k.passes in omega arith;
     count = let a = length-map-range_with_len new_log 1 k.passes in omega arith;
     few = few;
@@ -66,7 +71,8 @@ abbrev start : View → Start
 start v = v.start
 
 -- the rule holds where passes are in other seats that do nothing
-module _ (k : Start) (s : Shared) (r : IsKept k s) (views : List View) (a : AreReseated logs start k IsIdle s.views views) where
+module _ (k : Start) (s : Shared) (r : IsKept k s) (views : List View) (a : AreReseated logs start k IsIdle s.views views)
+    (known : OfEach (IsKnown r.history) views) where
   new_view : (u : View) → IsAnew logs start k IsIdle s.views u → IsView k r.history r.contents u
   new_view u new = record {
     logs = λ x h. let w = new.its x h in
@@ -100,6 +106,7 @@ module _ (k : Start) (s : Shared) (r : IsKept k s) (views : List View) (a : AreR
         })
         r.place;
     views = λ i u e. ⊎_elim (λ new. new_view u new) (λ old. r.views i u old) (a.each i u e);
+    known = known;
     numbers = λ p. a.by_logs (logs_of p) refl (λ xs ys. sum_by-append _ xs ys) ∙ r.numbers p;
     count = a.by_logs (length {A = Log}) refl (λ xs ys. length-append xs ys) ∙ r.count;
     few = r.few;
@@ -112,11 +119,13 @@ pub may_split : (k : Start) (id : ℕ) (v : View) → v.doing ≡ Idle → v.loa
     → Splits (IsKept k) id v (view_without_first v) (view_of_first v)
 may_split k id v idle free s r at = reseated k s r _ (split logs start k IsIdle s.views id v at (idle, free)
     (λ l. record v { logs = l }) (λ l. refl) (λ l. (idle, free)) (λ l. refl) (r.views id v at).start)
+    (let mine = r.known id v at in of_appended (IsKnown r.history) (set s.views id (view_without_first v)) (of_replaced (IsKnown r.history) s.views r.known id (view_without_first v) mine) (view_of_first v) mine)
 
 pub may_join : (k : Start) (id : ℕ) (v : View) → v.doing ≡ Idle → v.loan ≡ None → v.start ≡ k → (other : ℕ) (w : View) → w.doing ≡ Idle
     → w.loan ≡ None → Joins (IsKept k) id v other w (joined_view v w) empty_view
 may_join k id v idle free begun other w w_idle w_free s r at apart there = reseated k s r _ (joined logs start k IsIdle s.views id v at (idle, free)
     other w (joined_view v w) empty_view apart there (w_idle, w_free) (idle, free) refl begun (refl, refl) refl)
+    (of_replaced (IsKnown r.history) (set s.views id (joined_view v w)) (of_replaced (IsKnown r.history) s.views r.known id (joined_view v w) (r.known id v at)) other empty_view (seen_from_start r.history))
 
 -- The passes that are dealt out.
 pub rest_is_dealt : {k : Start} {p : ℕ} → p ≤ k.passes → view_without_first (dealt k p) ≡ dealt k (p + 1)

@@ -4,7 +4,12 @@ use Rattle.fx_baton.proofs.Words.{bit_here, one_if, sum_map, sum_of, Log, logs_o
 use Rattle.fx_baton.proofs.Words.{◌<◌, length, set, sym, refl, ◌∙◌, subst, inl, inr, ⊎_elim, some, get_elem?, sum_by, Contains-append_cases, at_set}
 use Rattle.fx_baton.proofs.Words.{set_else, Contents, state_of, leaving, IsTable, IsLegal, ◌▷▷◌, pass_of_number, HasFile, seen_further, part_other}
 use Rattle.fx_baton.proofs.Words.{held_other, sum_set, sum_at, sum_two, View, Start, Shared, begin_of, leaving_count, IsLog, IsView, IsHome, IsAway}
-use Rattle.fx_baton.proofs.Words.{IsKept, once_is}
+use Rattle.fx_baton.proofs.Words.{IsKept, once_is, IsSeenBy}
+use Rattle.fx_seen.proofs.Views.{of_replaced}
+
+-- the history that the seat shows begins this one
+abbrev pub IsKnown : List Event → View → Type 0
+IsKnown h u = IsSeenBy u.known h
 
 -- a flag that is set at a number, or taken back
 pub flag_set : (f : ℕ → Bool) {g : ℕ → Bool} {q : ℕ} (n : ℕ) → g ≡ changed_at f q true → f q ≡ false
@@ -58,6 +63,7 @@ module _ (k : Start) (s : Shared) (r : IsKept k s) (id : ℕ) (v : View) (at : g
     pub sound : IsTable c
     pub place : IsHome c next ⊎ IsAway c longer next
     pub mine : IsView k longer c w
+    pub known : w.known ≡ v.known
     pub numbers : (p : ℕ) → logs_of p w.logs ≡ logs_of p v.logs
     pub count : length w.logs ≡ length v.logs
     pub held : (n : ℕ) → (state_of c).holds n + holds_by n v.doing ≡ (state_of r.contents).holds n + holds_by n w.doing
@@ -109,6 +115,9 @@ module _ (k : Start) (s : Shared) (r : IsKept k s) (id : ℕ) (v : View) (at : g
           (λ (m : (i ≡ id) × (w ≡ u)). subst (IsView k longer c) m.1 t.mine)
           (λ (m : (i ≢ id) × (get_elem? s.views i ≡ some u)). let a = r.views i u m.1 in
           record { logs = other_log m.0 m.1; file = still_there i u m.0 m.1; empty = a.empty; start = a.start }) (at_set s.views id i w u e);
+      known = let later : (h : List Event) → IsSeenBy h r.history → IsSeenBy h longer = λ h seen. seen_further h r.history longer seen (es, refl) in
+          of_replaced (IsKnown longer) s.views (λ i u e. later u.known (r.known i u e)) id w
+          (subst (λ (h : List Event). IsSeenBy h longer) (sym t.known) (later v.known (r.known id v at)));
       numbers = λ p. let a = sum_set (λ (z : View). logs_of p z.logs) s.views id v w at in let b = r.numbers p in let d = t.numbers p in omega arith;
       count = let a = sum_set (λ (z : View). length z.logs) s.views id v w at in let b = r.count in let d = t.count in omega arith;
       few = r.few;

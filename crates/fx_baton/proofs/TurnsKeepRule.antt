@@ -8,14 +8,12 @@ use Rattle.fx_baton.proofs.Words.{held_by, ◌▷▷◌, Task, pass_of_number, l
 use Rattle.fx_baton.proofs.Words.{none-some}
 use Rattle.std.proofs.lemmas.List.{set-get_or, length-map}
 use prog.Atomic.{either}
+use Rattle.fx_table.proofs.SumLemmas.{contains_alone}
 use Rattle.fx_baton.proofs.StepsKeepRule.{holds_small, Turns, keeps_rule, logs_behind}
 
 -- a seat with one pass
 pub only_log : {xs : List Log} {x y : Log} → xs ≡ x ∷ [] → Contains xs y → y ≡ x
 only_log {x} {y} e h = contains_only x y (subst (λ (l : List Log). Contains l y) e h)
-
-pub has_one : {xs : List Log} {x : Log} → xs ≡ x ∷ [] → Contains xs x
-has_one {x} e = subst (λ (l : List Log). Contains l x) (sym e) (contains_head x [])
 
 pub not_empty : {xs : List Log} {x : Log} → xs ≡ x ∷ [] → xs ≡ [] → ⊥
 not_empty {x} e none_there = let c : x ∷ [] ≡ [] = sym e ∙ none_there in cc c
@@ -46,7 +44,7 @@ module _ (k : Start) (id : ℕ) (v : View) (x : Log) (one : v.logs ≡ x ∷ [])
     mine = r.views id v at
 
     log_of : IsLog k r.history r.contents v.doing x
-    log_of = mine.logs x (has_one one)
+    log_of = mine.logs x (contains_alone one)
 
     begun : v.start ≡ k
     begun = started one mine
@@ -67,7 +65,7 @@ module _ (k : Start) (id : ℕ) (v : View) (x : Log) (one : v.logs ≡ x ∷ [])
     taken_turns : (home : IsHome r.contents s) → Turns k s r id v at lent r.contents [] (set s.words 0 0) (set s.homes 0 none)
     taken_turns home = record {
       log = x;
-      log_in = has_one one;
+      log_in = contains_alone one;
       authors = λ e h. absurd (contains_none e h);
       legal = r.legal;
       sound = r.sound;
@@ -88,6 +86,7 @@ module _ (k : Start) (id : ℕ) (v : View) (x : Log) (one : v.logs ≡ x ∷ [])
         empty = λ e. absurd (not_empty refl e);
         start = inr begun;
       };
+      known = refl;
       numbers = λ p. ap (logs_of p) (sym one);
       count = ap (length {A = Log}) (sym one);
       held = λ n. refl;
@@ -154,7 +153,7 @@ module _ (k : Start) (id : ℕ) (v : View) (x : Log) (one : v.logs ≡ x ∷ [])
     same = let both : Some c ≡ Some r.contents = sym has ∙ holder.0 in cc both
 
     whole : x.front ≡ r.history
-    whole = holder.1 x (has_one one)
+    whole = holder.1 x (contains_alone one)
 
     same_start : v.start ≡ k
     same_start = started one (r.views id v at)
@@ -165,7 +164,7 @@ module _ (k : Start) (id : ℕ) (v : View) (x : Log) (one : v.logs ≡ x ∷ [])
     given_turns : Turns k s r id v at w d es (set s.words 0 1) (set s.homes 0 (some d))
     given_turns = let here : IsTurn v x r.contents d es doing = subst (λ (z : Contents). IsTurn v x z d es doing) same turn in record {
       log = x;
-      log_in = has_one one;
+      log_in = contains_alone one;
       authors = turn.authors;
       legal = subst (λ (z : Start × List Event). IsLegal (begin_of z.0) z.1 (state_of d)) (λ i. (same_start i, longer_is i)) turn.legal;
       sound = sound;
@@ -181,7 +180,7 @@ module _ (k : Start) (id : ℕ) (v : View) (x : Log) (one : v.logs ≡ x ∷ [])
         logs = λ y h. let m = only_log given_one h in
             subst (λ (z : Log). IsLog k (r.history ▷▷ es) d doing z) (sym m) record {
               seen = subst (λ (z : List Event). IsSeenBy (x.front ▷▷ es) z) longer_is (seen_again (x.front ▷▷ es));
-              own = part_mine x.number es r.history turn.authors ∙ ap (λ (l : List Event). es ++ l) ((r.views id v at).logs x (has_one one)).own;
+              own = part_mine x.number es r.history turn.authors ∙ ap (λ (l : List Event). es ++ l) ((r.views id v at).logs x (contains_alone one)).own;
               held = ap (λ (z : List Event). held_by z x.number) (sym longer_is) ∙ turn.now;
               fresh = subst (λ (z : Start). HasFreshNumbers z (state_of d) (log_behind es x)) same_start turn.fresh;
             };
@@ -189,6 +188,7 @@ module _ (k : Start) (id : ℕ) (v : View) (x : Log) (one : v.logs ≡ x ∷ [])
         empty = λ e. absurd (not_empty given_one e);
         start = inr same_start;
       };
+      known = refl;
       numbers = λ p. logs_behind p es v.logs;
       count = length-map v.logs (log_behind es);
       held = here.held;

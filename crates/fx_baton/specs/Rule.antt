@@ -47,7 +47,13 @@ new_logs p n = map new_log (range_with_len p n)
 
 -- the view of the seat that opens the table
 abbrev pub first_view : Start → View
-first_view k = record { start = k; logs = new_logs 1 k.passes; doing = Idle; loan = None }
+first_view k = record {
+  start = k;
+  logs = new_logs 1 k.passes;
+  doing = Idle;
+  loan = None;
+  known = [];
+}
 
 -- a view without the first of its passes, and with that one alone
 abbrev pub view_without_first : View → View
@@ -72,7 +78,11 @@ no_start = record {
 
 -- the view of a seat whose passes went to another
 abbrev pub empty_view : View
-empty_view = record { start = no_start; logs = []; doing = Idle; loan = None }
+empty_view = record { start = no_start; logs = []; doing = Idle; loan = None; known = [] }
+
+-- the view of a seat without passes that shows a history
+abbrev pub view_with : List Event → View
+view_with h = record empty_view { known = h }
 
 -- the file that the pass holds
 abbrev pub file_held : Task → Option File
@@ -146,6 +156,8 @@ pub record IsKept (k : Start) (s : Shared) : Type 0 where
   pub sound : IsTable contents
   pub place : IsHome contents s ⊎ IsAway contents history s
   pub views : (i : ℕ) (v : View) → get_elem? s.views i ≡ some v → IsView k history contents v
+  -- each shown history stays an initial part of the history
+  pub known : (i : ℕ) (v : View) → get_elem? s.views i ≡ some v → IsSeenBy v.known history
   -- each pass is in one view
   pub numbers : (p : ℕ) → sum_by (λ v. logs_of p v.logs) s.views ≡ once k.passes p
   pub count : sum_by (λ v. length v.logs) s.views ≡ k.passes

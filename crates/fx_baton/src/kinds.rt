@@ -2,6 +2,7 @@
 use crate::view::{Start, View};
 use atomic_table::{Join, Play, Split, TableRule};
 use fx_plain::PlainTable;
+use fx_seen::Learning;
 use std::marker::{Brand, PhantomData};
 
 /// The rule of the shared table: the table and all passes agree with one legal history. The word is 1 while the table
@@ -87,4 +88,24 @@ impl Play<PlainTable, View> for Observe {
     ghost use Rattle.fx_baton.specs.Settling.{Observes};
 
     ghost then = { Observes };
+}
+
+/// Show: a seat shows all that its pass has seen.
+pub struct Show;
+
+impl Split<View> for Show {
+    ghost use Rattle.fx_baton.specs.Showing.{shown_view};
+
+    ghost left = { λ v. v };
+
+    ghost right = { shown_view };
+}
+
+/// Learn: a pass has seen all that was shown, and all that it had seen before.
+pub struct Learn;
+
+impl Learning<View> for Learn {
+    ghost use Rattle.fx_baton.specs.Showing.{HasLearned};
+
+    ghost then = { HasLearned };
 }

@@ -10,8 +10,10 @@ mod kinds;
 pub mod laws;
 mod life;
 mod pass;
+mod shown;
 mod table;
 mod view;
 
 pub use pass::BatonPass;
+pub use shown::BatonSeen;
 pub use table::BatonTable;

@@ -36,6 +36,8 @@ pub struct View {
     pub doing: Task,
     /// The table as it was when the seat took it, while the seat has it.
     pub loan: Option<PlainTable>,
+    /// The history that the seat shows, an initial part of the table's history.
+    pub known: LinkedList<Event>,
 }
 
 /// A call that a pass made while it had the table. Slots come first, then the new file's number and its identity.

@@ -1,0 +1,222 @@
+-- A pass shows what it has seen, and another pass learns it: the rule holds afterwards. Neither is an atomic step.
+use Rattle.fx_baton.proofs.Words.{◌≡◌, ℕ, List, [], ◌∷◌, ◌++◌, length, sym, refl, ap, ◌∙◌, subst, arith, inl, inr, ⊎_elim, some, get_elem?, set}
+use Rattle.fx_baton.proofs.Words.{set_again, set_else, at_set, State, Contents, state_of, IsSeenBy, Event, seen_again, Contains, contains_none, contains_only}
+use Rattle.fx_baton.proofs.Words.{sum_by-append, sum_by, Log, View, Start, Shared, logs_of, holds_by, removals_by, IsLog, IsView, IsHome, IsAway, IsKept}
+use Rattle.fx_baton.proofs.Words.{Splits, ◌≢◌, None, Some, none-some, Idle, BatonPass, TableId, Seat, IsPassOf, IsFront, PassView, HasDrawnInTurn, opening_of}
+use Rattle.fx_baton.proofs.Words.{first_front, first_own, view_of, Seated, IsLegal, begin_of, part_of_pass, some-injective}
+use Rattle.atomic_table.proofs.Lists.{at_snoc, at_longer}
+use Rattle.fx_baton.specs.Rule.{view_with}
+use Rattle.fx_baton.specs.Showing.{front_in, shown_view, HasLearned}
+use Rattle.fx_baton.proofs.StepsKeepRule.{IsKnown, Turns, keeps_rule}
+use Rattle.fx_seen.proofs.Views.{of_appended}
+use Rattle.fx_table.proofs.SumLemmas.{contains_alone}
+use Rattle.fx_baton.proofs.TurnsKeepRule.{not_empty, started}
+use Rattle.fx_baton.proofs.Passing.{ends_there}
+use Rattle.fx_table.specs.Showing.{Learns}
+use Rattle.fx_seen.specs.Kept.{MayLearn}
+
+-- a seat without passes that shows a history joins the others
+module _ (k : Start) (s : Shared) (r : IsKept k s) (h : List Event) (seen : IsSeenBy h r.history) where
+  abbrev u : View
+  u = view_with h
+
+  abbrev views' : List View
+  views' = s.views ++ u ∷ []
+
+  beside : IsKept k record { words = s.words; homes = s.homes; views = views' }
+  beside = record {
+    history = r.history;
+    contents = r.contents;
+    legal = r.legal;
+    sound = r.sound;
+    place = ⊎_elim
+        (λ (home : IsHome r.contents s). inl (
+          home.0,
+          home.1,
+          λ i x e. ⊎_elim (λ old. home.2 i x old)
+              (λ (new : u ≡ x). ap (λ (z : View). z.loan) (sym new)) (at_snoc s.views u x i e),
+        ))
+        (λ (away : IsAway r.contents r.history s).
+        inr record {
+          words = away.words;
+          homes = away.homes;
+          holder = away.holder;
+          view = away.view;
+          at = at_longer s.views (u ∷ []) away.holder away.view away.at;
+          loan = away.loan;
+          whole = away.whole;
+          others = λ i x n e. ⊎_elim (λ old. away.others i x n old) (λ (new : u ≡ x). ap (λ (z : View). z.loan) (sym new)) (at_snoc s.views u x i e);
+        })
+        r.place;
+    views = λ i x e. ⊎_elim (λ old. r.views i x old)
+        (λ (new : u ≡ x). subst (IsView k r.history r.contents) new record {
+          logs = λ y c. absurd (contains_none y c);
+          file = λ f is. let no : None ≡ Some f = is in absurd (cc no);
+          empty = λ _. (refl, refl);
+          start = inl refl;
+        }) (at_snoc s.views u x i e);
+    known = of_appended (IsKnown r.history) s.views r.known u seen;
+    numbers = λ p. let a = sum_by-append (λ (z : View). logs_of p z.logs) s.views (u ∷ []) in let b = r.numbers p in omega arith;
+    count = let a = sum_by-append (λ (z : View). length z.logs) s.views (u ∷ []) in let b = r.count in omega arith;
+    few = r.few;
+    authors = r.authors;
+    held = λ n. let a = sum_by-append (λ (z : View). holds_by n z.doing) s.views (u ∷ []) in let b = r.held n in omega arith;
+    leaves = λ n. let a = sum_by-append (λ (z : View). removals_by n z.doing) s.views (u ∷ []) in let b = r.leaves n in omega arith;
+  }
+
+-- a seat with one pass may show what the pass has seen
+pub may_show : (k : Start) (id : ℕ) (v : View) {x : Log} → v.logs ≡ x ∷ [] → Splits (IsKept k) id v v (shown_view v)
+may_show k id v {x} one s r at =
+    let seen : IsSeenBy (front_in v.logs) r.history = subst (λ (l : List Log). IsSeenBy (front_in l) r.history) (sym one) ((r.views id v at).logs x (contains_alone one)).seen in
+    subst (λ (l : List View). IsKept k record { words = s.words; homes = s.homes; views = l ++ shown_view v ∷ [] }) (sym (set_again s.views id v at))
+    (beside k s r (front_in v.logs) seen)
+
+-- a seat with one pass that doesn't have the table may learn the whole history
+module _ (k : Start) (id : ℕ) (v w : View) (x : Log) (one : v.logs ≡ x ∷ []) (free : v.loan ≡ None) (s : Shared) (r : IsKept k s)
+    (at : get_elem? s.views id ≡ some v) (other : ℕ) (there : get_elem? s.views other ≡ some w) where
+  mine : IsView k r.history r.contents v
+  mine = r.views id v at
+
+  its_log : IsLog k r.history r.contents v.doing x
+  its_log = mine.logs x (contains_alone one)
+
+  abbrev log : Log
+  log = record x { front = r.history }
+
+  abbrev learned : View
+  learned = record v { logs = log ∷ [] }
+
+  turns : Turns k s r id v at learned r.contents [] s.words s.homes
+  turns = record {
+    log = x;
+    log_in = contains_alone one;
+    authors = λ e h. absurd (contains_none e h);
+    legal = r.legal;
+    sound = r.sound;
+    place = ⊎_elim
+        (λ (home : IsHome r.contents s). inl (
+          home.0,
+          home.1,
+          λ i u e. ⊎_elim
+              (λ (m : (i ≡ id) × (learned ≡ u)). ap (λ (z : View). z.loan) (sym m.1) ∙ free)
+              (λ m. home.2 i u m.1) (at_set s.views id i learned u e),
+        ))
+        (λ (away : IsAway r.contents r.history s). let apart : away.holder ≢ id = λ same.
+        none-some r.contents (sym free ∙ (ap (λ (z : View). z.loan) (some-injective v away.view (sym at ∙ (ap (get_elem? s.views) (sym same) ∙ away.at))) ∙ away.loan)) in
+        inr record {
+          words = away.words;
+          homes = away.homes;
+          holder = away.holder;
+          view = away.view;
+          at = set_else s.views id away.holder learned apart ∙ away.at;
+          loan = away.loan;
+          whole = away.whole;
+          others = λ i u n e. ⊎_elim
+              (λ (m : (i ≡ id) × (learned ≡ u)). ap (λ (z : View). z.loan) (sym m.1) ∙ free)
+              (λ m. away.others i u n m.1) (at_set s.views id i learned u e);
+        })
+        r.place;
+    mine = record {
+      logs = λ y h. subst (λ (z : Log). IsLog k r.history r.contents v.doing z) (sym (contains_only log y h))
+          record { seen = seen_again r.history; own = its_log.own; held = its_log.held; fresh = its_log.fresh };
+      file = mine.file;
+      empty = λ e. absurd (not_empty refl e);
+      start = inr (started one mine);
+    };
+    known = refl;
+    numbers = λ p. ap (logs_of p) (sym one);
+    count = ap (length {A = Log}) (sym one);
+    held = λ n. refl;
+    leaves = λ n. refl;
+    files = λ f i _. i;
+    others = λ n _ e. e;
+  }
+
+  learned_so : HasLearned v w learned
+  learned_so = record {
+    log = x;
+    one = one;
+    history = r.history;
+    view = refl;
+    own = its_log.seen;
+    shown = r.known other w there;
+    part = its_log.own;
+    end = state_of r.contents;
+    legal = subst (λ (z : Start). IsLegal (begin_of z) r.history (state_of r.contents)) (sym (started one mine)) r.legal;
+  }
+
+  may : (z : View) × IsKept k record { words = s.words; homes = s.homes; views = set s.views id z } × HasLearned v w z
+  may = (learned, keeps_rule k s r id v at learned r.contents [] s.words s.homes turns, learned_so)
+
+pub may_learn : (k : Start) (id : ℕ) (v w : View) {x : Log} → v.logs ≡ x ∷ [] → v.loan ≡ None → MayLearn (IsKept k) id v w (HasLearned v w)
+may_learn k id v w {x} one free s r at other there = may k id v w x one free s r at other there
+
+-- the pass that has learned
+module _ {id : TableId} {k : Start} {p : BatonPass} (fits : IsPassOf id k p) (w : View) (seat : Seat Contents View)
+    (table : seat.table_id ≡ p.seat.table_id) (slots : seat.me.1 ≡ p.seat.me.1) (learns : HasLearned p.seat.me.0 w seat.me.0) where
+  abbrev log' : Log
+  log' = record (learns.log) { front = learns.history }
+
+  abbrev me : Seated
+  me = (record (p.seat.me.0) { logs = log' ∷ [] }, [])
+
+  abbrev now : Seated → BatonPass
+  now m = record p { seat = record seat { me = m } }
+
+  is_me : me ≡ seat.me
+  is_me = λ i. (sym learns.view i, (sym fits.slots ∙ sym slots) i)
+
+  abbrev v' : PassView
+  v' = view_of (now me)
+
+  same_log : fits.seated.log ≡ learns.log
+  same_log = let both : fits.seated.log ∷ [] ≡ learns.log ∷ [] = sym fits.seated.one ∙ learns.one in cc both
+
+  fronts : (view_of p).front ≡ learns.log.front
+  fronts = ap first_front learns.one
+
+  owns : (view_of p).own ≡ learns.log.own
+  owns = ap first_own learns.one
+
+  is_same : v' ≡ record (view_of p) { front = learns.history }
+  is_same = λ i. record v' { own = sym owns i }
+
+  number : learns.log.number ≡ p.number
+  number = ap (λ (z : Log). z.number) (sym same_log) ∙ fits.seated.number
+
+  its_legal : IsLegal (begin_of k) learns.history learns.end
+  its_legal = subst (λ (z : Start). IsLegal (begin_of z) learns.history learns.end) fits.seated.start learns.legal
+
+  front : IsFront (opening_of k) v'
+  front = record {
+    legal = ends_there k its_legal;
+    mine = subst (λ (n : ℕ). part_of_pass n learns.history ≡ learns.log.own) number learns.part;
+  }
+
+  fits_now : IsPassOf id k (now me)
+  fits_now = record {
+    table = table ∙ fits.table;
+    slots = refl;
+    free = fits.free;
+    passes = fits.passes;
+    seated = record {
+      log = log';
+      one = refl;
+      number = number;
+      start = fits.seated.start;
+      front = front;
+      turns = subst (HasDrawnInTurn (opening_of k) p.count) (sym is_same) (let t = fits.seated.turns in assumption t);
+      flag = fits.seated.flag;
+    };
+  }
+
+  learns_now : Learns (opening_of k) w.known (view_of p) v'
+  learns_now = record {
+    own = subst (λ (h : List Event). IsSeenBy h learns.history) (sym fronts) learns.own;
+    shown = learns.shown;
+    front = front;
+    same = is_same;
+  }
+
+  pub learned_pass : IsPassOf id k (record p { seat = seat }) × Learns (opening_of k) w.known (view_of p) (view_of (record p { seat = seat }))
+  learned_pass = subst (λ (m : Seated). IsPassOf id k (now m) × Learns (opening_of k) w.known (view_of p) (view_of (now m))) is_me (fits_now, learns_now)

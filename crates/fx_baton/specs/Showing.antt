@@ -1,0 +1,37 @@
+-- What a pass shows, and what another learns from it.
+use Rattle.std.specs.Prelude.{◌≡◌, List, [], ◌∷◌}
+use Rattle.fx_plain.specs.State.{State}
+use Rattle.fx_plain.specs.History.{IsLegal, IsSeenBy, part_of_pass}
+use Rattle.fx_plain.specs.declared.event.Event.{Event}
+use Rattle.fx_baton.specs.declared.view.Log.{Log}
+use Rattle.fx_baton.specs.declared.view.View.{View}
+use Rattle.fx_baton.specs.declared.shown.BatonSeen.{BatonSeen}
+use Rattle.fx_baton.specs.declared.table.BatonTable.{BatonTable}
+use Rattle.fx_baton.specs.Rule.{begin_of, view_with}
+
+-- all that the first pass of a view has seen
+abbrev pub front_in : List Log → List Event
+front_in [] = []
+front_in (x ∷ xs) = x.front
+
+-- the view of a seat without passes that shows all that the first pass of the view `v` has seen
+abbrev pub shown_view : View → View
+shown_view v = view_with (front_in v.logs)
+
+-- the view `v` of a seat with one pass becomes `u`, by learning what the view `w` shows
+pub record HasLearned (v w u : View) : Type 0 where
+  pub log : Log
+  pub one : v.logs ≡ log ∷ []
+  pub history : List Event
+  pub view : u ≡ record v { logs = record log { front = history } ∷ [] }
+  pub own : IsSeenBy log.front history
+  pub shown : IsSeenBy w.known history
+  pub part : part_of_pass log.number history ≡ log.own
+  pub end : State
+  pub legal : IsLegal (begin_of v.start) history end
+
+abbrev pub shown_of : BatonSeen → List Event
+shown_of s = s.seen.view.known
+
+abbrev pub IsSeenOf : BatonTable → BatonSeen → Type 0
+IsSeenOf t s = s.seen.table_id ≡ t.table.shared.table_id

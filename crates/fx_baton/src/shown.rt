@@ -1,0 +1,46 @@
+//! The order between the calls of two threads: a pass shows what it has seen, and another pass learns it. Neither call makes
+//! an atomic step.
+ghost use Rattle.std.specs.Prelude.{◌≡◌};
+ghost use Rattle.fx_table.specs.Showing.{Learns};
+ghost use Rattle.fx_baton.specs.Passes.{view_of};
+ghost use Rattle.fx_baton.specs.Tables.{opening_of_table, IsPassOfTable};
+ghost use Rattle.fx_baton.specs.Showing.{shown_of, IsSeenOf};
+
+use crate::kinds::{Learn, Show};
+use crate::pass::BatonPass;
+use crate::table::BatonTable;
+use crate::view::View;
+use fx_seen::{Seen, learn, show};
+use fx_table::RealTime;
+
+/// The history that a pass of a [`BatonTable`] had seen when it showed it. It has no bytes.
+#[derive(Drop)]
+pub struct BatonSeen {
+    pub(crate) seen: Seen<View>,
+}
+
+impl RealTime for BatonTable {
+    ghost use Rattle.fx_baton.specs.Showing.{shown_of, IsSeenOf};
+
+    type Seen = BatonSeen;
+
+    ghost shown = { shown_of };
+
+    ghost shows = { IsSeenOf };
+
+    fn show(&self, pass: &mut BatonPass) -> BatonSeen {
+        BatonSeen {
+            seen: show::<_, _, _, _, Show>(&self.table.shared, &mut pass.seat),
+        }
+    }
+
+    fn again(&self, seen: &BatonSeen) -> BatonSeen {
+        BatonSeen {
+            seen: seen.seen.again(),
+        }
+    }
+
+    fn learn(&self, pass: &mut BatonPass, seen: &BatonSeen) {
+        learn::<_, _, _, _, Learn>(&self.table.shared, &mut pass.seat, &seen.seen);
+    }
+}
