@@ -13,6 +13,12 @@ use Rattle.fx_counted.proofs.Frames.{IsHistory, Stays, view_stays, not_there, of
 use Rattle.fx_counted.proofs.Frames.{control_same, draws_same, SameFile}
 use Rattle.fx_counted.proofs.Places.{inside, apart}
 use mathlib.Core.Option as maybe
+use Rattle.fx_plain.specs.History.{IsSeenBy}
+use Rattle.fx_seen.proofs.Views.{of_replaced}
+
+-- the history that the seat shows begins this one
+abbrev pub IsKnown : List Event → View → Type 0
+IsKnown h u = IsSeenBy u.known h
 
 abbrev pub Homes : Type 0
 Homes = List (maybe.Option (Option Closed))
@@ -141,6 +147,7 @@ module _ (turn : Turn) where
           }) (λ (t : (j ≢ id) × (get_elem? st.views j ≡ some u)).
           view_stays id x.number j t.0 r.phase phase' s.stays s.grows (not_there r here one t.0 t.1) (λ f is. s.keeps j u f t.0 t.1 is)
           (r.each_view j u t.1)) (at_set st.views id j (now v y d c) u e);
+      known = of_replaced (IsKnown h') st.views (λ j u e. s.grows.seen u.known (r.known j u e)) id (now v y d c) (s.grows.seen v.known (r.known id v here));
       holds = λ n. let t = sum_set (held_of n) st.views id v (now v y d c) here in let a = r.holds n in let b = s.holds n in omega arith;
       look_ups = let t = sum_set looks_of st.views id v (now v y d c) here in let a = r.look_ups in
           let b = s.look_ups in let e = of_one (λ z. z.looks_left) one in omega arith;

@@ -16,3 +16,4 @@ pub mod Searching
 pub mod Ending
 pub mod Seats
 pub mod HomeComing
+pub mod Showing

@@ -18,6 +18,8 @@ use Rattle.fx_counted.proofs.Calling.{node_is}
 use Rattle.fx_counted.proofs.Places.{high_node, low_home, high_home}
 use Rattle.fx_table.proofs.Shells.{in_place, none_outside}
 use Rattle.atomic_table.specs.Table.{opening as table_opening}
+use Rattle.fx_seen.proofs.Views.{of_one}
+use Rattle.fx_counted.proofs.Keeping.{IsKnown}
 
 module _ (k : Start) (s : Shared) (r : Agrees k s) where
   few_passes : sum_by lengths s.views ≤ 16
@@ -188,6 +190,7 @@ module _ (k : Start) (words : List ℕ) (homes : List (Option Closed)) (o : Open
     each_owner = λ n has. owner_opens n;
     no_other = λ n absent. refl;
     each_view = view_opens;
+    known = of_one (IsKnown []) (first_view k) ([], refl);
     holds = λ n. refl;
     look_ups = let a = looks_new 1 k.passes in omega arith;
     passes = λ p. let a = counted_once (λ (y : Log). y.number) new_log (λ n. refl) p k.passes in omega arith;

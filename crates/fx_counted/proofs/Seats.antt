@@ -9,8 +9,11 @@ use Rattle.fx_counted.proofs.Words.{contains_mapped, contains_reverse, contains_
 use Rattle.fx_counted.proofs.Words.{state_after_all, first_log, Event, length-reverse, length-map, once, ◌<◌, map, reverse, once_is, ◌++◌, step}
 use Rattle.fx_counted.proofs.Words.{keeps, contains_only, held_in, set-get_or, Allows, set_again, append-nil, IsSettledSoFar, AreReseated, split}
 use Rattle.fx_counted.proofs.Words.{joined, logs_are as each_log, sum_gathered, each_seat, first_left, last_left, in_part, some_there, some_times}
+use Rattle.fx_seen.proofs.Views.{OfEach, of_replaced, of_appended}
+use Rattle.fx_table.proofs.Calls.{seen_from_start}
+use Rattle.std.proofs.Common.{set}
 use Rattle.fx_counted.proofs.Frames.{busy, owner_map}
-use Rattle.fx_counted.proofs.Keeping.{shape_kept}
+use Rattle.fx_counted.proofs.Keeping.{IsKnown, shape_kept}
 use Rattle.fx_table.proofs.Histories.{IsWhole, closes_table, settles as settles_whole}
 use Rattle.fx_counted.proofs.Ending.{settled_end, whole_here, sum_here, drawn, told}
 use Rattle.fx_counted.specs.Settling.{Observes}
@@ -27,7 +30,8 @@ abbrev start : View → Start
 start v = v.start
 
 -- the rule holds where passes are in other seats that do nothing
-module _ (k : Start) (s : Shared) (r : Agrees k s) (views : List View) (a : AreReseated logs start k DoesNothing s.views views) where
+module _ (k : Start) (s : Shared) (r : Agrees k s) (views : List View) (a : AreReseated logs start k DoesNothing s.views views)
+    (known : OfEach (IsKnown r.history) views) where
   by_log : (f : Log → ℕ) → sum_by (λ (u : View). sum_by f u.logs) views ≡ sum_by (λ (u : View). sum_by f u.logs) s.views
   by_log f = a.by_logs (sum_by f) refl (λ xs ys. sum_by-append f xs ys)
 
@@ -52,6 +56,7 @@ module _ (k : Start) (s : Shared) (r : Agrees k s) (views : List View) (a : AreR
       empty = λ _. new.idle;
       start = new.begun;
     }) (λ old. r.each_view j u old) (a.each j u e);
+    known = known;
     holds = λ n. r.holds n ∙ sym (a.by_work (λ u. holding n u.work) (λ u idle. ap (holding n) idle.0));
     look_ups = let b = by_log (λ y. y.looks_left) in let c = r.look_ups in omega arith;
     passes = λ p. by_log (λ y. one_if (eqb y.number p)) ∙ r.passes p;
@@ -72,10 +77,12 @@ module _ (k : Start) (s : Shared) (r : Agrees k s) (views : List View) (a : AreR
 pub splits_keep : SplitsKeep
 splits_keep k id v idle out s r at = reseated k s r _ (split logs start k DoesNothing s.views id v at (idle, out)
     (λ l. record v { logs = l }) (λ l. refl) (λ l. (idle, out)) (λ l. refl) (r.each_view id v at).start)
+    (let mine = r.known id v at in of_appended (IsKnown r.history) (set s.views id (without_first v)) (of_replaced (IsKnown r.history) s.views r.known id (without_first v) mine) (first_alone v) mine)
 
 pub joins_keep : JoinsKeep
 joins_keep k id v begun idle out other w w_idle w_out s r at apart there = reseated k s r _ (joined logs start k DoesNothing s.views id v at (idle, out)
     other w (together v w) spent apart there (w_idle, w_out) (idle, out) refl begun (refl, refl) refl)
+    (of_replaced (IsKnown r.history) (set s.views id (together v w)) (of_replaced (IsKnown r.history) s.views r.known id (together v w) (r.known id v at)) other spent (seen_from_start r.history))
 
 -- Passes as they are dealt out, and all of them in one seat again: what the one history says of each.
 -- The passes that are dealt out.

@@ -192,6 +192,8 @@ pub record Agrees (k : Start) (s : Shared) : Type 0 where
   pub no_other : (n : ℕ) → (IsNumber k n → ⊥) → (state_after_all k history).removed n ≡ None
   pub each_view : (seat : ℕ) (v : View) → get_elem? s.views seat ≡ some v
       → ViewAgrees k history phase seat v
+  -- each shown history stays an initial part of the history
+  pub known : (seat : ℕ) (v : View) → get_elem? s.views seat ≡ some v → IsSeenBy v.known history
   -- a file's holds are the passes that hold it
   pub holds : (n : ℕ) → (state_after_all k history).holds n ≡ sum_by (held_of n) s.views
   -- each pass began with `PASS_LOOKS` look-ups

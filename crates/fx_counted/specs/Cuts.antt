@@ -2,6 +2,7 @@
 use Rattle.std.specs.Prelude.{ℕ, List, [], ◌++◌, map, take, drop}
 use Rattle.std.specs.List.{range_with_len}
 use Rattle.fx_plain.specs.Contents.{Contents}
+use Rattle.fx_plain.specs.declared.event.Event.{Event}
 use Rattle.fx_counted.specs.Passes.{new_log}
 use Rattle.fx_counted.specs.declared.view.Change.TheVariants.{Outside}
 use Rattle.fx_counted.specs.declared.view.Log.{Log}
@@ -21,6 +22,7 @@ first_view k = record {
   logs = new_logs 1 k.passes;
   work = Between Idle;
   change = Outside;
+  known = [];
 }
 
 -- a view without the first of its passes
@@ -51,4 +53,9 @@ spent = record {
   logs = [];
   work = Between Idle;
   change = Outside;
+  known = [];
 }
+
+-- the view of a seat without passes that shows a history
+abbrev pub view_with : List Event → View
+view_with h = record spent { known = h }

@@ -2,6 +2,7 @@
 use crate::view::{Start, View};
 use atomic_table::{Join, Play, Split, TableRule};
 use fx_base::OpenFile;
+use fx_seen::Learning;
 
 /// The rule of the shared table: words, places and passes agree with the state that one legal history leads to.
 pub struct OneHistory;
@@ -177,4 +178,24 @@ impl Play<Option<OpenFile>, View> for Observe {
     ghost use Rattle.fx_counted.specs.Settling.{Observes};
 
     ghost then = { Observes };
+}
+
+/// Show: a seat shows all that its pass has seen.
+pub struct Show;
+
+impl Split<View> for Show {
+    ghost use Rattle.fx_counted.specs.Showing.{shown_view};
+
+    ghost left = { λ v. v };
+
+    ghost right = { shown_view };
+}
+
+/// Learn: a pass has seen all that was shown, and all that it had seen before.
+pub struct Learn;
+
+impl Learning<View> for Learn {
+    ghost use Rattle.fx_counted.specs.Showing.{HasLearned};
+
+    ghost then = { HasLearned };
 }

@@ -19,8 +19,10 @@ mod open;
 mod pass;
 mod queries;
 mod round;
+mod shown;
 mod table;
 mod view;
 
 pub use pass::CountedPass;
+pub use shown::CountedSeen;
 pub use table::CountedTable;

@@ -69,4 +69,6 @@ pub struct View {
     pub work: Work,
     /// The change that the seat's pass is in.
     pub change: Change,
+    /// The history that the seat shows, an initial part of the table's history.
+    pub known: LinkedList<Event>,
 }

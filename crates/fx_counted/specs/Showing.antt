@@ -1,0 +1,26 @@
+-- What a pass shows, and what another learns from it.
+use Rattle.std.specs.Prelude.{◌≡◌, ℕ, List, []}
+use Rattle.fx_plain.specs.History.{IsSeenBy}
+use Rattle.fx_plain.specs.declared.event.Event.{Event}
+use Rattle.fx_counted.specs.Cuts.{view_with}
+use Rattle.fx_counted.specs.Passes.{first_log}
+use Rattle.fx_table.specs.Calls.{no_use}
+use Rattle.fx_counted.specs.Goes.{Goes}
+use Rattle.fx_counted.specs.declared.view.View.{View}
+use Rattle.fx_counted.specs.declared.shown.CountedSeen.{CountedSeen}
+use Rattle.fx_counted.specs.declared.table.CountedTable.{CountedTable}
+
+-- the view of a seat without passes that shows all that the first pass of the view `v` has seen
+abbrev pub shown_view : View → View
+shown_view v = view_with (first_log v.logs).front
+
+-- the view `v` of a seat with one pass becomes `u`, by learning what the view `w` shows
+pub record HasLearned (v w u : View) : Type 0 where
+  pub goes : Goes (v, []) [] no_use v.work v.change 0 (u, [])
+  pub shown : IsSeenBy w.known (first_log u.logs).front
+
+abbrev pub shown_of : CountedSeen → List Event
+shown_of s = s.seen.view.known
+
+abbrev pub IsSeenOf : CountedTable → CountedSeen → Type 0
+IsSeenOf t s = s.seen.table_id ≡ t.table.shared.table_id
