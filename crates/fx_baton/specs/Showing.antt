@@ -1,4 +1,4 @@
--- What a pass shows, and what another learns from it.
+-- Shown histories, and views that learn from them.
 use Rattle.std.specs.Prelude.{◌≡◌, List, [], ◌∷◌}
 use Rattle.fx_plain.specs.State.{State}
 use Rattle.fx_plain.specs.History.{IsLegal, IsSeenBy, part_of_pass}

@@ -1,4 +1,4 @@
--- What a pass shows, and what another learns from it.
+-- Shown histories, and views that learn from them.
 use Rattle.std.specs.Prelude.{◌≡◌, ℕ, List, []}
 use Rattle.fx_plain.specs.History.{IsSeenBy}
 use Rattle.fx_plain.specs.declared.event.Event.{Event}

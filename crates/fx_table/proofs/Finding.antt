@@ -1,4 +1,4 @@
--- What is at a slot after a history: what the last change of the slot left there.
+-- The file at a slot after a history: the one that the last change of the slot left there.
 use Rattle.fx_table.proofs.Words.{◌≡◌, ◌≢◌, ◌⊎◌, ℕ, List, [], ◌∷◌, ◌++◌, map, sym, refl, ap, ◌∙◌, subst, inl, inr, ⊎_elim, Option, Some, None, IsSome, Contains, File, Event, Action}
 use Rattle.fx_table.proofs.Words.{State, changed_at, changed_here, changed_else, ◌▷◌, ◌▷▷◌, Opening, start_of, state_at, action_of, ℕ_discrete, dite, ◌<◌, ◌≤◌, ◌+◌}
 use Rattle.fx_table.proofs.SumLemmas.{contains_none, contains_head, contains_tail, contains_cases}

@@ -1,4 +1,4 @@
--- What a call finds at a slot: the file that the last change of the slot left there.
+-- Laws of a slot: a call finds the file that the last change of the slot left there.
 use Rattle.std.specs.Prelude.{◌≡◌, ◌≢◌, ℕ, ◌<◌, ◌⊎◌, List, [], ◌∷◌, Contains, Option, Some, None}
 use Rattle.fx_plain.specs.declared.event.Action.TheVariants.{Look, Put, Clear, Take, Allocate, Full}
 use Rattle.fx_plain.specs.declared.event.File.{File}

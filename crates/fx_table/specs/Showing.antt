@@ -1,4 +1,4 @@
--- What a pass learns from another one, and the order that follows.
+-- Learning from another pass, and the order that follows.
 use Rattle.std.specs.Prelude.{◌≡◌, ℕ, List, map, Option, Result}
 use Rattle.fx_base.specs.Identity.{Identity}
 use Rattle.fx_plain.specs.declared.event.Action.{Action}
