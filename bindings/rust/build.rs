@@ -1,5 +1,6 @@
-//! Links the verified core for the target: the library in the folder YACHTBANYAN_LIB_DIR; or in `lib/TARGET` of this folder; or, unless the
-//! target is another one than this machine's, where pkg-config finds it.
+//! Links the verified core for the target: the library in the folder YACHTBANYAN_LIB_DIR; or in
+//! `lib/TARGET` of this folder; or, unless the target is another one than this machine's, where
+//! pkg-config finds it.
 use std::path::{Path, PathBuf};
 use std::{env, fs, process::Command};
 
@@ -55,8 +56,8 @@ fn main() {
     let known = given.or_else(|| own.join(LIBRARY).exists().then_some(own));
     let Some(folder) = known.or_else(|| is_host.then(by_pkg_config).flatten()) else {
         panic!(
-            "there is no {LIBRARY} for {target}. The folder {} has one for each of these targets: {}. \
-             Set YACHTBANYAN_LIB_DIR to the folder of another",
+            "there is no {LIBRARY} for {target}. The folder {} has one for each of these targets: \
+             {}. Set YACHTBANYAN_LIB_DIR to the folder of another",
             all.display(),
             targets_in(&all)
         );

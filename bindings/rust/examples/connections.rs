@@ -1,5 +1,5 @@
-//! A table of connections. Each new one gets a free slot as its number. Any thread sends to a connection by its number, and any thread
-//! ends one: the last thread that uses it closes it.
+//! A table of connections. Each new one gets a free slot as its number. Any thread sends to a
+//! connection by its number, and any thread ends one: the last thread that uses it closes it.
 //!
 //! It connects to itself, on a port of this machine: cargo run --example connections
 use std::io::{BufRead, BufReader, Write};
@@ -36,7 +36,8 @@ fn welcome(table: &Table<Connection>, stream: TcpStream) -> std::io::Result<Opti
     }
 }
 
-/// Sends a line to a connection. It stays open until it is sent, even if another thread ends it in the meantime.
+/// Sends a line to a connection. It stays open until it is sent, even if another thread ends it in
+/// the meantime.
 fn send(table: &Table<Connection>, slot: u32, line: &str) -> Result<(), GetError> {
     let connection = table.get_owned(slot)?;
     // a client that has gone is none of the sender's business

@@ -1,5 +1,6 @@
-//! A server of files with a reload. Each file has a slot. A thread that serves holds the text that it sends, so a reload replaces it
-//! in the meantime, and the last of its readers drops the old text.
+//! A server of files with a reload. Each file has a slot. A thread that serves holds the text that
+//! it sends, so a reload replaces it in the meantime, and the last of its readers drops the old
+//! text.
 //!
 //! It serves itself, on a port of this machine: cargo run --example file_server
 use std::io::{BufRead, BufReader, Error, Read, Result, Write};

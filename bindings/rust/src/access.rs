@@ -1,19 +1,21 @@
 //! The only unsafe code: calls of the core, and the boxes of the values.
 //!
-//! A value is in a box. Its tag, which the core keeps with the value's file, is the box's address. The core counts holds and
-//! returns the tag to exactly one call, when nobody can hold the value any more; that call gets the box. A hold names a node
-//! of the table, and `Values::by_node` has the address of the value whose file has that node. So a look-up makes no atomic
-//! step besides the core's.
+//! A value is in a box. Its tag, which the core keeps with the value's file, is the box's address.
+//! The core counts holds and returns the tag to exactly one call, when nobody can hold the value
+//! any more; that call gets the box. A hold names a node of the table, and `Values::by_node` has
+//! the address of the value whose file has that node. So a look-up makes no atomic step besides the
+//! core's.
 //!
-//! The arguments in these files name what they rest on. Clauses of the core's worker (`fx_server::TableWorker`): `looked` (the
-//! look-up found a file of the slot, and the worker holds it), `released`, `placed`, `allocated` and `removed` (which file is
-//! returned to be closed, by its tag, and that a file is on the node that was chosen for it), `chosen`. Laws of every history
-//! (`fx_plain::laws`): `no_close_while_held`, `closed_at_most_once`. Laws of every state of the table (`fx_lasting::laws`):
-//! `nodes_are_of_one_file`, `chosen_nodes_are_free`.
+//! The arguments in these files name what they rest on. Clauses of the core's worker
+//! (`fx_server::TableWorker`): `looked` (the look-up found a file of the slot, and the worker holds
+//! it), `released`, `placed`, `allocated` and `removed` (which file is returned to be closed, by
+//! its tag, and that a file is on the node that was chosen for it), `chosen`. Laws of every history
+//! (`fx_plain::laws`): `no_close_while_held`, `closed_at_most_once`. Laws of every state of the
+//! table (`fx_lasting::laws`): `nodes_are_of_one_file`, `chosen_nodes_are_free`.
 //!
-//! One rule of this crate is cited as well. *One user*: a seat (`seats.rs`) is used by one thread at a time. Its number is
-//! claimed by an exchange that acquires, and returned by an operation that releases. In between, one value has it: a reader, a
-//! handle, a guard, or a call of the table.
+//! One rule of this crate is cited as well. *One user*: a seat (`seats.rs`) is used by one thread
+//! at a time. Its number is claimed by an exchange that acquires, and returned by an operation that
+//! releases. In between, one value has it: a reader, a handle, a guard, or a call of the table.
 mod core;
 mod guard;
 mod handle;

@@ -4,6 +4,11 @@ use std::error::Error;
 use std::fmt;
 
 /// The reason why a table is not opened.
+///
+/// ```
+/// let error = yachtbanyan::Table::<u64>::with_slots(300).unwrap_err();
+/// assert_eq!(error.to_string(), "300 slots: a table has 1 to 256");
+/// ```
 #[derive(Clone, Copy, Debug, PartialEq, Eq)]
 #[non_exhaustive]
 pub enum OpenError {
@@ -11,13 +16,19 @@ pub enum OpenError {
     Slots(u32),
     /// The number of handles is out of range.
     Handles(u32),
-    /// The number of seats, two for each handle and one for each reader and each guard, is out of range.
+    /// The number of seats, two for each handle and one for each reader and each guard, is out of
+    /// range.
     Seats(u64),
     /// An allocation of the core failed.
     NoMemory,
 }
 
 /// All seats of a kind are in use. Nothing is lost: the call may be made again.
+///
+/// ```
+/// let error = yachtbanyan::NoSeat::Handle { in_use: 64 };
+/// assert_eq!(error.to_string(), "64 handles are in use; Options::handles sets at most 64");
+/// ```
 #[derive(Clone, Copy, Debug, PartialEq, Eq)]
 #[non_exhaustive]
 pub enum NoSeat {
@@ -48,6 +59,18 @@ pub struct NoSlot {
 }
 
 /// The reason why a look-up returns no guard.
+///
+/// ```
+/// use yachtbanyan::{GetError, Table};
+///
+/// let table = Table::<u64>::with_slots(4)?;
+/// match table.get_owned(3) {
+///     Ok(guard) => println!("{guard}"),
+///     Err(GetError::Empty { slot }) => println!("nothing at {slot}"),
+///     Err(error) => return Err(error.into()),
+/// }
+/// # Ok::<(), Box<dyn std::error::Error>>(())
+/// ```
 #[derive(Clone, Copy, Debug, PartialEq, Eq)]
 #[non_exhaustive]
 pub enum GetError {
@@ -63,6 +86,13 @@ pub enum GetError {
 }
 
 /// The reason why [`Table::remove_at`](crate::Table::remove_at) removes nothing.
+///
+/// ```
+/// let table = yachtbanyan::Table::<u64>::with_slots(4)?;
+/// let error = table.remove_at(4).unwrap_err();
+/// assert_eq!(error.to_string(), "slot 4 is out of range: the table has slots 0 to 3");
+/// # Ok::<(), yachtbanyan::OpenError>(())
+/// ```
 #[derive(Clone, Copy, Debug, PartialEq, Eq)]
 #[non_exhaustive]
 pub enum RemoveError {
@@ -152,7 +182,8 @@ impl fmt::Display for OpenError {
             }
             OpenError::Seats(seats) => write!(
                 f,
-                "{seats} seats, two for each handle and one for each reader and each guard: a table has at most {MOST_WORKERS}"
+                "{seats} seats, two for each handle and one for each reader and each guard: \
+                 a table has at most {MOST_WORKERS}"
             ),
             OpenError::NoMemory => f.write_str("an allocation failed"),
         }

@@ -3,9 +3,11 @@ use crate::access::{Guard, Reader};
 use crate::errors::{GetError, NoSeat};
 use std::fmt;
 
-/// An iterator over guards of the values of a table, in the order of the slots: what each slot had when it was looked at.
+/// An iterator over guards of the values of a table, in the order of the slots: what each slot had
+/// when it was looked at.
 ///
-/// A slot that can't be looked up for want of a seat is an error. That can be only if an earlier guard is still alive.
+/// A slot that can't be looked up for want of a seat is an error. That can be only if an earlier
+/// guard is still alive.
 #[must_use = "an iterator looks slots up as it is advanced"]
 pub struct Iter<'r, T> {
     reader: &'r Reader<T>,

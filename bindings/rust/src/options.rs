@@ -4,8 +4,9 @@ use crate::errors::OpenError;
 
 /// The size of a table: its slots, and its seats.
 ///
-/// A handle takes two seats: one that installs, and one for its first living guard. A reader takes one, for its first living guard. Each
-/// other living guard takes one. A table has at most [`MOST_SEATS`](crate::MOST_SEATS) seats.
+/// A handle takes two seats: one that installs, and one for its first living guard. A reader takes
+/// one, for its first living guard. Each other living guard takes one. A table has at most
+/// [`MOST_SEATS`](crate::MOST_SEATS) seats.
 ///
 /// ```
 /// use yachtbanyan::Options;
@@ -25,8 +26,8 @@ pub struct Options {
 }
 
 impl Options {
-    /// Returns the size of a table of `slots` slots, 1 to [`MOST_SLOTS`](crate::MOST_SLOTS), for 16 handles, 16 readers and 128 further
-    /// guards.
+    /// Returns the size of a table of `slots` slots, 1 to [`MOST_SLOTS`](crate::MOST_SLOTS), for 16
+    /// handles, 16 readers and 128 further guards.
     pub fn new(slots: u32) -> Options {
         Options {
             slots,
@@ -36,18 +37,46 @@ impl Options {
         }
     }
 
-    /// Sets the number of handles, 1 to [`MOST_HANDLES`](crate::MOST_HANDLES). Calls of the table that install or remove use the
-    /// seats that no handle has.
+    /// Sets the number of handles, 1 to [`MOST_HANDLES`](crate::MOST_HANDLES). Calls of the table
+    /// that install or remove use the seats that no handle has.
+    ///
+    /// ```
+    /// use yachtbanyan::{NoSeat, Options};
+    ///
+    /// let table = Options::new(4).handles(2).open::<u64>()?;
+    /// let handles = (table.handle()?, table.handle()?);
+    /// assert_eq!(table.contains(0), Err(NoSeat::Handle { in_use: 2 }));
+    /// drop(handles);
+    /// assert_eq!(table.contains(0), Ok(false));
+    /// # Ok::<(), Box<dyn std::error::Error>>(())
+    /// ```
     pub fn handles(self, handles: u32) -> Options {
         Options { handles, ..self }
     }
 
     /// Sets the number of readers.
+    ///
+    /// ```
+    /// let table = yachtbanyan::Options::new(4).readers(0).open::<u64>()?;
+    /// assert!(table.reader().is_err());
+    /// # Ok::<(), yachtbanyan::OpenError>(())
+    /// ```
     pub fn readers(self, readers: u32) -> Options {
         Options { readers, ..self }
     }
 
-    /// Sets the number of living guards besides the first of each handle and each reader. Each owned guard counts.
+    /// Sets the number of living guards besides the first of each handle and each reader. Each
+    /// owned guard counts.
+    ///
+    /// ```
+    /// let table = yachtbanyan::Options::new(4).guards(1).open::<u64>()?;
+    /// let handle = table.handle()?;
+    /// let slot = handle.insert(7)?;
+    /// let (_first, _second) = (handle.get_at(slot)?, handle.get_at(slot)?);
+    /// let error = table.get_owned(slot).unwrap_err();
+    /// assert_eq!(error.to_string(), "1 guard is in use; Options::guards sets at most 1022");
+    /// # Ok::<(), Box<dyn std::error::Error>>(())
+    /// ```
     pub fn guards(self, guards: u32) -> Options {
         Options { guards, ..self }
     }
@@ -55,7 +84,8 @@ impl Options {
     /// Opens a table of this size, with empty slots.
     ///
     /// # Errors
-    /// `Slots`, `Handles` or `Seats` if that number is out of its range, `NoMemory` if an allocation of the core fails.
+    /// `Slots`, `Handles` or `Seats` if that number is out of its range, `NoMemory` if an
+    /// allocation of the core fails.
     ///
     /// ```
     /// use yachtbanyan::{OpenError, Options};

@@ -1,5 +1,5 @@
-//! One slot that every thread looks up: a look-up that others overtake drops the value that it saw first, and each value is dropped once.
-//! The stand-in has no hot slots, so there this is no test.
+//! One slot that every thread looks up: a look-up that others overtake drops the value that it saw
+//! first, and each value is dropped once. The stand-in has no hot slots, so there this is no test.
 mod support;
 
 use std::cell::Cell;

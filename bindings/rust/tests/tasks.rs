@@ -1,4 +1,5 @@
-//! Asynchronous tasks over one table, by an executor of this file. Expected numbers are worked out by hand.
+//! Asynchronous tasks over one table, by an executor of this file. Expected numbers are worked out
+//! by hand.
 use std::future::Future;
 use std::pin::{pin, Pin};
 use std::sync::atomic::{AtomicU32, Ordering::SeqCst};

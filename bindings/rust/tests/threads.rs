@@ -1,5 +1,5 @@
-//! Threads over one table: each value is read only while it is alive, and dropped once by the end. `YACHTBANYAN_ROUNDS` sets the
-//! rounds of a thread.
+//! Threads over one table: each value is read only while it is alive, and dropped once by the end.
+//! `YACHTBANYAN_ROUNDS` sets the rounds of a thread.
 mod support;
 
 use std::sync::atomic::{AtomicBool, AtomicUsize, Ordering::Relaxed, Ordering::SeqCst};
@@ -10,7 +10,8 @@ static MADE: AtomicUsize = AtomicUsize::new(0);
 static DROPPED: AtomicUsize = AtomicUsize::new(0);
 static WRONG: AtomicUsize = AtomicUsize::new(0);
 
-/// A value that is written plainly, so that a sanitizer sees a read or a drop that is not ordered after it.
+/// A value that is written plainly, so that a sanitizer sees a read or a drop that is not ordered
+/// after it.
 struct Value {
     number: u64,
     again: Box<u64>,
@@ -137,7 +138,8 @@ fn run(table: &Table<Value>, threads: u64, rounds: u64) {
     together(jobs);
 }
 
-// A program of its own, since ThreadSanitizer reports races of the test harness, which isn't compiled for it.
+// A program of its own, since ThreadSanitizer reports races of the test harness, which isn't
+// compiled for it.
 fn main() {
     let rounds = std::env::var("YACHTBANYAN_ROUNDS")
         .ok()
@@ -147,7 +149,8 @@ fn main() {
         let options = Options::new(slots).handles(threads + 1).guards(threads);
         let table = options.open().unwrap();
         run(&table, u64::from(threads), rounds);
-        // no guard is alive and no call runs: the values at the slots are the only ones that are left
+        // no guard is alive and no call runs: the values at the slots are the only ones that are
+        // left
         let left = MADE.load(SeqCst) - DROPPED.load(SeqCst);
         assert_eq!(left, table.handle().unwrap().len() as usize);
         drop(table);

@@ -1,5 +1,6 @@
-//! The C interface of the verified core (`crates/fx_server`), or the stand-in for it. A worker of the core is one pass of its
-//! table. A value is known to the core by its tag, which it returns to whoever has to drop the value.
+//! The C interface of the verified core (`crates/fx_server`), or the stand-in for it. A worker of
+//! the core is one pass of its table. A value is known to the core by its tag, which it returns to
+//! whoever has to drop the value.
 #![allow(dead_code)]
 
 /// A worker of the core.

@@ -6,11 +6,13 @@ use super::values::drop_last;
 use std::fmt;
 use std::ops::Deref;
 
-/// A value that a [`Handle`](crate::Handle) or a [`Reader`] looked up. It stays alive until the guard is dropped, even if another thread
-/// replaces or removes it in the meantime. The last user drops the value: if that is this guard, its drop does.
+/// A value that a [`Handle`](crate::Handle) or a [`Reader`] looked up. It stays alive until the
+/// guard is dropped, even if another thread replaces or removes it in the meantime. The last user
+/// drops the value: if that is this guard, its drop does.
 ///
-/// A guard stays on its thread; an [`OwnedGuard`] may go anywhere. Other threads may read through `&Guard`. If a guard is forgotten
-/// (`std::mem::forget`), its value stays until its handle or reader is dropped.
+/// A guard stays on its thread; an [`OwnedGuard`] may go anywhere. Other threads may read through
+/// `&Guard`. If a guard is forgotten (`std::mem::forget`), its value stays until its handle or
+/// reader is dropped.
 ///
 /// ```
 /// use yachtbanyan::{Old, Table};
@@ -65,7 +67,8 @@ impl<T> Deref for Guard<'_, T> {
 
     #[inline]
     fn deref(&self) -> &T {
-        // SAFETY: the core closes no file that is held (`no_close_while_held`), so the box is there until `drop`.
+        // SAFETY: the core closes no file that is held (`no_close_while_held`), so the box is there
+        // until `drop`.
         unsafe { &*self.value }
     }
 }
@@ -74,8 +77,8 @@ impl<T> Drop for Guard<'_, T> {
     #[inline]
     fn drop(&mut self) {
         let values = self.reader.table().values();
-        // SAFETY: the seat is the reader's (one user), on whose thread this guard is. It holds this guard's value, and every reference
-        // to the value borrowed the guard.
+        // SAFETY: the seat is the reader's (one user), on whose thread this guard is. It holds this
+        // guard's value, and every reference to the value borrowed the guard.
         let freed = unsafe { values.release(self.place.core, self.value) };
         self.reader.give_back(self.place.number);
         drop_last(freed);
@@ -94,10 +97,12 @@ impl<T: fmt::Display> fmt::Display for Guard<'_, T> {
     }
 }
 
-/// A value that [`Table::get_owned`] looked up. It borrows nothing: it may be kept over an `.await`, stored, and go to another thread.
+/// A value that [`Table::get_owned`] looked up. It borrows nothing: it may be kept over an
+/// `.await`, stored, and go to another thread.
 ///
-/// It stays alive until the guard is dropped, even if another thread replaces or removes it in the meantime. The last user drops
-/// the value. An owned guard keeps the table alive. One that is forgotten keeps its value, its seat and the table for ever.
+/// It stays alive until the guard is dropped, even if another thread replaces or removes it in the
+/// meantime. The last user drops the value. An owned guard keeps the table alive. One that is
+/// forgotten keeps its value, its seat and the table for ever.
 ///
 /// ```
 /// use yachtbanyan::Table;
@@ -119,8 +124,8 @@ pub struct OwnedGuard<T> {
     table: Table<T>,
 }
 
-// SAFETY: another thread may read the value (`T: Sync`) and end the hold, which may give it the value to drop (`T: Send`). It has the
-// guard's seat alone (one user).
+// SAFETY: another thread may read the value (`T: Sync`) and end the hold, which may give it the
+// value to drop (`T: Send`). It has the guard's seat alone (one user).
 unsafe impl<T: Send + Sync> Send for OwnedGuard<T> {}
 // SAFETY: a shared guard gives references to the value and its slot alone.
 unsafe impl<T: Sync> Sync for OwnedGuard<T> {}
@@ -138,6 +143,13 @@ impl<T> OwnedGuard<T> {
     }
 
     /// Returns the slot at which the value was found.
+    ///
+    /// ```
+    /// let table = yachtbanyan::Table::<u64>::with_slots(4)?;
+    /// table.replace_at(3, 7)?;
+    /// assert_eq!(table.get_owned(3)?.slot(), 3);
+    /// # Ok::<(), Box<dyn std::error::Error>>(())
+    /// ```
     #[inline]
     pub fn slot(&self) -> u32 {
         self.slot
@@ -149,8 +161,8 @@ impl<T> Deref for OwnedGuard<T> {
 
     #[inline]
     fn deref(&self) -> &T {
-        // SAFETY: the core closes no file that is held (`no_close_while_held`), so the box is there until `drop`. The guard's table
-        // keeps the core.
+        // SAFETY: the core closes no file that is held (`no_close_while_held`), so the box is there
+        // until `drop`. The guard's table keeps the core.
         unsafe { &*self.value }
     }
 }
@@ -159,8 +171,8 @@ impl<T> Drop for OwnedGuard<T> {
     #[inline]
     fn drop(&mut self) {
         let values = self.table.values();
-        // SAFETY: the seat is this guard's (one user). It holds this guard's value, and every reference to the value borrowed the
-        // guard.
+        // SAFETY: the seat is this guard's (one user). It holds this guard's value, and every
+        // reference to the value borrowed the guard.
         let freed = unsafe { values.release(self.place.core, self.value) };
         values.seats.give_back(self.place.number);
         drop_last(freed);

@@ -10,7 +10,8 @@ use crate::iter::Iter;
 use crate::old::Old;
 use std::fmt;
 
-/// The access of one thread at a time to a [`Table`]: it looks slots up, and installs and removes values. It is `Send`, but not `Sync`.
+/// The access of one thread at a time to a [`Table`]: it looks slots up, and installs and removes
+/// values. It is `Send`, but not `Sync`.
 ///
 /// ```
 /// use yachtbanyan::Table;
@@ -28,8 +29,8 @@ use std::fmt;
 /// # Ok::<(), yachtbanyan::OpenError>(())
 /// ```
 ///
-/// Each call takes `&self`, so a handle installs and removes while guards of it are alive. An asynchronous function takes
-/// `&mut Handle`, so that its future is `Send`:
+/// Each call takes `&self`, so a handle installs and removes while guards of it are alive. An
+/// asynchronous function takes `&mut Handle`, so that its future is `Send`:
 ///
 /// ```
 /// use yachtbanyan::{Handle, Table};
@@ -69,12 +70,13 @@ impl<T> Handle<T> {
         (self.reader.table().values(), self.installer.core)
     }
 
-    /// Returns a guard of the value at a slot. The look-up may drop another value: one that it saw first, and that others replaced
-    /// or removed while it ran. So a lock that the drop of a value takes must not be held here.
+    /// Returns a guard of the value at a slot. The look-up may drop another value: one that it saw
+    /// first, and that others replaced or removed while it ran. So a lock that the drop of a value
+    /// takes must not be held here.
     ///
     /// # Errors
-    /// `Empty` if the slot has no value, `NoSlot` if the table has no such slot, `NoSeat` if a guard of this handle is alive
-    /// already and the table has no seat for another.
+    /// `Empty` if the slot has no value, `NoSlot` if the table has no such slot, `NoSeat` if a
+    /// guard of this handle is alive already and the table has no seat for another.
     ///
     /// ```
     /// use yachtbanyan::{GetError, Table};
@@ -93,8 +95,8 @@ impl<T> Handle<T> {
         self.reader.get_at(slot)
     }
 
-    /// Installs a value at a free slot, and returns the slot. It may wait as long as one other thread is stopped within its own insert,
-    /// replace or remove: [`Handle::try_insert`] doesn't.
+    /// Installs a value at a free slot, and returns the slot. It may wait as long as one other
+    /// thread is stopped within its own insert, replace or remove: [`Handle::try_insert`] doesn't.
     ///
     /// # Errors
     /// `Full` with the value if at one moment during the call every slot had a value.
@@ -120,11 +122,13 @@ impl<T> Handle<T> {
         })
     }
 
-    /// Looks for a free slot once, and installs a value there. Returns the slot. It waits for no thread.
+    /// Looks for a free slot once, and installs a value there. Returns the slot. It waits for no
+    /// thread.
     ///
     /// # Errors
-    /// `Full` with the value if at one moment during the call every slot had a value, `Again` with the value if no slot was free
-    /// when it was looked at, and others were filling or emptying slots.
+    /// `Full` with the value if at one moment during the call every slot had a value, `Again` with
+    /// the value if no slot was free when it was looked at, and others were filling or emptying
+    /// slots.
     ///
     /// ```
     /// use yachtbanyan::{Reason, Table};
@@ -153,7 +157,8 @@ impl<T> Handle<T> {
         })
     }
 
-    /// Installs a value at a slot. Returns what became of the old value. An old value that is in use is dropped by its last user.
+    /// Installs a value at a slot. Returns what became of the old value. An old value that is in
+    /// use is dropped by its last user.
     ///
     /// # Errors
     /// `NoSlot` with the value if the table has no such slot.
@@ -183,8 +188,8 @@ impl<T> Handle<T> {
         }
     }
 
-    /// Empties a slot. Returns what became of its value: `Old::None` if it was empty. A value that is in use is dropped by its last
-    /// user.
+    /// Empties a slot. Returns what became of its value: `Old::None` if it was empty. A value that
+    /// is in use is dropped by its last user.
     ///
     /// # Errors
     /// [`NoSlot`] if the table has no such slot.
@@ -225,7 +230,8 @@ impl<T> Handle<T> {
         sees
     }
 
-    /// Returns the number of slots that had a value when each was looked at. It looks at every slot.
+    /// Returns the number of slots that had a value when each was looked at. It looks at every
+    /// slot.
     ///
     /// ```
     /// let table = yachtbanyan::Table::<u64>::with_slots(4)?;
@@ -241,11 +247,33 @@ impl<T> Handle<T> {
     }
 
     /// Checks whether no slot had a value when each was looked at.
+    ///
+    /// ```
+    /// let table = yachtbanyan::Table::<u64>::with_slots(4)?;
+    /// let handle = table.handle()?;
+    /// let slot = handle.insert(7)?;
+    /// assert!(!handle.is_empty());
+    /// handle.remove_at(slot)?;
+    /// assert!(handle.is_empty());
+    /// # Ok::<(), Box<dyn std::error::Error>>(())
+    /// ```
     pub fn is_empty(&self) -> bool {
         !(0..self.table().slots()).any(|it| self.contains(it))
     }
 
     /// Returns an iterator over guards of the values, as [`Reader::iter`].
+    ///
+    /// ```
+    /// let table = yachtbanyan::Table::<u64>::with_slots(4)?;
+    /// let handle = table.handle()?;
+    /// (1..4).for_each(|number| drop(handle.insert(number)));
+    /// let mut sum = 0;
+    /// for guard in &handle {
+    ///     sum += *guard?;
+    /// }
+    /// assert_eq!(sum, 6);
+    /// # Ok::<(), Box<dyn std::error::Error>>(())
+    /// ```
     pub fn iter(&self) -> Iter<'_, T> {
         self.reader.iter()
     }

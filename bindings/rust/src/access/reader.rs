@@ -10,8 +10,8 @@ use std::fmt;
 
 /// A seat that looks slots up, for one thread at a time. It is `Send`, but not `Sync`.
 ///
-/// Its first living guard uses the reader's own seat. Each further one takes a guard's seat of the table, and returns it. So a guard
-/// takes the same time whatever the number of guards.
+/// Its first living guard uses the reader's own seat. Each further one takes a guard's seat of the
+/// table, and returns it. So a guard takes the same time whatever the number of guards.
 ///
 /// ```
 /// use yachtbanyan::Table;
@@ -45,8 +45,9 @@ pub struct Reader<T> {
     others: Cell<Option<u32>>,
 }
 
-// SAFETY: the thread that gets the reader may read values (`T: Sync`) and drop them (`T: Send`). It has the reader's seats alone (one
-// user): a guard that is alive borrows the reader, which stays where it is until then.
+// SAFETY: the thread that gets the reader may read values (`T: Sync`) and drop them (`T: Send`). It
+// has the reader's seats alone (one user): a guard that is alive borrows the reader, which stays
+// where it is until then.
 unsafe impl<T: Send + Sync> Send for Reader<T> {}
 
 impl<T> Reader<T> {
@@ -65,12 +66,12 @@ impl<T> Reader<T> {
         self.own.number
     }
 
-    /// Returns a guard of the value at a slot. The look-up may drop another value: one that it saw first, and that others replaced
-    /// or removed while it ran.
+    /// Returns a guard of the value at a slot. The look-up may drop another value: one that it saw
+    /// first, and that others replaced or removed while it ran.
     ///
     /// # Errors
-    /// `Empty` if the slot has no value, `NoSlot` if the table has no such slot, `NoSeat` if a guard of this reader is alive
-    /// already and the table has no seat for another.
+    /// `Empty` if the slot has no value, `NoSlot` if the table has no such slot, `NoSeat` if a
+    /// guard of this reader is alive already and the table has no seat for another.
     ///
     /// ```
     /// use yachtbanyan::{GetError, Table};
@@ -103,8 +104,8 @@ impl<T> Reader<T> {
         }
     }
 
-    /// Returns an iterator over guards of the values: what each slot had when it was looked at. Slots that are empty then are left
-    /// out.
+    /// Returns an iterator over guards of the values: what each slot had when it was looked at.
+    /// Slots that are empty then are left out.
     ///
     /// ```
     /// use yachtbanyan::Table;
@@ -126,6 +127,14 @@ impl<T> Reader<T> {
     }
 
     /// Returns the table.
+    ///
+    /// ```
+    /// let table = yachtbanyan::Table::<u64>::with_slots(4)?;
+    /// let reader = table.reader()?;
+    /// reader.table().replace_at(3, 7)?;
+    /// assert_eq!(*reader.get_at(3)?, 7);
+    /// # Ok::<(), Box<dyn std::error::Error>>(())
+    /// ```
     #[inline]
     pub fn table(&self) -> &Table<T> {
         &self.table
@@ -189,8 +198,8 @@ impl<T> Reader<T> {
     fn end_forgotten(&self, number: u32) -> Option<Box<T>> {
         let values = self.table.values();
         let core = values.seats.looking[number as usize].core();
-        // SAFETY: a guard borrows the reader, so none is alive: this seat's guard was forgotten, and nobody has a reference to its value
-        // by this hold.
+        // SAFETY: a guard borrows the reader, so none is alive: this seat's guard was forgotten,
+        // and nobody has a reference to its value by this hold.
         let freed = unsafe { values.release(core, std::ptr::null()) };
         self.give_back(number);
         freed
@@ -207,7 +216,8 @@ impl<T> Drop for Reader<T> {
             freed.extend(self.end_forgotten(self.own.number));
         }
         self.table.values().seats.give_back(self.own.number);
-        // The seats are back. The values are dropped with the list, one after another, even if the drop of one panics.
+        // The seats are back. The values are dropped with the list, one after another, even if the
+        // drop of one panics.
     }
 }
 

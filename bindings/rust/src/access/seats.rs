@@ -37,14 +37,16 @@ impl Drop for Seat {
     }
 }
 
-/// A seat that a handle, a reader or a guard has: its number, and its worker of the core, which is at hand without a load.
+/// A seat that a handle, a reader or a guard has: its number, and its worker of the core, which is
+/// at hand without a load.
 #[derive(Clone, Copy)]
 pub(super) struct Place {
     pub(super) number: u32,
     pub(super) core: *mut Core,
 }
 
-// SAFETY: a place is a number and an address. Each call that uses the core's worker is unsafe, and has its own argument.
+// SAFETY: a place is a number and an address. Each call that uses the core's worker is unsafe, and
+// has its own argument.
 unsafe impl Send for Place {}
 // SAFETY: as above.
 unsafe impl Sync for Place {}
@@ -67,8 +69,9 @@ impl Free {
         Free(firsts.map(|it| Line(AtomicU64::new(bits(it)))).collect())
     }
 
-    /// Removes a number from the set, or returns `None` if it found each of the words empty. A thread begins at the word that it used
-    /// last, and takes the smallest number of a word, so few seats are ever used.
+    /// Removes a number from the set, or returns `None` if it found each of the words empty. A
+    /// thread begins at the word that it used last, and takes the smallest number of a word, so few
+    /// seats are ever used.
     pub(super) fn claim(&self) -> Option<u32> {
         let count = self.0.len();
         let first = FIRST_WORD.try_with(Cell::get).unwrap_or(0);
@@ -103,7 +106,8 @@ impl Free {
 }
 
 thread_local! {
-    /// The word at which the thread begins to look for a free number: at first one that few threads begin at.
+    /// The word at which the thread begins to look for a free number: at first one that few threads
+    /// begin at.
     static FIRST_WORD: Cell<usize> = {
         static NEXT: AtomicUsize = AtomicUsize::new(0);
         Cell::new(NEXT.fetch_add(1, Ordering::Relaxed) % 16)
@@ -115,8 +119,8 @@ fn begin_at(word: usize) {
     let _ = FIRST_WORD.try_with(|it| it.set(word));
 }
 
-/// The seats of a table. `installing` has a seat for each handle. `looking` has the own seat of each handle, that of each reader, and
-/// those of all other guards, in this order.
+/// The seats of a table. `installing` has a seat for each handle. `looking` has the own seat of
+/// each handle, that of each reader, and those of all other guards, in this order.
 pub(super) struct Seats {
     pub(super) installing: Box<[Seat]>,
     pub(super) looking: Box<[Seat]>,
@@ -177,8 +181,8 @@ impl Seats {
         Place { number, core }
     }
 
-    /// Claims the seats of a handle, both of which have the number of the place that is returned. If a call of the table uses the
-    /// last one, it waits for the end of that call.
+    /// Claims the seats of a handle, both of which have the number of the place that is returned.
+    /// If a call of the table uses the last one, it waits for the end of that call.
     pub(super) fn claim_handle(&self) -> Result<Place, NoSeat> {
         let most = self.most_handles();
         let one_more = |count| (count < most).then_some(count + 1);
@@ -193,8 +197,8 @@ impl Seats {
         }
     }
 
-    /// Claims an installing seat for one call of the table. If other such calls use all that no handle has, it waits for the end of
-    /// one.
+    /// Claims an installing seat for one call of the table. If other such calls use all that no
+    /// handle has, it waits for the end of one.
     pub(super) fn claim_call(&self) -> Result<Call<'_>, NoSeat> {
         loop {
             if let Some(number) = self.free_handles.claim() {

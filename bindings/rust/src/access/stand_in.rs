@@ -1,8 +1,10 @@
-//! An unproved stand-in for the core, in plain Rust, with the core's interface: for sanitizers, which see all of it. It counts holds by
-//! takes, as the core does of cold files. It is never part of a library that is handed out (`--cfg yachtbanyan_stand_in`).
+//! An unproved stand-in for the core, in plain Rust, with the core's interface: for sanitizers,
+//! which see all of it. It counts holds by takes, as the core does of cold files. It is never part
+//! of a library that is handed out (`--cfg yachtbanyan_stand_in`).
 //!
-//! A slot's word has the node and one, shifted by 32 bits, and the number of takes. A node's word is 0 where the node is free,
-//! `BORN` less what was released while its file is in a slot, and 1 and what is still held after that.
+//! A slot's word has the node and one, shifted by 32 bits, and the number of takes. A node's word
+//! is 0 where the node is free, `BORN` less what was released while its file is in a slot, and 1
+//! and what is still held after that.
 use super::core::{
     Core, AGAIN, BAD, BUSY, CLOSED, DONE, EMPTY, FULL, IDLE, IN_USE, NO_BLOCK, NO_SLOT,
 };
@@ -24,7 +26,8 @@ struct Table {
     block: usize,
 }
 
-// SAFETY: a tag is written before its node is installed and read after the last hold ended, which the words order.
+// SAFETY: a tag is written before its node is installed and read after the last hold ended, which
+// the words order.
 unsafe impl Sync for Table {}
 // SAFETY: as above.
 unsafe impl Send for Table {}
@@ -45,7 +48,8 @@ impl Table {
         tag
     }
 
-    // Ends one hold of a node, or the last `count` that are owed to it. Returns the tag if that closes its file.
+    // Ends one hold of a node, or the last `count` that are owed to it. Returns the tag if that
+    // closes its file.
     fn subtract(&self, node: usize, count: u64) -> Option<u64> {
         let left = self.nodes[node].fetch_sub(count, SeqCst) - count;
         (left == 1).then(|| self.close(node))
@@ -123,7 +127,8 @@ fn answer(closed: Option<u64>, kept: i64, out: &mut u64) -> i64 {
     }
 }
 
-// SAFETY of all below: as of the core's functions, a handle is valid, and one call at a time uses it.
+// SAFETY of all below: as of the core's functions, a handle is valid, and one call at a time uses
+// it.
 unsafe fn worker<'a>(handle: *mut Core) -> &'a mut Worker {
     // SAFETY: the handle came from `yacht_core_open`.
     unsafe { &mut *handle.cast() }

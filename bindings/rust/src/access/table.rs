@@ -11,27 +11,32 @@ use std::sync::Arc;
 
 /// A table of slots, each of which is empty or has a value of type `T`.
 ///
-/// A clone is the same table. Values that are in slots are dropped when the last clone, handle, reader and owned guard is dropped.
-/// Threads may share a table if `T: Send + Sync`: they share references to values, and any of them may drop a value.
+/// A clone is the same table. Values that are in slots are dropped when the last clone, handle,
+/// reader and owned guard is dropped. Threads may share a table if `T: Send + Sync`: they share
+/// references to values, and any of them may drop a value.
 ///
-/// A thread with a [`Handle`] calls that. A task without one calls the table, which lends a seat for the call.
+/// A thread with a [`Handle`] calls that. A task without one calls the table, which lends a seat
+/// for the call.
 #[must_use = "a table is dropped with its last user"]
 pub struct Table<T> {
     values: Arc<Values<T>>,
 }
 
-// SAFETY: threads get references to values (`T: Sync`), and any of them may get a value to drop it (`T: Send`). Places of `by_node`
-// are written by the thread that installs the node's file before it does, and read by those that hold that file (`looked`,
-// `nodes_are_of_one_file`). A seat has one user.
+// SAFETY: threads get references to values (`T: Sync`), and any of them may get a value to drop it
+// (`T: Send`). Places of `by_node` are written by the thread that installs the node's file before
+// it does, and read by those that hold that file (`looked`, `nodes_are_of_one_file`). A seat has
+// one user.
 unsafe impl<T: Send + Sync> Send for Table<T> {}
 // SAFETY: as above.
 unsafe impl<T: Send + Sync> Sync for Table<T> {}
 
 impl<T> Table<T> {
-    /// Opens a table of `slots` empty slots, for up to 16 handles, 16 readers and 128 further guards. [`Options`] sets other numbers.
+    /// Opens a table of `slots` empty slots, for up to 16 handles, 16 readers and 128 further
+    /// guards. [`Options`] sets other numbers.
     ///
     /// # Errors
-    /// `Slots` unless `slots` is from 1 to [`MOST_SLOTS`](crate::MOST_SLOTS), `NoMemory` if an allocation of the core fails.
+    /// `Slots` unless `slots` is from 1 to [`MOST_SLOTS`](crate::MOST_SLOTS), `NoMemory` if an
+    /// allocation of the core fails.
     ///
     /// ```
     /// use yachtbanyan::{OpenError, Table};
@@ -57,11 +62,20 @@ impl<T> Table<T> {
     }
 
     /// Returns the number of slots. They are numbered from 0.
+    ///
+    /// ```
+    /// let table = yachtbanyan::Table::<u64>::with_slots(4)?;
+    /// for slot in 0..table.slots() {
+    ///     table.replace_at(slot, u64::from(slot))?;
+    /// }
+    /// # Ok::<(), Box<dyn std::error::Error>>(())
+    /// ```
     pub fn slots(&self) -> u32 {
         self.values.slots()
     }
 
-    /// Takes a handle, which installs, for one thread at a time. It is free again when it is dropped.
+    /// Takes a handle, which installs, for one thread at a time. It is free again when it is
+    /// dropped.
     ///
     /// # Errors
     /// [`NoSeat::Handle`] if all are in use.
@@ -82,7 +96,8 @@ impl<T> Table<T> {
         Ok(Handle::new(Reader::new(self.clone(), place)))
     }
 
-    /// Takes a reader, which looks slots up, for one thread at a time. It is free again when it is dropped.
+    /// Takes a reader, which looks slots up, for one thread at a time. It is free again when it is
+    /// dropped.
     ///
     /// # Errors
     /// [`NoSeat::Reader`] if all are in use.
@@ -99,11 +114,13 @@ impl<T> Table<T> {
         Ok(Reader::new(self.clone(), place))
     }
 
-    /// Returns a guard of the value at a slot that borrows nothing. It takes a guard's seat of the table until it is dropped. The
-    /// look-up may drop another value: one that it saw first, and that others replaced or removed while it ran.
+    /// Returns a guard of the value at a slot that borrows nothing. It takes a guard's seat of the
+    /// table until it is dropped. The look-up may drop another value: one that it saw first, and
+    /// that others replaced or removed while it ran.
     ///
     /// # Errors
-    /// `Empty` if the slot has no value, `NoSlot` if the table has no such slot, `NoSeat` if all guards' seats are in use.
+    /// `Empty` if the slot has no value, `NoSlot` if the table has no such slot, `NoSeat` if all
+    /// guards' seats are in use.
     ///
     /// ```
     /// use yachtbanyan::{OwnedGuard, Table};
@@ -138,12 +155,12 @@ impl<T> Table<T> {
         }
     }
 
-    /// Installs a value at a free slot, and returns the slot, by a seat for this call. It may wait as long as one other thread is stopped
-    /// within its own insert, replace or remove.
+    /// Installs a value at a free slot, and returns the slot, by a seat for this call. It may wait
+    /// as long as one other thread is stopped within its own insert, replace or remove.
     ///
     /// # Errors
-    /// `Full` with the value if at one moment during the call every slot had a value, `NoSeat` with the value if all seats that
-    /// install have handles.
+    /// `Full` with the value if at one moment during the call every slot had a value, `NoSeat` with
+    /// the value if all seats that install have handles.
     ///
     /// ```
     /// let table = yachtbanyan::Table::<String>::with_slots(4)?;
@@ -167,7 +184,8 @@ impl<T> Table<T> {
     /// Installs a value at a slot, by a seat for this call. Returns what became of the old value.
     ///
     /// # Errors
-    /// `NoSlot` with the value if the table has no such slot, `NoSeat` with the value if all seats that install have handles.
+    /// `NoSlot` with the value if the table has no such slot, `NoSeat` with the value if all seats
+    /// that install have handles.
     ///
     /// ```
     /// use yachtbanyan::{Old, Table};
@@ -191,7 +209,8 @@ impl<T> Table<T> {
         }
     }
 
-    /// Empties a slot, by a seat for this call. Returns what became of its value: `Old::None` if it was empty.
+    /// Empties a slot, by a seat for this call. Returns what became of its value: `Old::None` if it
+    /// was empty.
     ///
     /// # Errors
     /// `NoSlot` if the table has no such slot, `NoSeat` if all seats that install have handles.
@@ -212,7 +231,8 @@ impl<T> Table<T> {
         Ok(old?.map(|it| *it))
     }
 
-    /// Checks whether a slot has a value, by a seat for this call. A slot that the table hasn't has none.
+    /// Checks whether a slot has a value, by a seat for this call. A slot that the table hasn't has
+    /// none.
     ///
     /// # Errors
     /// [`NoSeat::Handle`] if all seats that install have handles.

@@ -15,7 +15,8 @@ pub(super) struct Values<T> {
     _owns: PhantomData<T>,
 }
 
-/// The result of a look-up: the address of the value, which the seat holds now, and a value that this look-up was the last to use.
+/// The result of a look-up: the address of the value, which the seat holds now, and a value that
+/// this look-up was the last to use.
 pub(super) struct Looked<T> {
     pub(super) found: Result<*const T, GetError>,
     pub(super) freed: Option<Box<T>>,
@@ -44,10 +45,12 @@ pub(super) fn drop_last<T>(freed: Option<Box<T>>) {
 /// Returns the box of a value by its tag.
 ///
 /// # Safety
-/// The core returned the tag to this call as that of a closed file, or the value with this tag was never installed.
+/// The core returned the tag to this call as that of a closed file, or the value with this tag was
+/// never installed.
 unsafe fn value_of<T>(tag: u64) -> Box<T> {
     order::acquire(tag);
-    // SAFETY: the tag is the address of a box (`Values::prepare`), and no other call gets it (`closed_at_most_once`).
+    // SAFETY: the tag is the address of a box (`Values::prepare`), and no other call gets it
+    // (`closed_at_most_once`).
     unsafe { Box::from_raw(tag as usize as *mut T) }
 }
 
@@ -88,8 +91,9 @@ impl<T> Values<T> {
         // SAFETY: no other call uses the core's worker meanwhile.
         let answer = unsafe { core::yacht_core_look(core, slot, &mut freed) };
         let found = if answer >= 0 {
-            // The address was written before the file was installed on this node (`placed`, `allocated`), and stays while the
-            // file is held: nobody chooses the node until then (`chosen_nodes_are_free`, `nodes_are_of_one_file`).
+            // The address was written before the file was installed on this node (`placed`,
+            // `allocated`), and stays while the file is held: nobody chooses the node until then
+            // (`chosen_nodes_are_free`, `nodes_are_of_one_file`).
             let value = self.by_node[answer as usize].load(Ordering::Relaxed);
             order::acquire(value as usize as u64);
             Ok(value.cast_const())
@@ -103,11 +107,12 @@ impl<T> Values<T> {
         Looked { found, freed }
     }
 
-    /// Ends the hold of a seat. Returns its value if this call closed it. `value` is its address, for a sanitizer alone; it is null
-    /// if the caller doesn't know it.
+    /// Ends the hold of a seat. Returns its value if this call closed it. `value` is its address,
+    /// for a sanitizer alone; it is null if the caller doesn't know it.
     ///
     /// # Safety
-    /// The core's worker is of a seat that the caller has (one user). It holds a value, to which no reference by this hold is left.
+    /// The core's worker is of a seat that the caller has (one user). It holds a value, to which no
+    /// reference by this hold is left.
     #[inline]
     pub(super) unsafe fn release(&self, core: *mut Core, value: *const T) -> Option<Box<T>> {
         order::release(value as usize as u64);
@@ -118,7 +123,8 @@ impl<T> Values<T> {
         (answer == core::CLOSED).then(|| unsafe { value_of(closed) })
     }
 
-    /// Looks a slot up and releases what is there. Returns whether there was a value, and the values that these calls closed.
+    /// Looks a slot up and releases what is there. Returns whether there was a value, and the
+    /// values that these calls closed.
     ///
     /// # Safety
     /// As of `look`.
@@ -138,18 +144,20 @@ impl<T> Values<T> {
         let address = Box::into_raw(value);
         // SAFETY: no other call uses the core's worker meanwhile, which installs.
         let node = unsafe { core::yacht_core_next(core) };
-        // The seat has chosen this node (`chosen`), so no open file is on it, and no other seat chooses it
-        // (`chosen_nodes_are_free`): until this seat's installation nobody reads the place. A round that installs
-        // nothing keeps the choice (`allocated`).
+        // The seat has chosen this node (`chosen`), so no open file is on it, and no other seat
+        // chooses it (`chosen_nodes_are_free`): until this seat's installation nobody reads the
+        // place. A round that installs nothing keeps the choice (`allocated`).
         self.by_node[node as usize].store(address, Ordering::Relaxed);
         order::release(address as usize as u64);
         address as usize as u64
     }
 
-    /// Installs a value at a slot. Returns what was there, or `Err` with the value if there is no such slot.
+    /// Installs a value at a slot. Returns what was there, or `Err` with the value if there is no
+    /// such slot.
     ///
     /// # Safety
-    /// The core's worker is of a seat that the caller has (one user). It installs, and holds nothing.
+    /// The core's worker is of a seat that the caller has (one user). It installs, and holds
+    /// nothing.
     #[inline]
     pub(super) unsafe fn replace_at(
         &self,
@@ -174,7 +182,8 @@ impl<T> Values<T> {
         }
     }
 
-    /// Makes one round to install a value at a free slot. Returns the slot, or the value and the reason.
+    /// Makes one round to install a value at a free slot. Returns the slot, or the value and the
+    /// reason.
     ///
     /// # Safety
     /// As of `replace_at`.
@@ -199,7 +208,8 @@ impl<T> Values<T> {
         Err((unsafe { value_of(tag) }, reason))
     }
 
-    /// Installs a value at a free slot. Returns the slot, or the value if at one moment every slot had one.
+    /// Installs a value at a free slot. Returns the slot, or the value if at one moment every slot
+    /// had one.
     ///
     /// # Safety
     /// As of `replace_at`.
@@ -250,8 +260,9 @@ impl<T> Drop for Values<T> {
     }
 }
 
-/// The order that the core makes between threads, for ThreadSanitizer, which can't see into the library. Each thread that finds a
-/// value comes after the one that installed it, and the one that drops it comes after all that released it.
+/// The order that the core makes between threads, for ThreadSanitizer, which can't see into the
+/// library. Each thread that finds a value comes after the one that installed it, and the one that
+/// drops it comes after all that released it.
 #[cfg(yachtbanyan_thread_sanitizer)]
 mod order {
     use std::ffi::c_void;

@@ -1,4 +1,5 @@
-//! Threads of the C library, since ThreadSanitizer reports races of std's threads, which aren't compiled for it.
+//! Threads of the C library, since ThreadSanitizer reports races of std's threads, which aren't
+//! compiled for it.
 use std::ffi::c_void;
 
 pub type Job<'a> = Box<dyn FnOnce() + Send + 'a>;

@@ -1,5 +1,6 @@
-//! A thousand tasks of tokio, each of which has a session in a table of 256 slots for a while. No task has a handle: the table lends it
-//! a seat for each call. A session is kept over `.await` by an owned guard.
+//! A thousand tasks of tokio, each of which has a session in a table of 256 slots for a while. No
+//! task has a handle: the table lends it a seat for each call. A session is kept over `.await` by
+//! an owned guard.
 //!
 //! With Debian's librust-tokio-dev no network is needed: cargo run --offline
 use std::sync::atomic::{AtomicU32, Ordering};
