@@ -51,7 +51,7 @@ want(judge("", "").word == "legal", "nothing isn't legal for nothing")
 
 # bytes of each kind, and a NUL
 want(judge("sparse 1\n", "sparse 0\n\0").word == "not legal", "a text with a NUL at its end is legal")
-want(raised(lambda: judge("sparse 1\n\0", "sparse 0\n")).fault == "word-count", "a script with a NUL at its end is a script")
+raises(yachtjudge.BadScript, "line 2: not-text", lambda: judge("sparse 1\n\0", "sparse 0\n"))
 for kind in (bytes, bytearray, memoryview):
     want(judge(kind(script.encode()), kind(text.encode())) == legal, f"{kind.__name__} is judged otherwise")
 
