@@ -24,7 +24,8 @@ pub enum OpenError {
     NoMemory,
 }
 
-/// All seats of a kind are in use. Nothing is lost: the call may be made again.
+/// Each seat of a kind was in use when it was looked at. Nothing is lost: the call may be made
+/// again.
 ///
 /// ```
 /// let error = yachtbanyan::NoSeat::Handle { in_use: 64 };
