@@ -4,7 +4,7 @@ mod support;
 
 use std::sync::atomic::{AtomicBool, AtomicUsize, Ordering::Relaxed, Ordering::SeqCst};
 use support::{begin, join, together, Job};
-use yachtbanyan::{GetError, Handle, NoSeat, Options, Table};
+use yachtbanyan::{GetError, Handle, NoSeat, Options, Reason, Table};
 
 static MADE: AtomicUsize = AtomicUsize::new(0);
 static DROPPED: AtomicUsize = AtomicUsize::new(0);
@@ -85,9 +85,14 @@ fn serve_by_table(table: &Table<Value>, mut seed: u64, rounds: u64) {
         let (slot, what) = ((random % slots) as u32, (random >> 7) % 16);
         match what {
             0..=9 => drop(table.get_owned(slot).map(|guard| guard.check())),
-            10..=12 => drop(table.replace_at(slot, Value::new(round))),
-            13..=14 => drop(table.insert(Value::new(round))),
-            _ => drop(table.remove_at(slot)),
+            10..=12 => drop(table.replace_at(slot, Value::new(round)).unwrap()),
+            13..=14 => {
+                // it waits for a seat
+                if let Err(refused) = table.insert(Value::new(round)) {
+                    assert!(matches!(refused.reason, Reason::Full { .. }));
+                }
+            }
+            _ => drop(table.remove_at(slot).unwrap()),
         }
     }
 }
