@@ -224,6 +224,38 @@ fn a_forgotten_guard_keeps_its_value_until_its_handle_is_dropped() {
 }
 
 #[test]
+fn guards_are_dropped_in_any_order() {
+    let notes = Notes::default();
+    let table = Options::new(1)
+        .handles(1)
+        .readers(0)
+        .guards(3)
+        .open()
+        .unwrap();
+    let places = || 0..4usize;
+    let all = places().flat_map(|a| places().flat_map(move |b| places().map(move |c| [a, b, c])));
+    let orders = all.filter(|[a, b, c]| a != b && b != c && c != a);
+    let mut count = 0;
+    for order in orders {
+        let handle = table.handle().unwrap();
+        handle.replace_at(0, notes.value(count)).unwrap();
+        let mut guards = [0; 4].map(|slot| Some(handle.get_at(slot).unwrap()));
+        order.into_iter().for_each(|at| drop(guards[at].take()));
+        guards.into_iter().for_each(std::mem::forget);
+        // others get the seats that are free, and keep them when the handle's are returned
+        let own: Vec<OwnedGuard<Noted>> = std::iter::from_fn(|| table.get_owned(0).ok()).collect();
+        assert_eq!(own.len(), if order.contains(&0) { 2 } else { 3 });
+        drop(handle);
+        assert!(matches!(table.remove_at(0), Ok(Old::InUse)));
+        assert_eq!(notes.drops(), count as usize);
+        drop(own);
+        count += 1;
+        assert_eq!(notes.drops(), count as usize);
+    }
+    assert_eq!(count, 24);
+}
+
+#[test]
 fn a_panic_while_holding_releases() {
     let notes = Notes::default();
     let table = Table::with_slots(1).unwrap();
