@@ -152,7 +152,7 @@ fn text_on<T: FileTable, R: Threads + Wait + Sync, G: Gate>(
 
 /// Plays a command on an open table, and returns its text, or `None` if no table is open or the command isn't a
 /// submission for which the table has room. The ring stays where it is, since it has a few hundred bytes: moving them for
-/// each command took a tenth of the instructions of a small submission.
+/// each command took a quarter of the instructions of a small submission.
 pub fn open_text<T: FileTable, R: Threads + Wait + Sync, G: Gate>(
     setting: &Setting<'_, R, G>,
     ring: &mut PlayedRing<OpenRing<T>>,
@@ -182,8 +182,8 @@ fn closed_text<T: FileTable, R: Threads + Wait + Sync, G: Gate>(
     (PlayedRing::Closed(ring), text)
 }
 
-/// Plays a command that [`open_text`] didn't play, and returns its text: on a table that stays open if one worker plays
-/// the command together with the submissions after it. `commands` begins with the command.
+/// Plays a command that [`open_text`] didn't play, and returns its text. If no table is open, one is opened and stays open
+/// if one worker plays the command together with the submissions after it. `commands` begins with the command.
 pub fn text_anew<T: FileTable, R: Threads + Wait + Sync, G: Gate>(
     setting: &Setting<'_, R, G>,
     ring: PlayedRing<OpenRing<T>>,
@@ -193,7 +193,12 @@ pub fn text_anew<T: FileTable, R: Threads + Wait + Sync, G: Gate>(
     ensures { IfOk result.1 (λ text. Prints (ring_played ring) (instruction_of command.now)
         (ring_played result.0) (string_bytes text)) }
 {
-    let mut next = opened::<T, R, G>(setting, ring.closed(), commands);
+    // a submission for which an open table has no room is played by itself, and the next one may open a table again
+    let together: &[Command] = match &ring {
+        PlayedRing::Open(_) => &[],
+        PlayedRing::Closed(_) => commands,
+    };
+    let mut next = opened::<T, R, G>(setting, ring.closed(), together);
     match open_text(setting, &mut next, command) {
         Some(text) => (next, text),
         None => closed_text::<T, R, G>(setting, next.closed(), command),
