@@ -24,6 +24,8 @@ mod seats;
 #[cfg(yachtbanyan_stand_in)]
 mod stand_in;
 mod table;
+#[cfg(test)]
+mod tests;
 mod values;
 
 pub(crate) use self::core::{MOST_INSTALLING, MOST_SLOTS, MOST_WORKERS};

@@ -1,5 +1,6 @@
 //! One slot that every thread looks up: a look-up that others overtake drops the value that it saw
-//! first, and each value is dropped once. The stand-in has no hot slots, so there this is no test.
+//! first, and each value is dropped once. `YACHTBANYAN_DROPS` sets the number of such drops after
+//! which the test ends. The stand-in has no hot slots, so there this is no test.
 mod support;
 
 use std::cell::Cell;
@@ -10,16 +11,17 @@ use yachtbanyan::{Handle, Options};
 
 const THREADS: u32 = 4;
 const LOOKS: u32 = 63;
-const MOST: Duration = Duration::from_secs(20);
+/// The longest time of the test.
+const MOST: Duration = Duration::from_secs(10);
 
 static MADE: AtomicUsize = AtomicUsize::new(0);
 static DROPPED: AtomicUsize = AtomicUsize::new(0);
-/// The drops within a look-up, which returned another value.
-static WITHIN: AtomicUsize = AtomicUsize::new(0);
+/// The drops within `get_at` and within `get_owned`, which returned another value.
+static WITHIN: [AtomicUsize; 2] = [const { AtomicUsize::new(0) }; 2];
 static ENDS: AtomicBool = AtomicBool::new(false);
 
 thread_local! {
-    static LOOKS_UP: Cell<bool> = const { Cell::new(false) };
+    static LOOKS_UP: Cell<Option<usize>> = const { Cell::new(None) };
 }
 
 struct Value(Box<u32>);
@@ -35,30 +37,46 @@ impl Drop for Value {
     fn drop(&mut self) {
         *self.0 = u32::MAX;
         DROPPED.fetch_add(1, SeqCst);
-        if LOOKS_UP.get() {
-            WITHIN.fetch_add(1, SeqCst);
+        if let Some(kind) = LOOKS_UP.get() {
+            WITHIN[kind].fetch_add(1, SeqCst);
         }
     }
 }
 
-/// Looks the slot up 63 times for each replacement.
+/// Looks up in a way that notes the drops within it.
+fn within<R>(kind: usize, look: impl FnOnce() -> R) -> R {
+    LOOKS_UP.set(Some(kind));
+    let found = look();
+    LOOKS_UP.set(None);
+    found
+}
+
+/// Looks the slot up 63 times for each replacement, in each way.
 fn serve(handle: &Handle<Value>) {
+    let table = handle.table();
     while !ENDS.load(SeqCst) {
-        for _ in 0..LOOKS {
-            LOOKS_UP.set(true);
-            let guard = handle.get_at(0).unwrap();
-            LOOKS_UP.set(false);
-            assert_eq!(*guard.0, 7);
+        for number in 0..LOOKS {
+            match number % 4 {
+                0 => assert_eq!(*within(0, || handle.get_at(0)).unwrap().0, 7),
+                1 => assert_eq!(*within(1, || table.get_owned(0)).unwrap().0, 7),
+                2 => assert!(handle.contains(0)),
+                _ => assert!(table.contains(0).unwrap()),
+            }
         }
         handle.replace_at(0, Value::new(7)).unwrap();
     }
+}
+
+fn counts() -> [usize; 2] {
+    [WITHIN[0].load(SeqCst), WITHIN[1].load(SeqCst)]
 }
 
 fn main() {
     if cfg!(yachtbanyan_stand_in) {
         return;
     }
-    let table = Options::new(1).handles(THREADS).open().unwrap();
+    let enough = std::env::var("YACHTBANYAN_DROPS").map_or(20, |it| it.parse().unwrap());
+    let table = Options::new(1).handles(2 * THREADS).open().unwrap();
     table.insert(Value::new(7)).unwrap();
     let began = Instant::now();
     let mut jobs: Vec<Job<'_>> = Vec::new();
@@ -67,17 +85,21 @@ fn main() {
         jobs.push(Box::new(move || serve(&handle)));
     }
     jobs.push(Box::new(|| {
-        while WITHIN.load(SeqCst) < 3 && began.elapsed() < MOST {
+        while counts().iter().any(|it| *it < enough) && began.elapsed() < MOST {
             std::thread::sleep(Duration::from_millis(10));
         }
         ENDS.store(true, SeqCst);
     }));
     together(jobs);
-    let (made, dropped, within) = (MADE.load(SeqCst), DROPPED.load(SeqCst), WITHIN.load(SeqCst));
-    println!("{made} values made, {dropped} dropped, {within} of them within a look-up");
-    assert!(within >= 3, "no look-up was overtaken");
+    let (made, dropped) = (MADE.load(SeqCst), DROPPED.load(SeqCst));
+    let [borrowed, owned] = counts();
+    println!("{made} values made, {dropped} dropped: {borrowed} in get_at, {owned} in get_owned");
     // no guard is alive and no call runs: the value at the slot is the only one that is left
-    assert_eq!(made - dropped, 1);
+    assert_eq!(made - dropped, 1, "a value is lost");
+    assert!(
+        borrowed >= enough && owned >= enough,
+        "few look-ups were overtaken"
+    );
     drop(table);
     assert_eq!(DROPPED.load(SeqCst), made);
 }

@@ -183,6 +183,13 @@ fn a_table_that_is_too_large_or_too_small_is_refused() {
     let largest = most.guards(496).open::<u8>().unwrap();
     let (handle, reader) = (largest.handle().unwrap(), largest.reader().unwrap());
     assert_eq!(handle.insert(1), Ok(0));
+    let handles: Vec<Handle<u8>> = (1..64).map(|_| largest.handle().unwrap()).collect();
+    let error = largest.handle().unwrap_err().to_string();
+    assert_eq!(
+        error,
+        "64 handles are in use; Options::handles sets at most 64"
+    );
+    drop(handles);
     let guards: Vec<OwnedGuard<u8>> = (0..496).map(|_| largest.get_owned(0).unwrap()).collect();
     assert_eq!(
         (*handle.get_at(0).unwrap(), *reader.get_at(0).unwrap()),
