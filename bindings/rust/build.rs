@@ -42,7 +42,8 @@ fn is_for_thread_sanitizer() -> bool {
 
 fn main() {
     println!("cargo:rerun-if-env-changed=YACHTBANYAN_LIB_DIR");
-    if env::var_os("CARGO_CFG_YACHTBANYAN_STAND_IN").is_some() {
+    let needs_no_library = ["CARGO_CFG_YACHTBANYAN_STAND_IN", "DOCS_RS"];
+    if needs_no_library.iter().any(|it| env::var_os(it).is_some()) {
         return;
     }
     if is_for_thread_sanitizer() {
