@@ -295,7 +295,8 @@ static void seek(struct state *s, struct pass *it, int who) {
     int node = (wrong == birth_in_another_block ? 0 : who) * block + it->nth;
     if (s->word[node] == FREE) {
         it->node = node;
-        it->nth = it->tried = it->steps = 0;
+        it->nth = it->call == PUT_ANY ? it->nth : 0;
+        it->tried = it->steps = 0;
         it->step = BIRTH;
         return;
     }
@@ -313,9 +314,9 @@ static void birth(struct state *s, struct pass *it) {
     it->step = it->call == PUT_ANY ? PEEK : is_early ? RAISE_EARLY : SWAP;
 }
 
-/* An allocation: it asks whether the range is full, then goes over the range, and asks again. */
+/* An allocation: it asks whether the range is full, goes over the range from any slot on, gives its node back, and asks again. */
 
-static void ask(struct state *s, struct pass *it, bool has_place) {
+static void ask(struct state *s, struct pass *it) {
     bool is_full = s->full == (family->in_range ? family->slots : 0);
     bool is_changed = false;
     for (int who = 0; who < family->passes; who++) {
@@ -323,19 +324,16 @@ static void ask(struct state *s, struct pass *it, bool has_place) {
     }
     want(!is_full || has_full_range(s), "an allocation returns that the range is full, and a slot is empty");
     want(is_full || is_changed || !has_full_range(s), "the range is full, nobody changes it, and an allocation doesn't return so");
-    if (is_full && has_place) {
-        it->step = REST_UNUSED;
-    } else if (is_full) {
+    if (is_full) {
         begin_call(it, 0, IDLE);
     } else {
-        it->step = has_place ? PEEK : SEEK;
+        it->step = SEEK;
     }
-    it->slot = 0;
 }
 
 static void peek_next(struct pass *it) {
     it->slot = (it->slot + 1) % family->slots;
-    it->step = it->slot == 0 ? ASK : PEEK;
+    it->step = it->slot == it->from ? REST_UNUSED : PEEK;
 }
 
 static void peek(struct state *s, struct pass *it) {
@@ -396,10 +394,12 @@ static bool begin_nth(struct state *s, struct pass *it, int who, int nth) {
         return true;
     }
     nth -= calls & PUT ? family->slots * block : 0;
-    if ((calls & PUT_ANY) && nth < block) {
+    if ((calls & PUT_ANY) && nth < family->slots * block) {
+        it->slot = nth % family->slots;
         begin_call(it, PUT_ANY, ASK);
-        it->nth = nth;
-        ask(s, it, false);
+        it->from = it->slot;
+        it->nth = nth / family->slots;
+        ask(s, it);
         return true;
     }
     return false;
@@ -442,10 +442,15 @@ bool take_step(void *state, int who, int nth) {
     case COUNTED:
     case DROP_YIELDED: it->holds = 0; drop(s, it, REST, IDLE); break;
     case REST:
-    case REST_UNUSED:
         s->file[it->node] = NO_FILE;
         rest(s, it);
         begin_call(it, 0, IDLE);
+        break;
+    case REST_UNUSED:
+        s->file[it->node] = NO_FILE;
+        rest(s, it);
+        it->node = 0;
+        it->step = ASK;
         break;
     case SEEK: seek(s, it, who); break;
     case BIRTH: birth(s, it); break;
@@ -460,7 +465,7 @@ bool take_step(void *state, int who, int nth) {
     case RETIRE: retire(s, it); break;
     case PEEK: peek(s, it); break;
     case EXCHANGE: exchange(s, it); break;
-    case ASK: ask(s, it, true); break;
+    case ASK: ask(s, it); break;
     }
     return true;
 }

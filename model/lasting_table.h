@@ -47,8 +47,8 @@ struct pass {
     uint8_t words, last;
     /* The pass is listed. */
     uint8_t is_listed;
-    /* The place of a search in the pass's block, and the nodes that it found taken. */
-    uint8_t nth, tried;
+    /* The place of a search in the pass's block, and the nodes that it found taken; the slot at which a scan began. */
+    uint8_t nth, tried, from;
     /* The heat that a look at an empty slot found; after a swap 1 if the slot was hot. */
     uint8_t heat;
     /* The atomic steps of the call so far; 0 in an allocation, which may go on without end. */

@@ -78,6 +78,26 @@ fn the_last_guard_drops_it_on_its_own_thread() {
 }
 
 #[test]
+fn each_empty_slot_is_found() {
+    let table = Options::new(8).handles(2).open().unwrap();
+    let (one, other) = (table.handle().unwrap(), table.handle().unwrap());
+    for slot in 0..8 {
+        assert_eq!(one.insert(slot), Ok(slot));
+    }
+    // whichever slot a handle filled last, before or after the only empty one
+    for slot in [7, 3, 1, 6, 0, 4] {
+        assert_eq!(one.remove_at(slot), Ok(Old::Unused(slot)));
+        assert_eq!(other.try_insert(slot), Ok(slot));
+    }
+    // a handle first fills the slot that it emptied last
+    for slot in [2, 5] {
+        assert_eq!(one.remove_at(slot), Ok(Old::Unused(slot)));
+    }
+    assert_eq!(one.insert(5), Ok(5));
+    assert_eq!(one.insert(2), Ok(2));
+}
+
+#[test]
 fn one_handle_has_several_guards() {
     let table = Options::new(8).handles(1).guards(2).open().unwrap();
     let handle = table.handle().unwrap();

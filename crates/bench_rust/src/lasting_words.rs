@@ -51,11 +51,48 @@ pub struct LastingWords {
 // A place is written by the pass that its node is born to, and emptied by the one that brings its word to `CLOSED`.
 unsafe impl Sync for LastingWords {}
 
-/// A pass: its number, the node of its block at which its next search begins, and whether it is in the list.
+/// A pass: its number, the node of its block at which its next search begins, whether it is in the list, and the slots that it
+/// emptied last.
 pub struct Pass {
     number: usize,
     next: usize,
     listed: bool,
+    emptied: Emptied,
+}
+
+const NO_SLOT: usize = usize::MAX;
+
+/// The slots that a pass emptied last, in a ring, and the slot after the one that it filled last.
+struct Emptied {
+    slots: [usize; 8],
+    top: usize,
+    next: usize,
+}
+
+impl Emptied {
+    fn new() -> Emptied {
+        Emptied {
+            slots: [NO_SLOT; 8],
+            top: 0,
+            next: 0,
+        }
+    }
+
+    fn keep(&mut self, slot: usize) {
+        self.top = (self.top + 1) % 8;
+        self.slots[self.top] = slot;
+    }
+
+    // The slot that was emptied last, or else the one after the slot that was filled last.
+    fn take_last(&mut self) -> usize {
+        let slot = self.slots[self.top];
+        if slot == NO_SLOT {
+            return self.next;
+        }
+        self.slots[self.top] = NO_SLOT;
+        self.top = (self.top + 7) % 8;
+        slot
+    }
 }
 
 /// A file that a pass looked up: by a take of its node, or by its hold word.
@@ -259,6 +296,7 @@ impl Table for LastingWords {
             number: thread,
             next: 0,
             listed: false,
+            emptied: Emptied::new(),
         }
     }
 
@@ -289,8 +327,11 @@ impl Table for LastingWords {
             return None;
         }
         let word = self.install(pass, file);
+        let len = self.slots.len();
         loop {
-            if let Some(slot) = (0..self.slots.len()).find(|it| self.try_slot(*it, word)) {
+            let from = pass.emptied.take_last() % len;
+            if let Some(slot) = (from..len).chain(0..from).find(|it| self.try_slot(*it, word)) {
+                pass.emptied.next = slot + 1;
                 return Some(slot);
             }
             if self.is_full() {
@@ -302,6 +343,10 @@ impl Table for LastingWords {
     }
 
     fn take(&self, pass: &mut Pass, slot: usize) {
-        self.retire(pass, self.change(slot, 0));
+        let found = self.change(slot, 0);
+        if self.in_range && node_in(found).is_some() {
+            pass.emptied.keep(slot);
+        }
+        self.retire(pass, found);
     }
 }

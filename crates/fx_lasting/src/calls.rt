@@ -206,6 +206,7 @@ impl LastingTable {
         self.raise(&mut pass.seat, inside, removed.is_none());
         pass.next_visit = self.first_visit(found);
         pass.idle = removed.is_none();
+        pass.emptied.keep(slot, inside, pass.idle);
         removed
     }
 
@@ -232,6 +233,7 @@ impl LastingTable {
         self.raise(&mut pass.seat, inside, removed.is_none());
         pass.next_visit = self.first_visit(found);
         pass.idle = removed.is_none();
+        pass.emptied.keep(slot, inside, pass.idle);
         removed.ok_or(Empty)
     }
 

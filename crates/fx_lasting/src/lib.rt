@@ -8,6 +8,7 @@
 mod calls;
 mod change;
 mod close;
+mod emptied;
 mod kinds;
 pub mod laws;
 mod layout;

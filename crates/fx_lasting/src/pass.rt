@@ -2,6 +2,7 @@
 ghost use Rattle.std.specs.Prelude.{◌≡◌};
 ghost use Rattle.fx_lasting.specs.Lives.{IsNewPass};
 
+use crate::emptied::Emptied;
 use crate::view::View;
 use atomic_table::Seat;
 use fx_base::OpenFile;
@@ -22,13 +23,15 @@ pub struct LastingPass {
     pub(crate) guarded: bool,
     // The flag that the list has its bit.
     pub(crate) listed: bool,
+    // The slots at which its next allocations begin to look.
+    pub(crate) emptied: Emptied,
     pub(crate) spacing: Spacing,
 }
 
-// The distance between a pass and the next one: the fields before it take 16 bytes.
+// The distance between a pass and the next one: the fields before it take 56 bytes.
 #[derive(Drop)]
 pub(crate) struct Spacing {
-    unused: [u64; 14],
+    unused: [u64; 9],
 }
 
 impl LastingPass {
@@ -48,7 +51,8 @@ impl LastingPass {
             idle: true,
             guarded: false,
             listed: false,
-            spacing: Spacing { unused: [0; 14] },
+            emptied: Emptied::new(),
+            spacing: Spacing { unused: [0; 9] },
         }
     }
 
@@ -64,6 +68,7 @@ impl LastingPass {
             idle: _,
             guarded: _,
             listed: _,
+            emptied: _,
             spacing: _,
         } = self;
         seat

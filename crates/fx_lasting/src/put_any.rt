@@ -59,7 +59,8 @@ impl LastingTable {
 
     /// Tries once to install a file at an empty slot of the allocation range, under a number that no file has had, for an
     /// idle pass (`is_idle`) that installs files (`numbers_left`). It never waits: it makes at most three atomic steps for
-    /// each slot of the range, and three more than the pass's block has nodes. Returns the slot, or the file if every
+    /// each slot of the range, and three more than the pass's block has nodes. It begins at the slot that the pass emptied
+    /// last, or else after the slot that it filled last, and goes once over the range. Returns the slot, or the file if every
     /// slot of the range had a file at one moment (ENFILE), or if neither was found; then nothing has changed.
     pub fn try_put_any(&self, pass: &mut LastingPass, file: OpenFile) -> TriedPut
         requires fits { IsPassOfTable self.now pass.old }
@@ -80,14 +81,25 @@ impl LastingTable {
         let identity = file.identity();
         self.put_in(&mut pass.seat, node, file);
         pass.next_node = node;
-        match self.scan(&mut pass.seat, node, identity) {
-            Some(slot) => TriedPut::At(slot),
+        let from = pass.emptied.take_last();
+        match self.scan(&mut pass.seat, node, identity, from) {
+            Some(slot) => {
+                pass.emptied.fill(slot);
+                TriedPut::At(slot)
+            }
             None => TriedPut::Again(self.take_out(&mut pass.seat, node)),
         }
     }
 
-    // Installs the file at the first slot of the range that is empty when the scan reaches it, and returns that slot.
-    fn scan(&self, seat: &mut Seat<Option<OpenFile>, View>, node: u32, file: Closed) -> Option<u32>
+    // Installs the file at a slot of the range that is empty when the scan reaches it, and returns that slot. The scan begins
+    // at `from`, if that is in the range, and goes once over the range.
+    fn scan(
+        &self,
+        seat: &mut Seat<Option<OpenFile>, View>,
+        node: u32,
+        file: Closed,
+        from: u32,
+    ) -> Option<u32>
         requires table { seat.old.table_id ≡ self.now.table.shared.table_id }
         requires at { (number : ℕ) × IsAtWork self.now.table.shared.key number seat.old.me }
         requires placing { IsPlacing node file seat.old.me }
@@ -99,12 +111,42 @@ impl LastingTable {
         ensures none { result ≡ None
             → StillPlaces node (3 * self.now.range_len) seat.old.me seat.new.me }
     {
-        for slot in self.range_start..self.range_start + self.range_len {
+        let mut slot = self.first_slot(from);
+        for _ in 0..self.range_len {
             if self.try_slot(seat, node, file, slot) {
                 return Some(slot);
             }
+            slot = self.slot_after(slot);
         }
         None
+    }
+
+    // Returns `from` if it is a slot of the range, and else the first slot of the range.
+    fn first_slot(&self, from: u32) -> u32
+        ensures low { self.now.range_start ≤ result }
+        ensures high { 0 < self.now.range_len
+            → result < self.now.range_start + self.now.range_len }
+    {
+        if self.range_start <= from && from < self.range_start + self.range_len {
+            from
+        } else {
+            self.range_start
+        }
+    }
+
+    // Returns the slot of the range after this one; the last one's is the first.
+    fn slot_after(&self, slot: u32) -> u32
+        requires low { self.now.range_start ≤ slot }
+        requires high { slot < self.now.range_start + self.now.range_len }
+        ensures low { self.now.range_start ≤ result }
+        ensures high { result < self.now.range_start + self.now.range_len }
+    {
+        let end = self.range_start + self.range_len;
+        if slot == end - 1 {
+            self.range_start
+        } else {
+            slot + 1
+        }
     }
 
     // Tries to install the file at the slot, in at most three steps. Returns whether the slot was empty and now has the
