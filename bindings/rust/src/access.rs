@@ -10,8 +10,9 @@
 //! (`fx_server::TableWorker`): `looked` (the look-up found a file of the slot, and the worker holds
 //! it), `released`, `placed`, `allocated` and `removed` (which file is returned to be closed, by
 //! its tag, and that a file is on the node that was chosen for it), `chosen`. Laws of every history
-//! (`fx_plain::laws`): `no_close_while_held`, `closed_at_most_once`. Laws of every state of the
-//! table (`fx_lasting::laws`): `nodes_are_of_one_file`, `chosen_nodes_are_free`.
+//! (`fx_plain::laws`): `no_close_while_held`, `closed_at_most_once`. They hold of what all workers
+//! do together, by `has_one_history`. Laws of every state of the table (`fx_lasting::laws`):
+//! `has_one_history`, `nodes_are_of_one_file`, `chosen_nodes_are_free`, `removed_files_have_users`.
 //!
 //! One rule of this crate is cited as well. *One user*: a seat (`seats.rs`) is used by one thread
 //! at a time. Its number is claimed by an exchange that acquires, and returned by an operation that

@@ -67,8 +67,8 @@ impl<T> Deref for Guard<'_, T> {
 
     #[inline]
     fn deref(&self) -> &T {
-        // SAFETY: the core closes no file that is held (`no_close_while_held`), so the box is there
-        // until `drop`.
+        // SAFETY: the core closes no file that is held (`no_close_while_held`, `has_one_history`),
+        // so the box is there until `drop`.
         unsafe { &*self.value }
     }
 }
@@ -161,8 +161,8 @@ impl<T> Deref for OwnedGuard<T> {
 
     #[inline]
     fn deref(&self) -> &T {
-        // SAFETY: the core closes no file that is held (`no_close_while_held`), so the box is there
-        // until `drop`. The guard's table keeps the core.
+        // SAFETY: the core closes no file that is held (`no_close_while_held`, `has_one_history`),
+        // so the box is there until `drop`. The guard's table keeps the core.
         unsafe { &*self.value }
     }
 }

@@ -50,7 +50,7 @@ pub(super) fn drop_last<T>(freed: Option<Box<T>>) {
 unsafe fn value_of<T>(tag: u64) -> Box<T> {
     order::acquire(tag);
     // SAFETY: the tag is the address of a box (`Values::prepare`), and no other call gets it
-    // (`closed_at_most_once`).
+    // (`closed_at_most_once`, `has_one_history`).
     unsafe { Box::from_raw(tag as usize as *mut T) }
 }
 
@@ -256,7 +256,9 @@ impl<T> Drop for Values<T> {
             let old = unsafe { self.remove_at(self.seats.installing[0].core(), slot) };
             values.extend(old.ok().and_then(Old::unused));
         }
-        // The values are dropped with the list, one after another, even if the drop of one panics.
+        // No call runs and no guard is alive, so every other value has been dropped or returned
+        // (`removed_files_have_users`). These are dropped with the list, one after another, even if
+        // the drop of one panics.
     }
 }
 
