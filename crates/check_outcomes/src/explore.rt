@@ -4,10 +4,10 @@
 use crate::found::{FoundStates, FoundStep, key_of};
 use crate::parts::part_numbers;
 use crate::state::{PlayState, accesses_of, next_state, start};
-use crate::submission::PlayedSubmission;
+use crate::submission::{PlayedSubmission, Progress};
 use crate::turns::{turn_at, waits};
 use check_search::Limits;
-use fx_base::NoMemory;
+use fx_base::{Closed, NoMemory};
 use fx_chain::{Completion, Op, Place, Request};
 use fx_order::Slots;
 
@@ -37,9 +37,18 @@ fn weight_told(submission: &PlayedSubmission<'_>) -> usize {
     )
 }
 
-// Returns how many states may be met. A slot of a state takes 40 bytes, and its numbers in the
-// key up to 48; a chain takes 16 and 16; and beside them a state has its lists, a step and a place in the hash table, whose
-// blocks may just have been doubled.
+// The sizes that `room_for` counts. With another one it must be counted again.
+const _: () = prove!(size_of::<Option<Closed>>() == 40);
+
+const _: () = prove!(size_of::<Progress>() == 16);
+
+const _: () = prove!(size_of::<PlayState>() == 104);
+
+const _: () = prove!(size_of::<Option<FoundStep>>() == 104);
+
+// Returns the largest number of states. A slot of a state takes 40 bytes, and its numbers in the key up to 48. A chain takes 16
+// and 16. Beside them a state takes some 334: itself, the step that led to it, its key and the key's place in the hash table, and
+// the heads of five blocks of memory. The lists of states, steps and keys may each have room for twice as many.
 fn room_for(submission: &PlayedSubmission<'_>, limits: Limits) -> usize {
     let slots = (submission.size as usize).saturating_mul(88);
     let chains = submission.chains.len().saturating_mul(32);
