@@ -10,11 +10,14 @@ use super::core::{
 };
 use super::core::{MOST_INSTALLING, MOST_SLOTS, MOST_WORKERS};
 use std::cell::UnsafeCell;
+use std::collections::VecDeque;
 use std::sync::atomic::{AtomicU64, Ordering::SeqCst};
 use std::sync::Arc;
 
 const BORN: u64 = (1 << 32) + 1;
 const TAKES: u64 = (1 << 32) - 1;
+// how many slots a worker keeps of those that it emptied last
+const EMPTIED: usize = 8;
 
 struct Table {
     slots: Vec<AtomicU64>,
@@ -38,6 +41,9 @@ struct Worker {
     first: Option<usize>,
     next: Option<usize>,
     held: Option<usize>,
+    // the slots that the worker emptied last, and the one after that which it filled last
+    emptied: VecDeque<usize>,
+    after_filled: usize,
 }
 
 impl Table {
@@ -98,13 +104,18 @@ impl Worker {
         }
     }
 
-    // One round over the slots.
+    // One round over the slots, from the one that the worker emptied last, or after the one that it
+    // filled last.
     fn round(&mut self, word: u64) -> i64 {
         let before = self.table.changes.load(SeqCst);
-        for (slot, it) in self.table.slots.iter().enumerate() {
+        let slots = self.table.slots.len();
+        let first = self.emptied.pop_back().unwrap_or(self.after_filled);
+        for slot in (first..first + slots).map(|it| it % slots) {
+            let it = &self.table.slots[slot];
             let old = it.load(SeqCst);
             if old >> 32 == 0 && it.compare_exchange(old, word, SeqCst, SeqCst).is_ok() {
                 self.table.changes.fetch_add(1, SeqCst);
+                self.after_filled = slot + 1;
                 return slot as i64;
             }
         }
@@ -163,6 +174,8 @@ pub(crate) unsafe fn yacht_core_open(
             first,
             next: None,
             held: None,
+            emptied: VecDeque::new(),
+            after_filled: 0,
         };
         // SAFETY: there is room for `count` handles.
         unsafe { *out.add(at) = Box::into_raw(Box::new(it)).cast() };
@@ -253,6 +266,12 @@ pub(crate) unsafe fn yacht_core_take(handle: *mut Core, slot: u32, closed: *mut 
     };
     match word.swap(0, SeqCst) {
         old if old >> 32 == 0 => EMPTY,
-        old => answer(it.table.retire(old), IN_USE, unsafe { &mut *closed }),
+        old => {
+            it.emptied.push_back(slot as usize);
+            if it.emptied.len() > EMPTIED {
+                it.emptied.pop_front();
+            }
+            answer(it.table.retire(old), IN_USE, unsafe { &mut *closed })
+        }
     }
 }
