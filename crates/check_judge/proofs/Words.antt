@@ -37,7 +37,8 @@ pub use Rattle.fx_order.specs.Access.{table_with}
 pub use Rattle.fx_order.specs.declared.access.Access.TheVariants.{Allocates, FindsFull, Looks, Puts, Takes}
 pub use Rattle.fx_order.specs.Order.{IsOneOrder, table_of, IsOrderOf, ring_left}
 pub use Rattle.fx_order.specs.Requests.{AreChainsDone, AreEntriesDone, IsChainDone, IsCloseDone, IsEntryDone, IsOpenDone, IsReadDone, IsRequestDone}
-pub use Rattle.fx_order.specs.Requests.{IsDoneAtTable, gives, positions_of}
+pub use Rattle.fx_chain.specs.Intents.{gives, positions_of}
+pub use Rattle.fx_order.specs.Requests.{IsDoneAtTable}
 pub use Rattle.fx_order.specs.Slots.{ring_with_slots, table_of_slots}
 pub use Rattle.fx_order.specs.declared.access.Access.{Access}
 pub use Rattle.fx_order.specs.declared.access.ChainAccess.{ChainAccess}

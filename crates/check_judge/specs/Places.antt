@@ -8,7 +8,8 @@ use Rattle.fx_chain.specs.Explains.{canceled, first_member, severs}
 use Rattle.fx_chain.specs.Operation.{Asked, Operation}
 use Rattle.fx_chain.specs.declared.completion.Place.{Place}
 use Rattle.fx_order.specs.Access.{accesses_of_chain}
-use Rattle.fx_order.specs.Requests.{IsRequestDone, positions_of}
+use Rattle.fx_chain.specs.Intents.{positions_of}
+use Rattle.fx_order.specs.Requests.{IsRequestDone}
 use Rattle.fx_order.specs.declared.access.Access.{Access}
 use Rattle.fx_order.specs.declared.access.ChainAccess.{ChainAccess}
 use Rattle.fx_order.specs.declared.listed_order.AccessPlace.{AccessPlace}

@@ -9,7 +9,7 @@ use Rattle.fx_base.specs.declared.mark.Mark.TheVariants.{Submitted}
 use Rattle.fx_base.specs.declared.open_file.Closed.{Closed}
 use Rattle.fx_chain.specs.Completed.{Completed, all_completed}
 use Rattle.fx_chain.specs.Operation.{Asked}
-use Rattle.fx_order.specs.Requests.{InstallsAt}
+use Rattle.fx_chain.specs.Intents.{InstallsAt}
 use Rattle.fx_order.specs.Slots.{table_of_slots}
 use Rattle.fx_order.specs.declared.slots.Slots.{Slots}
 use Rattle.check_judge.specs.declared.told.Told.{Told}

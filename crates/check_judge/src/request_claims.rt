@@ -3,9 +3,10 @@ ghost use Rattle.std.specs.Prelude.{◌≡◌, ◌<◌, ◌≤◌, ◌+◌, ◌^
 ghost use Rattle.std.specs.List.{AllZip, list_any};
 ghost use Rattle.std.specs.Option.{option_to_list};
 ghost use Rattle.fx_chain.specs.Completed.{completed_of};
+ghost use Rattle.fx_chain.specs.Intents.{gives};
 ghost use Rattle.fx_chain.specs.Operation.{Updates, Opens, asked_of, operation_of};
 ghost use Rattle.fx_chain.specs.Refusal.{is_bad_entry, refusal_of};
-ghost use Rattle.fx_order.specs.Requests.{AreEntriesDone, IsEntryDone, IsUpdateDone, IsRefused, IsOpenDone, IsReadDone, IsCloseDone, IsDoneAtTable, IsRequestDone, gives};
+ghost use Rattle.fx_order.specs.Requests.{AreEntriesDone, IsEntryDone, IsUpdateDone, IsRefused, IsOpenDone, IsReadDone, IsCloseDone, IsDoneAtTable, IsRequestDone};
 ghost use Rattle.fx_order.specs.declared.access.Access.{Access as OneAccess};
 ghost use Rattle.check_judge.specs.Claims.{Fits, Tells, Possibly};
 ghost use Rattle.fx_base.specs.Catalogue.{name_at};

@@ -12,7 +12,7 @@ ghost use Rattle.fx_chain.specs.Operation.{all_asked, asked_of};
 use check_lines::ClosedLine;
 use fx_base::{Catalogue, Closed, Mark, NoMemory};
 use fx_chain::{Completion, Request};
-use fx_order::{Slots, installs_at};
+use fx_order::Slots;
 use std::alloc::Global;
 
 /// A report of a submission that is to be judged, for instance a kernel's (this project's own).
@@ -153,7 +153,7 @@ fn has_installed(request: &Request, completion: &Completion, mark: Mark) -> bool
     if completion.place.mark(entry) != mark || completion.res < 0 {
         return false;
     }
-    installs_at(&request.op, entry)
+    request.installs_at(entry)
 }
 
 // Returns the position, from `from` on, of the first completion whose place isn't before the mark's. The completions are in

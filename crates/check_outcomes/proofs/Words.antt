@@ -5,7 +5,8 @@ pub use Rattle.fx_order.proofs.RequestCases.{allocates, closes, puts, reads, unl
 pub use Rattle.fx_order.specs.declared.access.Access.{Access}
 pub use Rattle.fx_order.specs.declared.access.Access.TheVariants.{Allocates, Clears, FindsFull, Looks, Puts, Takes}
 pub use Rattle.fx_order.specs.declared.access.ChainAccess.{ChainAccess}
-pub use Rattle.check_outcomes.specs.Idle.{AreIdle, IsLeft, are_reads, is_read, has_none}
+pub use Rattle.check_outcomes.specs.Idle.{AreIdle, IsLeft, are_reads, has_none}
+pub use Rattle.fx_chain.specs.Intents.{is_read}
 pub use Rattle.check_outcomes.specs.Nodes.{AreAllStates, AreAtStart, AreClosed, EachOutcomeIsListed, HasEnd, HasTurn, IsListed, IsOver, StateView}
 pub use Rattle.check_outcomes.specs.Nodes.{told_from, ring_at}
 pub use Rattle.check_outcomes.specs.Parts.{AreParts, Parts, StaysIn}
@@ -53,8 +54,8 @@ pub use Rattle.fx_order.proofs.Words.{IsRefused, IsDoneAtTable, IsEntryDone, Are
 pub use Rattle.fx_order.proofs.Words.{map-append, take_all, take-append-drop, slice_get, slice_get_within, All-map, rules, to_z, of_z, w32}
 pub use Rattle.fx_order.proofs.Words.{operation_of, IfOk-weaker, ◌*◌, drop-map, ◌↔◌}
 pub use Rattle.std.proofs.lemmas.List.Elements.{All-from_recursion, Contains-append_left, Contains-push, All-push}
-pub use Rattle.check_outcomes.specs.Choices.{HasEachOf, Intends, IsNextAccess, IsOf}
-pub use Rattle.check_outcomes.specs.declared.answering.Intent.TheVariants.{Allocate, Look, Put, Take}
+pub use Rattle.check_outcomes.specs.Choices.{HasEachOf, Intends, IsNextAccess}
+pub use Rattle.fx_chain.specs.declared.intent.Intent.TheVariants.{Allocate}
 pub use Rattle.std.proofs.lemmas.List.Sorted.{All-permutation, IsPermutation-append_comm, IsPermutation-append_left, IsPermutation-append_right}
 pub use borrow.Author.Count.{below_more}
 pub use Rattle.std.proofs.lemmas.Slice.Eq.{slice_eq-Decides}

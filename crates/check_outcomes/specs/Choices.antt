@@ -1,18 +1,13 @@
 -- What a request may do next.
-use Rattle.std.specs.Prelude.{◌≡◌, ◌⊎◌, ℕ, List, ◌∷◌, ◌++◌, length, Contains, Option, Some, None}
+use Rattle.std.specs.Prelude.{◌≡◌, ℕ, List, ◌∷◌, ◌++◌, length, Contains, Option, Some, None}
 use Rattle.fx_base.specs.Catalogue.{FileEntry}
-use Rattle.fx_base.specs.declared.open_file.Closed.{Closed}
 use Rattle.fx_chain.specs.Completed.{Completed}
 use Rattle.fx_chain.specs.Operation.{Operation}
 use Rattle.fx_chain.specs.declared.completion.Place.{Place}
-use Rattle.fx_order.specs.Access.{Table, Permits}
+use Rattle.fx_chain.specs.declared.intent.Intent.{Intent}
+use Rattle.fx_order.specs.Access.{IsOf, Table, Permits}
 use Rattle.fx_order.specs.declared.access.Access.{Access}
-use Rattle.fx_order.specs.declared.access.Access.TheVariants.{Looks, Puts, Clears, Takes}
-use Rattle.fx_order.specs.declared.access.Access.TheVariants.{Allocates, FindsFull}
 use Rattle.fx_order.specs.Requests.{IsRequestDone}
-use Rattle.check_outcomes.specs.declared.answering.Intent.{Intent}
-use Rattle.check_outcomes.specs.declared.answering.Intent.TheVariants.{Look, Put, Clear, Take}
-use Rattle.check_outcomes.specs.declared.answering.Intent.TheVariants.{Allocate}
 
 -- behind so many accesses the request may make this one
 abbrev pub IsNextAccess : List FileEntry → ℕ → Place → Operation → ℕ → Access → Type 0
@@ -26,20 +21,12 @@ HasEach catalogue table place operation made choices =
     (a : Access) → IsNextAccess catalogue table.size place operation made a → Permits table a
     → Contains choices a
 
--- the access is what was to be made, whatever it finds
-abbrev pub IsOf : Intent → Access → Type 0
-IsOf (Look slot) a = (found : Option Closed) × (a ≡ Looks slot found)
-IsOf (Put slot file) a = (removed : Option Closed) × (a ≡ Puts slot file removed)
-IsOf (Clear slot) a = (removed : Option Closed) × (a ≡ Clears slot removed)
-IsOf (Take slot) a = (removed : Option Closed) × (a ≡ Takes slot removed)
-IsOf (Allocate file) a = ((slot : ℕ) × (a ≡ Allocates slot file)) ⊎ (a ≡ FindsFull)
-
--- there is one to be made, and this is it
+-- an access is intended, and this is it
 abbrev pub Intends : Option Intent → Access → Type 0
 Intends None a = ⊥
 Intends (Some intent) a = IsOf intent a
 
--- the list has each access that is what was to be made, and the table permits
+-- the list has each access that is what was intended, and that the table permits
 abbrev pub HasEachOf : Table → Intent → List Access → Type 0
 HasEachOf table intent choices =
     (a : Access) → IsOf intent a → Permits table a → Contains choices a

@@ -1,14 +1,11 @@
 -- Chains of which no access matters any more.
-use Rattle.std.specs.Prelude.{◌≡◌, ◌+◌, ◌<◌, ◌≤◌, ◌==◌, Bool, true, false, List, [], length}
+use Rattle.std.specs.Prelude.{◌≡◌, ◌+◌, ◌<◌, ◌≤◌, ◌==◌, Bool, true, List, [], length}
 use Rattle.std.specs.List.{list_all}
 use Rattle.fx_chain.specs.Completed.{Completed}
-use Rattle.fx_chain.specs.Operation.{Asked, Operation, Reads}
+use Rattle.fx_chain.specs.Intents.{is_read}
+use Rattle.fx_chain.specs.Operation.{Asked}
 use Rattle.fx_chain.specs.declared.completion.Place.{Place}
 use Rattle.check_outcomes.specs.Rests.{Rest}
-
-abbrev pub is_read : Operation → Bool
-is_read (Reads slot off len) = true
-is_read operation = false
 
 abbrev pub are_reads : List Asked → Bool
 are_reads requests = list_all (λ request. is_read request.operation) requests

@@ -1,5 +1,4 @@
 pub mod Choices
-pub mod Answering
 pub mod Rests
 pub mod Parts
 pub mod Idle

@@ -1,9 +1,9 @@
 -- Chains that share no slot stand in different parts of a submission, and no access of one part
 -- matters to another. So the parts may be played one after another.
 use Rattle.std.specs.Prelude.{◌≡◌, ℕ, ◌+◌, ◌<◌, List, [], ◌∷◌, All}
+use Rattle.fx_chain.specs.Intents.{MayReach}
 use Rattle.fx_chain.specs.Operation.{Operation, Asked}
 use Rattle.fx_order.specs.Access.{Table}
-use Rattle.check_outcomes.specs.Answering.{MayComeTo}
 
 -- the number of the part that each chain is in, by the chain's number from 1, and of the part that
 -- each slot belongs to
@@ -11,10 +11,10 @@ pub record Parts : Type 0 where
   pub of_chain : ℕ → ℕ
   pub of_slot : ℕ → ℕ
 
--- each slot of the table that the request may come to belongs to this part
+-- each slot of the table that the request may reach belongs to this part
 abbrev pub StaysIn : Table → (ℕ → ℕ) → ℕ → Operation → Type 0
 StaysIn table of_slot part operation =
-    (slot : ℕ) → slot < table.size → MayComeTo table operation slot → of_slot slot ≡ part
+    (slot : ℕ) → slot < table.size → MayReach table.range operation slot → of_slot slot ≡ part
 
 -- the requests of each chain from this one on stay in the chain's part
 abbrev pub AreParts : Table → Parts → ℕ → List (List Asked) → Type 0

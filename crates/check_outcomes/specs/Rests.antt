@@ -1,14 +1,15 @@
 -- Where a chain is between two of its accesses, and where its next access leads it.
 use Rattle.std.specs.Prelude.{◌≡◌, ℕ, ◌+◌, ◌==◌, List, [], ◌∷◌, Option, Some, None}
-use Rattle.std.specs.Prelude.{if◌then◌else◌}
+use Rattle.std.specs.Prelude.{if◌then◌else◌, option_map}
 use Rattle.fx_base.specs.Catalogue.{FileEntry}
 use Rattle.fx_base.specs.declared.errno.Errno.TheVariants.{ENOMEM}
 use Rattle.fx_chain.specs.Completed.{Completed, negated, next_member}
 use Rattle.fx_chain.specs.Explains.{canceled, first_member, severs}
+use Rattle.fx_chain.specs.Intents.{answer_of, count_of}
 use Rattle.fx_chain.specs.Operation.{Asked}
 use Rattle.fx_chain.specs.declared.completion.Place.{Place}
+use Rattle.fx_order.specs.Access.{finding_of}
 use Rattle.fx_order.specs.declared.access.Access.{Access}
-use Rattle.check_outcomes.specs.Answering.{answer_of, count_of}
 use Rattle.check_outcomes.specs.Choices.{IsNextAccess}
 
 -- the request found memory
@@ -24,7 +25,8 @@ pub record Rules : Type 0 where
 abbrev pub rules_of : List FileEntry → ℕ → Rules
 rules_of catalogue size = record {
   count = λ request. count_of catalogue size request.operation;
-  answer = λ place request last. answer_of catalogue size place request.operation last;
+  answer = λ place request last.
+      answer_of catalogue size place request.operation (option_map finding_of last);
 }
 
 -- the requests of a chain that are left, from this place on, and how many accesses the first of

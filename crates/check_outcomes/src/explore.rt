@@ -8,20 +8,16 @@ use crate::submission::{PlayedSubmission, Progress};
 use crate::turns::{turn_at, waits};
 use check_search::Limits;
 use fx_base::{Closed, NoMemory};
-use fx_chain::{Completion, Op, Place, Request};
+use fx_chain::{Completion, Place, Request};
 use fx_order::Slots;
 
 // Returns the bytes that a state keeps of a request: its answer, the bytes of a read, and the files that it removed, each with its numbers in the
 // key.
 fn weight_of(request: &Request) -> usize {
-    let (removed, got): (usize, usize) = match &request.op {
-        Op::Read { len, .. } => (1, *len as usize),
-        Op::Update { list, .. } => (list.len(), 0),
-        _ => (1, 0),
-    };
-    removed
+    request
+        .weight()
         .saturating_mul(56)
-        .saturating_add(got)
+        .saturating_add(request.bytes_asked() as usize)
         .saturating_add(48)
 }
 

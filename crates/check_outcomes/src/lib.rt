@@ -16,7 +16,7 @@ mod submission;
 mod telling;
 mod turns;
 
-pub use answering::{answer, count, next_accesses};
+pub use answering::next_accesses;
 pub use found::push_file;
 pub use outcomes::{
     PossibleAnswer, PossibleAnswers, PossibleReport, PossibleReports, may_answer, may_report,

@@ -6,7 +6,6 @@ ghost use Rattle.fx_order.specs.Slots.{table_of_slots};
 ghost use Rattle.check_outcomes.specs.Parts.{StaysIn};
 ghost use Rattle.check_outcomes.specs.Views.{ArePartsIn, parts_by_numbers};
 
-use crate::answering::slots_of;
 use crate::submission::PlayedSubmission;
 use fx_base::NoMemory;
 use fx_chain::Request;
@@ -41,7 +40,7 @@ fn stays_in(numbers: &PartNumbers, slots: &Slots, part: usize, request: &Request
     ensures { IsTrue result → StaysIn (table_of_slots slots.now)
         (parts_by_numbers numbers.now).of_slot part (asked_of request.now).operation }
 {
-    let (from, to) = slots_of(slots, &request.op);
+    let (from, to) = request.slots(slots.range);
     belong_to(&numbers.of_slot, part, from, to)
 }
 
@@ -126,7 +125,7 @@ pub(crate) fn part_numbers(
     };
     for i in 0..submission.chains.len() {
         for request in submission.members(i) {
-            let (from, to) = slots_of(slots, &request.op);
+            let (from, to) = request.slots(slots.range);
             for slot in from..to.min(slots.at.len()) {
                 numbers.add(i, slot);
             }

@@ -2,10 +2,10 @@
 ghost use Rattle.std.specs.Prelude.{◌≡◌, ◌<◌, []};
 ghost use Rattle.std.specs.Prelude.{IfOk, IfSome, IsTrue, length, slice_index_or};
 ghost use Rattle.fx_chain.specs.Completed.{all_completed};
+ghost use Rattle.fx_chain.specs.Intents.{is_read};
 ghost use Rattle.fx_chain.specs.Operation.{asked_of};
 ghost use Rattle.std.specs.List.{list_all};
 ghost use Rattle.fx_order.specs.Slots.{table_of_slots};
-ghost use Rattle.check_outcomes.specs.Idle.{is_read};
 ghost use Rattle.check_outcomes.specs.Listed.{IsFirstState};
 ghost use Rattle.check_outcomes.specs.Tellings.{IsToldOn, answers_of};
 ghost use Rattle.check_outcomes.specs.Views.{HasEachNextIn, IsOverIn, IsStepTo, has_reads_at, is_idle_at, not_begun};
@@ -13,7 +13,7 @@ ghost use Rattle.check_outcomes.specs.Views.{HasEachNextIn, IsOverIn, IsStepTo, 
 use crate::submission::{PlayedSubmission, Progress, chain_accesses, left, settle, step};
 use crate::telling::{WayReport, are_all_same, push_lists};
 use fx_base::NoMemory;
-use fx_chain::{Completion, Op, Request};
+use fx_chain::{Completion, Request};
 use fx_order::{Access, Slots};
 
 /// The files at the slots, and how far each chain has come, the first one first.
@@ -31,9 +31,7 @@ pub struct PlayState {
 fn are_reads(requests: &[Request]) -> bool
     ensures { result ≡ list_all (λ request. is_read (asked_of request).operation) requests.now }
 {
-    requests
-        .iter()
-        .all(|request| matches!(request.op, Op::Read { .. }))
+    requests.iter().all(|request| request.is_read())
 }
 
 impl PlayState {

@@ -1,7 +1,7 @@
 //! A submission that is played: where each of its chains is between two of its accesses, and where
 //! its next one leads it.
 ghost use Rattle.std.specs.Prelude.{◌≡◌, ℕ, ◌+◌, ◌-◌, ◌<◌, ◌≤◌, ◌^◌, ◌++◌, [], All, IfOk, Some};
-ghost use Rattle.std.specs.Prelude.{drop, length, map, slice_index_or};
+ghost use Rattle.std.specs.Prelude.{drop, length, map, option_map, slice_index_or};
 ghost use Rattle.fx_base.specs.Catalogue.{IsCatalogue};
 ghost use Rattle.fx_base.specs.declared.open_file.Closed.{Closed as File};
 ghost use Rattle.fx_chain.specs.Accepted.{IsAccepted, IsChain, IsWithinLimits, members_of};
@@ -9,6 +9,7 @@ ghost use Rattle.fx_chain.specs.Completed.{all_completed, next_member};
 ghost use Rattle.fx_chain.specs.Explains.{canceled, first_member};
 ghost use Rattle.fx_chain.specs.Operation.{all_asked, asked_of};
 ghost use Rattle.fx_chain.specs.Runs.{runs_of};
+ghost use Rattle.fx_order.specs.Access.{finding_of};
 ghost use Rattle.fx_order.specs.Slots.{table_of_slots};
 ghost use Rattle.fx_order.specs.declared.access.Access.TheVariants.{Allocates};
 ghost use Rattle.fx_plain.specs.declared.table.TheConstants.{MOST_SLOTS};
@@ -17,9 +18,9 @@ ghost use Rattle.check_outcomes.specs.Rests.{rules_of, settled_at};
 ghost use Rattle.check_outcomes.specs.Stands.{HasEachNext, Settles, StepsChain, asks_from, gone_on};
 ghost use Rattle.check_outcomes.specs.Stands.{moved, rest_in};
 
-use crate::answering::{answer, count, next_accesses};
+use crate::answering::next_accesses;
 use fx_base::{Catalogue, Errno, NoMemory};
-use fx_chain::{Chain, Completion, MOST_MEMBERS, Place, Request};
+use fx_chain::{Chain, Completion, Finding, MOST_MEMBERS, Place, Request, answer_of, count_of};
 use fx_order::{Access, Slots, members};
 use std::alloc::Global;
 
@@ -144,10 +145,20 @@ pub(crate) fn settle(
     let [request, behind @ ..] = requests else {
         return Ok(0);
     };
-    if count(submission.catalogue, submission.size, request) != 0 {
+    if count_of(submission.catalogue, submission.size, request) != 0 {
         return Ok(0);
     }
     Ok(1 + go_on(submission, place, request, behind, None, told)?)
+}
+
+// Returns what the last access found, if there is one.
+fn finding_in(last: Option<Access>) -> Option<Finding>
+    ensures { result ≡ option_map finding_of last }
+{
+    match last {
+        Some(access) => Some(access.found()),
+        None => None,
+    }
 }
 
 // Answers a request by the last of its accesses, and settles those after it. Returns the number of these that are done then.
@@ -171,7 +182,8 @@ fn go_on(
         (all_completed told.old.items) (all_completed told.new.items)) }
 {
     let (alloc, catalogue) = (submission.alloc, submission.catalogue);
-    let c = answer(alloc, catalogue, submission.size, place, request, last)?;
+    let found = finding_in(last);
+    let c = answer_of(alloc, catalogue, submission.size, place, request, found)?;
     let severs = request.severs(&c);
     told.push(c)?;
     let next = moved(place, 1);
@@ -217,7 +229,7 @@ pub(crate) fn step(
     let [request, behind @ ..] = left(members, done) else {
         return Ok(progress);
     };
-    if count(submission.catalogue, submission.size, request) != made + 1 {
+    if count_of(submission.catalogue, submission.size, request) != made + 1 {
         return Ok(Progress {
             done,
             made: made + 1,

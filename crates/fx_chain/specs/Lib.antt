@@ -8,6 +8,7 @@ pub mod Weights
 pub mod Completed
 pub mod Refusal
 pub mod Answers
+pub mod Intents
 pub mod Freed
 pub mod Explains
 pub mod Performs

@@ -7,6 +7,7 @@
 //! `specs/Answers.antt`, then `player.rt`.
 #![tactic(auto)]
 
+mod answer;
 mod chain;
 mod completion;
 mod context;
@@ -14,6 +15,7 @@ mod fault;
 mod file_index;
 mod flags;
 mod gate;
+mod intent;
 pub mod laws;
 mod open;
 mod player;
@@ -23,12 +25,14 @@ mod removal;
 mod request;
 mod update;
 
+pub use answer::answer_of;
 pub use chain::{Chain, cut};
 pub use completion::{Completion, Place};
 pub use fault::{CutFault, CutKind, MOST_MEMBERS, check};
 pub use file_index::target;
 pub use flags::SqeFlags;
 pub use gate::{Gate, OpenGate};
+pub use intent::{Finding, Intent, count_of, intent_by, intent_of};
 pub use player::{perform, run_chain};
 pub use refusal::{has_bad_entry, refusal_of};
 pub use request::{LONGEST_READ, LONGEST_UPDATE, Op, Request, Target};

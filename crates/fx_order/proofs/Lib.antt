@@ -1,6 +1,7 @@
 pub mod Words
 pub mod Placed
 pub mod RequestCases
+pub mod Intents
 pub mod RequestSteps
 pub mod Accesses
 pub mod Histories

@@ -10,6 +10,8 @@ use Rattle.fx_order.proofs.Words.{slice_get_within, positions_of, add-zero, zero
 use Rattle.fx_order.proofs.Apart.{Own, own_both, own_none, own_one, own_weaker}
 use Rattle.fx_order.proofs.Placed.{placed, placed-append}
 use Rattle.fx_base.proofs.Entries.{entry_named}
+use Rattle.fx_chain.proofs.Intents.{length-positions}
+use Rattle.fx_chain.specs.Intents.{count_of}
 
 -- the entries that aren't skips
 abbrev pub done_ones : List ℤ → List ℤ
@@ -28,32 +30,6 @@ entries_made place in_list slot (entry ∷ list) accesses x =
     let first = entry_made place in_list slot entry list x.0 x.3 in
     let rest = entries_made place (in_list + 1) (slot + 1) list x.1 x.4 in
     ap length x.2 ∙ (length-append x.0 x.1 ∙ omega arith)
-
--- the position of an entry that isn't a skip
-abbrev position_at : ℕ → ℤ → List (Option ℕ)
-position_at in_list entry = if int_le (negsuc 0) entry then Some in_list ∷ [] else []
-
--- as many positions as entries that aren't skips
-pub length-positions : (in_list : ℕ) (list : List ℤ) → length (positions_from in_list list) ≡ length (done_ones list)
-length-positions in_list [] = refl
-length-positions in_list (entry ∷ list) = elim (cases_Bool (int_le (negsuc 0) entry)) [
-  | inl done ↦ rw (done, length-positions (in_list + 1) list)
-  | inr skipped ↦ rw (skipped, length-positions (in_list + 1) list)
-]
-
-one_more : (in_list : ℕ) (list : List ℤ) (entry : ℤ)
-    → positions_from in_list (list ++ entry ∷ []) ≡ positions_from in_list list ++ position_at (in_list + length list) entry
-one_more in_list [] entry = rw (add-zero, append-nil)
-one_more in_list (x ∷ list) entry =
-    let e : in_list + suc (length list) ≡ in_list + 1 + length list = omega arith in rw (one_more (in_list + 1) list entry, e, append_assoc)
-
--- with the position of the next entry
-pub positions_more : (list : List ℤ) {i : ℕ} (d : ℤ) {b : Bool} {old new : List (Option ℕ)} → i < length list
-    → int_le (negsuc 0) (slice_index_or list i d) ≡ b → old ≡ positions_from 0 (take i list) → new ≡ old ++ (if b then Some i ∷ [] else [])
-    → new ≡ positions_from 0 (take (i + 1) list)
-positions_more list {i} d inside is so_far more =
-    let e : 0 + length (take i list) ≡ i = omega (arith, length-take-le i list (omega arith)) in
-    rw (more, so_far, take_more list i d inside, one_more 0 (take i list) (slice_index_or list i d), e, is)
 
 -- a file of the catalogue without a tag, of a position in a request's list
 pub record IsMarked (entries : ℕ) (place : Place) (in_list : ℕ) (f : Closed) : Type 0 where
@@ -168,6 +144,11 @@ module _ (catalogue : List FileEntry) (place : Place) where
   are_made (Reads slot off len) own c x = reads place (AreMade (Reads slot off len)) own c catalogue slot off len refl refl (λ _. refl) x
   are_made (Closes slot) own c x = closes place (AreMade (Closes slot)) own c slot refl (λ _. refl) x
   are_made (Updates off list) own c x = grind (arith, entries_made, length-positions)
+
+  -- as many as are counted, unless a read finds no memory
+  pub counted : (size : ℕ) (operation : Operation) (own : List Access) (c : Completed) → IsRequestDone catalogue size place operation own c
+      → length own ≡ (if int_eq c.res (negsuc 11) then 0 else count_of catalogue size operation)
+  counted size operation own c = grind (arith, are_made)
 
   pub few_made : (size : ℕ) (operation : Operation) (own : List Access) (c : Completed) → IsRequestDone catalogue size place operation own c
       → length own ≤ length (positions_of operation)

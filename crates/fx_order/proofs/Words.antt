@@ -18,6 +18,7 @@ pub use Rattle.fx_chain.specs.Chains.{chains_of}
 pub use Rattle.fx_chain.specs.Completed.{Completed, all_completed, completed, completed_of, next_member, refusal}
 pub use Rattle.fx_chain.specs.Explains.{Explains, canceled, first_member, severs}
 pub use Rattle.fx_chain.specs.Faults.{is_long_update}
+pub use Rattle.fx_chain.specs.Intents.{InstallsAt, gives, positions_from, positions_of}
 pub use Rattle.fx_chain.specs.Operation.{Asked, Closes, Opens, Operation, Reads, Updates, all_asked, asked_of, operation_of}
 pub use Rattle.fx_chain.specs.Runs.{runs_of}
 pub use Rattle.fx_chain.specs.Weights.{all_installs, installs_of, list_installs}
@@ -34,7 +35,7 @@ pub use Rattle.fx_order.specs.Access.{accesses_of_chain, file_removed_by, files_
 pub use Rattle.fx_order.specs.Laws.{AreKnown, IsOfNext}
 pub use Rattle.fx_order.specs.Order.{IsOneOrder, IsOrderOf, ring_left, table_of}
 pub use Rattle.fx_order.specs.Requests.{AreChainsDone, AreEntriesDone, IsChainDone, IsCloseDone, IsEntryDone, IsOpenDone, IsReadDone, IsRefused}
-pub use Rattle.fx_order.specs.Requests.{InstallsAt, IsDoneAtTable, IsRequestDone, IsUpdateDone, gives, positions_from, positions_of}
+pub use Rattle.fx_order.specs.Requests.{IsDoneAtTable, IsRequestDone, IsUpdateDone}
 pub use Rattle.fx_order.specs.Slots.{ring_of_slots, table_of_slots, ring_with_slots}
 pub use Rattle.fx_order.specs.declared.access.Access.{Access}
 pub use Rattle.fx_order.specs.declared.access.ChainAccess.{ChainAccess}

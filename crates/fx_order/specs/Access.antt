@@ -1,11 +1,15 @@
 -- Accesses of a table that is only its size, its allocation range and the file at each slot. A
 -- request that reaches the table makes one access, and an update one for each entry of its list.
-use Rattle.std.specs.Prelude.{◌≡◌, ℕ, ◌+◌, ◌<◌, ◌≤◌, ◌==◌, List, [], ◌∷◌, ◌++◌, map, filter, Option}
-use Rattle.std.specs.Prelude.{Some, None, IsSome}
+use Rattle.std.specs.Prelude.{◌≡◌, ◌⊎◌, ℕ, ◌+◌, ◌<◌, ◌≤◌, ◌==◌, List, [], ◌∷◌, ◌++◌, map, filter}
+use Rattle.std.specs.Prelude.{Option, Some, None, IsSome}
 use Rattle.std.specs.Option.{option_to_list}
 use Rattle.fx_base.specs.Identity.{Identity}
 use Rattle.fx_base.specs.declared.open_file.Closed.{Closed}
 use Rattle.fx_plain.specs.Step.{changed_at}
+use Rattle.fx_chain.specs.declared.intent.Finding.{Finding}
+use Rattle.fx_chain.specs.declared.intent.Finding.TheVariants.{At, Free, Full}
+use Rattle.fx_chain.specs.declared.intent.Intent.{Intent}
+use Rattle.fx_chain.specs.declared.intent.Intent.TheVariants.{Look, Put, Clear, Take, Allocate}
 use Rattle.fx_order.specs.declared.access.Access.{Access}
 pub use Rattle.fx_order.specs.declared.access.Access.TheVariants.{Looks, Puts, Clears, Takes}
 pub use Rattle.fx_order.specs.declared.access.Access.TheVariants.{Allocates, FindsFull}
@@ -48,6 +52,29 @@ table_with table (Clears slot removed) = with_file table slot None
 table_with table (Takes slot removed) = with_file table slot None
 table_with table (Allocates slot file) = with_file table slot (Some file)
 table_with table FindsFull = table
+
+-- the access is what a request intended, whatever it found
+abbrev pub IsOf : Intent → Access → Type 0
+IsOf (Look slot) a = (found : Option Identity) × (a ≡ Looks slot found)
+IsOf (Put slot file) a = (removed : Option Identity) × (a ≡ Puts slot file removed)
+IsOf (Clear slot) a = (removed : Option Identity) × (a ≡ Clears slot removed)
+IsOf (Take slot) a = (removed : Option Identity) × (a ≡ Takes slot removed)
+IsOf (Allocate file) a = ((slot : ℕ) × (a ≡ Allocates slot file)) ⊎ (a ≡ FindsFull)
+
+-- what an access found
+abbrev pub finding_of : Access → Finding
+finding_of (Looks slot found) = At found
+finding_of (Puts slot file removed) = At removed
+finding_of (Clears slot removed) = At removed
+finding_of (Takes slot removed) = At removed
+finding_of (Allocates slot file) = Free slot
+finding_of FindsFull = Full
+
+-- what the last one of these accesses found
+abbrev pub last_finding : List Access → Option Finding
+last_finding [] = None
+last_finding (a ∷ []) = Some (finding_of a)
+last_finding (a ∷ b ∷ accesses) = last_finding (b ∷ accesses)
 
 -- the file that an access takes from its slot, if there is one
 abbrev pub file_removed_by : Access → Option Identity

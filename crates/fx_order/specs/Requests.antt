@@ -1,16 +1,16 @@
 -- The answers that a request may get when it is done at once, by its accesses of a table of the
 -- given size. And the answers of a chain.
 use Rattle.std.specs.Prelude.{◌≡◌, ◌⊎◌, ℕ, zero, suc, ◌+◌, ◌<◌, ℤ, pos, negsuc, List, [], ◌∷◌, ◌++◌}
-use Rattle.std.specs.Prelude.{length, slice_get, int_le, Option, Some, None, MatchOption}
-use Rattle.std.specs.Prelude.{if◌then◌else◌}
+use Rattle.std.specs.Prelude.{length, Option, Some, None, MatchOption}
 use Rattle.std.specs.Bool.{MatchBool}
 use Rattle.fx_base.specs.declared.errno.Errno.{Errno}
 use Rattle.fx_base.specs.declared.errno.Errno.TheVariants.{EBADF, ENOMEM, ENFILE}
 use Rattle.fx_base.specs.Identity.{Identity}
-use Rattle.fx_base.specs.Catalogue.{FileEntry, name_at, bytes_at}
+use Rattle.fx_base.specs.Catalogue.{FileEntry, name_at}
 use Rattle.fx_chain.specs.Answers.{installed}
 use Rattle.fx_chain.specs.Completed.{Completed, completed, refusal, next_member}
 use Rattle.fx_chain.specs.Explains.{canceled, first_member, severs}
+use Rattle.fx_chain.specs.Intents.{gives}
 use Rattle.fx_chain.specs.Operation.{Operation, Opens, Reads, Closes, Updates, Asked}
 use Rattle.fx_chain.specs.Refusal.{refusal_of}
 use Rattle.fx_chain.specs.declared.completion.Place.{Place}
@@ -38,12 +38,6 @@ IsOpenDone place entry Any accesses c =
     ((slot : ℕ)
     × Makes (Allocates slot (installed place 0 entry)) (completed place (pos slot) []) accesses c)
     ⊎ Makes FindsFull (refusal place ENFILE) accesses c
-
--- the completion of a read of a file
-abbrev pub gives : List FileEntry → Place → Identity → ℕ → ℕ → Completed
-gives catalogue place file off len =
-    completed place (pos (length (bytes_at catalogue file.entry off len)))
-    (bytes_at catalogue file.entry off len)
 
 -- a read of some bytes at a slot
 abbrev pub IsReadDone : List FileEntry → Place → ℕ → ℕ → ℕ → List Access → Completed → Type 0
@@ -91,24 +85,6 @@ IsDoneAtTable catalogue place (Reads slot off len) accesses c =
     IsReadDone catalogue place slot off len accesses c
 IsDoneAtTable catalogue place (Closes slot) accesses c = IsCloseDone place slot accesses c
 IsDoneAtTable catalogue place (Updates off list) accesses c = IsUpdateDone place off list accesses c
-
--- the position in its list at which a request may install a file
-abbrev pub InstallsAt : Operation → ℕ → Type 0
-InstallsAt (Opens name target) entry = entry ≡ 0
-InstallsAt (Updates off list) entry = (file : ℕ) × (slice_get list entry ≡ Some (pos file))
-InstallsAt _ entry = ⊥
-
--- the position, from `in_list` on, of each entry of a list that isn't a skip
-abbrev pub positions_from : ℕ → List ℤ → List (Option ℕ)
-positions_from in_list [] = []
-positions_from in_list (entry ∷ list) =
-    (if int_le (negsuc 0) entry then Some in_list ∷ [] else []) ++ positions_from (in_list + 1) list
-
--- the accesses of a request that makes all of them, in order: for an update the position in its
--- list of each entry that isn't a skip, and for another request one access, without a position
-abbrev pub positions_of : Operation → List (Option ℕ)
-positions_of (Updates off list) = positions_from 0 list
-positions_of _ = None ∷ []
 
 -- the request may have this completion, having made these accesses
 abbrev pub IsRequestDone : List FileEntry → ℕ → Place → Operation → List Access → Completed → Type 0

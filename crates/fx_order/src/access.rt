@@ -1,8 +1,9 @@
 //! Accesses: what requests do to a table when they are done one at a time.
 ghost use Rattle.std.specs.Prelude.{◌≡◌};
-ghost use Rattle.fx_order.specs.Access.{file_removed_by};
+ghost use Rattle.fx_order.specs.Access.{file_removed_by, finding_of};
 
 use fx_base::Closed;
+use fx_chain::Finding;
 
 /// An access of a table by a request, when requests are done one at a time. A request that reaches the table makes one
 /// access, and an update one for each entry of its list that isn't a skip. Slots come first, then the file that is
@@ -33,6 +34,20 @@ impl Access {
             Access::Clears(_, removed) => *removed,
             Access::Takes(_, removed) => *removed,
             _ => None,
+        }
+    }
+
+    /// Returns what the access found.
+    pub fn found(&self) -> Finding
+        ensures { result ≡ finding_of self.now }
+    {
+        match self {
+            Access::Looks(_, file)
+            | Access::Puts(_, _, file)
+            | Access::Clears(_, file)
+            | Access::Takes(_, file) => Finding::At(*file),
+            Access::Allocates(slot, _) => Finding::Free(*slot),
+            Access::FindsFull => Finding::Full,
         }
     }
 }

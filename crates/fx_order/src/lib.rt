@@ -21,7 +21,7 @@ pub use access::{Access, ChainAccess};
 pub use listed_order::{AccessPlace, Order};
 pub use order::{are_closed, make_all};
 pub use report::{is_one_order, slots_left};
-pub use request::{OrderSetting, installs_at, positions_made};
+pub use request::{OrderSetting, positions_made};
 pub use ring_slots::RingSlots;
 pub use slots::Slots;
 pub use submission::{OrderedRequests, are_chains_done, members};

@@ -1,19 +1,20 @@
 //! Checking a request's accesses and completion, by the cases of its operation.
 ghost use Rattle.std.specs.Prelude.{◌≡◌, ◌≢◌, ◌<◌, ◌+◌, ◌^◌, ◌↔◌, IfNone, IfOk, IfSome, IsTrue, List, Option, [], ◌∷◌, length, ℕ};
-ghost use Rattle.std.specs.Prelude.{Some, filter, int_le, negsuc, take};
+ghost use Rattle.std.specs.Prelude.{Some, take};
 ghost use Rattle.fx_base.specs.Catalogue.{name_at};
 ghost use Rattle.fx_base.specs.declared.open_file.Closed.{Closed as File};
 ghost use Rattle.fx_chain.specs.Answers.{installed};
 ghost use Rattle.fx_chain.specs.Completed.{completed, completed_of};
+ghost use Rattle.fx_chain.specs.Intents.{gives, positions_of};
 ghost use Rattle.fx_chain.specs.Operation.{Opens, operation_of};
 ghost use Rattle.fx_order.specs.Access.{Looks};
 ghost use Rattle.fx_order.specs.Requests.{AreEntriesDone, IsCloseDone, IsDoneAtTable, IsEntryDone, IsReadDone, IsRefused, IsRequestDone};
-ghost use Rattle.fx_order.specs.Requests.{InstallsAt, IsUpdateDone, gives, positions_from, positions_of};
+ghost use Rattle.fx_order.specs.Requests.{IsUpdateDone};
 ghost use Rattle.fx_order.specs.declared.access.Access.{Access as Made};
 
 use crate::access::Access;
 use fx_base::{Catalogue, Closed, Errno, NoMemory};
-use fx_chain::{Completion, Op, Place, Request, Target, refusal_of};
+use fx_chain::{Completion, Op, Place, Request, Target, count_of, refusal_of};
 use std::alloc::Global;
 
 /// The values that stay the same while a submission's requests are checked (this project's own).
@@ -228,13 +229,6 @@ pub(crate) fn is_request_done(
     }
 }
 
-// Returns the number of entries of a list that aren't skips.
-fn entries_done(list: &[i32]) -> usize
-    ensures { result ≡ length (filter (λ entry. int_le (negsuc 0) entry) list.now) }
-{
-    list.iter().filter(|entry| **entry >= -1).count()
-}
-
 /// Returns the number of accesses that a request made, if it has this completion.
 pub(crate) fn accesses_made(setting: &OrderSetting<'_>, request: &Request, c: &Completion) -> usize
     ensures { (place : Place) (own : List Made) → IsRequestDone setting.now.catalogue.now
@@ -244,41 +238,7 @@ pub(crate) fn accesses_made(setting: &OrderSetting<'_>, request: &Request, c: &C
     if c.res == -Errno::ENOMEM.code() {
         return 0;
     }
-    if let Some(_errno) = refusal_of(setting.catalogue, setting.size, request) {
-        return 0;
-    }
-    match &request.op {
-        Op::Update { off: _, list } => entries_done(list),
-        _ => 1,
-    }
-}
-
-// Returns the position, from 0, of each entry of a list that isn't a skip.
-fn positions_in(alloc: Global, list: &[i32]) -> Result<Vec<Option<usize>>, NoMemory>
-    ensures { IfOk result (λ positions. positions.items ≡ positions_from 0 list.now) }
-{
-    let mut positions = Vec::new(alloc);
-    for (i, entry) in list.iter().enumerate() {
-        if *entry >= -1 {
-            positions.push(Some(i))?;
-        }
-    }
-    Ok(positions)
-}
-
-// Returns the position in the list of an update for each access that the operation makes if it makes all of them, or
-// `None` for the access of another operation.
-fn positions_of(alloc: Global, op: &Op) -> Result<Vec<Option<usize>>, NoMemory>
-    ensures { IfOk result (λ positions. positions.items ≡ positions_of (operation_of op.now)) }
-{
-    match op {
-        Op::Update { off: _, list } => positions_in(alloc, list),
-        _ => {
-            let mut positions = Vec::new(alloc);
-            positions.push(None)?;
-            Ok(positions)
-        }
-    }
+    count_of(setting.catalogue, setting.size, request)
 }
 
 /// Returns the position in the list of an update, from 0, for each access that a request made, if it has this
@@ -296,21 +256,7 @@ pub fn positions_made(
         (operation_of request.now.op) own (completed_of c.now)
         → positions.items ≡ take (length own) (positions_of (operation_of request.now.op))) }
 {
-    let mut positions = positions_of(setting.alloc, &request.op)?;
+    let mut positions = request.positions(setting.alloc)?;
     positions.truncate(accesses_made(setting, request, c));
     Ok(positions)
-}
-
-/// Checks whether an operation may install a file at a position in its list, from 0; an open has position 0 alone.
-pub fn installs_at(op: &Op, entry: u32) -> bool
-    ensures { IsTrue result ↔ InstallsAt (operation_of op.now) entry }
-{
-    match op {
-        Op::Open { name: _, target: _ } => entry == 0,
-        Op::Update { off: _, list } => match list.as_slice().get(entry as usize) {
-            Some(number) => *number >= 0,
-            None => false,
-        },
-        _ => false,
-    }
 }

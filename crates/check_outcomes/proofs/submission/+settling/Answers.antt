@@ -6,11 +6,11 @@ pub settle-returns : goal.settle-returns
 settle-returns t c =
     rw (first_is c.args.requests.now c.request-item.result c.in-len1-up.len_at_least c.request-item.is)
     (settled_on (rules_in c.args.submission.now)
-    (eq-eqb _ _ (sym c.count.ensures ∙ c.if-count-ne0.false)) c.in_ok-go_on.ensures)
+    (eq-eqb _ _ (sym c.count_of.ensures ∙ c.if-count_of-ne0.false)) c.in_ok-go_on.ensures)
 
 pub go_on-returns : goal.go_on-returns
 go_on-returns t c = IfOk-weaker c.settle.result _ _
     (λ passed settles. gone_past (rules_in c.args.submission.now) c.args.place (asked_of c.args.request.now)
-    c.args.last c.in_ok-c.ensures (pushed c.args.told.now.items c.in_ok-c.c c.in_ok-push.ensures.items refl)
+    c.args.last (rw c.finding_in-found.ensures at c.in_ok-c.ensures) (pushed c.args.told.now.items c.in_ok-c.c c.in_ok-push.ensures.items refl)
     (sym c.severs-severs.ensures ∙ c.if-severs.false) (rw c.moved-next.ensures at settles))
     c.settle.ensures

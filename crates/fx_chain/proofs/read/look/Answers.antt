@@ -1,6 +1,6 @@
 use Rattle.fx_chain.proofs.Words.{◌≡◌, ℕ, ◌+◌, ◌<◌, ◌++◌, ◌∷◌, [], false, length, refl, sym, ap, ◌∙◌, Closed, Option, Some, None, Result, Ok, Err}
 use Rattle.fx_chain.proofs.Words.{arith, append-nil, close_of, closes_in, IsLookUp, HasLookedUp, Look, ◌▷◌, Opening, Adds, one_look, PlayerView}
-use Rattle.fx_chain.proofs.Words.{player, result_ok, File, LookedAfter, Doing, Hold}
+use Rattle.fx_chain.proofs.Words.{result_ok, File, LookedAfter, Doing, Hold}
 use Rattle.fx_table.specs.declared.values.LookFault.{LookFault}
 use Rattle.fx_table.specs.declared.values.LookFault.TheVariants.{Spent, Empty as EmptySlot}
 use Rattle.fx_chain.proofs.read.look.Goals as goal

@@ -1,4 +1,4 @@
-use Rattle.fx_chain.proofs.Words.{◌-◌, arith}
+use Rattle.fx_chain.proofs.Words.{arith}
 use Rattle.fx_chain.proofs.ChainGoesOn.{asked_part}
 use Rattle.fx_chain.proofs.chain.Chain.members.Goals as goal
 

@@ -1,7 +1,8 @@
-use Rattle.fx_order.proofs.Words.{◌≡◌, ◌↔◌, ℕ, ℤ, pos, negsuc, int_le, sym, ap, ◌∙◌, rules, refl, List, Some, None, IsTrue, to_z, of_z, w32}
-use Rattle.fx_order.proofs.Words.{slice_get, slice_get_read, slice_get_past, Updates, operation_of, InstallsAt}
-use Rattle.fx_order.proofs.request.installs_at.Goals as goal
-use Rattle.std.proofs.Common.{arith}
+use Rattle.std.proofs.Common.{◌≡◌, ◌↔◌, ℕ, ℤ, pos, negsuc, int_le, sym, ap, ◌∙◌, rules, refl, List, Some, None, IsTrue, to_z, of_z, w32, slice_get, arith}
+use Rattle.std.proofs.lemmas.Option.{slice_get_read, slice_get_past}
+use Rattle.fx_chain.specs.Intents.{InstallsAt}
+use Rattle.fx_chain.specs.Operation.{Updates, operation_of}
+use Rattle.fx_chain.proofs.request.Request.installs_at.Goals as goal
 
 -- the number at a position of an update's list
 at_number : (off : ℕ) (list : List ℤ) (i : ℕ) (z : ℤ) → slice_get list i ≡ Some z → IsTrue (int_le (pos 0) z) ↔ InstallsAt (Updates off list) i
@@ -19,7 +20,7 @@ returns-in-Some c =
     let read : to_z w32 (of_z w32 z) ≡ z = search rules in
     let there : slice_get c.as_slice.result.now i ≡ Some z = slice_get_read c.as_slice.result.now _ i z refl c.in-Some.ensures.lookup.3.0 c.in-Some.ensures.lookup.1 in
     let same : slice_get list i ≡ Some z = ap (λ (l : List ℤ). slice_get l i) (sym c.as_slice.ensures.value) ∙ there in
-    let o : IsTrue (int_le (pos 0) z) ↔ InstallsAt (operation_of c.args.op.now) i = rw (c.in-Update.is) (at_number c.in-Update.off list i z same) in
+    let o : IsTrue (int_le (pos 0) z) ↔ InstallsAt (operation_of c.args.self.now.op) i = rw (c.in-Update.is) (at_number c.in-Update.off list i z same) in
     rw (read) o
 
 pub returns-in-None : goal.returns-in-None

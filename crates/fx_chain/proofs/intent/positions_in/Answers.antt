@@ -1,7 +1,9 @@
-use Rattle.fx_order.proofs.Words.{◌≡◌, ℕ, ℤ, pos, negsuc, int_le, sym, ap, ◌∙◌, append-nil, rules, slice_index_or, to_z, of_z, w32, Option, Vec}
-use Rattle.fx_order.proofs.RequestCases.{positions_more}
-use Rattle.fx_order.proofs.request.positions_in.Goals.{then-entry-geminus1+in_ok-push, else-entry-geminus1}
-use Rattle.fx_order.proofs.request.positions_in.Goals as goal
+use Rattle.std.proofs.Common.{◌≡◌, ℕ, ℤ, pos, negsuc, int_le, sym, ap, ◌∙◌, rules, slice_index_or, to_z, of_z, w32, Option}
+use Rattle.std.proofs.lemmas.List.{append-nil}
+use Rattle.std.specs.Global.{Vec}
+use Rattle.fx_chain.proofs.Intents.{positions_more}
+use Rattle.fx_chain.proofs.intent.positions_in.Goals.{then-entry-geminus1+in_ok-push, else-entry-geminus1}
+use Rattle.fx_chain.proofs.intent.positions_in.Goals as goal
 
 pub loop-i-preserved : goal.loop-i-preserved
 loop-i-preserved c =

@@ -1,0 +1,33 @@
+-- The entries of an update that aren't skips: their positions, and their number.
+use Rattle.fx_chain.proofs.Words.{◌≡◌, ℕ, suc, ◌+◌, ◌<◌, ℤ, negsuc, int_le, Bool, if◌then◌else◌, List, [], ◌∷◌, ◌++◌}
+use Rattle.fx_chain.proofs.Words.{length, filter, refl, Option, Some, arith, take, take_more, length-take-le, append-nil, append_assoc}
+use Rattle.fx_chain.proofs.Words.{slice_index_or, cases_Bool, inl, inr}
+use Rattle.std.proofs.Common.{add-zero}
+use Rattle.fx_chain.specs.Intents.{positions_from}
+
+-- the position of an entry that isn't a skip
+abbrev position_at : ℕ → ℤ → List (Option ℕ)
+position_at in_list entry = if int_le (negsuc 0) entry then Some in_list ∷ [] else []
+
+-- as many positions as entries that aren't skips
+pub length-positions : (in_list : ℕ) (list : List ℤ)
+    → length (positions_from in_list list) ≡ length (filter (λ entry. int_le (negsuc 0) entry) list)
+length-positions in_list [] = refl
+length-positions in_list (entry ∷ list) = elim (cases_Bool (int_le (negsuc 0) entry)) [
+  | inl done ↦ rw (done, length-positions (in_list + 1) list)
+  | inr skipped ↦ rw (skipped, length-positions (in_list + 1) list)
+]
+
+one_more : (in_list : ℕ) (list : List ℤ) (entry : ℤ)
+    → positions_from in_list (list ++ entry ∷ []) ≡ positions_from in_list list ++ position_at (in_list + length list) entry
+one_more in_list [] entry = rw (add-zero, append-nil)
+one_more in_list (x ∷ list) entry =
+    let e : in_list + suc (length list) ≡ in_list + 1 + length list = omega arith in rw (one_more (in_list + 1) list entry, e, append_assoc)
+
+-- with the position of the next entry
+pub positions_more : (list : List ℤ) {i : ℕ} (d : ℤ) {b : Bool} {old new : List (Option ℕ)} → i < length list
+    → int_le (negsuc 0) (slice_index_or list i d) ≡ b → old ≡ positions_from 0 (take i list) → new ≡ old ++ (if b then Some i ∷ [] else [])
+    → new ≡ positions_from 0 (take (i + 1) list)
+positions_more list {i} d inside is so_far more =
+    let e : 0 + length (take i list) ≡ i = omega (arith, length-take-le i list (omega arith)) in
+    rw (more, so_far, take_more list i d inside, one_more 0 (take i list) (slice_index_or list i d), e, is)

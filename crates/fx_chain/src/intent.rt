@@ -1,0 +1,333 @@
+//! The accesses that each kind of request intends at the table, each before it is known what it finds: how many, in what
+//! order, at which slots. [`crate::answer_of`] returns the answer by what they found. With the refusals, the player and
+//! the limits, no other code has to distinguish the kinds of requests.
+ghost use Rattle.std.specs.Prelude.{◌≡◌, ◌+◌, ◌<◌, ◌≤◌, ◌^◌, ◌↔◌, ℕ, IfNone, IfOk, IfSome, IsTrue, List, Option, false};
+ghost use Rattle.std.specs.Prelude.{filter, int_le, is_some, length, negsuc, slice_get, true};
+ghost use Rattle.std.specs.List.{list_any};
+ghost use Rattle.fx_base.specs.Catalogue.{FileEntry};
+ghost use Rattle.fx_chain.specs.Intents.{InstallsAt, IsIntent, IsOpened, MayReach, answer_at_table, bytes_asked, bytes_read};
+ghost use Rattle.fx_chain.specs.Intents.{count_of, intent_by, is_read, list_intents, open_intent, positions_from, positions_of};
+ghost use Rattle.fx_chain.specs.Operation.{operation_of};
+ghost use Rattle.fx_chain.specs.Refusal.{is_bad_entry, refusal_of};
+ghost use Rattle.fx_chain.specs.declared.completion.Place.{Place as In};
+ghost use Rattle.fx_chain.specs.declared.intent.Finding.{Finding as What};
+
+use crate::completion::Place;
+use crate::refusal::refusal_of;
+use crate::request::{Op, Request, Target};
+use fx_base::{Catalogue, Closed, MOST_ENTRIES, NoMemory};
+use std::alloc::Global;
+
+/// An access that a request intends, before it is known what it finds.
+#[derive(Clone, Copy, Debug)]
+pub enum Intent {
+    /// Looks at a slot.
+    Look(u32),
+    /// Installs a file at a slot.
+    Put(u32, Closed),
+    /// Empties a slot for an update.
+    Clear(u32),
+    /// Empties a slot for a close.
+    Take(u32),
+    /// Installs a file at any empty slot of the allocation range.
+    Allocate(Closed),
+}
+
+/// What an access found.
+#[derive(Clone, Copy, Debug)]
+pub enum Finding {
+    /// The file at its slot, or `None` if the slot was empty.
+    At(Option<Closed>),
+    /// An empty slot of the allocation range, by its number.
+    Free(u32),
+    /// A file at every slot of the allocation range.
+    Full,
+}
+
+// Checks whether an entry of a list isn't a skip.
+fn is_done(entry: i32) -> bool
+    ensures { result ≡ int_le (negsuc 0) entry }
+{
+    entry >= -1
+}
+
+// Returns the number of entries of a list that aren't skips.
+fn entries_done(list: &[i32]) -> usize
+    ensures { result ≡ length (filter (λ entry. int_le (negsuc 0) entry) list.now) }
+{
+    list.iter().filter(|entry| **entry >= -1).count()
+}
+
+// Returns the position, from 0, of each entry of a list that isn't a skip.
+fn positions_in(alloc: Global, list: &[i32]) -> Result<Vec<Option<usize>>, NoMemory>
+    ensures { IfOk result (λ positions. positions.items ≡ positions_from 0 list.now) }
+{
+    let mut positions = Vec::new(alloc);
+    for (i, entry) in list.iter().enumerate() {
+        if *entry >= -1 {
+            positions.push(Some(i))?;
+        }
+    }
+    Ok(positions)
+}
+
+impl Request {
+    /// Returns the number of accesses that the request makes if it isn't refused or canceled and no allocation fails: 1,
+    /// or for an update the number of its entries that aren't -2.
+    pub fn accesses(&self) -> usize
+        ensures { result ≡ length (positions_of (operation_of self.now.op)) }
+    {
+        match &self.op {
+            Op::Update { off: _, list } => entries_done(list),
+            _ => 1,
+        }
+    }
+
+    /// Returns for each of these accesses, in order, its position in the list of an update, from 0, or `None` for
+    /// another request.
+    ///
+    /// # Errors
+    /// `NoMemory` if an allocation fails.
+    pub fn positions(&self, alloc: Global) -> Result<Vec<Option<usize>>, NoMemory>
+        ensures { IfOk result (λ positions.
+            positions.items ≡ positions_of (operation_of self.now.op)) }
+    {
+        match &self.op {
+            Op::Update { off: _, list } => positions_in(alloc, list),
+            _ => {
+                let mut positions = Vec::new(alloc);
+                positions.push(None)?;
+                Ok(positions)
+            }
+        }
+    }
+
+    /// Checks whether the request may install a file at a position in its list, from 0; an open has position 0 alone.
+    pub fn installs_at(&self, entry: u32) -> bool
+        ensures { IsTrue result ↔ InstallsAt (operation_of self.now.op) entry }
+    {
+        match &self.op {
+            Op::Open { name: _, target: _ } => entry == 0,
+            Op::Update { off: _, list } => match list.as_slice().get(entry as usize) {
+                Some(number) => *number >= 0,
+                None => false,
+            },
+            _ => false,
+        }
+    }
+
+    /// Returns the first slot that the request may reach, and the one after the last. `range` is the allocation range:
+    /// its first slot and its number of slots.
+    pub fn slots(&self, range: (u32, u32)) -> (usize, usize)
+        ensures { (slot : ℕ) → MayReach range (operation_of self.now.op) slot
+            → (result.0 ≤ slot) × (slot < result.1) }
+    {
+        match &self.op {
+            Op::Open {
+                name: _,
+                target: Target::Any,
+            } => {
+                let (first, len) = range;
+                (first as usize, first as usize + len as usize)
+            }
+            Op::Open {
+                name: _,
+                target: Target::Slot(slot),
+            }
+            | Op::Read {
+                slot,
+                off: _,
+                len: _,
+            }
+            | Op::Close { slot } => (*slot as usize, *slot as usize + 1),
+            Op::Update { off, list } => (*off as usize, *off as usize + list.len()),
+        }
+    }
+
+    /// Returns the catalogue entry that the request opens, 0 unless it is an open, or `None` if no entry has the name.
+    pub fn opened(&self, catalogue: &Catalogue) -> Option<u8>
+        ensures some { IfSome result (IsOpened catalogue.now (operation_of self.now.op)) }
+        ensures none { IfNone result ((size : ℕ)
+            → is_some (refusal_of catalogue.now size (operation_of self.now.op)) ≡ true) }
+    {
+        match &self.op {
+            Op::Open { name, target: _ } => catalogue.find(name),
+            _ => Some(0),
+        }
+    }
+
+    /// Checks whether this is a catalogue entry that the request opens, or 0 unless it is an open.
+    pub fn is_opened(&self, catalogue: &Catalogue, entry: u8) -> bool
+        ensures { IsTrue result ↔ IsOpened catalogue.now (operation_of self.now.op) entry }
+    {
+        match &self.op {
+            Op::Open { name, target: _ } => {
+                u32::from(entry) < catalogue.len() && catalogue.name_of(entry) == name.as_str()
+            }
+            _ => entry == 0,
+        }
+    }
+
+    /// Returns the bytes that the request reads of a file of a catalogue entry, none unless it is a read.
+    ///
+    /// # Errors
+    /// `NoMemory` if an allocation fails.
+    pub fn bytes_of(
+        &self,
+        alloc: Global,
+        catalogue: &Catalogue,
+        entry: u8,
+    ) -> Result<Vec<u8>, NoMemory>
+        ensures { IfOk result (λ got.
+            got.items ≡ bytes_read catalogue.now (operation_of self.now.op) entry) }
+    {
+        let mut got = Vec::new(alloc);
+        if let Op::Read { slot: _, off, len } = &self.op {
+            got.reserve_exact(*len as usize)?;
+            catalogue.read_into(entry, *off, *len, &mut got);
+        }
+        Ok(got)
+    }
+
+    /// Returns the result of the request, unless it is refused or canceled, if it doesn't depend on what its accesses
+    /// find: 0 for an open at a slot, the length of the list for an update.
+    pub fn fixed_result(&self) -> Option<i32>
+        ensures { IfSome result (λ res. (catalogue : List FileEntry) (place : In) (found : Option What)
+            → (answer_at_table catalogue place (operation_of self.now.op) found).res ≡ res) }
+    {
+        match &self.op {
+            Op::Open {
+                name: _,
+                target: Target::Slot(_),
+            } => Some(0),
+            Op::Update { off: _, list } => i32::try_from(list.len()).ok(),
+            _ => None,
+        }
+    }
+
+    /// Checks whether the request changes no slot: it is a read.
+    pub fn is_read(&self) -> bool
+        ensures { result ≡ is_read (operation_of self.now.op) }
+    {
+        matches!(
+            self.op,
+            Op::Read {
+                slot: _,
+                off: _,
+                len: _,
+            }
+        )
+    }
+
+    /// Returns the number of bytes that the request asks for, 0 unless it is a read. Only a request that asks for bytes
+    /// may fail with ENOMEM.
+    pub fn bytes_asked(&self) -> u32
+        ensures { result ≡ bytes_asked (operation_of self.now.op) }
+    {
+        match self.op {
+            Op::Read {
+                slot: _,
+                off: _,
+                len,
+            } => len,
+            _ => 0,
+        }
+    }
+}
+
+/// Returns the number of accesses that a request makes at a table of `size` slots if no allocation fails: 0 if it is
+/// refused ([`refusal_of`]), otherwise [`Request::accesses`].
+pub fn count_of(catalogue: &Catalogue, size: u32, request: &Request) -> usize
+    ensures { result ≡ count_of catalogue.now size (operation_of request.now.op) }
+{
+    if refusal_of(catalogue, size, request).is_some() {
+        return 0;
+    }
+    request.accesses()
+}
+
+// Returns the intent of an open of this file.
+fn open_intent(target: Target, file: Closed) -> Intent
+    ensures { result ≡ open_intent target file }
+{
+    match target {
+        Target::Slot(slot) => Intent::Put(slot, file),
+        Target::Any => Intent::Allocate(file),
+    }
+}
+
+// Returns what the entries of an update intend after `made` accesses, or `None` if they intend no other. `at` is the first
+// entry's position in the whole list, and its slot.
+fn list_intent(
+    place: Place,
+    entries: u32,
+    at: (u32, u32),
+    list: &[i32],
+    made: usize,
+) -> Option<Intent>
+    requires few { entries ≤ MOST_ENTRIES }
+    requires in_list { at.0 + length list.now < 2 ^ 32 }
+    requires slot { at.1 + length list.now < 2 ^ 32 }
+    requires good { list_any (is_bad_entry entries) list.now ≡ false }
+    ensures { result ≡ slice_get (list_intents place at.0 at.1 list.now) made }
+{
+    let [entry, others @ ..] = list else {
+        return None;
+    };
+    let (in_list, slot) = at;
+    let next = (in_list + 1, slot + 1);
+    if !is_done(*entry) {
+        return list_intent(place, entries, next, others, made);
+    }
+    if made > 0 {
+        return list_intent(place, entries, next, others, made - 1);
+    }
+    if *entry >= 0 {
+        return Some(Intent::Put(slot, place.installed(in_list, *entry as u8)));
+    }
+    Some(Intent::Clear(slot))
+}
+
+/// Returns the access that a request intends at a table of `size` slots after `made` others, or `None` if it intends no
+/// other. An open opens this catalogue entry. A refused request ([`refusal_of`]) intends no access.
+pub fn intent_by(
+    catalogue: &Catalogue,
+    size: u32,
+    place: Place,
+    entry: u8,
+    request: &Request,
+    made: usize,
+) -> Option<Intent>
+    ensures { result ≡ intent_by catalogue.now size place entry (operation_of request.now.op) made }
+{
+    if refusal_of(catalogue, size, request).is_some() {
+        return None;
+    }
+    let only = match &request.op {
+        Op::Open { name: _, target } => open_intent(*target, place.installed(0, entry)),
+        Op::Read {
+            slot,
+            off: _,
+            len: _,
+        } => Intent::Look(*slot),
+        Op::Close { slot } => Intent::Take(*slot),
+        Op::Update { off, list } => {
+            return list_intent(place, catalogue.len(), (0, *off), list, made);
+        }
+    };
+    (made == 0).then_some(only)
+}
+
+/// Returns the same of the catalogue entry that the request opens ([`Request::opened`]).
+pub fn intent_of(
+    catalogue: &Catalogue,
+    size: u32,
+    place: Place,
+    request: &Request,
+    made: usize,
+) -> Option<Intent>
+    ensures { IsIntent catalogue.now size place (operation_of request.now.op) made result }
+{
+    let entry = request.opened(catalogue)?;
+    intent_by(catalogue, size, place, entry, request, made)
+}

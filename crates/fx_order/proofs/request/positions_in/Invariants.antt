@@ -1,5 +1,0 @@
-use Rattle.fx_order.proofs.Words.{◌≡◌, take, positions_from}
-use Rattle.fx_order.proofs.request.positions_in.Given as goal
-
-abbrev pub invariant-loop-i : goal.invariant-loop-i
-invariant-loop-i l = l.positions.items ≡ positions_from 0 (take l.i l.list)
