@@ -8,16 +8,17 @@
 static int dropped[8], drops, other;
 /* what a refused opening must leave in *table */
 static yacht_table *const untouched = (yacht_table *)&other;
-static yacht_handle *installs_again;
+/* the handle by which drops install more values, and how many */
+static yacht_handle *again;
+static int more;
 
 static void drop(void *value, void *with) {
     WANT(with == &drops);
     drops++;
     dropped[(int *)value - dropped]++;
-    if (!installs_again) return;
-    yacht_handle *handle = installs_again;
-    installs_again = NULL;
-    WANT(yacht_insert(handle, &dropped[6]) == 0);
+    if (!more) return;
+    more--;
+    WANT(yacht_insert(again, &dropped[6 + more]) == 0);
 }
 
 static int refused(uint32_t slots, uint32_t handles, uint32_t readers, yacht_drop *drops_by) {
@@ -96,10 +97,10 @@ static void each_answer(void) {
     WANT(yacht_release(reader) == YACHT_DONE && drops == 4 && dropped[4] == 1);
     WANT(yacht_get_at(reader, 0, &value) == YACHT_DONE && value == &dropped[3]);
     WANT(yacht_release(reader) == YACHT_DONE && drops == 4);
-    /* within yacht_free, the drop of the value at slot 0 installs another one at slot 0 */
-    installs_again = b;
+    /* within yacht_free, the drop of the value at slot 0 installs another one there, whose drop does too */
+    again = b, more = 2;
     yacht_free(table);
-    WANT(drops == 6 && dropped[3] == 1 && dropped[6] == 1);
+    WANT(drops == 7 && dropped[3] == 1 && dropped[6] == 1 && dropped[7] == 1);
 }
 
 static void words(void) {
