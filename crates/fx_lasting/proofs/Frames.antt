@@ -1,6 +1,6 @@
 -- A step of one seat leaves other seats, slots, nodes and the control word as they were.
 use Rattle.fx_lasting.proofs.Words.{◌≡◌, ◌≢◌, ℕ, ◌+◌, ◌-◌, ◌*◌, ◌<◌, ◌≤◌, List, set, sym, refl, ap, ◌∙◌, subst, arith, Option, Some, None, File, inl}
-use Rattle.fx_lasting.proofs.Words.{inr, some, some-injective, get_elem?, set_here, set_else, stands_at, Bool, true, false, ⊎_elim, ◌⊎◌, dite}
+use Rattle.fx_lasting.proofs.Words.{inr, some, some-injective, get_elem?, set_here, set_else, stands_at, ⊎_elim, ◌⊎◌, dite}
 use Rattle.fx_lasting.proofs.Words.{ℕ_discrete, sum_set, mul-le-mul_right, dec_le, SlotAgrees, NodeAgrees, OwnerAgrees, WorkAgrees, LogAgrees}
 use Rattle.fx_lasting.proofs.Words.{ControlCounts, HoldAgrees, GuardAgrees, Does, GlanceAgrees, Heats, MayBeUnmarked, IsInBlock, IsHot, HoldsAt, Home}
 use Rattle.fx_lasting.proofs.Words.{IsFileOfNode, IsVacant, name_in, count_in, word_of, hold_word_of, slots_of, nodes_of, state_after_all, held_in, Nodes}

@@ -12,7 +12,7 @@ use Rattle.std.proofs.Common.{not}
 use Rattle.std.proofs.Math.Nat.{mod-eq_of_lt}
 use Rattle.atomic_table.specs.Table.{opening}
 use Rattle.fx_lasting.proofs.Counts.{tally_none, tally_same}
-use Rattle.fx_lasting.proofs.Words.{Deed, untouched, has_heated, list_place}
+use Rattle.fx_lasting.proofs.Words.{untouched, list_place}
 use Rattle.fx_table.proofs.FullSlots.{full_few}
 use Rattle.fx_plain.proofs.Prepared.{numbered_anew}
 use Rattle.fx_seen.proofs.Views.{of_one}

@@ -1,6 +1,6 @@
 -- A take of what a slot names, and the heat of a slot that had its takes.
 use Rattle.fx_lasting.proofs.Words.{◌⊎◌}
-use Rattle.fx_lasting.proofs.Words.{◌≡◌, ◌≢◌, ℕ, ◌+◌, ◌%◌, ◌/◌, ◌^◌, ◌<◌, ◌≤◌, List, [], ◌∷◌, sym, refl, ap, ◌∙◌, arith, Option, Some, None, none}
+use Rattle.fx_lasting.proofs.Words.{◌≡◌, ◌≢◌, ℕ, ◌+◌, ◌%◌, ◌^◌, ◌<◌, ◌≤◌, List, [], ◌∷◌, sym, refl, ap, ◌∙◌, arith, Option, Some, None, none}
 use Rattle.fx_lasting.proofs.Words.{keeps, Closed, File, Event, Look, ◌▷◌, WorkAgrees, GlanceAgrees, Heats, state_after_all, slots_of, nodes_of}
 use Rattle.fx_lasting.proofs.Words.{held_in, if_file, taken_of, taking, pass_event, seated, file_in, Work, Glance, Idle, Counted, Cold, Heating}
 use Rattle.fx_lasting.proofs.Words.{Deed, untouched, over, heated, has_acted, has_heated}
@@ -13,7 +13,7 @@ use Rattle.fx_lasting.proofs.Histories.{grows_none, grows_one, legal_more, part_
 use Rattle.fx_lasting.proofs.Frames.{busy, guards_same}
 use Rattle.fx_lasting.proofs.Keeping.{Turn, turn_of, After, slot_word, Made, by_turn, its_log, its_work, in_range, tells, w}
 use Rattle.fx_lasting.proofs.Looking.{word, there, size_so, named, unnamed, name_cases}
-use Rattle.fx_lasting.proofs.Places.{slot_words, slot_here, slot_else, slot_hold}
+use Rattle.fx_lasting.proofs.Places.{slot_words, slot_hold}
 use Rattle.fx_lasting.proofs.SlotSteps.{slot_after, SlotStep, slot_kept, covers_slot}
 use Rattle.fx_lasting.proofs.Unheld.{in_phase}
 

@@ -1,11 +1,11 @@
 -- One history has what all passes did, and each removed file that is open has a user.
-use Rattle.fx_lasting.proofs.Words.{Contains, contains_head, ◌≡◌, ℕ, suc, ◌+◌, ◌<◌, ◌≤◌, List, [], ◌∷◌, length, map, sym, refl, ap, ◌∙◌, subst, arith}
-use Rattle.fx_lasting.proofs.Words.{Option, Some, None, some, get_elem?, ⊎_elim, ◌⊎◌, inl, inr, dite, dec_le, eqb, Bool, true, false, cond, at_index, found_sum}
-use Rattle.fx_lasting.proofs.Words.{File, Event, Agrees, NodeAgrees, WorkAgrees, HoldAgrees, HoldsAt, OwnerAgrees, Shared, Start, View, Work, Log, Phase}
+use Rattle.fx_lasting.proofs.Words.{Contains, contains_head, ◌≡◌, ℕ, suc, ◌+◌, ◌<◌, ◌≤◌, List, [], ◌∷◌, length, sym, refl, ap, ◌∙◌, subst, arith}
+use Rattle.fx_lasting.proofs.Words.{Some, None, some, get_elem?, ⊎_elim, ◌⊎◌, dite, dec_le, eqb, Bool, true, false, cond, at_index, found_sum}
+use Rattle.fx_lasting.proofs.Words.{File, Agrees, NodeAgrees, WorkAgrees, HoldAgrees, HoldsAt, OwnerAgrees, Shared, Start, View, Work, Log, Phase}
 use Rattle.fx_lasting.proofs.Words.{Idle, Announced, Counted, Guarded, Owing, Yielding, Searching, Placing, Retiring, Emptying}
 use Rattle.fx_lasting.proofs.Words.{free, placed, seated, leaving, retired, emptied, file_in, removed_in, file_if_numbered, eq-eqb, taken_of, taking, owed, count_in, sum_by, bit_else}
-use Rattle.fx_lasting.proofs.Words.{slots_of, nodes_of, word_of, hold_word_of, state_after_all, state_at_start, node_of_number, opening_of, pass_of, doing_in}
-use Rattle.fx_lasting.proofs.Words.{state_of, action_of, hold_at, ne_eqb, le-ltb, lt-ltb, ℕ_discrete}
+use Rattle.fx_lasting.proofs.Words.{slots_of, nodes_of, word_of, state_after_all, state_at_start, node_of_number}
+use Rattle.fx_lasting.proofs.Words.{state_of, lt-ltb, ℕ_discrete}
 use Rattle.std.proofs.Common.{not}
 use Rattle.std.proofs.lemmas.Bool.{eqb-true}
 use Rattle.fx_plain.proofs.Cells.{named, named_same}
@@ -13,8 +13,6 @@ use Rattle.fx_plain.proofs.LawHolds.{tally, tally_start, tally_all, placed_one, 
 use Rattle.fx_plain.proofs.Prepared.{opening_is_start, numbered_anew}
 use Rattle.fx_plain.specs.Laws.{IsStart, closes_of}
 use Rattle.fx_table.specs.Pass.{PassView}
-use Rattle.fx_table.specs.declared.values.Doing.TheVariants.{Holding}
-use Rattle.fx_table.specs.declared.values.Hold.{Hold}
 use Rattle.fx_lasting.proofs.Counts.{owed_found}
 use Rattle.fx_lasting.proofs.Histories.{same_shape}
 use Rattle.fx_lasting.proofs.Holds.{holds_at}
