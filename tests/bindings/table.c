@@ -97,10 +97,18 @@ static void each_answer(void) {
     WANT(yacht_release(reader) == YACHT_DONE && drops == 4 && dropped[4] == 1);
     WANT(yacht_get_at(reader, 0, &value) == YACHT_DONE && value == &dropped[3]);
     WANT(yacht_release(reader) == YACHT_DONE && drops == 4);
-    /* within yacht_free, the drop of the value at slot 0 installs another one there, whose drop does too */
-    again = b, more = 2;
     yacht_free(table);
-    WANT(drops == 7 && dropped[3] == 1 && dropped[6] == 1 && dropped[7] == 1);
+    WANT(drops == 5 && dropped[3] == 1);
+}
+
+/* within yacht_free, the drop of the only value installs another one, whose drop does too */
+static void drops_that_install(void) {
+    yacht_table *table;
+    WANT(yacht_open(&table, 1, 2, 0, drop, &drops) == YACHT_DONE);
+    WANT(yacht_insert(yacht_handle_of(table, 0), &dropped[5]) == 0);
+    again = yacht_handle_of(table, 1), more = 2;
+    yacht_free(table);
+    WANT(drops == 8 && dropped[5] == 1 && dropped[6] == 1 && dropped[7] == 1);
 }
 
 static void words(void) {
@@ -140,6 +148,7 @@ static void refused_openings(void) {
 int main(void) {
     numbers_out_of_range();
     each_answer();
+    drops_that_install();
     words();
     refused_openings();
     return report("table");

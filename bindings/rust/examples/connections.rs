@@ -40,8 +40,9 @@ fn welcome(table: &Table<Connection>, stream: TcpStream) -> std::io::Result<Opti
 /// the meantime.
 fn send(table: &Table<Connection>, slot: u32, line: &str) -> Result<(), GetError> {
     let connection = table.get_owned(slot)?;
-    // a client that has gone is none of the sender's business
-    let _ = writeln!(&connection.0, "{line}");
+    // One write for the whole line, since other threads send too. A client that has gone is none of
+    // the sender's business.
+    let _ = (&connection.0).write_all(format!("{line}\n").as_bytes());
     Ok(())
 }
 
