@@ -1,2 +1,6 @@
 pub mod AsBox
+pub mod Dealing
+pub mod FromEnd
+pub mod Lending
 pub mod Looking
+pub mod Steps

@@ -51,54 +51,53 @@ abbrev pub removal_tag : Result Removal ServerRefusal → ℕ
 removal_tag (Ok (Closed tag)) = tag
 removal_tag _ = 0
 
--- the number and the tag are those of a look-up of the worker, which is good afterwards
-pub record LooksAs (w : TableWorker) (slot : ℕ) (number : ℤ) (freed : ℕ) : Type 0 where
-  pub after : TableWorker
+-- the number and the tag are those of a look-up of the worker w, which is good afterwards
+pub record LooksAs (w : TableWorker) (slot : ℕ) (number : ℤ) (freed : ℕ) (w' : TableWorker)
+    : Type 0 where
   pub look : LookAnswer
-  pub good : IsGood after
-  pub looked : LooksUp w slot look after
+  pub good : IsGood w'
+  pub looked : LooksUp w slot look w'
   pub its_number : number ≡ answer_number look.found
   pub its_tag : freed ≡ tag_or_zero look.freed
 
 -- of a release
-pub record ReleasesAs (w : TableWorker) (number : ℤ) (closed : ℕ) : Type 0 where
-  pub after : TableWorker
+pub record ReleasesAs (w : TableWorker) (number : ℤ) (closed : ℕ) (w' : TableWorker)
+    : Type 0 where
   pub result : Result (Option ℕ) ServerRefusal
-  pub good : IsGood after
-  pub released : ReleasesHeld w result after
+  pub good : IsGood w'
+  pub released : ReleasesHeld w result w'
   pub its_number : number ≡ release_number result
   pub its_tag : closed ≡ released_tag result
 
 -- of an installation at a slot
-pub record PutsAs (w : TableWorker) (slot tag : ℕ) (number : ℤ) (closed : ℕ) : Type 0 where
-  pub after : TableWorker
+pub record PutsAs (w : TableWorker) (slot tag : ℕ) (number : ℤ) (closed : ℕ) (w' : TableWorker)
+    : Type 0 where
   pub result : Result Removal ServerRefusal
-  pub good : IsGood after
-  pub placed : Puts w slot tag result after
+  pub good : IsGood w'
+  pub placed : Puts w slot tag result w'
   pub its_number : number ≡ removal_number result
   pub its_tag : closed ≡ removal_tag result
 
 -- of a round of an installation at any slot
-pub record PutsAnyAs (w : TableWorker) (tag : ℕ) (number : ℤ) : Type 0 where
-  pub after : TableWorker
+pub record PutsAnyAs (w : TableWorker) (tag : ℕ) (number : ℤ) (w' : TableWorker)
+    : Type 0 where
   pub result : Result ℕ ServerRefusal
-  pub good : IsGood after
-  pub allocated : PutsAny w tag result after
+  pub good : IsGood w'
+  pub allocated : PutsAny w tag result w'
   pub its_number : number ≡ answer_number result
 
 -- of a removal
-pub record RemovesAs (w : TableWorker) (slot : ℕ) (number : ℤ) (closed : ℕ) : Type 0 where
-  pub after : TableWorker
+pub record RemovesAs (w : TableWorker) (slot : ℕ) (number : ℤ) (closed : ℕ) (w' : TableWorker)
+    : Type 0 where
   pub result : Result Removal ServerRefusal
-  pub good : IsGood after
-  pub removed : RemovesFrom w slot result after
+  pub good : IsGood w'
+  pub removed : RemovesFrom w slot result w'
   pub its_number : number ≡ removal_number result
   pub its_tag : closed ≡ removal_tag result
 
 -- of a choice of the next file's node
-pub record ChoosesAs (w : TableWorker) (number : ℤ) : Type 0 where
-  pub after : TableWorker
+pub record ChoosesAs (w : TableWorker) (number : ℤ) (w' : TableWorker) : Type 0 where
   pub result : Result ℕ ServerRefusal
-  pub good : IsGood after
-  pub chosen : Chooses w result after
+  pub good : IsGood w'
+  pub chosen : Chooses w result w'
   pub its_number : number ≡ answer_number result

@@ -1,14 +1,34 @@
--- The memory that a handle owns: the same as a box of its worker.
-use base.Fml.{Fml}
+-- The memory of a worker that C has.
+use seplogic.Ra.Ura.{Ura}
+use base.Fml.{Fml, ftrue}
+use base.Logic.{SProp, sep, ex}
 use base.Stored.{Coded}
+use contract.Monad.{fact}
 use denote.RawPtr.{Ptr}
+use types.Logic.{Logic, sem}
+use Rattle.libc.specs.Heap.{chunk}
 use Rattle.std.specs.Box.Ownership.{box_owns}
-use Rattle.std.specs.Global.{Global}
-use Rattle.std_heap.specs.contracts.GlobalAllocator.TheImpl.{ghosts}
+use Rattle.std.specs.Prelude.{Option, Some, None}
+use Rattle.std.specs.Coded.{coded_option}
 use Rattle.fx_server.specs.contracts.worker.TableWorker.{the_row}
+use Rattle.fx_server.specs.declared.worker.TableWorker.{TableWorker}
 
-abbrev pub handle_owns : Global → Ptr → the_row.Denot → Fml
-handle_owns alloc = box_owns (ghosts.dealloc_token alloc) the_row
+-- the worker lies at the pointer, and who owns it may free its memory: what a box of it owns
+abbrev pub handle_owns : Ptr → TableWorker → Fml
+handle_owns = box_owns chunk the_row
 
-abbrev pub worker_coded : Coded the_row.Denot
+-- a worker lies at the pointer, as `handle_owns` says, and it is as φ says
+abbrev pub HasWorker : {M : Type 1} {𝓤 : Ura M} → Logic 𝓤 → Ptr → (TableWorker → Type 0) → SProp 𝓤
+HasWorker {𝓤 = 𝓤} 𝓛 p φ =
+    ex 𝓤 (λ (w : TableWorker). sep 𝓤 (sem 𝓛 (handle_owns p w)) (fact 𝓤 (φ w)))
+
+-- a place for a worker owns nothing, or the worker that lies at its pointer
+abbrev pub place_owns : Ptr → Option TableWorker → Fml
+place_owns p None = ftrue
+place_owns p (Some w) = handle_owns p w
+
+abbrev pub worker_coded : Coded TableWorker
 worker_coded = the_row.coded
+
+abbrev pub place_coded : Coded (Option TableWorker)
+place_coded = coded_option worker_coded

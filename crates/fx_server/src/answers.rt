@@ -4,7 +4,8 @@ ghost use Rattle.fx_server.specs.Answers.{refusal_code};
 
 use crate::codes::{AGAIN, BAD, BUSY, EMPTY, FULL, IDLE, NO_BLOCK, NO_MEMORY, NO_SLOT};
 
-/// The reason why a call is not done. `Empty`, `Full` and `Again` are answers of the table; after any other reason nothing has changed.
+/// The reason why a call is not done. `Empty`, `Full` and `Again` are answers of the table; after
+/// any other reason nothing has changed.
 #[derive(Clone, Copy)]
 pub enum ServerRefusal {
     /// The slot is empty.
@@ -49,7 +50,8 @@ impl ServerRefusal {
 /// The result of a look-up.
 #[derive(Clone, Copy)]
 pub struct LookAnswer {
-    /// The node of the file at the slot, which the worker holds from now on; or `Empty`, `NoSlot` or `Busy`.
+    /// The node of the file at the slot, which the worker holds from now on; or `Empty`, `NoSlot`
+    /// or `Busy`.
     pub found: Result<u32, ServerRefusal>,
     /// The tag of a removed file that this look-up was the last to use.
     pub freed: Option<u64>,

@@ -1,4 +1,5 @@
-//! The numbers that the functions return, as `include/yachtbanyan.h` and `bindings/c/core.h` have them.
+//! The numbers that the functions return, as `include/yachtbanyan.h` and `bindings/c/core.h` have
+//! them.
 /// The call is done. If it installs a file, the slot was empty.
 pub const DONE: i64 = 0;
 

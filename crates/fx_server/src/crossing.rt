@@ -9,7 +9,8 @@ fn cross<T: Send>(value: T) -> T
     value
 }
 
-/// Shows that a worker may go to another thread: this is accepted only because `Send` is proved of `TableWorker`.
+/// Shows that a worker may go to another thread: this is accepted only because `Send` is proved of
+/// `TableWorker`.
 pub fn crosses(worker: TableWorker) -> TableWorker
     ensures { result ≡ worker }
 {

@@ -1,134 +1,137 @@
-//! The functions that C calls. Each takes a worker's box, calls the worker, and leaves the box to C again.
-ghost use Rattle.std.specs.Prelude.{◌<◌};
-ghost use Rattle.fx_server.specs.Workers.{IsGood};
-ghost use Rattle.fx_server.specs.Answers.{ChoosesAs, LooksAs, ReleasesAs, PutsAs, PutsAnyAs, RemovesAs};
+//! The functions that C calls. Each takes the pointer of a worker's box, and calls the worker. `w` is
+//! the worker as the call finds it. The call returns its memory, with the worker as the call leaves
+//! it.
+ghost use Rattle.std.specs.Prelude.{◌≡◌, ◌≢◌, ◌⊎◌, length, pos};
+ghost use types.Logic.{sem};
+ghost use Rattle.fx_lasting.specs.Passes.{nodes_of};
+ghost use Rattle.fx_server.specs.Answers.{ChoosesAs, LooksAs, PutsAnyAs, PutsAs, ReleasesAs, RemovesAs};
+ghost use Rattle.fx_server.specs.Handle.{HasWorker, handle_owns};
+ghost use Rattle.fx_server.specs.Places.{OpensAs};
+ghost use Rattle.fx_server.specs.Workers.{IsGood, IsInRange, its_table};
+ghost use Rattle.fx_server.specs.declared.codes.TheConstants.{DONE, BAD, NO_MEMORY};
+ghost use Rattle.fx_server.specs.declared.worker.TableWorker.{TableWorker};
 
+use crate::answers::ServerRefusal;
+use crate::calls;
 use crate::codes::{BAD, DONE, NO_MEMORY};
-use crate::handle::{Handle, Opaque, leave};
-use crate::numbers::{
-    answer_number, release_number, released_tag, removal_number, removal_tag, tag_or_zero,
-};
+use crate::handle::{Handle, Opaque, WorkerPlace};
 use crate::opening::open;
+use crate::placing::place_all;
+use crate::worker::TableWorker;
 use std::alloc::Global;
 
-/// Opens a table of 1 to 256 empty slots, with a worker for each place of `workers`, 1 to 1,024, of which the first `installing`, 1 to
-/// 64, install files. It returns `DONE`, `BAD` or `NO_MEMORY`. The places that aren't null are workers afterwards.
+/// Opens a table of 1 to 256 empty slots, with a worker for each place of `workers`, 1 to 1,024, of
+/// which the first `installing`, 1 to 64, install files. It returns `DONE`; or `BAD` or
+/// `NO_MEMORY`, and writes nothing.
 #[unsafe(no_mangle)]
 pub extern "C" fn yacht_core_open(
     alloc: Global,
     slots: u32,
     installing: u32,
-    workers: &mut [*mut Opaque],
-) -> i64 {
+    workers: &mut [WorkerPlace],
+) -> i64
+    ensures opened { result ≡ DONE → OpensAs slots installing workers.new }
+    ensures nothing { result ≢ DONE → workers.new ≡ workers.old }
+    ensures out_of_range { result ≡ BAD → IsInRange slots (length workers.old) installing → ⊥ }
+    ensures numbers { (result ≡ DONE) ⊎ (result ≡ BAD) ⊎ (result ≡ NO_MEMORY) }
+{
     if workers.len() > 1024 {
         return BAD;
     }
-    let list = match open(alloc, slots, workers.len() as u32, installing) {
-        Ok(list) => list,
-        Err(refusal) => return refusal.code(),
-    };
-    let mut at = 0usize;
-    for worker in list {
-        let Ok(worker) = Box::new(alloc, worker) else {
-            return NO_MEMORY;
-        };
-        if at < workers.len() {
-            workers[at] = leave(worker);
-            at += 1;
+    match open(alloc, slots, workers.len() as u32, installing) {
+        Ok(list) => {
+            place_all(list, workers);
+            DONE
         }
+        Err(ServerRefusal::Bad) => BAD,
+        Err(_) => NO_MEMORY,
     }
-    DONE
 }
 
 /// Ends a worker. With the last one the table ends.
 #[unsafe(no_mangle)]
 pub extern "C" fn yacht_core_close(worker: Handle) {
-    drop(worker.into_box());
+    worker.end();
 }
 
 /// Returns the number of nodes of the table. Each node is below it.
 #[unsafe(no_mangle)]
-pub extern "C" fn yacht_core_nodes(worker: Handle) -> i64 {
-    let worker = worker.into_box();
-    let nodes = worker.nodes() as i64;
-    let _kept = leave(worker);
-    nodes
+pub unsafe extern "C" fn yacht_core_nodes(worker: *mut Opaque) -> i64
+    ghost w: { TableWorker }
+    requires* lies { sem 𝓛 (handle_owns worker w) }
+    ensures* nodes { sem 𝓛 (handle_owns worker w)
+        ∗ ⌜ result ≡ pos (nodes_of (its_table w).table.shared.key) ⌝ }
+{
+    calls::nodes(&mut *(worker as *mut TableWorker))
 }
 
 /// Returns the node that the worker's next file gets, or why there is none.
 #[unsafe(no_mangle)]
-pub extern "C" fn yacht_core_next(worker: Handle) -> i64
-    requires { IsGood worker.worker }
-    ensures { ChoosesAs worker.worker result }
+pub unsafe extern "C" fn yacht_core_next(worker: *mut Opaque) -> i64
+    ghost w: { TableWorker }
+    requires* good { sem 𝓛 (handle_owns worker w) ∗ ⌜ IsGood w ⌝ }
+    ensures* chosen { HasWorker 𝓛 worker (λ after. ChoosesAs w result after) }
 {
-    let mut worker = worker.into_box();
-    let number = answer_number(worker.next_node());
-    let _kept = leave(worker);
-    number
+    calls::next(&mut *(worker as *mut TableWorker))
 }
 
-/// Looks a slot up. It returns the node of the file there, which the worker holds then, or `EMPTY`, `NO_SLOT` or `BUSY`. `freed` is the
-/// tag of a removed file that this look-up was the last to use, or 0.
+/// Looks a slot up. It returns the node of the file there, which the worker holds then, or `EMPTY`,
+/// `NO_SLOT` or `BUSY`. `freed` is the tag of a removed file that this look-up was the last to use,
+/// or 0.
 #[unsafe(no_mangle)]
-pub extern "C" fn yacht_core_look(worker: Handle, slot: u32, freed: &mut u64) -> i64
-    requires { IsGood worker.worker }
-    ensures { LooksAs worker.worker slot result freed.new }
+pub unsafe extern "C" fn yacht_core_look(worker: *mut Opaque, slot: u32, freed: &mut u64) -> i64
+    ghost w: { TableWorker }
+    requires* good { sem 𝓛 (handle_owns worker w) ∗ ⌜ IsGood w ⌝ }
+    ensures* looked { HasWorker 𝓛 worker (λ after. LooksAs w slot result freed.new after) }
 {
-    let mut worker = worker.into_box();
-    let look = worker.look(slot);
-    *freed = tag_or_zero(look.freed);
-    let _kept = leave(worker);
-    answer_number(look.found)
+    calls::look(&mut *(worker as *mut TableWorker), slot, freed)
 }
 
-/// Releases the file that the worker holds. It returns `DONE`, `CLOSED` or `IDLE`. `closed` is the tag of the file if it is closed, or 0.
+/// Releases the file that the worker holds. It returns `DONE`, `CLOSED` or `IDLE`. `closed` is the
+/// tag of the file if it is closed, or 0.
 #[unsafe(no_mangle)]
-pub extern "C" fn yacht_core_release(worker: Handle, closed: &mut u64) -> i64
-    requires { IsGood worker.worker }
-    ensures { ReleasesAs worker.worker result closed.new }
+pub unsafe extern "C" fn yacht_core_release(worker: *mut Opaque, closed: &mut u64) -> i64
+    ghost w: { TableWorker }
+    requires* good { sem 𝓛 (handle_owns worker w) ∗ ⌜ IsGood w ⌝ }
+    ensures* released { HasWorker 𝓛 worker (λ after. ReleasesAs w result closed.new after) }
 {
-    let mut worker = worker.into_box();
-    let released = worker.release();
-    *closed = released_tag(released);
-    let _kept = leave(worker);
-    release_number(released)
+    calls::release(&mut *(worker as *mut TableWorker), closed)
 }
 
-/// Installs a file with this tag at a slot. It returns `DONE`, `CLOSED`, `IN_USE`, `BUSY`, `NO_SLOT` or `NO_BLOCK`. `closed` is the tag of what was
-/// there if that is closed, or 0.
+/// Installs a file with this tag at a slot. It returns `DONE`, `CLOSED`, `IN_USE`, `BUSY`,
+/// `NO_SLOT` or `NO_BLOCK`. `closed` is the tag of what was there if that is closed, or 0.
 #[unsafe(no_mangle)]
-pub extern "C" fn yacht_core_put(worker: Handle, slot: u32, tag: u64, closed: &mut u64) -> i64
-    requires { IsGood worker.worker }
-    ensures { PutsAs worker.worker slot tag result closed.new }
+pub unsafe extern "C" fn yacht_core_put(
+    worker: *mut Opaque,
+    slot: u32,
+    tag: u64,
+    closed: &mut u64,
+) -> i64
+    ghost w: { TableWorker }
+    requires* good { sem 𝓛 (handle_owns worker w) ∗ ⌜ IsGood w ⌝ }
+    ensures* placed { HasWorker 𝓛 worker (λ after. PutsAs w slot tag result closed.new after) }
 {
-    let mut worker = worker.into_box();
-    let put = worker.put(slot, tag);
-    *closed = removal_tag(put);
-    let _kept = leave(worker);
-    removal_number(put)
+    calls::put(&mut *(worker as *mut TableWorker), slot, tag, closed)
 }
 
-/// Makes one round to install a file with this tag at a free slot. It returns the slot, or `FULL`, `AGAIN`, `BUSY` or `NO_BLOCK`.
+/// Makes one round to install a file with this tag at a free slot. It returns the slot, or `FULL`,
+/// `AGAIN`, `BUSY` or `NO_BLOCK`.
 #[unsafe(no_mangle)]
-pub extern "C" fn yacht_core_put_any(worker: Handle, tag: u64) -> i64
-    requires { IsGood worker.worker }
-    ensures { PutsAnyAs worker.worker tag result }
+pub unsafe extern "C" fn yacht_core_put_any(worker: *mut Opaque, tag: u64) -> i64
+    ghost w: { TableWorker }
+    requires* good { sem 𝓛 (handle_owns worker w) ∗ ⌜ IsGood w ⌝ }
+    ensures* allocated { HasWorker 𝓛 worker (λ after. PutsAnyAs w tag result after) }
 {
-    let mut worker = worker.into_box();
-    let put = worker.put_any(tag);
-    let _kept = leave(worker);
-    answer_number(put)
+    calls::put_any(&mut *(worker as *mut TableWorker), tag)
 }
 
-/// Empties a slot. It returns `CLOSED`, `IN_USE`, `BUSY`, `NO_SLOT` or `EMPTY`. `closed` is the tag of what was there if that is closed, or 0.
+/// Empties a slot. It returns `CLOSED`, `IN_USE`, `BUSY`, `NO_SLOT` or `EMPTY`. `closed` is the tag
+/// of what was there if that is closed, or 0.
 #[unsafe(no_mangle)]
-pub extern "C" fn yacht_core_take(worker: Handle, slot: u32, closed: &mut u64) -> i64
-    requires { IsGood worker.worker }
-    ensures { RemovesAs worker.worker slot result closed.new }
+pub unsafe extern "C" fn yacht_core_take(worker: *mut Opaque, slot: u32, closed: &mut u64) -> i64
+    ghost w: { TableWorker }
+    requires* good { sem 𝓛 (handle_owns worker w) ∗ ⌜ IsGood w ⌝ }
+    ensures* removed { HasWorker 𝓛 worker (λ after. RemovesAs w slot result closed.new after) }
 {
-    let mut worker = worker.into_box();
-    let taken = worker.take(slot);
-    *closed = removal_tag(taken);
-    let _kept = leave(worker);
-    removal_number(taken)
+    calls::take(&mut *(worker as *mut TableWorker), slot, closed)
 }

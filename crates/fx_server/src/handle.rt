@@ -1,7 +1,7 @@
 //! A worker as C has it: the pointer of its box.
-ghost use Rattle.std.specs.Prelude.{◌≡◌};
+ghost use Rattle.std.specs.Prelude.{◌≡◌, Option, Some};
 ghost use Rattle.fx_server.specs.declared.worker.TableWorker.{TableWorker};
-ghost use Rattle.fx_server.specs.Handle.{worker_coded, handle_owns};
+ghost use Rattle.fx_server.specs.Handle.{handle_owns, place_coded, place_owns, worker_coded};
 
 use crate::parts::BoxParts;
 use crate::worker::TableWorker;
@@ -15,9 +15,8 @@ pub struct Opaque {
     unused: u8,
 }
 
-/// A worker, as C passes it: one pointer.
+/// A worker that C returns: one pointer. It must be consumed.
 #[repr(C)]
-#[derive(Drop)]
 pub struct Handle {
     pub ptr: *mut Opaque,
     pub alloc: Global,
@@ -25,12 +24,12 @@ pub struct Handle {
 }
 
 impl Model for Handle {
-    ghost also_owns = { λ s. handle_owns s.alloc s.ptr s.worker };
+    ghost also_owns = { λ s. handle_owns s.ptr s.worker };
 }
 
 impl Handle {
-    /// Returns the box's parts.
-    pub fn into_parts(self) -> BoxParts<TableWorker, Global>
+    // Returns the box's parts.
+    fn into_parts(self) -> BoxParts<TableWorker, Global>
         ensures { result.value ≡ self.worker }
     {
         let Handle { ptr, alloc } = self;
@@ -40,16 +39,49 @@ impl Handle {
         }
     }
 
-    /// Returns the box of the worker.
-    pub fn into_box(self) -> Box<TableWorker, Global>
+    // Returns the box of the worker.
+    fn into_box(self) -> Box<TableWorker, Global>
         ensures { result.value ≡ self.worker }
     {
         self.into_parts().into_box()
     }
+
+    /// Ends the worker.
+    pub fn end(self) {
+        drop(self.into_box());
+    }
 }
 
-/// Leaves the worker's memory to C, by the pointer of its box.
-pub fn leave(worker: Box<TableWorker, Global>) -> *mut Opaque {
-    let ptr = Box::into_raw(worker);
-    ptr as *mut Opaque
+/// A place of C's for a worker: the pointer of a worker, which the place owns, or one that owns
+/// nothing.
+#[repr(C)]
+#[derive(Drop)]
+pub struct WorkerPlace {
+    pub ptr: *mut Opaque,
+    pub alloc: Global,
+    pub ghost worker: { Option TableWorker } by { place_coded },
+}
+
+impl Model for WorkerPlace {
+    ghost also_owns = { λ p. place_owns p.ptr p.worker };
+}
+
+impl WorkerPlace {
+    // Returns a place with the worker of these parts.
+    fn of_parts(parts: BoxParts<TableWorker, Global>) -> WorkerPlace
+        ensures { result.worker ≡ Some parts.value }
+    {
+        let BoxParts { ptr, alloc } = parts;
+        WorkerPlace {
+            ptr: ptr as *mut Opaque,
+            alloc,
+        }
+    }
+
+    /// Returns a place with a worker.
+    pub fn of(worker: Box<TableWorker, Global>) -> WorkerPlace
+        ensures { result.worker ≡ Some worker.value }
+    {
+        WorkerPlace::of_parts(BoxParts::of(worker))
+    }
 }

@@ -1,8 +1,7 @@
 //! Opening a table with its workers.
-ghost use Rattle.std.specs.Prelude.{◌≡◌, ◌<◌, All, IfOk, IfErr, Err, length};
+ghost use Rattle.std.specs.Prelude.{◌≡◌, ◌<◌, All, IfOk, IfErr, Err, None, ◌⊎◌, length};
 ghost use Rattle.std.specs.Arc.{arc_value};
-ghost use Rattle.fx_table.specs.Pass.{IsIdle};
-ghost use Rattle.fx_lasting.specs.Tables.{view_of, IsPassOfTable};
+ghost use Rattle.fx_server.specs.Opened.{AreDealt, AreOpened, workers_in};
 ghost use Rattle.fx_server.specs.Workers.{IsGood, IsInRange};
 ghost use Rattle.fx_server.specs.declared.answers.ServerRefusal.TheVariants.{Bad, NoMemory as RanOut};
 
@@ -15,7 +14,8 @@ use fx_plain::{MOST_SLOTS, PlainTable};
 use std::alloc::{AllocError, Global};
 use std::sync::Arc;
 
-/// Opens a table of 1 to 256 empty slots, and returns its workers, 1 to 1,024, of which the first `installing`, 1 to 64, install files.
+/// Opens a table of 1 to 256 empty slots, and returns its workers, 1 to 1,024, each in a box. They
+/// hold nothing. The first `installing`, 1 to 64, install files.
 ///
 /// # Errors
 /// `Bad` if a number is out of its range, `NoMemory` if an allocation fails.
@@ -24,11 +24,14 @@ pub fn open(
     slots: u32,
     workers: u32,
     installing: u32,
-) -> Result<Vec<TableWorker>, ServerRefusal>
-    ensures good { IfOk result (λ list. All IsGood list.items) }
+) -> Result<Vec<Box<TableWorker>>, ServerRefusal>
+    ensures opened { IfOk result (λ list.
+        AreOpened slots workers installing (workers_in list.items)) }
+    ensures good { IfOk result (λ list. All IsGood (workers_in list.items)) }
     ensures count { IfOk result (λ list. length list.items ≡ workers) }
     ensures range { IfOk result (λ list. IsInRange slots workers installing) }
     ensures out_of_range { result ≡ Err Bad → IsInRange slots workers installing → ⊥ }
+    ensures memory { IfErr result (λ refusal. (refusal ≡ Bad) ⊎ (refusal ≡ RanOut)) }
 {
     if slots < 1 || slots > MOST_SLOTS || workers < 1 || workers > MOST_PASSES {
         return Err(ServerRefusal::Bad);
@@ -43,7 +46,10 @@ pub fn open(
         return Err(ServerRefusal::NoMemory);
     };
     match LastingTable::open(alloc, plain, workers, installing) {
-        Ok((table, passes)) => share(alloc, Shared { table, catalogue }, passes),
+        Ok((table, passes)) => {
+            let list = share(alloc, Shared { table, catalogue }, passes)?;
+            Ok(list)
+        }
         Err((plain, NoMemory)) => {
             plain.abandon();
             Err(ServerRefusal::NoMemory)
@@ -56,11 +62,9 @@ fn share(
     alloc: Global,
     shared: Shared,
     passes: Vec<LastingPass>,
-) -> Result<Vec<TableWorker>, ServerRefusal>
-    requires ready { All (λ p. IsPassOfTable shared.table p × IsIdle (view_of p)) passes.items }
-    ensures good { IfOk result (λ list. All IsGood list.items) }
-    ensures count { IfOk result (λ list. length list.items ≡ length passes.items) }
-    ensures memory { IfErr result (λ fault. fault ≡ RanOut) }
+) -> Result<Vec<Box<TableWorker>>, ServerRefusal>
+    ensures dealt { IfOk result (λ list. AreDealt shared passes.items (workers_in list.items)) }
+    ensures memory { IfErr result (λ refusal. refusal ≡ RanOut) }
 {
     let Ok(shared) = Arc::new(alloc, shared) else {
         spend(passes);
@@ -70,23 +74,24 @@ fn share(
         spend(passes);
         return Err(ServerRefusal::NoMemory);
     };
-    deal(shared, passes, workers)
+    deal(alloc, shared, passes, workers)
 }
 
 // Turns the passes into workers, in their order.
 fn deal(
+    alloc: Global,
     shared: Arc<Shared, Global>,
     mut passes: Vec<LastingPass>,
-    mut workers: Vec<TableWorker>,
-) -> Result<Vec<TableWorker>, ServerRefusal>
-    requires ready { All (λ p. IsPassOfTable (arc_value shared).table p × IsIdle (view_of p)) passes.items }
+    mut workers: Vec<Box<TableWorker>>,
+) -> Result<Vec<Box<TableWorker>>, ServerRefusal>
     requires none { length workers.items ≡ 0 }
-    ensures good { IfOk result (λ list. All IsGood list.items) }
-    ensures count { IfOk result (λ list. length list.items ≡ length passes.items) }
-    ensures memory { IfErr result (λ fault. fault ≡ RanOut) }
+    ensures dealt { IfOk result (λ list.
+        AreDealt (arc_value shared) passes.items (workers_in list.items)) }
+    ensures memory { IfErr result (λ refusal. refusal ≡ RanOut) }
 {
+    passes.reverse();
     while let Some(pass) = passes.pop() {
-        let Ok(worker) = begin(&shared, pass) else {
+        let Ok(worker) = begin(alloc, &shared, pass) else {
             spend(passes);
             return Err(ServerRefusal::NoMemory);
         };
@@ -96,25 +101,32 @@ fn deal(
         };
     }
     passes.destroy_empty();
-    workers.reverse();
     Ok(workers)
 }
 
 // Returns a worker that holds nothing.
-fn begin(shared: &Arc<Shared, Global>, pass: LastingPass) -> Result<TableWorker, AllocError>
-    requires fits { IsPassOfTable (arc_value shared.now).table pass }
-    requires idle { IsIdle (view_of pass) }
-    ensures { IfOk result (λ worker. IsGood worker) }
+fn begin(
+    alloc: Global,
+    shared: &Arc<Shared, Global>,
+    pass: LastingPass,
+) -> Result<Box<TableWorker>, AllocError>
+    ensures table { IfOk result (λ b. arc_value b.value.shared ≡ arc_value shared.now) }
+    ensures pass { IfOk result (λ b. b.value.pass ≡ pass) }
+    ensures idle { IfOk result (λ b. b.value.held ≡ None) }
 {
     let Ok(shared) = Arc::try_clone(shared) else {
         pass.abandon();
         return Err(AllocError);
     };
-    Ok(TableWorker {
+    let worker = TableWorker {
         shared,
         pass,
         held: None,
-    })
+    };
+    let Ok(worker) = Box::new(alloc, worker) else {
+        return Err(AllocError);
+    };
+    Ok(worker)
 }
 
 // Consumes the passes of a table that is not opened after all.

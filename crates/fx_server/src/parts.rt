@@ -17,6 +17,16 @@ impl<T, A: Allocator> Model for BoxParts<T, A> {
 }
 
 impl<T, A: Allocator> BoxParts<T, A> {
+    /// Returns the parts of a box.
+    pub fn of(owner: Box<T, A>) -> BoxParts<T, A>
+    where
+        T: Drop,
+        ensures { result.value ≡ owner.value }
+    {
+        let (ptr, alloc) = Box::into_raw_with_allocator(owner);
+        BoxParts { ptr, alloc }
+    }
+
     /// Returns the box.
     pub fn into_box(self) -> Box<T, A>
         ensures { result.value ≡ self.value }

@@ -2,15 +2,17 @@
 ghost use Rattle.std.specs.Prelude.{◌≡◌, None, Err, option_map};
 ghost use Rattle.fx_table.specs.Pass.{IsRetiredOf};
 ghost use Rattle.fx_lasting.specs.Tables.{view_of, opening_of_table, IsPassOfTable};
+ghost use Rattle.fx_table.specs.Showing.{Learns};
 ghost use Rattle.fx_lasting.specs.Passes.{nodes_of};
+ghost use Rattle.fx_lasting.specs.Showing.{IsSeenOf, shown_of};
 ghost use Rattle.fx_server.specs.Workers.{Chooses, IsGood, LooksUp, Notes, ReleasesHeld, Puts, PutsAny};
-ghost use Rattle.fx_server.specs.Workers.{RemovesFrom, RetiresAs, its_table};
+ghost use Rattle.fx_server.specs.Workers.{RemovesFrom, RetiresAs, its_opening, its_pass, its_table};
 
 use crate::answers::{LookAnswer, Removal, ServerRefusal};
 use crate::shared::Shared;
 use fx_base::OpenFile;
-use fx_lasting::{LastingPass, LastingTable, TriedPut};
-use fx_table::{Empty, Hold, LookFault as Fault, LookUp, Retired};
+use fx_lasting::{LastingPass, LastingSeen, LastingTable, TriedPut};
+use fx_table::{Empty, Hold, LookFault as Fault, LookUp, RealTime, Retired};
 use std::alloc::Global;
 use std::sync::Arc;
 
@@ -23,8 +25,8 @@ pub struct Held {
     pub entry: u8,
 }
 
-/// A pass with its table. It holds at most one file at a time. The pass is last, so that the workers of two threads share no
-/// cache line (`LastingPass`).
+/// A pass with its table. It holds at most one file at a time. The pass is last, so that the
+/// workers of two threads share no cache line (`LastingPass`).
 pub struct TableWorker {
     pub shared: Arc<Shared, Global>,
     pub held: Option<Held>,
@@ -64,7 +66,8 @@ impl TableWorker {
         LookAnswer { found, freed }
     }
 
-    /// Releases the file that the worker holds. Returns its tag, if it was removed and nobody uses it any more.
+    /// Releases the file that the worker holds. Returns its tag, if it was removed and nobody uses
+    /// it any more.
     ///
     /// # Errors
     /// `Idle` if the worker holds no file.
@@ -82,6 +85,33 @@ impl TableWorker {
         Ok(tag_of(out))
     }
 
+    /// Shows what the worker has seen. It has no bytes, and can go to another thread. The worker
+    /// stays as it is.
+    pub fn show(&mut self) -> LastingSeen
+        requires good { IsGood self.old }
+        ensures good { IsGood self.new }
+        ensures table { self.new.shared ≡ self.old.shared }
+        ensures same { (self.new.held ≡ self.old.held) × (its_pass self.new ≡ its_pass self.old) }
+        ensures here { IsSeenOf (its_table self.old) result }
+        ensures shown { shown_of result ≡ (its_pass self.old).front }
+    {
+        self.shared.table.show(&mut self.pass)
+    }
+
+    /// Adds what another worker of the table showed to what this worker has seen, so that all its
+    /// later events follow it. Nothing else of the worker changes.
+    pub fn learn(&mut self, seen: &LastingSeen)
+        requires good { IsGood self.old }
+        requires here { IsSeenOf (its_table self.old) seen.now }
+        ensures good { IsGood self.new }
+        ensures table { self.new.shared ≡ self.old.shared }
+        ensures held { self.new.held ≡ self.old.held }
+        ensures learns { Learns (its_opening self.old) (shown_of seen.now) (its_pass self.old)
+            (its_pass self.new) }
+    {
+        self.shared.table.learn(&mut self.pass, seen);
+    }
+
     /// Returns the number of nodes of the table. Each node is below it.
     pub fn nodes(&self) -> u32
         ensures { result ≡ nodes_of (its_table self.now).table.shared.key }
@@ -89,8 +119,9 @@ impl TableWorker {
         self.shared.table.nodes()
     }
 
-    /// Chooses the node of the worker's next file. The next `put`, or the next `put_any` that installs one, uses it, if no `look` or
-    /// `take` comes between. No open file is on it until then (`fx_lasting::laws::chosen_nodes_are_free`).
+    /// Chooses the node of the worker's next file. The next `put`, or the next `put_any` that
+    /// installs one, uses it, if no `look` or `take` comes between. No open file is on it until
+    /// then (`fx_lasting::laws::chosen_nodes_are_free`).
     ///
     /// # Errors
     /// `Busy`, `NoBlock`, in this order.
@@ -141,7 +172,8 @@ impl TableWorker {
     /// Makes one round to install a file with this tag at a free slot. Returns the slot.
     ///
     /// # Errors
-    /// `Busy`, `NoBlock`, in this order; `Full` if at one step every slot had a file; `Again` if the slots changed during the round.
+    /// `Busy`, `NoBlock`, in this order; `Full` if at one step every slot had a file; `Again` if
+    /// the slots changed during the round.
     pub fn put_any(&mut self, tag: u64) -> Result<u32, ServerRefusal>
         requires good { IsGood self.old }
         ensures good { IsGood self.new }
@@ -236,7 +268,8 @@ fn retire(table: &LastingTable, pass: &mut LastingPass, retired: Retired) -> Rem
     requires fits { IsPassOfTable table.now pass.old }
     requires removed { IsRetiredOf (view_of pass.old) retired }
     ensures fits { IsPassOfTable table.now pass.new }
-    ensures retired { RetiresAs (opening_of_table table.now) (view_of pass.old) retired result (view_of pass.new) }
+    ensures retired { RetiresAs (opening_of_table table.now) (view_of pass.old) retired result
+        (view_of pass.new) }
 {
     match tag_of(table.retire(pass, retired)) {
         Some(tag) => Removal::Closed(tag),

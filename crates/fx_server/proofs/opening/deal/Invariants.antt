@@ -1,16 +1,16 @@
-use Rattle.std.proofs.Common.{◌≡◌, ◌+◌, All, length}
+use Rattle.std.proofs.Common.{◌≡◌, ◌++◌, All, None, length, map, reverse}
 use Rattle.std.specs.Arc.{arc_value}
-use Rattle.fx_table.specs.Pass.{IsIdle}
-use Rattle.fx_lasting.specs.Tables.{view_of, IsPassOfTable}
-use Rattle.fx_server.specs.Workers.{IsGood}
+use Rattle.fx_server.specs.Opened.{workers_in}
+use Rattle.fx_server.specs.declared.worker.TableWorker.{TableWorker}
 use Rattle.fx_server.proofs.opening.deal.Given as goal
 
--- the passes that are left are idle passes of the table, and the workers so far are good
+-- the workers so far have the first passes, and the others are left, the last one first
 abbrev pub invariant-loop-pass : goal.invariant-loop-pass
 invariant-loop-pass l = record {
-  ready : All (λ p. IsPassOfTable (arc_value l.shared).table p × IsIdle (view_of p)) l.passes.items;
-  good : All IsGood l.workers.items;
-  count : length l.workers.items + length l.passes.items ≡ length l.fn.passes.items;
+  shares : All (λ (w : TableWorker). arc_value w.shared ≡ arc_value l.fn.shared) (workers_in l.workers.items);
+  idle : All (λ (w : TableWorker). w.held ≡ None) (workers_in l.workers.items);
+  same : l.shared ≡ l.fn.shared;
+  passes : map (λ (w : TableWorker). w.pass) (workers_in l.workers.items) ++ reverse l.passes.items ≡ l.fn.passes.items;
 }
 
 abbrev pub decreases-loop-pass : goal.decreases-loop-pass

@@ -1,0 +1,73 @@
+-- The workers of a new table: a pass of the table for each, in their order.
+use Rattle.std.proofs.Common.{◌≡◌, ℕ, List, [], ◌∷◌, ◌++◌, All, Option, None, ap, subst, slice_index_or, refl, sym, ◌∙◌, length, map, reverse}
+use Rattle.std.proofs.lemmas.List.{map-append, append_assoc, reverse-append, length-map}
+use Rattle.std.proofs.lemmas.List.Elements.{All-cons, All-head, All-nil, All-push, All-same, All-tail, All-weaker}
+use Rattle.std.specs.Arc.{arc_value}
+use Rattle.std.specs.Global.{Box}
+use Rattle.fx_plain.specs.Contents.{Contents, state_of}
+use Rattle.fx_plain.specs.State.{vacant}
+use Rattle.fx_table.specs.Opening.{lasting_opening}
+use Rattle.fx_table.specs.Pass.{IsIdle}
+use Rattle.fx_lasting.specs.Tables.{IsPassOfTable, first_passes, opening_of_table, view_of}
+use Rattle.fx_lasting.specs.declared.pass.LastingPass.{LastingPass}
+use Rattle.fx_server.specs.Opened.{AreDealt, AreOpened, workers_in}
+use Rattle.fx_server.specs.Workers.{DoesAsHeld, IsGood, its_pass, its_table}
+use Rattle.fx_server.specs.declared.shared.Shared.{Shared}
+use Rattle.fx_server.specs.declared.worker.Held.{Held}
+use Rattle.fx_server.specs.declared.worker.TableWorker.{TableWorker}
+
+abbrev pub passes_of : List TableWorker → List LastingPass
+passes_of list = map (λ (w : TableWorker). w.pass) list
+
+workers_push : (xs : List (Box TableWorker)) (b : Box TableWorker) → workers_in (xs ++ b ∷ []) ≡ workers_in xs ++ b.value ∷ []
+workers_push xs b = map-append (λ (it : Box TableWorker). it.value) xs (b ∷ [])
+
+pub all_pushed : (P : TableWorker → Type 0) (xs ys : List (Box TableWorker)) (b : Box TableWorker) → ys ≡ xs ++ b ∷ [] → All P (workers_in xs) → P b.value → All P (workers_in ys)
+all_pushed P xs ys b e all one =
+    All-same P (workers_in ys) (workers_in xs ++ b.value ∷ []) (ap workers_in e ∙ workers_push xs b) (All-push P (workers_in xs) b.value all one)
+
+-- one pass more has a worker, and one fewer is left
+pub dealt_one : (xs ys : List (Box TableWorker)) (b : Box TableWorker) (left less : List LastingPass) (p : LastingPass) (all : List LastingPass)
+    → ys ≡ xs ++ b ∷ [] → left ≡ less ++ p ∷ [] → b.value.pass ≡ p → passes_of (workers_in xs) ++ reverse left ≡ all → passes_of (workers_in ys) ++ reverse less ≡ all
+dealt_one xs ys b left less p all pushed popped same was =
+    ap (λ (it : List (Box TableWorker)). passes_of (workers_in it) ++ reverse less) pushed
+    ∙ ap (λ (it : List TableWorker). passes_of it ++ reverse less) (workers_push xs b)
+    ∙ ap (λ (it : List LastingPass). it ++ reverse less) (map-append (λ (w : TableWorker). w.pass) (workers_in xs) (b.value ∷ []))
+    ∙ append_assoc (passes_of (workers_in xs)) (b.value.pass ∷ []) (reverse less)
+    ∙ ap (λ (it : LastingPass). passes_of (workers_in xs) ++ it ∷ reverse less) same
+    ∙ ap (λ (it : List LastingPass). passes_of (workers_in xs) ++ it) (sym (ap reverse popped ∙ reverse-append less (p ∷ [])))
+    ∙ was
+
+pub count_of : (shared : Shared) (passes : List LastingPass) (items : List (Box TableWorker)) → AreDealt shared passes (workers_in items) → length items ≡ length passes
+count_of shared passes items d =
+    sym (length-map items (λ (it : Box TableWorker). it.value)) ∙ sym (length-map (workers_in items) (λ (w : TableWorker). w.pass)) ∙ ap length d.order
+
+views : (list : List TableWorker) → map its_pass list ≡ map view_of (passes_of list)
+views [] = refl
+views (w ∷ ws) = ap (λ it. its_pass w ∷ it) (views ws)
+
+pub opened_of : (shared : Shared) (contents : Contents) (passes : List LastingPass) (list : List TableWorker) (slots workers installing : ℕ) → AreDealt shared passes list
+    → opening_of_table shared.table ≡ lasting_opening contents workers → state_of contents ≡ vacant slots → map view_of passes ≡ first_passes installing workers → AreOpened slots workers installing list
+opened_of shared contents passes list slots workers installing d opening empty new = record {
+  table = shared.table;
+  contents = contents;
+  opening = opening;
+  empty = empty;
+  shares = All-weaker (λ (w : TableWorker). arc_value w.shared ≡ shared) (λ (w : TableWorker). its_table w ≡ shared.table) (λ w same. ap (λ (it : Shared). it.table) same) list d.shares;
+  idle = d.idle;
+  passes = views list ∙ ap (map view_of) d.order ∙ new;
+}
+
+of_passes : (P : LastingPass → Type 0) (list : List TableWorker) → All P (passes_of list) → All (λ (w : TableWorker). P w.pass) list
+of_passes P [] all = All-nil (λ (w : TableWorker). P w.pass)
+of_passes P (w ∷ ws) all = All-cons (λ (it : TableWorker). P it.pass) w ws (All-head P w.pass (passes_of ws) all) (of_passes P ws (All-tail P w.pass (passes_of ws) all))
+
+pub good_of : (shared : Shared) (passes : List LastingPass) (list : List TableWorker) → AreDealt shared passes list
+    → All (λ p. IsPassOfTable shared.table p × IsIdle (view_of p)) passes → All IsGood list
+good_of shared passes list d ready k other low =
+    let of : All (λ (w : TableWorker). IsPassOfTable shared.table w.pass × IsIdle (view_of w.pass)) list = of_passes (λ p. IsPassOfTable shared.table p × IsIdle (view_of p)) list (All-same (λ p. IsPassOfTable shared.table p × IsIdle (view_of p)) (passes_of list) passes d.order ready) in
+    let w : TableWorker = slice_index_or list k other in
+    record {
+      fits = subst (λ (it : Shared). IsPassOfTable it.table w.pass) (sym (d.shares k other low)) (of k other low).0;
+      does = subst (λ (it : Option Held). DoesAsHeld (view_of w.pass) it) (sym (d.idle k other low)) (of k other low).1;
+    }

@@ -1,0 +1,13 @@
+use Rattle.std.proofs.Common.{rules}
+use Rattle.fx_server.proofs.calls.look.Goals as goal
+
+pub returns : goal.returns
+returns c = record {
+  looked = record {
+    look = c.look-look.result;
+    good = c.look-look.ensures.good;
+    looked = c.look-look.ensures.looked;
+    its_number = search rules;
+    its_tag = c.tag_or_zero.ensures;
+  };
+}

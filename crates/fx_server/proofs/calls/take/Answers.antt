@@ -1,0 +1,13 @@
+use Rattle.std.proofs.Common.{rules}
+use Rattle.fx_server.proofs.calls.take.Goals as goal
+
+pub returns : goal.returns
+returns c = record {
+  removed = record {
+    result = c.take-taken.result;
+    good = c.take-taken.ensures.good;
+    removed = c.take-taken.ensures.removed;
+    its_number = search rules;
+    its_tag = c.removal_tag.ensures;
+  };
+}
