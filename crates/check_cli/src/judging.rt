@@ -2,13 +2,13 @@
 ghost use Rattle.std.specs.Prelude.{IfOk};
 ghost use Rattle.check_judge.specs.Judged.{IsJudged};
 
-use check_explain::{Case, KnownReport, cut_word, line_number, next_asked, next_line};
+use check_explain::{AskedLine, Case, after_closes, cut_word, line_number, next_line, slots_after};
 use check_judge::{Break, Fault, Judgement, judge, judge_from};
-use check_lines::{ReportLines, accepted_in, copy_of, read_report};
+use check_lines::{accepted_in, copy_of};
 use check_search::Limits;
 use fx_arguments::fixcheck::Settings;
 use fx_base::NoMemory;
-use fx_order::{RingSlots, Slots};
+use fx_order::RingSlots;
 use fx_script::{Command, Script};
 use std::alloc::Global;
 use std::io::IsTerminal;
@@ -30,8 +30,8 @@ const QUIET_SECONDS: u64 = 2;
 pub(crate) struct Question<'a> {
     pub alloc: Global,
     pub script: &'a Script,
-    /// The bytes of the script.
-    pub source: &'a [u8],
+    /// The lines of the script that are commands or requests.
+    pub asked: &'a [AskedLine<'a>],
     pub text: &'a [u8],
     pub settings: Settings<'a>,
 }
@@ -45,19 +45,17 @@ impl Question<'_> {
         }
     }
 
-    /// Returns the rest of the script after the lines of some commands.
-    pub(crate) fn script_after(&self, commands: usize) -> &[u8] {
-        let mut rest = self.source;
+    /// Returns the lines of the script after those of the first `commands` commands.
+    pub(crate) fn asked_after(&self, commands: usize) -> &[AskedLine<'_>] {
+        let mut lines = 0usize;
         for command in self.script.commands().iter().take(commands) {
             let requests = match command {
                 Command::Submit(requests) => requests.len(),
                 _ => 0,
             };
-            for _ in 0..=requests {
-                (_, rest) = next_asked(rest);
-            }
+            lines = lines.saturating_add(requests).saturating_add(1);
         }
-        rest
+        self.asked.get(lines..).unwrap_or(&[])
     }
 
     /// Returns the submission at a break, if it is one that is accepted.
@@ -69,7 +67,7 @@ impl Question<'_> {
             catalogue: self.script.catalogue(),
             slots: &broken.ring.slots,
             submissions,
-            script: self.script_after(broken.commands),
+            asked: self.asked_after(broken.commands),
             requests: accepted_in(command, submissions)?,
             text: self.rest(broken.at),
             line: line_number(self.text, broken.at),
@@ -126,98 +124,81 @@ pub fn judged(
     judge(alloc, script, text, limits)
 }
 
-// Returns the slots after a submission: each file that was at a slot, or that a completion installs there, is still there unless
-// it has a `closed` line. Returns `None` if two files are then at one slot.
-fn slots_after(case: &Case<'_>, lines: ReportLines) -> Result<Option<Slots>, NoMemory> {
-    let mut at = vec![in case.alloc; None; case.size()]?;
-    for it in &KnownReport::new(case, lines.completions)?.files {
-        if lines.closed.iter().any(|line| line.mark == it.file.mark) {
-            continue;
-        }
-        match at.get_mut(it.slot as usize) {
-            Some(there) if there.is_none() => *there = Some(it.file),
-            _ => return Ok(None),
-        }
-    }
-    let range = case.slots.range;
-    Ok(Some(Slots { range, at }))
+/// The ring that a text shows after the command at which it breaks, the number of commands that were played by then, and the rest of the
+/// text.
+#[derive(Drop)]
+struct Shown<'a> {
+    ring: RingSlots,
+    commands: usize,
+    rest: &'a [u8],
 }
 
-// Returns the ring after a submission whose lines can be read, and the number of bytes of the rest of the text.
-fn after_submission(
-    case: &Case<'_>,
-    registrations: u32,
-) -> Result<Option<(RingSlots, usize)>, NoMemory> {
-    let Some((lines, rest)) = read_report(case.alloc, case.text, case.requests.len())? else {
-        return Ok(None);
-    };
-    for (it, place) in lines.completions.iter().zip(&case.places()?) {
-        if it.place != *place {
-            return Ok(None);
-        }
-    }
-    let Some(slots) = slots_after(case, lines)? else {
-        return Ok(None);
-    };
-    let ring = RingSlots {
-        slots,
-        submissions: case.number(),
-        registrations,
-    };
-    Ok(Some((ring, rest.len())))
-}
-
-// Returns the ring after a call, or after a refused submission, whose first line is this one: the expected ring if the line is the
-// expected one, and the ring before it if the line says that it was refused.
+// Returns the ring after a call, or after a refused submission, whose first line is this one, and the number of commands after which the
+// ring is so. It is the expected ring if the line is the expected one, and the ring before the call if the line says that it was refused.
 fn after_line(
     question: &Question<'_>,
     broken: &Break,
     line: &[u8],
-) -> Result<Option<RingSlots>, NoMemory> {
+) -> Result<Option<(RingSlots, usize)>, NoMemory> {
     let ring = copy_of(question.alloc, &broken.ring)?;
     let expected = match &broken.fault {
-        Fault::Text(expected) => expected.as_bytes(),
-        _ => b"submit",
+        Fault::Text(expected) => expected.as_str(),
+        _ => "submit",
     };
-    if matches!(broken.fault, Fault::Text(_)) && next_line(expected).0 == line {
+    if matches!(broken.fault, Fault::Text(_)) && next_line(expected.as_bytes()).0 == line {
+        // nothing prints an empty line, so this text breaks after the call's lines, and the break has the ring
+        let text = format!(in question.alloc; "{expected}\n")?;
         let limits = Limits {
             states: 1,
             bytes: 1,
         };
         let (alloc, commands) = (question.alloc, broken.commands);
-        let judgement = judge_from(alloc, question.script, commands, ring, expected, limits)?;
+        let text = text.as_bytes();
+        let judgement = judge_from(alloc, question.script, commands, ring, text, limits)?;
         return Ok(match judgement {
-            Some(Judgement::NotLegal(next)) if next.commands == 1 => Some(next.ring),
+            Some(Judgement::NotLegal(next)) if next.commands > 0 => {
+                Some((next.ring, next.commands))
+            }
             _ => None,
         });
     }
     let (word, result) = cut_word(line);
     let is_refusal = result.starts_with(b"-") || result.starts_with(b"refused ");
-    Ok((is_refusal && word == cut_word(expected).0).then_some(ring))
+    let is_that = is_refusal && word == cut_word(expected.as_bytes()).0;
+    Ok(is_that.then_some((ring, 1)))
 }
 
-// Returns the ring that a text shows after the command at which it breaks, and the number of bytes of the rest of the text, or `None`
-// if it shows none. It is advice, and no contract speaks of it: `judge_from` checks that it is a ring.
+// Returns what a text shows after the command at which it breaks, or `None` if it shows no ring. It is advice, and no contract speaks of
+// it: `judge_from` checks that it is a ring.
 //
 // Of a submission, each request has its completion. A file that was at a slot, or that a completion installs there, is there
 // unless it has a `closed` line, and no two files are at one slot. Of a call, or a refused submission, the first line is the
 // expected one, or says that it was refused.
-fn shown_after(
-    question: &Question<'_>,
-    broken: &Break,
-) -> Result<Option<(RingSlots, usize)>, NoMemory> {
+fn shown_after<'a>(
+    question: &'a Question<'_>,
+    broken: &'a Break,
+) -> Result<Option<Shown<'a>>, NoMemory> {
     if let Some(case) = question.case_at(broken) {
-        let shown = after_submission(&case, broken.ring.registrations)?;
-        if shown.is_some() {
-            return Ok(shown);
+        if let Some((slots, rest)) = slots_after(&case)? {
+            let ring = RingSlots {
+                slots,
+                submissions: broken.ring.submissions.saturating_add(1),
+                registrations: broken.ring.registrations,
+            };
+            return Ok(Some(Shown {
+                ring,
+                commands: 1,
+                rest,
+            }));
         }
     }
     let (line, rest) = next_line(question.rest(broken.at));
-    let Some(ring) = after_line(question, broken, line)? else {
-        return Ok(None);
-    };
-    let read = read_report(question.alloc, rest, 0)?;
-    Ok(read.map(|(_, rest)| (ring, rest.len())))
+    let shown = after_line(question, broken, line)?;
+    Ok(shown.map(|(ring, commands)| Shown {
+        ring,
+        commands,
+        rest: after_closes(rest),
+    }))
 }
 
 /// Judges a text after a break, from the ring that the text shows there: the verdict is that of `check_judge::judge_from` on that
@@ -231,13 +212,13 @@ pub(crate) fn judged_after(
     limits: Limits,
     broken: &Break,
 ) -> Result<Option<Judgement>, NoMemory> {
-    let Some((ring, rest)) = shown_after(question, broken)? else {
+    let Some(shown) = shown_after(question, broken)? else {
         return Ok(None);
     };
     let (alloc, script) = (question.alloc, question.script);
-    let commands = broken.commands.saturating_add(1);
-    let at = question.text.len().saturating_sub(rest);
-    let mut judgement = judge_from(alloc, script, commands, ring, question.rest(at), limits)?;
+    let commands = broken.commands.saturating_add(shown.commands);
+    let at = question.text.len().saturating_sub(shown.rest.len());
+    let mut judgement = judge_from(alloc, script, commands, shown.ring, shown.rest, limits)?;
     if let Some(Judgement::NotLegal(next)) = &mut judgement {
         next.commands = next.commands.saturating_add(commands);
         next.at = next.at.saturating_add(at);

@@ -8,6 +8,7 @@ use check_texts::{AllTexts, Past, RequestAnswers};
 use fx_arguments::fixcheck::Settings;
 use fx_base::NoMemory;
 use fx_chain::{Completion, Place, Request};
+use fx_language::number_up_to;
 use fx_order::AccessPlace;
 use fx_script::Script;
 use std::alloc::{AllocError, Global};
@@ -26,14 +27,20 @@ pub(crate) fn status_of_texts(all: &AllTexts) -> u8
     if all.are_counted { 0 } else { 6 }
 }
 
-/// Parses a place, such as `1.1.2`: a submission, a chain and a member, each from 1. Returns `None` for any other word.
+// Parses a word as a number of 32 bits without a leading zero.
+fn number(word: &str) -> Option<u32> {
+    let number = number_up_to(u64::from(u32::MAX), word.as_bytes())?;
+    u32::try_from(number).ok()
+}
+
+/// Parses a place as a text has it, such as `1.1.2`: a submission, a chain and a member. Returns `None` for any other word.
 pub(crate) fn place_of(word: &str) -> Option<Place> {
     let (submission, rest) = word.split_once('.')?;
     let (chain, member) = rest.split_once('.')?;
     Some(Place {
-        submission: submission.parse::<u32>().ok()?,
-        chain: chain.parse::<u32>().ok()?,
-        member: member.parse::<u32>().ok()?,
+        submission: number(submission)?,
+        chain: number(chain)?,
+        member: number(member)?,
     })
 }
 

@@ -6,7 +6,7 @@ mod judging;
 mod lists;
 mod verdict;
 
-use check_explain::History;
+use check_explain::{History, asked_lines};
 use check_judge::Judgement;
 use check_search::Limits;
 use check_texts::{may, texts_of};
@@ -41,7 +41,7 @@ fn print_history(
 ) -> Result<(), NoVerdict> {
     let (alloc, script) = (question.alloc, question.script);
     let catalogue = script.catalogue();
-    let mut history = History::new(alloc, catalogue, question.source, question.text, orders);
+    let mut history = History::new(alloc, catalogue, question.asked, question.text, orders);
     write(rt, "legal\n")?;
     for command in script.commands() {
         history.push(command)?;
@@ -104,10 +104,11 @@ fn print_verdict(
     source: &[u8],
 ) -> Result<u8, NoVerdict> {
     let text = read_path(rt, path)?;
+    let asked = asked_lines(rt.alloc(), source)?;
     let question = Question {
         alloc: rt.alloc(),
         script,
-        source,
+        asked: &asked,
         text: &text,
         settings,
     };

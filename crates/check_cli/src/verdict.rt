@@ -131,44 +131,71 @@ fn why_of(
     Ok(String::new(alloc))
 }
 
+// Appends the command at which a text breaks, and its line of the script.
+fn push_command(
+    report: &mut String,
+    question: &Question<'_>,
+    commands: usize,
+) -> Result<(), AllocError> {
+    if commands >= question.script.commands().len() {
+        return report.push_str("not legal: the end of the script; ");
+    }
+    let command = commands.saturating_add(1);
+    let rest = question.asked_after(command).len();
+    let last = question.asked.len().saturating_sub(rest).saturating_sub(1);
+    let line = question.asked.get(last).map_or(0, |line| line.number);
+    write!(
+        report,
+        "not legal: command {command}, line {line} of the script; "
+    )
+}
+
+// Appends the first line in which a text differs from the likeliest one, and the reason.
+fn push_difference(
+    report: &mut String,
+    question: &Question<'_>,
+    broken: &Break,
+    expected: &[u8],
+) -> Result<(), AllocError> {
+    let (at, there) = first_difference(question.text, broken.at, expected);
+    let line = shown_line(question.alloc, expected, there, "the end")?;
+    let rest = expected.get(there..).unwrap_or(b"");
+    let why = why_of(question, broken, at, rest)?;
+    push_found(report, question, at, line.as_str(), why.as_str())
+}
+
+// Appends the judge's fault.
+fn push_fault(
+    report: &mut String,
+    question: &Question<'_>,
+    broken: &Break,
+) -> Result<(), AllocError> {
+    match &broken.fault {
+        Fault::Text(expected) => push_difference(report, question, broken, expected.as_bytes()),
+        Fault::Line(lines, expected) => {
+            let at = line_after(question.text, broken.at, *lines);
+            push_found(report, question, at, expected.as_str(), "")
+        }
+        Fault::Order(submission, reason) => push_reason(report, *submission, *reason),
+    }
+}
+
 // Appends the command at which a text breaks, and the reason.
 fn push_break(
     report: &mut String,
     question: &Question<'_>,
     broken: &Break,
 ) -> Result<(), NoMemory> {
-    let command = broken.commands.saturating_add(1);
-    if broken.commands < question.script.commands().len() {
-        let after = question.script_after(command).len().saturating_add(1);
-        let line = line_number(question.source, question.source.len().saturating_sub(after));
-        write!(
-            report,
-            "not legal: command {command}, line {line} of the script; "
-        )?;
-    } else {
-        report.push_str("not legal: the end of the script; ")?;
-    }
-    match (complaint_in(question, broken)?, &broken.fault) {
-        (Some(Complaint::Line(line, expected, why)), _) => {
+    push_command(report, question, broken.commands)?;
+    match complaint_in(question, broken)? {
+        Some(Complaint::Line(line, expected, why)) => {
             let at = line_after(question.text, broken.at, line);
             push_found(report, question, at, expected.as_str(), why.as_str())?;
         }
-        (Some(Complaint::Lines(lines, why)), _) => {
+        Some(Complaint::Lines(lines, why)) => {
             push_conflict(report, question, broken.at, &lines, why.as_str())?;
         }
-        (None, Fault::Text(expected)) => {
-            let expected = expected.as_bytes();
-            let (at, there) = first_difference(question.text, broken.at, expected);
-            let line = shown_line(question.alloc, expected, there, "the end")?;
-            let rest = expected.get(there..).unwrap_or(b"");
-            let why = why_of(question, broken, at, rest)?;
-            push_found(report, question, at, line.as_str(), why.as_str())?;
-        }
-        (None, Fault::Line(lines, expected)) => {
-            let at = line_after(question.text, broken.at, *lines);
-            push_found(report, question, at, expected.as_str(), "")?;
-        }
-        (None, Fault::Order(submission, reason)) => push_reason(report, *submission, *reason)?,
+        None => push_fault(report, question, broken)?,
     }
     Ok(())
 }
@@ -211,6 +238,26 @@ pub(crate) fn verdict_text(
     Ok(report)
 }
 
+// Appends the verdict on the text after the last break, or that it wasn't judged.
+fn push_last(
+    report: &mut String,
+    question: &Question<'_>,
+    command: usize,
+    judgement: Option<Judgement>,
+) -> Result<(), AllocError> {
+    match judgement {
+        None => write!(
+            report,
+            "not judged after command {command}: the text shows no ring there\n"
+        ),
+        Some(Judgement::Undecided(submission, doubt)) => {
+            write!(report, "undecided after command {command}: ")?;
+            push_doubt(report, &question.settings, submission, &doubt)
+        }
+        Some(_) => write!(report, "legal after command {command}\n"),
+    }
+}
+
 /// Returns the lines of all breaks of a text, each found from the ring that the text shows after the one before it, and of the
 /// verdict on what follows the last one.
 pub(crate) fn breaks_text(
@@ -227,21 +274,12 @@ pub(crate) fn breaks_text(
         }
         let command = broken.commands.saturating_add(1);
         match judged_after(question, limits, &broken)? {
-            Some(Judgement::NotLegal(next)) => {
-                broken = next;
-                continue;
-            }
-            None => write!(
-                report,
-                "not judged after command {command}: the text shows no ring there\n"
-            )?,
-            Some(Judgement::Legal(_)) => write!(report, "legal after command {command}\n")?,
-            Some(Judgement::Undecided(submission, doubt)) => {
-                write!(report, "undecided after command {command}: ")?;
-                push_doubt(&mut report, &question.settings, submission, &doubt)?;
+            Some(Judgement::NotLegal(next)) => broken = next,
+            last => {
+                push_last(&mut report, question, command, last)?;
+                break;
             }
         }
-        break;
     }
     Ok(report)
 }

@@ -11,13 +11,16 @@ use std::fmt::Display;
 /// The largest number of answers, and of bytes of a file, that are shown.
 const SHOWN: usize = 16;
 
+// A content that requests leave at a slot, and their chain, or `None` if it may be any.
+type Left = (Option<u8>, Option<u32>);
+
 /// The contents that slots may have before a request: files of catalogue entries, or none. It is the first request of a submission, and
 /// [`Contents::pass`] goes on to the next one.
 #[derive(Drop)]
 pub(crate) struct Contents<'a> {
     case: &'a Case<'a>,
-    // For each slot what requests leave there, each content once, and the chain of the requests, or `None` if it may be any.
-    left: Vec<Vec<(Option<u8>, Option<u32>)>>,
+    // For each slot the contents that requests leave there, each once.
+    left: Vec<Vec<Left>>,
     // The number of the request's chain, from 1, and the slots that its earlier members left known contents at.
     chain: u32,
     own: Vec<(u32, Option<u8>)>,
@@ -38,23 +41,44 @@ fn changes_of(case: &Case<'_>, request: &Request) -> Result<Vec<(Act, Option<u8>
     Ok(changes)
 }
 
+// Adds a content to those that requests leave at a slot. `by`: the chain of the request, or `None` if it may be any.
+fn add_content(
+    there: &mut Vec<Left>,
+    content: Option<u8>,
+    by: Option<u32>,
+) -> Result<(), NoMemory> {
+    match there.iter().position(|it| it.0 == content) {
+        None => there.push((content, by))?,
+        Some(i) if there[i].1 != by => there[i].1 = None,
+        Some(_) => {}
+    }
+    Ok(())
+}
+
+// Adds the contents that a request of a chain leaves at the slots.
+fn add_changes(
+    case: &Case<'_>,
+    left: &mut [Vec<Left>],
+    request: &Request,
+    chain: u32,
+) -> Result<(), NoMemory> {
+    for (act, content) in changes_of(case, request)? {
+        let by = act.slot.map(|_| chain);
+        let (first, count) = act.slot.map_or(case.slots.range, |slot| (slot, 1));
+        for there in left.iter_mut().skip(first as usize).take(count as usize) {
+            add_content(there, content, by)?;
+        }
+    }
+    Ok(())
+}
+
 impl<'a> Contents<'a> {
     /// Returns the contents before the first request of a submission.
     pub(crate) fn new(case: &'a Case<'a>) -> Result<Contents<'a>, NoMemory> {
-        let mut left: Vec<Vec<(Option<u8>, Option<u32>)>> = Vec::new(case.alloc);
+        let mut left: Vec<Vec<Left>> = Vec::new(case.alloc);
         left.resize_with(case.size(), || Vec::new(case.alloc))?;
         for (request, place) in case.requests.iter().zip(&case.places()?) {
-            for (act, content) in changes_of(case, request)? {
-                let by = act.slot.map(|_| place.chain);
-                let (first, count) = act.slot.map_or(case.slots.range, |slot| (slot, 1));
-                for there in left.iter_mut().skip(first as usize).take(count as usize) {
-                    match there.iter().position(|it| it.0 == content) {
-                        None => there.push((content, by))?,
-                        Some(i) if there[i].1 != by => there[i].1 = None,
-                        Some(_) => {}
-                    }
-                }
-            }
+            add_changes(case, &mut left, request, place.chain)?;
         }
         Ok(Contents {
             case,

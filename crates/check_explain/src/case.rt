@@ -1,7 +1,8 @@
 //! The submission at which a text breaks: its files, and the accesses of its requests, by the lines of its report.
 use crate::kinds::{Act, Effect, acts_of};
+use crate::words::{AskedLine, next_line};
 use check_lines::read_report;
-use fx_base::{Catalogue, Closed, Errno, NoMemory};
+use fx_base::{Catalogue, Closed, Errno, Mark, NoMemory};
 use fx_chain::{Completion, Place, Request, refusal_of};
 use fx_order::Slots;
 use std::alloc::{AllocError, Global};
@@ -17,8 +18,8 @@ pub struct Case<'a> {
     pub slots: &'a Slots,
     /// The number of submissions that were accepted before it.
     pub submissions: u32,
-    /// The script, from the line of its first request on. Empty lines and comments may come before it.
-    pub script: &'a [u8],
+    /// The lines of the script from that of its first request on.
+    pub asked: &'a [AskedLine<'a>],
     /// Its requests.
     pub requests: &'a [Request],
     /// The text, from the first line on that should be a line of its report.
@@ -29,20 +30,17 @@ pub struct Case<'a> {
 
 impl<'a> Case<'a> {
     /// Returns its number among the accepted submissions, from 1.
-    pub fn number(&self) -> u32 {
+    pub(crate) fn number(&self) -> u32 {
         self.submissions.saturating_add(1)
     }
 
     /// Returns the places of its requests.
-    ///
-    /// # Errors
-    /// `AllocError` if an allocation fails.
-    pub fn places(&self) -> Result<Vec<Place>, AllocError> {
+    pub(crate) fn places(&self) -> Result<Vec<Place>, AllocError> {
         places_of(self.alloc, self.number(), self.requests)
     }
 
     /// Returns the number of slots of the table.
-    pub fn size(&self) -> usize {
+    pub(crate) fn size(&self) -> usize {
         self.slots.at.len()
     }
 
@@ -58,17 +56,36 @@ impl<'a> Case<'a> {
         (first..first.saturating_add(count)).contains(&slot)
     }
 
-    /// Reads the completions that its first lines report, up to the first line that isn't a completion.
-    pub(crate) fn completions(&self) -> Result<Vec<Completion>, NoMemory> {
-        let mut completions: Vec<Completion> = Vec::new(self.alloc);
-        let lines = self.text.split_inclusive(|byte| *byte == b'\n');
-        for line in lines.take(self.requests.len()) {
-            let Some((lines, _)) = read_report(self.alloc, line, 1)? else {
-                break;
-            };
-            completions.extend(lines.completions)?;
+    // Returns the files at the slots before it.
+    fn files_before(&self) -> Result<Vec<Installed>, AllocError> {
+        let mut files = Vec::new(self.alloc);
+        for (slot, file) in (0..u32::MAX).zip(&self.slots.at) {
+            if let Some(file) = *file {
+                files.push(Installed {
+                    file,
+                    slot,
+                    line: None,
+                    closed: None,
+                })?;
+            }
         }
-        Ok(completions)
+        Ok(files)
+    }
+
+    /// Reads the completions that its first lines report, up to the first line that isn't the completion of its request. Returns
+    /// them, and the text from that line on.
+    pub(crate) fn read(&self) -> Result<(Vec<Completion>, &'a [u8]), NoMemory> {
+        let (mut completions, mut rest) = (Vec::new(self.alloc), self.text);
+        for place in &self.places()? {
+            let (line, after) = next_line(rest);
+            let read = read_report(self.alloc, line, 1)?;
+            match read.and_then(|(mut lines, _)| lines.completions.pop()) {
+                Some(it) if it.place == *place => completions.push(it)?,
+                _ => break,
+            }
+            rest = after;
+        }
+        Ok((completions, rest))
     }
 }
 
@@ -97,7 +114,7 @@ pub(crate) fn places_of(
 
 /// A file that was at a slot before a submission, or that a request of it installed there.
 #[derive(Clone, Copy)]
-pub struct Installed {
+pub(crate) struct Installed {
     /// The file.
     pub file: Closed,
     /// Its slot.
@@ -110,18 +127,18 @@ pub struct Installed {
 
 /// The completions and files of a submission, as far as its lines were read.
 #[derive(Drop)]
-pub struct KnownReport {
-    pub(crate) completions: Vec<Completion>,
+pub(crate) struct KnownReport {
+    pub completions: Vec<Completion>,
     /// The files: first those that were at the slots, then the others in order of mark.
     pub files: Vec<Installed>,
     /// The numbers, from 0, of the files with a `closed` line, in the order of these lines.
-    pub(crate) closes: Vec<usize>,
-    pub(crate) acts: Vec<Act>,
+    pub closes: Vec<usize>,
+    pub acts: Vec<Act>,
 }
 
 impl KnownReport {
-    // Appends an access by the request of a line, and the file that it installed.
-    fn push(&mut self, mut act: Act, line: usize) -> Result<(), AllocError> {
+    // Appends an access by the request of a line, and the file that it installed at one of the `size` slots.
+    fn push(&mut self, mut act: Act, line: usize, size: usize) -> Result<(), AllocError> {
         let Some(Completion { place, res, .. }) = self.completions.get(line) else {
             return Ok(());
         };
@@ -136,7 +153,8 @@ impl KnownReport {
             _ => None,
         };
         act.slot = act.slot.or(u32::try_from(res).ok());
-        if let (Effect::Installs(entry), true, Some(slot)) = (act.effect, act.is_done, act.slot) {
+        let there = act.slot.filter(|slot| (*slot as usize) < size);
+        if let (Effect::Installs(entry), true, Some(slot)) = (act.effect, act.is_done, there) {
             let in_list = u32::try_from(act.entry.unwrap_or(0)).unwrap_or(u32::MAX);
             act.file = Some(self.files.len());
             self.files.push(Installed {
@@ -149,37 +167,41 @@ impl KnownReport {
         Ok(self.acts.push(act)?)
     }
 
-    /// Returns the files and accesses of completions that their requests may have. No file has a `closed` line yet.
-    ///
-    /// # Errors
-    /// `NoMemory` if an allocation fails.
+    /// Returns the files and accesses of the completions of a case. A request that is refused whatever is at the slots makes no
+    /// access, whatever its completion claims. No file has a `closed` line yet.
     pub fn new(case: &Case<'_>, completions: Vec<Completion>) -> Result<KnownReport, NoMemory> {
         let mut report = KnownReport {
             completions,
-            files: Vec::new(case.alloc),
+            files: case.files_before()?,
             closes: Vec::new(case.alloc),
             acts: Vec::new(case.alloc),
         };
-        for (at, file) in case.slots.at.iter().enumerate() {
-            if let (Some(file), Ok(slot)) = (file, u32::try_from(at)) {
-                report.files.push(Installed {
-                    file: *file,
-                    slot,
-                    line: None,
-                    closed: None,
-                })?;
-            }
-        }
         for (line, request) in case.requests.iter().enumerate() {
-            for act in acts_of(case.alloc, case.catalogue, request)? {
-                report.push(act, line)?;
+            if case.refusal_of(request).is_none() {
+                for act in acts_of(case.alloc, case.catalogue, request)? {
+                    report.push(act, line, case.size())?;
+                }
             }
         }
         Ok(report)
     }
 
+    /// Returns the number, from 0, of the file with a mark. The files from that of the last `closed` line on are tried first.
+    pub fn file_marked(&self, mark: Mark) -> Option<usize> {
+        let from = self.closes.last().copied().unwrap_or(0);
+        match self
+            .files
+            .iter()
+            .skip(from)
+            .position(|it| it.file.mark == mark)
+        {
+            Some(at) => Some(at.saturating_add(from)),
+            None => self.files.iter().position(|it| it.file.mark == mark),
+        }
+    }
+
     /// Returns the chain of the request of a line, or `None` if it isn't that of a request.
-    pub(crate) fn chain_of(&self, line: usize) -> Option<u32> {
+    pub fn chain_of(&self, line: usize) -> Option<u32> {
         Some(self.completions.get(line)?.place.chain)
     }
 }

@@ -3,6 +3,7 @@ use crate::case::{Case, KnownReport};
 use crate::kinds::{Act, Effect, entries_read};
 use check_search::{Cell, Claim, Leaves, Resident, Strand, Wants};
 use fx_base::NoMemory;
+use std::alloc::AllocError;
 
 /// The files that stay at their slots. Each other one is closed.
 #[derive(Drop)]
@@ -44,30 +45,38 @@ impl ClaimsView<'_> {
         (first..first.saturating_add(count)).any(|slot| self.has_slot(slot))
     }
 
+    // Appends the lines whose accesses depend on the slots, and, unless `depends`, those whose accesses change them.
+    fn push_lines(&self, lines: &mut Vec<usize>, depends: bool) -> Result<(), AllocError> {
+        for act in self.report.acts.iter().filter(|act| self.has(act)) {
+            let is_meant = act.found.is_some() || !depends && act.is_done;
+            let is_new = lines.last().copied() != Some(act.line);
+            if is_meant && is_new && !self.is_out(act.line) {
+                lines.push(act.line)?;
+            }
+        }
+        Ok(())
+    }
+
+    // Appends the `closed` lines of the slots.
+    fn push_closes(&self, lines: &mut Vec<usize>) -> Result<(), AllocError> {
+        let files = &self.report.files;
+        for it in self.report.closes.iter().filter_map(|i| files.get(*i)) {
+            if self.has_slot(it.slot) {
+                lines.push(it.closed.unwrap_or(0))?;
+            }
+        }
+        Ok(())
+    }
+
     /// Returns the lines that depend on the slots, with the slots' `closed` lines if `closes`, or else the lines that change the slots.
-    pub(crate) fn named(&self, closes: bool) -> Result<Vec<usize>, NoMemory> {
-        let mut lines: Vec<usize> = Vec::new(self.case.alloc);
-        for depends in [true, false] {
-            for act in self.report.acts.iter().filter(|act| self.has(act)) {
-                let is_meant = act.found.is_some() || !depends && act.is_done;
-                let is_new = lines.last().copied() != Some(act.line);
-                if is_meant && is_new && !self.is_out(act.line) {
-                    lines.push(act.line)?;
-                }
-            }
-            for it in self
-                .report
-                .closes
-                .iter()
-                .filter_map(|i| self.report.files.get(*i))
-            {
-                if closes && depends && self.has_slot(it.slot) {
-                    lines.push(it.closed.unwrap_or(0))?;
-                }
-            }
-            if !lines.is_empty() {
-                break;
-            }
+    pub(crate) fn named(&self, closes: bool) -> Result<Vec<usize>, AllocError> {
+        let mut lines = Vec::new(self.case.alloc);
+        self.push_lines(&mut lines, true)?;
+        if closes {
+            self.push_closes(&mut lines)?;
+        }
+        if lines.is_empty() {
+            self.push_lines(&mut lines, false)?;
         }
         Ok(lines)
     }
@@ -117,34 +126,59 @@ impl ClaimsView<'_> {
         Ok(Some(Claim::At(slot, wants, leaves)))
     }
 
-    /// Returns the slots that are looked at, as they are before the submission, and the claims of each chain about them.
-    pub(crate) fn question(&self) -> Result<(Vec<Cell>, Vec<Strand>), NoMemory> {
-        let mut strands: Vec<Strand> = Vec::new(self.case.alloc);
-        for act in self.report.acts.iter().filter(|act| self.has(act)) {
-            let chain = self.report.chain_of(act.line).unwrap_or(0);
-            match (self.claim_of(act)?, strands.last_mut()) {
-                (None, _) => {}
-                (Some(claim), Some(last)) if last.chain == chain => last.claims.push(claim)?,
-                (Some(claim), _) => {
-                    let claims = vec![in self.case.alloc; claim]?;
-                    strands.push(Strand { chain, claims })?;
-                }
+    // Appends a claim of a chain to those of its strand.
+    fn push_claim(
+        &self,
+        strands: &mut Vec<Strand>,
+        chain: u32,
+        claim: Claim,
+    ) -> Result<(), NoMemory> {
+        match strands.last_mut() {
+            Some(last) if last.chain == chain => last.claims.push(claim)?,
+            _ => {
+                let claims = vec![in self.case.alloc; claim]?;
+                strands.push(Strand { chain, claims })?;
             }
         }
+        Ok(())
+    }
+
+    // Returns the claims of each chain about the slots that are looked at.
+    fn strands(&self) -> Result<Vec<Strand>, NoMemory> {
+        let mut strands = Vec::new(self.case.alloc);
+        for act in self.report.acts.iter().filter(|act| self.has(act)) {
+            if let Some(claim) = self.claim_of(act)? {
+                let chain = self.report.chain_of(act.line).unwrap_or(0);
+                self.push_claim(&mut strands, chain, claim)?;
+            }
+        }
+        Ok(strands)
+    }
+
+    // Returns the slots that are looked at, as they are before the submission.
+    fn cells(&self) -> Result<Vec<Cell>, AllocError> {
         let (mut cells, mut number) = (Vec::new(self.case.alloc), 0usize);
         for (slot, found) in (0..u32::MAX).zip(&self.case.slots.at) {
             let file = found.and_then(|_| self.resident(number));
             number = number.saturating_add(usize::from(found.is_some()));
-            if !self.has_slot(slot) {
-                continue;
+            if self.has_slot(slot) {
+                let in_range = self.case.is_in_range(slot);
+                cells.push(Cell {
+                    slot,
+                    in_range,
+                    file,
+                })?;
             }
-            cells.push(Cell {
-                slot,
-                in_range: self.case.is_in_range(slot),
-                file,
-            })?;
-            if matches!(self.stays, Stays::Swept) {
-                let sweep = Claim::At(slot, Wants::Anything, Leaves::Empty);
+        }
+        Ok(cells)
+    }
+
+    /// Returns the slots that are looked at, as they are before the submission, and the claims of each chain about them.
+    pub(crate) fn question(&self) -> Result<(Vec<Cell>, Vec<Strand>), NoMemory> {
+        let (cells, mut strands) = (self.cells()?, self.strands()?);
+        if matches!(self.stays, Stays::Swept) {
+            for cell in &cells {
+                let sweep = Claim::At(cell.slot, Wants::Anything, Leaves::Empty);
                 let claims = vec![in self.case.alloc; sweep]?;
                 strands.push(Strand { chain: 0, claims })?;
             }

@@ -174,22 +174,29 @@ impl Contradiction<'_> {
             1 => ("this one", "concerns"),
             _ => ("all of these", "concern"),
         };
-        let mut why = format!(in self.view.case.alloc; "no order of the requests gives {these}")?;
-        if let Some(slot) = slot {
-            write!(why, ", which {concern} slot {slot}")?;
-        }
-        if self.rests_on_closes {
-            why.push_str(", and closes no other file")?;
-        }
-        if self.rests_on_others(lines) {
-            why.push_str(", and cancels the same requests")?;
-        }
-        match (self.is_sure, lines.len()) {
-            (true, _) => {}
-            (false, 1) => why.push_str("; there may be none without it")?,
-            (false, _) => why.push_str("; fewer of them may contradict each other")?,
-        }
-        Ok(why)
+        let alloc = self.view.case.alloc;
+        let slot = match slot {
+            Some(slot) => format!(in alloc; ", which {concern} slot {slot}")?,
+            None => String::new(alloc),
+        };
+        let closes = if self.rests_on_closes {
+            ", and closes no other file"
+        } else {
+            ""
+        };
+        let others = if self.rests_on_others(lines) {
+            ", and cancels the same requests"
+        } else {
+            ""
+        };
+        let fewer = match (self.is_sure, lines.len()) {
+            (true, _) => "",
+            (false, 1) => "; there may be none without it",
+            (false, _) => "; fewer of them may contradict each other",
+        };
+        Ok(format!(in alloc;
+            "no order of the requests gives {these}{slot}{closes}{others}{fewer}"
+        )?)
     }
 }
 

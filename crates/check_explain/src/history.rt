@@ -1,6 +1,6 @@
 //! Prints one whole history of a script and a legal text: an event or an answer on each line, with the state of the table after it.
 use crate::words::{
-    ByteWords, FileWords, MarkWords, PlaceWords, cut_word, next_asked, next_line, without_end,
+    AskedLine, ByteWords, FileWords, MarkWords, PlaceWords, after_closes, cut_word, next_line,
 };
 use check_lines::read_report;
 use fx_base::{Catalogue, Closed, Errno, Mark, NoMemory};
@@ -9,7 +9,41 @@ use fx_order::{Access, Order};
 use fx_ring::tag_at;
 use fx_script::Command;
 use std::alloc::{AllocError, Global};
+use std::fmt;
 use std::fmt::Display;
+
+// The mark of a file that an access found, or `none`.
+#[derive(Drop)]
+struct FoundWords(Option<Closed>);
+
+impl Display for FoundWords {
+    fn fmt<W: fmt::Write>(&self, f: &mut fmt::Formatter<W>) -> fmt::Result {
+        match self.0 {
+            Some(file) => write!(f, "{}", MarkWords(file.mark)),
+            None => f.write_str("none"),
+        }
+    }
+}
+
+// The first event of an access (docs/MODEL.md, "Steps"): the slot, the file installed, and the file found.
+#[derive(Drop)]
+struct EventWords<'a>(&'a Catalogue, Access);
+
+impl Display for EventWords<'_> {
+    fn fmt<W: fmt::Write>(&self, f: &mut fmt::Formatter<W>) -> fmt::Result {
+        let file = |file: Closed| FileWords(self.0, file);
+        match self.1 {
+            Access::Looks(slot, found) => write!(f, "Look({slot}, {})", FoundWords(found)),
+            Access::Puts(slot, it, found) => {
+                write!(f, "Put({slot}, {}, {})", file(it), FoundWords(found))
+            }
+            Access::Clears(slot, found) => write!(f, "Clear({slot}, {})", FoundWords(found)),
+            Access::Takes(slot, found) => write!(f, "Take({slot}, {})", FoundWords(found)),
+            Access::Allocates(slot, it) => write!(f, "Allocate({slot}, {})", file(it)),
+            Access::FindsFull => f.write_str("Full"),
+        }
+    }
+}
 
 /// The column of the state, unless the text before it is longer.
 const COLUMN: usize = 44;
@@ -17,14 +51,14 @@ const COLUMN: usize = 44;
 // The line of a request without its end, and its completion.
 type Answer<'a> = (&'a [u8], Completion);
 
-/// A history that is printed command by command, in the order of the script: the rest of the script, of the text and of the orders. At
+/// A history that is printed command by command, in the order of the script: the rest of the script's lines, of the text and of the orders. At
 /// most one file is held or removed at a time, since a history is written in which what was looked up is released at once, and what
 /// was removed is closed at once.
 #[derive(Drop)]
 pub struct History<'a> {
     alloc: Global,
     catalogue: &'a Catalogue,
-    script: &'a [u8],
+    asked: &'a [AskedLine<'a>],
     text: &'a [u8],
     orders: &'a [Order],
     // The number of accepted lists.
@@ -39,18 +73,19 @@ pub struct History<'a> {
 }
 
 impl<'a> History<'a> {
-    /// Returns the history of a legal text before the first command of a script, with the orders of its submissions.
+    /// Returns the history of a legal text before the first command of a script, with the orders of its submissions. `asked`: the
+    /// lines of the script's commands and requests.
     pub fn new(
         alloc: Global,
         catalogue: &'a Catalogue,
-        script: &'a [u8],
+        asked: &'a [AskedLine<'a>],
         text: &'a [u8],
         orders: &'a [Order],
     ) -> History<'a> {
         History {
             alloc,
             catalogue,
-            script,
+            asked,
             text,
             orders,
             lists: 0,
@@ -71,23 +106,21 @@ impl<'a> History<'a> {
         self.lines.clear();
     }
 
-    // Returns the next line of the script that is a command or a request, without its end.
+    // Returns the next line of the script that is a command or a request.
     fn next_asked(&mut self) -> &'a [u8] {
-        let (line, rest) = next_asked(self.script);
-        self.script = rest;
-        without_end(line)
+        match self.asked {
+            [line, rest @ ..] => {
+                self.asked = rest;
+                line.bytes
+            }
+            [] => b"",
+        }
     }
 
     // Returns the next line of the text without its first word. The lines of closed files and of tags that follow it are skipped.
     fn next_answer(&mut self) -> &'a [u8] {
-        let (line, mut rest) = next_line(self.text);
-        for _ in 0..self.text.len() {
-            if !rest.starts_with(b"closed ") && !rest.starts_with(b"tag ") {
-                break;
-            }
-            (_, rest) = next_line(rest);
-        }
-        self.text = rest;
+        let (line, rest) = next_line(self.text);
+        self.text = after_closes(rest);
         cut_word(line).1
     }
 
@@ -126,31 +159,21 @@ impl<'a> History<'a> {
         self.lines.push('\n')
     }
 
-    // Appends the first event of an access (docs/MODEL.md, "Steps"): the slot, the file installed, and the file found.
-    fn push_event(&mut self, access: Access) -> Result<(), AllocError> {
-        let (word, slot, file, found) = match access {
-            Access::Looks(slot, found) => ("Look", slot, None, Some(found)),
-            Access::Puts(slot, file, found) => ("Put", slot, Some(file), Some(found)),
-            Access::Clears(slot, found) => ("Clear", slot, None, Some(found)),
-            Access::Takes(slot, found) => ("Take", slot, None, Some(found)),
-            Access::Allocates(slot, file) => ("Allocate", slot, Some(file), None),
-            Access::FindsFull => return self.lines.push_str("Full"),
+    // Applies an access to the slots: it installs a file, or removes one.
+    fn apply(&mut self, access: Access) {
+        let (slot, file) = match access {
+            Access::Puts(slot, file, _) | Access::Allocates(slot, file) => (slot, Some(file)),
+            Access::Looks(slot, _) | Access::Clears(slot, _) | Access::Takes(slot, _) => (
+                slot, None,
+            ),
+            Access::FindsFull => return,
         };
-        write!(self.lines, "{word}({slot}")?;
-        if let Some(file) = file {
-            write!(self.lines, ", {}", FileWords(self.catalogue, file))?;
-        }
-        match found {
-            Some(Some(file)) => write!(self.lines, ", {})", MarkWords(file.mark))?,
-            Some(None) => self.lines.push_str(", none)")?,
-            None => self.lines.push(')')?,
-        }
         self.removed = access.removed().map(|it| it.mark);
-        match self.at.get_mut(slot as usize) {
-            Some(at) if file.is_some() || self.removed.is_some() => *at = file,
-            _ => {}
+        if file.is_some() || self.removed.is_some() {
+            if let Some(at) = self.at.get_mut(slot as usize) {
+                *at = file;
+            }
         }
-        Ok(())
     }
 
     // Appends the events of an access, and the request or the command that makes it.
@@ -158,8 +181,8 @@ impl<'a> History<'a> {
         if let Access::Looks(_, Some(file)) = access {
             self.held = Some(file.mark);
         }
-        write!(self.lines, "{who} ")?;
-        self.push_event(access)?;
+        write!(self.lines, "{who} {}", EventWords(self.catalogue, access))?;
+        self.apply(access);
         self.end_line()?;
         self.removed = None;
         if let Some(mark) = self.held.take() {

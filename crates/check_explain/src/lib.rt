@@ -9,15 +9,17 @@ mod complaint;
 mod contradiction;
 mod history;
 mod kinds;
+mod shown;
 mod words;
 mod wrong_answer;
 mod wrong_files;
 
-pub use case::{Case, KnownReport};
+pub use case::Case;
 pub use complaint::{Complaint, explain};
 pub use history::History;
 pub use kinds::access_places;
+pub use shown::slots_after;
 pub use words::{
-    GotWords, MarkWords, PlaceWords, cut_word, first_difference, line_after, line_at, line_number,
-    next_asked, next_line, shown_line, sign_before,
+    AskedLine, GotWords, MarkWords, PlaceWords, after_closes, asked_lines, cut_word,
+    first_difference, line_after, line_at, line_number, next_line, shown_line, sign_before,
 };

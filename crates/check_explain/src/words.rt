@@ -41,17 +41,41 @@ pub fn cut_word(line: &[u8]) -> (&[u8], &[u8]) {
     (words.next().unwrap_or(b""), words.next().unwrap_or(b""))
 }
 
-/// Returns the first line of a script that is a command or a request, its end included, and the rest of the script.
-pub fn next_asked(script: &[u8]) -> (&[u8], &[u8]) {
-    let mut rest = script;
-    for _ in 0..script.len() {
-        let (line, after) = next_line(rest);
+/// A line of a script that is a command or a request.
+#[derive(Clone, Copy)]
+pub struct AskedLine<'a> {
+    /// Its bytes without its end.
+    pub bytes: &'a [u8],
+    /// Its number in the script, from 1.
+    pub number: usize,
+}
+
+/// Returns the lines of a script that are commands or requests, in order.
+///
+/// # Errors
+/// `AllocError` if an allocation fails.
+pub fn asked_lines(alloc: Global, script: &[u8]) -> Result<Vec<AskedLine<'_>>, AllocError> {
+    let mut asked = Vec::new(alloc);
+    let lines = script.split_inclusive(|byte| *byte == b'\n');
+    for (number, line) in (1..usize::MAX).zip(lines) {
         if !line.starts_with(b"\n") && !line.starts_with(b"#") && !line.starts_with(b"file ") {
-            return (line, after);
+            let bytes = without_end(line);
+            asked.push(AskedLine { bytes, number })?;
         }
-        rest = after;
     }
-    (rest, rest)
+    Ok(asked)
+}
+
+/// Returns the rest of a text after the lines of closed files and of tags that it begins with, whatever they say.
+pub fn after_closes(text: &[u8]) -> &[u8] {
+    let mut rest = text;
+    for _ in 0..text.len() {
+        if !rest.starts_with(b"closed ") && !rest.starts_with(b"tag ") {
+            break;
+        }
+        (_, rest) = next_line(rest);
+    }
+    rest
 }
 
 /// Returns the number, from 1, of the line that has the byte at a place.
@@ -82,8 +106,25 @@ pub fn first_difference(text: &[u8], from: usize, wanted: &[u8]) -> (usize, usiz
     (at, there)
 }
 
-/// Returns the line that begins at a place, as a person is shown it: at most 100 bytes, and each that isn't printable as `\xNN`. For an
-/// empty or missing line it returns `none`.
+/// The first 100 bytes of a line, as a person is shown them: as `\xNN` each that isn't printable, and a space at the end of the line.
+#[derive(Drop)]
+struct ShownBytes<'a>(&'a [u8]);
+
+impl Display for ShownBytes<'_> {
+    fn fmt<W: fmt::Write>(&self, f: &mut fmt::Formatter<W>) -> fmt::Result {
+        let words = self.0.strip_suffix(b" ").unwrap_or(self.0).len();
+        for (i, byte) in self.0.iter().enumerate().take(SHOWN) {
+            match *byte {
+                32..=126 if i < words => write!(f, "{}", char::from(*byte))?,
+                other => write!(f, "\\x{other:02x}")?,
+            }
+        }
+        Ok(())
+    }
+}
+
+/// Returns the line that begins at a place, as a person is shown it: at most 100 bytes, and as `\xNN` each that isn't printable, and a
+/// space at the end of the line. For an empty or missing line it returns `none`.
 ///
 /// # Errors
 /// `AllocError` if an allocation fails.
@@ -98,19 +139,14 @@ pub fn shown_line(
     if bytes.is_empty() {
         return none.to_owned(alloc);
     }
-    let mut shown = String::new(alloc);
-    for byte in bytes.iter().take(SHOWN) {
-        match *byte {
-            32..=126 => shown.push(char::from(*byte))?,
-            other => write!(shown, "\\x{other:02x}")?,
-        }
-    }
-    if bytes.len() > SHOWN {
-        shown.push_str("..")?;
+    let end = if bytes.len() > SHOWN {
+        ".."
     } else if bytes.len() == line.len() {
-        shown.push_str(" without a line end")?;
-    }
-    Ok(shown)
+        " without a line end"
+    } else {
+        ""
+    };
+    format!(in alloc; "{}{end}", ShownBytes(bytes))
 }
 
 /// A place: `S.C.M`.

@@ -1,11 +1,12 @@
-//! Completions that no request there may have, or that contradict their chain.
+//! Lines that aren't the completions of their requests, and completions that no request there may have, or that contradict their chain.
 use crate::answers::{Contents, ValidAnswer, answers_of, answers_words};
 use crate::case::Case;
 use crate::complaint::{Checked, Complaint};
 use crate::kinds::{Effect, acts_of, entries_read, fixed_result, may_sever, why_refused};
-use crate::words::{PlaceWords, name_of};
+use crate::words::{ByteWords, PlaceWords, name_of, next_line};
 use fx_base::{Errno, NoMemory};
 use fx_chain::{Completion, Place, Request};
+use std::alloc::AllocError;
 
 // Returns the reason why a read can't have its bytes: the file that has them can't be at the slot, or no file has them.
 fn why_not_read(
@@ -83,38 +84,88 @@ fn not_canceled(case: &Case<'_>, by: (usize, Place), at: (usize, &Completion)) -
     Ok(Some(Complaint::Lines(vec![in case.alloc; by.0, at.0]?, why)))
 }
 
+// Returns the answers that a request may give. `severed`: whether an earlier member severed its chain.
+fn valid_answers<'a>(
+    case: &Case<'a>,
+    contents: &Contents<'_>,
+    severed: bool,
+    request: &Request,
+) -> Result<Vec<ValidAnswer<'a>>, NoMemory> {
+    if severed {
+        let canceled = -Errno::ECANCELED.code();
+        return Ok(vec![in case.alloc; ValidAnswer::among(case.alloc, canceled, canceled)]?);
+    }
+    answers_of(case, contents, request)
+}
+
+// Returns the reason why the line of a request doesn't begin with the request's place and a space: another line does, or no line does.
+fn why_misplaced(case: &Case<'_>, at: usize, front: &str) -> Result<String, AllocError> {
+    let mut lines = case.text.split_inclusive(|byte| *byte == b'\n');
+    if let Some(other) = lines.position(|line| line.starts_with(front.as_bytes())) {
+        let number = case.line.saturating_add(other);
+        return format!(in case.alloc; "line {number} has that place");
+    }
+    let asked = case.asked.get(at).map_or(b"".as_slice(), |line| line.bytes);
+    format!(in case.alloc; "no line answers {}", ByteWords(asked))
+}
+
+// Returns the reason why a line that begins with its request's place can't be read.
+fn why_unread(line: &[u8]) -> &'static str {
+    if !line.ends_with(b"\n") {
+        "the text ends within this line"
+    } else if line.iter().any(|byte| byte.is_ascii_uppercase()) {
+        "bytes are printed in lower case"
+    } else {
+        "its result can't be read"
+    }
+}
+
+// Returns the complaint about the first line of `rest`, which isn't the completion of its request.
+fn unread(
+    case: &Case<'_>,
+    (at, place): (usize, Place),
+    answers: &[ValidAnswer<'_>],
+    rest: &[u8],
+) -> Checked {
+    let line = next_line(rest).0;
+    let front = format!(in case.alloc; "{} ", PlaceWords(place))?;
+    if !line.starts_with(front.as_bytes()) {
+        let expected = format!(in case.alloc; "{front}and its result")?;
+        let why = why_misplaced(case, at, front.as_str())?;
+        return Ok(Some(Complaint::Line(at, expected, why)));
+    }
+    let expected = answers_words(case.alloc, place, answers)?;
+    let why = why_unread(line).to_owned(case.alloc)?;
+    Ok(Some(Complaint::Line(at, expected, why)))
+}
+
 // Returns the complaint about the completion of a request, if there is one. `severed`: the line and the place of the member that
 // severed its chain.
 fn complaint_of(
     case: &Case<'_>,
-    contents: &Contents<'_>,
+    answers: &[ValidAnswer<'_>],
     severed: Option<(usize, Place)>,
     (at, place): (usize, Place),
     request: &Request,
-    found: Option<&Completion>,
+    it: &Completion,
 ) -> Checked {
-    if let (Some(by), Some(it)) = (severed, found) {
+    if let Some(by) = severed {
         return not_canceled(case, by, (at, it));
     }
-    if matches!(found, Some(it) if place.member > 1 && it.is_refusal(place, Errno::ECANCELED)) {
+    if place.member > 1 && it.is_refusal(place, Errno::ECANCELED) {
         return not_severed(case, at, place.member);
     }
-    let canceled = -Errno::ECANCELED.code();
-    let answers = match severed {
-        Some(_) => vec![in case.alloc; ValidAnswer::among(case.alloc, canceled, canceled)]?,
-        None => answers_of(case, contents, request)?,
-    };
-    let why = match found {
-        None => "its result can't be read".to_owned(case.alloc)?,
-        Some(it) if answers.iter().any(|answer| answer.fits(it)) => return Ok(None),
-        Some(it) => why_not(case, request, it)?,
-    };
-    let expected = answers_words(case.alloc, place, &answers)?;
+    if answers.iter().any(|answer| answer.fits(it)) {
+        return Ok(None);
+    }
+    let expected = answers_words(case.alloc, place, answers)?;
+    let why = why_not(case, request, it)?;
     Ok(Some(Complaint::Line(at, expected, why)))
 }
 
-/// Returns a complaint about the first completion that its request can't have, or that contradicts an earlier one of its chain.
-pub(crate) fn wrong_answer(case: &Case<'_>, completions: &[Completion]) -> Checked {
+/// Returns a complaint about the first line that isn't the completion of its request, or has one that the request can't have or that
+/// contradicts an earlier one of its chain. `rest`: the text after the lines of the completions.
+pub(crate) fn wrong_answer(case: &Case<'_>, completions: &[Completion], rest: &[u8]) -> Checked {
     let mut contents = Contents::new(case)?;
     let mut severed = None;
     for (at, (request, place)) in case.requests.iter().zip(&case.places()?).enumerate() {
@@ -122,7 +173,11 @@ pub(crate) fn wrong_answer(case: &Case<'_>, completions: &[Completion]) -> Check
         if place.member == 1 {
             severed = None;
         }
-        let complaint = complaint_of(case, &contents, severed, (at, place), request, found)?;
+        let answers = valid_answers(case, &contents, severed.is_some(), request)?;
+        let complaint = match found {
+            Some(it) => complaint_of(case, &answers, severed, (at, place), request, it)?,
+            None => unread(case, (at, place), &answers, rest)?,
+        };
         if complaint.is_some() {
             return Ok(complaint);
         }

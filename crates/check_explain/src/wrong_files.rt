@@ -3,9 +3,8 @@
 use crate::case::{Case, Installed, KnownReport};
 use crate::complaint::{Checked, Complaint};
 use crate::kinds::{Act, Effect};
-use crate::words::{FileWords, MarkWords, PlaceWords, line_after, name_of, next_line};
+use crate::words::{FileWords, MarkWords, PlaceWords, name_of, next_line};
 use check_lines::{ClosedLine, read_report};
-use fx_base::Mark;
 
 // Returns the complaint that a line is wrong, in fixed words.
 fn wrong(case: &Case<'_>, at: usize, expected: &str, why: &str) -> Checked {
@@ -19,14 +18,6 @@ fn conflict(case: &Case<'_>, one: usize, other: usize, why: &str) -> Checked {
     Ok(Some(Complaint::Lines(lines, why.to_owned(case.alloc)?)))
 }
 
-// Returns the number, from 0, of the file with a mark. The files from `from` on are tried first.
-fn file_marked(files: &[Installed], from: usize, mark: Mark) -> Option<usize> {
-    match files.iter().skip(from).position(|it| it.file.mark == mark) {
-        Some(at) => Some(at.saturating_add(from)),
-        None => files.iter().position(|it| it.file.mark == mark),
-    }
-}
-
 // Returns the complaint about a line of a closed file, if there is one. Else the file is recorded as closed.
 fn complaint_of(
     case: &Case<'_>,
@@ -36,7 +27,7 @@ fn complaint_of(
 ) -> Checked {
     let last = report.closes.last().copied();
     let before = last.and_then(|nth| report.files.get(nth).copied());
-    let i = file_marked(&report.files, last.unwrap_or(0), line.mark).unwrap_or(usize::MAX);
+    let i = report.file_marked(line.mark).unwrap_or(usize::MAX);
     let mark = MarkWords(line.mark);
     let Some(known) = report.files.get_mut(i) else {
         let expected = "a file that was at a slot, or that a request installed";
@@ -61,26 +52,43 @@ fn complaint_of(
     Ok(None)
 }
 
+// Returns the complaint that a submission has one completion too many.
+fn one_more(case: &Case<'_>, at: usize) -> Checked {
+    let count = case.requests.len();
+    let why = format!(in case.alloc; "the submission has {count} requests, and this is one more")?;
+    wrong(
+        case,
+        at,
+        "a closed file, or the next command's line",
+        why.as_str(),
+    )
+}
+
+// Returns the complaint about the line of a closed file's tag, if there is one.
+fn wrong_tag(case: &Case<'_>, at: usize, it: &Installed, line: &[u8]) -> Checked {
+    let expected = format!(in case.alloc; "tag {}", it.file.tag)?;
+    if line.strip_suffix(b"\n") == Some(expected.as_bytes()) {
+        return Ok(None);
+    }
+    let number = case.line.saturating_add(it.closed.unwrap_or(0));
+    let why = format!(in case.alloc; "{expected} is that of the file of line {number}")?;
+    Ok(Some(Complaint::Line(at, expected, why)))
+}
+
 // Returns the complaint about the lines after the last closed file, if there is one: a completion too many, or a wrong tag.
 fn complaint_after(case: &Case<'_>, report: &KnownReport, rest: &[u8]) -> Checked {
-    let (count, mut rest) = (case.requests.len(), rest);
-    let mut at = count.saturating_add(report.closes.len());
+    let mut rest = rest;
+    let mut at = case.requests.len().saturating_add(report.closes.len());
     let front = format!(in case.alloc; "{}.", case.number())?;
     if rest.starts_with(front.as_bytes()) {
-        let why = format!(in case.alloc;
-            "the submission has {count} requests, and this is one more"
-        )?;
-        let expected = "a closed file, or the next command's line";
-        return wrong(case, at, expected, why.as_str());
+        return one_more(case, at);
     }
     let files = report.closes.iter().filter_map(|i| report.files.get(*i));
-    for Installed { file, closed, .. } in files.filter(|it| it.file.tag != 0) {
-        let expected = format!(in case.alloc; "tag {}", file.tag)?;
+    for it in files.filter(|it| it.file.tag != 0) {
         let (line, after) = next_line(rest);
-        if line.strip_suffix(b"\n") != Some(expected.as_bytes()) {
-            let number = case.line.saturating_add(closed.unwrap_or(0));
-            let why = format!(in case.alloc; "{expected} is that of the file of line {number}")?;
-            return Ok(Some(Complaint::Line(at, expected, why)));
+        let complaint = wrong_tag(case, at, it, line)?;
+        if complaint.is_some() {
+            return Ok(complaint);
         }
         rest = after;
         at = at.saturating_add(1);
@@ -92,11 +100,11 @@ fn complaint_after(case: &Case<'_>, report: &KnownReport, rest: &[u8]) -> Checke
     Ok(None)
 }
 
-/// Returns a complaint about the first wrong line after a submission's completions. It records the closed files in the report.
-pub(crate) fn wrong_close(case: &Case<'_>, report: &mut KnownReport) -> Checked {
-    let mut at = case.requests.len();
-    let mut rest = case.text.get(line_after(case.text, 0, at)..).unwrap_or(b"");
-    for _ in 0..case.text.len() {
+/// Returns a complaint about the first wrong line after a submission's completions, which `text` begins with. It records the closed
+/// files in the report.
+pub(crate) fn wrong_close(case: &Case<'_>, report: &mut KnownReport, text: &[u8]) -> Checked {
+    let (mut at, mut rest) = (case.requests.len(), text);
+    for _ in 0..text.len() {
         if !rest.starts_with(b"closed ") {
             break;
         }
@@ -137,14 +145,15 @@ fn removed(case: &Case<'_>, report: &KnownReport, act: &Act, it: &Installed) -> 
     let Some(later) = report.completions.get(act.line) else {
         return Ok(None);
     };
-    let mut lines = Vec::new(case.alloc);
-    if let Some(line) = it.line {
-        if line >= act.line || report.chain_of(line) != Some(later.place.chain) {
-            return Ok(None);
-        }
-        lines.push(line)?;
+    let chain = Some(later.place.chain);
+    if it
+        .line
+        .is_some_and(|line| line >= act.line || report.chain_of(line) != chain)
+    {
+        return Ok(None);
     }
-    lines.push(act.line)?;
+    let both = [it.line, Some(act.line)];
+    let lines: Vec<usize> = both.iter().copied().flatten().collect(case.alloc)?;
     let (file, slot) = (FileWords(case.catalogue, it.file), it.slot);
     let place = PlaceWords(later.place);
     let why = format!(in case.alloc;
@@ -153,16 +162,25 @@ fn removed(case: &Case<'_>, report: &KnownReport, act: &Act, it: &Installed) -> 
     Ok(Some(Complaint::Lines(lines, why)))
 }
 
-/// Returns a complaint about the first slot at which two files are left, or about the first access that shows that a file without a
-/// `closed` line was removed.
-pub(crate) fn wrong_count(case: &Case<'_>, report: &KnownReport) -> Checked {
-    let mut left: Vec<Option<Installed>> = vec![in case.alloc; None; case.size()]?;
+// Returns a complaint about the first slot at which two files are left. Sets the file that is left at each slot.
+fn two_at_a_slot(case: &Case<'_>, report: &KnownReport, left: &mut [Option<Installed>]) -> Checked {
     for it in report.files.iter().filter(|it| it.closed.is_none()) {
         match left.get_mut(it.slot as usize) {
             Some(Some(one)) => return two_left(case, one, it),
             Some(at) => *at = Some(*it),
             None => {}
         }
+    }
+    Ok(None)
+}
+
+/// Returns a complaint about the first slot at which two files are left, or about the first access that shows that a file without a
+/// `closed` line was removed.
+pub(crate) fn wrong_count(case: &Case<'_>, report: &KnownReport) -> Checked {
+    let mut left: Vec<Option<Installed>> = vec![in case.alloc; None; case.size()]?;
+    let complaint = two_at_a_slot(case, report, &mut left)?;
+    if complaint.is_some() {
+        return Ok(complaint);
     }
     for act in &report.acts {
         let at = act.slot.and_then(|slot| left.get(slot as usize));
