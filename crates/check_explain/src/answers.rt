@@ -1,6 +1,6 @@
 //! The answers that a request may give, whatever the other requests answer (docs/MODEL.md, "What a request answers").
 use crate::case::Case;
-use crate::kinds::{Act, Effect, acts_of, bytes_of, fixed_result, may_lack_memory};
+use crate::kinds::{Act, Effect, acts_of, fixed_result};
 use crate::words::{GotWords, PlaceWords, name_of, sign_before};
 use fx_base::{Errno, NoMemory};
 use fx_chain::{Completion, Place, Request};
@@ -168,7 +168,7 @@ fn read_answer<'a>(
     request: &Request,
     entry: u8,
 ) -> Result<ValidAnswer<'a>, NoMemory> {
-    let bytes = bytes_of(case, request, entry)?;
+    let bytes = request.bytes_of(case.alloc, case.catalogue, entry)?;
     let number = i32::try_from(bytes.len()).unwrap_or(i32::MAX);
     Ok(ValidAnswer {
         first: number,
@@ -214,7 +214,7 @@ pub(crate) fn answers_of<'a>(
             answers.push(error(Errno::EBADF))?;
         }
     }
-    if may_lack_memory(request) {
+    if request.bytes_asked() > 0 {
         answers.push(error(Errno::ENOMEM))?;
     }
     Ok(answers)

@@ -1,8 +1,8 @@
-//! The kinds of requests: their accesses, fixed results and reasons of refusals. No other module matches on the kind.
+//! What a request intends, for diagnostics: its accesses, its fixed result, the reason of its refusal.
 use crate::case::{Case, places_of};
 use bitflags::Flags;
 use fx_base::{Catalogue, Errno, NoMemory};
-use fx_chain::{Completion, Op, Request, SqeFlags, Target, refusal_of};
+use fx_chain::{Completion, Intent, Place, Request, SqeFlags, intent_of, refusal_of};
 use fx_order::AccessPlace;
 use std::alloc::{AllocError, Global};
 
@@ -50,36 +50,32 @@ fn unread_act(slot: Option<u32>, effect: Effect, entry: Option<usize>) -> Act {
     }
 }
 
+// A place that no request has: the files of its intents are only asked for their entries.
+const NO_PLACE: Place = Place {
+    submission: 0,
+    chain: 0,
+    member: 0,
+};
+
 /// Returns the accesses that a request makes unless it is refused or canceled, in order.
 pub(crate) fn acts_of(
     alloc: Global,
     catalogue: &Catalogue,
     request: &Request,
-) -> Result<Vec<Act>, AllocError> {
+) -> Result<Vec<Act>, NoMemory> {
     let mut all = Vec::new(alloc);
-    match &request.op {
-        Op::Open { name, target } => {
-            let slot = match *target {
-                Target::Slot(slot) => Some(slot),
-                Target::Any => None,
-            };
-            if let Some(entry) = catalogue.find(name.as_str()) {
-                all.push(unread_act(slot, Effect::Installs(entry), None))?;
-            }
-        }
-        Op::Read { slot, .. } => all.push(unread_act(Some(*slot), Effect::Looks, None))?,
-        Op::Close { slot } => all.push(unread_act(Some(*slot), Effect::Takes, None))?,
-        Op::Update { off, list } => {
-            for (i, number) in list.iter().enumerate() {
-                let slot = off.saturating_add(u32::try_from(i).unwrap_or(u32::MAX));
-                let effect = match u8::try_from(*number) {
-                    Ok(entry) => Effect::Installs(entry),
-                    Err(_) if *number == -1 => Effect::Clears,
-                    Err(_) => continue,
-                };
-                all.push(unread_act(Some(slot), effect, Some(i)))?;
-            }
-        }
+    for (made, entry) in request.positions(alloc)?.iter().enumerate() {
+        let Some(intent) = intent_of(catalogue, u32::MAX, NO_PLACE, request, made) else {
+            break;
+        };
+        let (slot, effect) = match intent {
+            Intent::Look(slot) => (Some(slot), Effect::Looks),
+            Intent::Take(slot) => (Some(slot), Effect::Takes),
+            Intent::Clear(slot) => (Some(slot), Effect::Clears),
+            Intent::Put(slot, file) => (Some(slot), Effect::Installs(file.entry)),
+            Intent::Allocate(file) => (None, Effect::Installs(file.entry)),
+        };
+        all.push(unread_act(slot, effect, *entry))?;
     }
     Ok(all)
 }
@@ -89,34 +85,12 @@ pub(crate) fn fixed_result(case: &Case<'_>, request: &Request) -> Option<i32> {
     if let Some(errno) = case.refusal_of(request) {
         return Some(-errno.code());
     }
-    match &request.op {
-        Op::Open {
-            target: Target::Slot(_),
-            ..
-        } => Some(0),
-        Op::Update { list, .. } => i32::try_from(list.len()).ok(),
-        _ => None,
-    }
+    request.fixed_result()
 }
 
 /// Checks whether it depends on the slots whether a request severs its chain.
 pub(crate) fn may_sever(case: &Case<'_>, request: &Request) -> bool {
     !request.flags.contains(SqeFlags::IO_HARDLINK) && fixed_result(case, request).is_none()
-}
-
-/// Checks whether a request is a read of some bytes, which may answer -12.
-pub(crate) fn may_lack_memory(request: &Request) -> bool {
-    matches!(request.op, Op::Read { len: 1.., .. })
-}
-
-/// Returns the bytes that a request reads of a file of a catalogue entry, or no bytes if it isn't a read.
-pub(crate) fn bytes_of(case: &Case<'_>, request: &Request, entry: u8) -> Result<Vec<u8>, NoMemory> {
-    let mut bytes = Vec::new(case.alloc);
-    if let Op::Read { off, len, .. } = &request.op {
-        bytes.reserve_exact(*len as usize)?;
-        case.catalogue.read_into(entry, *off, *len, &mut bytes);
-    }
-    Ok(bytes)
 }
 
 /// Returns for each catalogue entry whether a file of it has the bytes that a read returned.
@@ -128,7 +102,7 @@ pub(crate) fn entries_read(
     let mut fits = [false; 256];
     for number in 0..case.catalogue.len() {
         let entry = u8::try_from(number).unwrap_or(u8::MAX);
-        let bytes = bytes_of(case, request, entry)?;
+        let bytes = request.bytes_of(case.alloc, case.catalogue, entry)?;
         fits[entry as usize] = bytes.as_slice() == it.got.as_slice();
     }
     Ok(fits)
@@ -143,7 +117,7 @@ pub(crate) fn why_refused(
     let (alloc, size) = (case.alloc, case.size());
     match errno {
         Errno::ENOENT => format!(in alloc; "no file of the script has that name"),
-        Errno::EBADF if matches!(request.op, Op::Update { .. }) => {
+        Errno::EBADF if refusal_of(case.catalogue, u32::MAX, request).is_some() => {
             format!(in alloc; "an entry of the list names no file")
         }
         _ if size == 0 => format!(in alloc; "there is no table"),
@@ -155,20 +129,20 @@ pub(crate) fn why_refused(
 /// request is canceled and no allocation fails.
 ///
 /// # Errors
-/// `AllocError` if an allocation fails.
+/// `NoMemory` if an allocation fails.
 pub fn access_places(
     alloc: Global,
     catalogue: &Catalogue,
     size: u32,
     requests: &[Request],
-) -> Result<Vec<Vec<AccessPlace>>, AllocError> {
+) -> Result<Vec<Vec<AccessPlace>>, NoMemory> {
     let mut chains: Vec<Vec<AccessPlace>> = Vec::new(alloc);
     for (request, at) in requests.iter().zip(&places_of(alloc, 0, requests)?) {
         if at.member == 1 {
             chains.push(Vec::new(alloc))?;
         }
         if let (None, Some(places)) = (refusal_of(catalogue, size, request), chains.last_mut()) {
-            for Act { entry, .. } in acts_of(alloc, catalogue, request)? {
+            for entry in request.positions(alloc)? {
                 places.push(AccessPlace {
                     chain: at.chain,
                     member: at.member,
