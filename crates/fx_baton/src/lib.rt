@@ -12,6 +12,7 @@ mod life;
 mod pass;
 mod shown;
 mod table;
+mod table_calls;
 mod view;
 
 pub use pass::BatonPass;

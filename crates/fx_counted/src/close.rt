@@ -21,9 +21,9 @@ use fx_words::node_of;
 use std::alloc::Global;
 
 impl CountedTable {
-    // Turns the table back into a table of one thread, after all its passes have come back, idle (`is_idle`): as many
-    // as `open` returned, in any order. It allocates nothing, so it can't run out of memory.
-    pub(crate) fn close(self, mut passes: Vec<CountedPass>) -> PlainTable
+    /// Turns the table back into a table of one thread, after all its passes have come back, idle (`is_idle`): as many
+    /// as `open` returned, in any order. It allocates nothing, so it can't run out of memory.
+    pub fn close(self, mut passes: Vec<CountedPass>) -> PlainTable
         requires all { length passes.items ≡ (opening_of_table self).passes }
         requires ready { All (λ p. IsPassOfTable self p × IsIdle (view_of p)) passes.items }
         ensures { ClosesTable (opening_of_table self) (map view_of passes.items) result }

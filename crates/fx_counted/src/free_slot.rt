@@ -97,12 +97,14 @@ impl CountedTable {
         }
     }
 
-    // Installs a file at an empty slot of the allocation range, under the next number of an idle pass (`is_idle`) that
-    // has one left (`numbers_left`), and returns the slot (io_uring_prep_openat(3), "IORING_FILE_INDEX_ALLOC"). It
-    // scans the range in rounds until it finds an empty slot, or every slot was full at one moment, and yields its
-    // thread between two rounds. Returns the file if every slot of the range has a file (ENFILE). No number is used
-    // then.
-    pub(crate) fn put_any<R: Wait>(
+    /// Installs a file at an empty slot of the allocation range, under the next number of an idle pass (`is_idle`) that
+    /// has one left (`numbers_left`), and returns the slot (io_uring_prep_openat(3), "IORING_FILE_INDEX_ALLOC"). It
+    /// scans the range in rounds until it finds an empty slot, or every slot was full at one moment, and yields its
+    /// thread between two rounds.
+    ///
+    /// # Errors
+    /// Returns the file if every slot of the range has a file (ENFILE). No number is used.
+    pub fn put_any<R: Wait>(
         &self,
         rt: &R,
         pass: &mut CountedPass,

@@ -86,7 +86,7 @@ finds_the_change o before since change look slot left found legal leaves is =
     (last_change o before change slot left leaves since)
 
 -- the same, if no action between changes the slot
-finds_what_was_left : (o : Opening) (before since : List Event) (change look : Event) (slot : ℕ) (left found : Option File)
+pub finds_what_was_left : (o : Opening) (before since : List Event) (change look : Event) (slot : ℕ) (left found : Option File)
     → IsLegalAt o (before ▷ change ▷▷ since ▷ look) → LeavesAt slot left change.action → look.action ≡ Look slot found → AllKeepSlot slot since → found ≡ left
 finds_what_was_left o before since change look slot left found legal leaves is keep =
     ⊎_elim (λ e. e) (λ later. absurd (not_both slot found later.0.action later.2 (kept_by slot since keep later.0 later.1)))

@@ -1,9 +1,10 @@
 //! The real-time law of a shared table: what a thread does after another thread's call returned follows that call.
-ghost use Rattle.std.specs.Prelude.{◌≡◌, ◌<◌, List};
+ghost use Rattle.std.specs.Prelude.{◌≡◌, ◌≢◌, ◌<◌, true, false, None, Err, List};
 ghost use Rattle.fx_plain.specs.declared.event.Event.{Event};
 ghost use Rattle.fx_table.specs.Opening.{size_of};
 ghost use Rattle.fx_table.specs.Pass.{IsIdle};
 ghost use Rattle.fx_table.specs.Showing.{Learns, LooksUpAfter};
+ghost use Rattle.fx_table.specs.declared.values.LookFault.TheVariants.{Spent};
 
 use crate::shared_table::SharedTable;
 use crate::values::LookUp;
@@ -18,7 +19,7 @@ use std::sync::Wait;
 /// time.
 pub trait RealTime: SharedTable {
     /// The history that a pass had seen when it showed it. It has no bytes, and may be dropped.
-    type Seen: Send + Sync;
+    type Seen: Send + Sync + Drop;
 
     // The history that was shown.
     ghost shown: { Self.Seen → List Event };
@@ -68,6 +69,8 @@ pub trait RealTime: SharedTable {
         ensures fits { Self.fits self.now pass.new }
         ensures looked { LooksUpAfter (Self.opening self.now) (shown seen.now)
             (Self.view pass.old) slot result.found result.freed (Self.view pass.new) }
+        ensures none_freed { (Self.opening self.now).lasts ≡ false → result.freed ≡ None }
+        ensures never_spent { (Self.opening self.now).lasts ≡ true → result.found ≢ Err Spent }
     {
         self.learn(pass, seen);
         self.look_up(rt, pass, slot)
