@@ -9,7 +9,7 @@ use std::fs;
 use std::io::{self, ErrorKind, Read};
 use thiserror::Error;
 
-/// The reason for which the program ends without a verdict (this project's own).
+/// The reason for which the program ends without a verdict.
 #[derive(Debug, Drop, Error)]
 pub enum NoVerdict {
     /// The words of the command line are refused.

@@ -89,7 +89,7 @@ fn tell(rt: &HostRuntime, begin: &Instant, judgement: &Judgement, states: usize,
 }
 
 /// Decides whether a script may print a text, as `check_judge::judge` does with the given limits. If standard error is a terminal, it
-/// searches with few states first, and after two seconds prints how many states were too few (this project's own).
+/// searches with few states first, and after two seconds prints how many states were too few.
 ///
 /// # Errors
 /// `NoMemory` if an allocation fails.
@@ -202,7 +202,7 @@ fn shown_after<'a>(
 }
 
 /// Judges a text after a break, from the ring that the text shows there: the verdict is that of `check_judge::judge_from` on that
-/// ring, and nothing is proved of whether a play leads to it (this project's own). A further break is counted from the beginning of
+/// ring, and nothing is proved of whether a play leads to it. A further break is counted from the beginning of
 /// the script and of the text. Returns `None` if the text shows no ring there.
 ///
 /// # Errors

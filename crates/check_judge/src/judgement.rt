@@ -20,7 +20,7 @@ pub enum Reason {
     Chains,
 }
 
-/// A verdict on the report of a submission (this project's own).
+/// A verdict on the report of a submission.
 #[derive(Debug, Drop)]
 pub enum Verdict {
     /// This order of accesses leads to the report.

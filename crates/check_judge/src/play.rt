@@ -160,7 +160,7 @@ pub fn judge(
 /// Decides whether the commands of a script after the first `done` may print a text from a ring with these slots and counts, as
 /// `judge` does from a ring without a table. In a break, the commands are counted after the first `done`, and the bytes from the
 /// beginning of the text. Returns `None` if there are fewer commands, or if no ring has these slots and counts: a file isn't in
-/// the catalogue, its mark isn't counted or is at two slots, or a limit is exceeded (this project's own).
+/// the catalogue, its mark isn't counted or is at two slots, or a limit is exceeded.
 ///
 /// Nothing is said of whether a play leads to such a ring.
 ///

@@ -15,7 +15,7 @@ use fx_chain::{Completion, Request};
 use fx_order::Slots;
 use std::alloc::Global;
 
-/// A report of a submission that is to be judged, for instance a kernel's (this project's own).
+/// A report of a submission that is to be judged, for instance a kernel's.
 #[derive(Debug, Drop)]
 pub struct Told {
     /// The completion of each request, in order of place.

@@ -1,4 +1,4 @@
--- The pieces of a line (this project's own).
+-- The pieces of a line.
 use Rattle.std.specs.Prelude.{◌≡◌, ℕ, ℤ, List, ◌∷◌, ◌++◌, length, decimal, All, IsTrue}
 use Rattle.std.specs.Borrow.{Bor}
 use Rattle.std.specs.Fmt.{signed_decimal}

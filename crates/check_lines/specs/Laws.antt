@@ -1,4 +1,4 @@
--- Laws of printed lines (this project's own).
+-- Laws of printed lines.
 use Rattle.std.specs.Prelude.{◌≡◌, ℕ, ℤ, List, ◌++◌, length, IsTrue}
 use Rattle.fx_chain.specs.Operation.{Asked}
 use Rattle.fx_ring.specs.Ring.{RingContents}

@@ -1,4 +1,4 @@
--- The lines of a submission's report (this project's own).
+-- The lines of a submission's report.
 use Rattle.std.specs.Prelude.{◌≡◌, ℕ, ◌<◌, ◌^◌, ◌==◌, Bool, not, ℤ, pos, negsuc, List, ◌++◌, length}
 use Rattle.std.specs.Prelude.{map, codes, All, IsTrue, Option}
 use Rattle.std.specs.Io.{StartsWith}

@@ -1,4 +1,4 @@
--- A text that was printed, read back (this project's own).
+-- A text that was printed, read back.
 use Rattle.std.specs.Prelude.{◌≡◌, ℕ, List, Option, Some, None}
 
 -- a text is printed from this value, which fits, and from no other value that fits

@@ -1,4 +1,4 @@
-//! Laws of printed lines. Each is the contract of a function that does nothing (this project's own).
+//! Laws of printed lines. Each is the contract of a function that does nothing.
 ghost use Rattle.std.specs.Prelude.{◌≡◌, ℕ, List};
 ghost use Rattle.fx_base.specs.Catalogue.{FileEntry};
 ghost use Rattle.fx_ring.specs.Submission.{Reported};

@@ -28,7 +28,7 @@ pub fn cut(text: &[u8], at: u8) -> Option<(&[u8], &[u8])>
     None
 }
 
-/// Returns the rest of a text after an expected beginning, or `None` if the text doesn't begin with it (this project's own).
+/// Returns the rest of a text after an expected beginning, or `None` if the text doesn't begin with it.
 pub fn rest_behind<'a>(text: &'a [u8], expected: &[u8]) -> Option<&'a [u8]>
     ensures { ReadsPrinted (λ (rest : List ℕ). expected.now ++ rest) (λ _. Unit) text.now
         (option_map (λ rest. rest.now) result) }
@@ -179,7 +179,7 @@ pub fn read_completions(
     Ok(Some((completions, rest)))
 }
 
-/// A line of a closed file, read (this project's own).
+/// A line of a closed file, read.
 #[derive(Debug, Drop)]
 pub struct ClosedLine {
     /// The installation of the file.
@@ -276,7 +276,7 @@ pub fn read_tags(alloc: Global, text: &[u8]) -> Result<Option<(Vec<u64>, &[u8])>
     Ok(Some((tags, rest)))
 }
 
-/// The lines of a submission's report, read (this project's own).
+/// The lines of a submission's report, read.
 #[derive(Debug, Drop)]
 pub struct ReportLines {
     /// The completions, in the order of the text.
@@ -290,7 +290,7 @@ pub struct ReportLines {
 /// Reads the report that a text begins with, and returns it with the rest of the text: `count` lines of completions, then all
 /// lines of closed files that follow, then all lines of tags. No other report with numbers in the ranges of their types, and with
 /// names without a line end, is printed so. Returns `None` if the text doesn't begin with such lines, or if a line of a closed file
-/// follows those of the tags. The order of lines, repeated lines and the meaning of numbers aren't checked (this project's own).
+/// follows those of the tags. The order of lines, repeated lines and the meaning of numbers aren't checked.
 ///
 /// # Errors
 /// `NoMemory` if an allocation fails.

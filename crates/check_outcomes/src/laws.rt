@@ -1,4 +1,4 @@
-//! Laws of closed lists of states, each the contract of a function that does nothing (this project's own).
+//! Laws of closed lists of states, each the contract of a function that does nothing.
 ghost use Rattle.check_outcomes.specs.Nodes.{EachOutcomeIsListed};
 ghost use Rattle.check_outcomes.specs.Reports.{EachReportIsListed};
 

@@ -8,7 +8,7 @@ use indexmap::IndexSet;
 use std::alloc::Global;
 
 /// The reason for which a search leaves a submission undecided. It is advice: no contract says that the search would have
-/// decided it within larger limits (this project's own).
+/// decided it within larger limits.
 #[derive(Clone, Copy, Debug, PartialEq, Eq)]
 pub enum Doubt {
     /// The search stopped at its limit of states.
@@ -19,7 +19,7 @@ pub enum Doubt {
     NotShown,
 }
 
-/// The limits of a search for the states of a submission, or of a part of one (this project's own).
+/// The limits of a search for the states of a submission, or of a part of one.
 #[derive(Clone, Copy, Debug, PartialEq, Eq)]
 pub struct Limits {
     /// The largest number of states.

@@ -1,5 +1,5 @@
 -- The ways by which the plays of a script go if no allocation fails: the lines that each command
--- prints, and those of the end (this project's own).
+-- prints, and those of the end.
 use Rattle.std.specs.Prelude.{◌≡◌, ℕ, ◌≤◌, ◌<◌, ◌^◌, ◌-◌, List, [], ◌∷◌, ◌++◌, Bool, Contains}
 use Rattle.std.specs.Prelude.{IsTrue, length, map}
 use Rattle.std.specs.List.{concat}

@@ -9,7 +9,7 @@ use std::alloc::AllocError;
 use std::{env, io};
 use thiserror::Error;
 
-/// The reason why the words of a command line are refused (this project's own).
+/// The reason why the words of a command line are refused.
 #[derive(Debug, Drop, Error)]
 pub enum Refusal {
     /// Help or the version was requested, or the arguments are invalid.

@@ -1,4 +1,4 @@
--- The files that can be opened (this project's own: a kernel opens files of a file system).
+-- The files that can be opened (a kernel opens files of a file system).
 use Rattle.std.specs.Prelude.{◌≡◌, ℕ, ◌≤◌, List, [], length, take, drop, slice_get, Option, Some}
 use Rattle.std.specs.Prelude.{None, All, IsTrue, option_map}
 use Rattle.fx_base.specs.Name.{is_name}

@@ -1,4 +1,4 @@
--- Names of catalogue entries (this project's own).
+-- Names of catalogue entries.
 use Rattle.std.specs.Prelude.{ℕ, Bool, ◌&&◌, ◌||◌, ◌==◌, nat_le, List, length}
 use Rattle.std.specs.List.{list_all}
 use Rattle.fx_base.specs.declared.name.TheConstants.{LONGEST_NAME}

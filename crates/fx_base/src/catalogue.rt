@@ -1,4 +1,4 @@
-//! The catalogue: the files that a script can open, found by name and read by place (this project's own).
+//! The catalogue: the files that a script can open, found by name and read by place.
 ghost use Rattle.std.specs.Prelude.{◌≡◌, ◌+◌, ◌<◌, ◌≤◌, ℕ, [], ◌∷◌, ◌++◌, length, OnOk, OnErr, IfSome, IfNone, IsOkUnless, Some, None, option_map, slice_get, string_bytes, IsTrue, ◌↔◌, vec_len, vec_capacity, is_some};
 ghost use Rattle.std.specs.Prelude.{take, drop};
 ghost use Rattle.fx_base.specs.Name.{is_name};
@@ -61,7 +61,7 @@ struct Entry {
 }
 
 /// The files that can be opened: at most 256 entries, each with a name of its own and at most 4,096 bytes. An entry
-/// keeps its place, counted from 0, and its bytes never change (this project's own; a kernel opens files of a file
+/// keeps its place, counted from 0, and its bytes never change (a kernel opens files of a file
 /// system).
 #[derive(Debug, Drop)]
 pub struct Catalogue {

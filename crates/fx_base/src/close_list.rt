@@ -1,4 +1,4 @@
-//! Lists of closes: the files that were closed, in order (this project's own).
+//! Lists of closes: the files that were closed, in order.
 ghost use Rattle.std.specs.Prelude.{◌≡◌, ◌+◌, ◌-◌, ◌<◌, ◌≤◌, [], ◌∷◌, ◌++◌, length, IfOk, IsPermutation};
 ghost use Rattle.fx_base.specs.CloseList.{IsInOrderOfMark};
 ghost use Rattle.fx_base.specs.Tags.{tags_of};

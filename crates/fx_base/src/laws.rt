@@ -1,4 +1,4 @@
-//! The limits of a catalogue, as numbers. Each is a clause of a function with an empty body (this project's own).
+//! The limits of a catalogue, as numbers. Each is a clause of a function with an empty body.
 
 ghost use Rattle.std.specs.Prelude.{◌≡◌};
 ghost use Rattle.fx_base.specs.declared.catalogue.TheConstants.{MOST_ENTRIES, LONGEST_ENTRY};

@@ -1,7 +1,7 @@
-//! Marks: the names of installations (this project's own).
+//! Marks: the names of installations.
 
 /// The installation that an open file comes from. No two installations of one ring have the same mark. Marks are
-/// ordered: those of registrations come first, and then the fields decide in their order (this project's own).
+/// ordered: those of registrations come first, and then the fields decide in their order.
 #[derive(Clone, Copy, Debug, PartialEq, Eq, PartialOrd, Ord)]
 pub enum Mark {
     /// Installed by a registration.

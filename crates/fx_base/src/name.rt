@@ -1,4 +1,4 @@
-//! Names of catalogue entries (this project's own; a kernel's file names may be longer and have other bytes).
+//! Names of catalogue entries (a kernel's file names may be longer and have other bytes).
 ghost use Rattle.std.specs.Prelude.{◌≡◌};
 ghost use Rattle.std.specs.List.{list_all};
 ghost use Rattle.fx_base.specs.Name.{name_byte, is_name};

@@ -2,7 +2,7 @@
 use std::alloc::{AllocError, AllocFailed};
 
 /// The error of a failed allocation. A call that returns it leaves its arguments as they were, unless its documentation
-/// says otherwise (this project's own; the kernel returns ENOMEM).
+/// says otherwise (the kernel returns ENOMEM).
 #[derive(Clone, Copy, Debug, PartialEq, Eq)]
 pub struct NoMemory;
 

@@ -17,7 +17,7 @@ pub struct Closed {
 }
 
 /// An open file. It must be consumed: the compiler rejects a program that drops one without [`crate::CloseList::close`]
-/// or [`OpenFile::discard`]. Contracts see it as its identity (this project's own; a kernel has a `struct file` here).
+/// or [`OpenFile::discard`]. Contracts see it as its identity (a kernel has a `struct file` here).
 pub struct OpenFile {
     mark: Mark,
     entry: u8,

@@ -2,7 +2,7 @@
 use crate::completion::Place;
 
 /// The calls that a player makes before each request that it starts and after that request's completion, so that a test
-/// can stop threads at chosen points (this project's own). A player makes no call for a request that is canceled.
+/// can stop threads at chosen points. A player makes no call for a request that is canceled.
 pub trait Gate: Sync {
     /// Runs before the request at this place starts.
     fn before(&self, place: Place);

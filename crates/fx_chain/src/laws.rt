@@ -1,4 +1,4 @@
-//! Laws of runs, faults and chains. Each is the contract of a function with an empty body (this project's own).
+//! Laws of runs, faults and chains. Each is the contract of a function with an empty body.
 
 ghost use Rattle.std.specs.Prelude.{◌≡◌, List, ◌∷◌, ◌++◌, MatchOption};
 ghost use Rattle.fx_chain.specs.Faults.{HasNoFault, IsFirstFault, fault_of};

@@ -71,7 +71,7 @@ pub struct Request {
 
 impl Request {
     /// Returns the number of files that the request installs: 1 for an open, the number of entries that are 0 or more
-    /// for an update, otherwise 0. Each uses a file number of the table (this project's own).
+    /// for an update, otherwise 0. Each uses a file number of the table.
     pub fn installs(&self) -> usize
         ensures { result ≡ installs_of (operation_of self.now.op) }
     {

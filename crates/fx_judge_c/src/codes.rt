@@ -1,4 +1,4 @@
-//! The numbers that the functions return, as `include/yachtjudge.h` has them (this project's own).
+//! The numbers that the functions return, as `include/yachtjudge.h` has them.
 /// The script may print the text.
 pub const LEGAL: u32 = 0;
 

@@ -1,4 +1,4 @@
--- Reading a line word by word (this project's own).
+-- Reading a line word by word.
 use Rattle.std.specs.Prelude.{◌≡◌, ℕ, List, [], ◌∷◌, Result, Ok, Err}
 use Rattle.std.specs.Borrow.{Bor}
 use Rattle.fx_language.specs.declared.fault.ScriptFault.{ScriptFault}

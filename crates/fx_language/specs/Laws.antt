@@ -1,4 +1,4 @@
--- Laws of every byte string (this project's own).
+-- Laws of every byte string.
 use Rattle.std.specs.Prelude.{◌≡◌, ◌⊎◌, ℕ, List}
 use Rattle.fx_language.specs.declared.fault.ScriptFault.{ScriptFault}
 use Rattle.fx_language.specs.Script.{AreFiles, Meaning, IsScript, HasFault}

@@ -1,4 +1,4 @@
--- The meaning of a script's line that isn't skipped, or its first fault (this project's own).
+-- The meaning of a script's line that isn't skipped, or its first fault.
 use Rattle.std.specs.Prelude.{ℕ, ℤ, Bool, true, false, List, [], ◌∷◌, codes, Option, Some, None}
 use Rattle.std.specs.Prelude.{option_map, Result, Ok, Err, ok_or, if◌then◌else◌}
 use Rattle.std.specs.Str.{bytes_eq}

@@ -1,4 +1,4 @@
--- The lines of a script and the words of a line (this project's own).
+-- The lines of a script and the words of a line.
 use Rattle.std.specs.Prelude.{ℕ, ◌==◌, nat_le, Bool, ◌&&◌, ◌||◌, List, length, slice_index}
 use Rattle.std.specs.List.{slice_split, list_all}
 

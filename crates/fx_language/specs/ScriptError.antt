@@ -1,4 +1,4 @@
--- The meaning of the reader's errors (this project's own).
+-- The meaning of the reader's errors.
 use Rattle.std.specs.Prelude.{◌≡◌, ℕ, List, Result, Ok, Err}
 use Rattle.fx_language.specs.declared.fault.ScriptError.{ScriptError}
 use Rattle.fx_language.specs.declared.fault.ScriptError.TheVariants.{Fault, NoMemory}

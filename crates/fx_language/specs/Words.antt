@@ -1,4 +1,4 @@
--- The meaning of a script's words (this project's own).
+-- The meaning of a script's words.
 use Rattle.std.specs.Prelude.{ℕ, suc, zero, ◌==◌, nat_le, Bool, ◌&&◌, ◌||◌, not, ℤ, pos, negsuc}
 use Rattle.std.specs.Prelude.{List, [], ◌∷◌, length}
 use Rattle.std.specs.Prelude.{drop, slice_index, codes, Option, Some, None, option_map}

@@ -5,7 +5,7 @@ ghost use Rattle.fx_language.specs.declared.fault.LineError.TheVariants.{Fault, 
 use std::alloc::{AllocError, AllocFailed};
 use thiserror::Error;
 
-/// A fault of a script's line. The faults of a line are checked in the order of the variants (this project's own). Its
+/// A fault of a script's line. The faults of a line are checked in the order of the variants. Its
 /// text is the name that the program prints.
 #[derive(Clone, Copy, Debug, PartialEq, Eq, Error)]
 pub enum ScriptFault {

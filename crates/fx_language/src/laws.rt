@@ -1,5 +1,5 @@
 //! The limits of scripts, and laws of them, over bytes alone. Each is the contract of a function with an empty body
-//! (this project's own).
+//!.
 
 ghost use Rattle.std.specs.Prelude.{◌≡◌, ℕ, List};
 ghost use Rattle.fx_language.specs.Laws.{EachScriptHasFiles, IsScriptOrFaulty};

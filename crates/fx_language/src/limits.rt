@@ -1,4 +1,4 @@
-//! The limits of scripts (this project's own).
+//! The limits of scripts.
 
 /// The greatest number of bytes of a script.
 pub const LONGEST_SCRIPT: usize = 4_194_304;

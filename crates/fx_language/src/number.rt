@@ -11,7 +11,7 @@ fn is_digit(b: u8) -> bool
     matches!(b, b'0'..=b'9')
 }
 
-/// Parses a word as a number, at most `largest`: decimal digits without a leading zero (this project's own).
+/// Parses a word as a number, at most `largest`: decimal digits without a leading zero.
 pub fn number_up_to(largest: u64, word: &[u8]) -> Option<u64>
     ensures { result ≡ number_up_to largest word.now }
 {

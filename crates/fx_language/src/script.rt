@@ -11,7 +11,7 @@ use fx_base::Catalogue;
 use std::alloc::Global;
 use std::marker::Model;
 
-/// A script that was read: the files that its requests can open, and its commands in order (this project's own).
+/// A script that was read: the files that its requests can open, and its commands in order.
 #[derive(Drop)]
 pub struct Script {
     catalogue: Catalogue,

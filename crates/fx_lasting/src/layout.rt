@@ -1,6 +1,6 @@
 //! The places of a table's words. The control word, each slot's word and each pass's hold word have a cache line of their
 //! own, and so has the list of passes that ever looked a file up, a bit for each. The nodes' words follow them, side by side
-//! (this project's own).
+//!.
 ghost use Rattle.std.specs.Prelude.{◌≡◌, ◌<◌, ◌≤◌};
 ghost use Rattle.fx_plain.specs.declared.table.TheConstants.{MOST_SLOTS};
 ghost use Rattle.fx_lasting.specs.Layout.{control_place, list_place, slot_place, hold_place, node_place, words_for, block_for, block_start, nodes_for};

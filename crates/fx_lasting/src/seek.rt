@@ -59,7 +59,7 @@ impl LastingTable {
 
     /// Chooses the node of the next file of an idle pass (`is_idle`), and returns it, in at most as many steps as the pass's
     /// block has nodes. The next installation uses it, if no look-up or removal comes between. No open file is on it until
-    /// then (`chosen_nodes_are_free`). For a pass that isn't idle it returns the node where the pass's next search begins (this project's own).
+    /// then (`chosen_nodes_are_free`). For a pass that isn't idle it returns the node where the pass's next search begins.
     pub fn next_node(&self, pass: &mut LastingPass) -> u32
         requires fits { IsPassOfTable self.now pass.old }
         requires numbers { 0 < (view_of pass.old).numbers_left }

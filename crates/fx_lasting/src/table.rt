@@ -18,7 +18,7 @@ use std::alloc::Global;
 /// limit. A file that is looked up seldom is counted at its slot; one that is looked up often is announced in a word of
 /// the pass's own, so that passes that read one slot don't disturb each other. Of all calls only `put_any` may wait. It
 /// must be consumed: the compiler rejects a program that drops one without [`LastingTable::close`] or
-/// [`LastingTable::abandon`] (this project's own).
+/// [`LastingTable::abandon`].
 pub struct LastingTable {
     pub(crate) table: Table<Option<OpenFile>, View, Start, OneHistory, Global>,
     // The table that was opened, without its files. They go back into it at the close, which therefore allocates

@@ -1,5 +1,5 @@
 //! Laws that relate orders of requests to histories of a table, and to what requests intend, over definitions alone.
-//! Each is the contract of a function with an empty body (this project's own).
+//! Each is the contract of a function with an empty body.
 
 ghost use Rattle.fx_order.specs.Laws.{EachClosedFileIsKnown, EachHistoryIsAnOrder, EachOrderIsAHistory};
 ghost use Rattle.fx_order.specs.Laws.{EachReportLeadsToOneRing, EachRequestDoesAsItIntends, NoFileThatStaysIsClosed};

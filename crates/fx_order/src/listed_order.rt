@@ -1,7 +1,7 @@
 //! Orders of a submission's requests, as lists.
 use crate::access::ChainAccess;
 
-/// The place of the request that makes an access of an order (this project's own).
+/// The place of the request that makes an access of an order.
 #[derive(Clone, Copy, Debug, PartialEq, Eq)]
 pub struct AccessPlace {
     /// The number of the chain in the submission, from 1.
@@ -12,7 +12,7 @@ pub struct AccessPlace {
     pub entry: Option<usize>,
 }
 
-/// An order of an accepted submission's requests, done one at a time (this project's own).
+/// An order of an accepted submission's requests, done one at a time.
 #[derive(Debug, Drop)]
 pub struct Order {
     /// The number of the submission among the accepted ones, from 1.

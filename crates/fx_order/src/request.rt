@@ -17,7 +17,7 @@ use fx_base::{Catalogue, Closed, Errno, NoMemory};
 use fx_chain::{Completion, Op, Place, Request, Target, count_of, refusal_of};
 use std::alloc::Global;
 
-/// The values that stay the same while a submission's requests are checked (this project's own).
+/// The values that stay the same while a submission's requests are checked.
 #[derive(Drop)]
 pub struct OrderSetting<'a> {
     /// The allocator.

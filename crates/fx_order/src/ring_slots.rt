@@ -1,7 +1,7 @@
 //! The slots and counts of a ring.
 use crate::slots::Slots;
 
-/// The slots of a ring between two calls, and its counts (this project's own).
+/// The slots of a ring between two calls, and its counts.
 #[derive(Debug, Drop)]
 pub struct RingSlots {
     /// The files at the slots of its table, and its allocation range. Without a table there are no slots.

@@ -24,7 +24,7 @@ pub fn members<'a>(requests: &'a [Request], chain: Chain) -> &'a [Request]
     &requests[first..first + chain.len as usize]
 }
 
-/// A submission's requests, and an order of their accesses at a table of `size` slots (this project's own).
+/// A submission's requests, and an order of their accesses at a table of `size` slots.
 #[derive(Drop)]
 pub struct OrderedRequests<'a> {
     /// The files that may be opened.

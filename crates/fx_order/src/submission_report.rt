@@ -2,7 +2,7 @@
 use fx_base::{Catalogue, Closed};
 use fx_chain::{Completion, Request};
 
-/// A submission and its report, whose correctness is to be checked (this project's own).
+/// A submission and its report, whose correctness is to be checked.
 #[derive(Drop)]
 pub struct SubmissionReport<'a> {
     /// The files that may be opened.

@@ -1,5 +1,5 @@
 //! The limit of a table, and laws of histories, which follow from the model's steps and legal histories alone. Each is
-//! the contract of a function with an empty body (this project's own).
+//! the contract of a function with an empty body.
 
 ghost use Rattle.std.specs.Prelude.{◌≡◌};
 ghost use Rattle.fx_plain.specs.Laws.{NoCloseWhileHeld, ClosedAtMostOnce, EveryRemovedFileIsClosed, EveryFileWasThereOrInstalled, OpeningIsStart};

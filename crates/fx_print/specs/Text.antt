@@ -1,4 +1,4 @@
--- The printed lines (this project's own).
+-- The printed lines.
 use Rattle.std.specs.Prelude.{ℕ, ℤ, List, [], ◌++◌, codes, decimal, length, ◌==◌, if◌then◌else◌}
 use Rattle.std.specs.Prelude.{unwrap_or}
 use Rattle.std.specs.Fmt.{signed_decimal}

@@ -1,6 +1,6 @@
 //! Laws: the limits of a ring as numbers, and what each submission does to files. They follow from
 //! the clause `one_history` of `Ring::submit` alone. Each law is the contract of a function that
-//! does nothing (this project's own).
+//! does nothing.
 
 ghost use Rattle.std.specs.Prelude.{◌≡◌};
 ghost use Rattle.fx_ring.specs.Laws.{NoHeldFileCloses, NoFileClosesTwice, NoFileIsLost, SameRingsDoTheSame};

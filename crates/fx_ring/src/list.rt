@@ -49,7 +49,7 @@ fn has_bad_tag(list: &[i32], tags: &[u64]) -> bool
 }
 
 /// Checks whether `tags` and `list` differ in length, or a number below 0, which opens no file, has
-/// a tag other than 0. `None` stands for tag 0 at each number (this project's own).
+/// a tag other than 0. `None` stands for tag 0 at each number.
 #[tactic(auto, using(crate::proofs::ListSteps::no_bad_tags))]
 pub fn are_bad_tags(list: &[i32], tags: Option<&[u64]>) -> bool
     ensures { result ≡ are_bad_tags list.now (tags_for list.now tags.entry) }
@@ -61,7 +61,7 @@ pub fn are_bad_tags(list: &[i32], tags: Option<&[u64]>) -> bool
 }
 
 /// Returns the tag at a place of a list, counted from 0: 0 if `tags` is `None` or has no such place
-/// (this project's own).
+///.
 #[tactic(auto, using(crate::proofs::ListSteps::no_tag_at))]
 pub fn tag_at(tags: Option<&[u64]>, place: usize) -> u64
     ensures { (list : List ℤ) → result ≡ tag_at (tags_for list tags.entry) place }

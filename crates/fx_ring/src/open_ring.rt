@@ -61,7 +61,7 @@ impl<T: FileTable> Model for OpenRing<T> {
 impl Ring {
     /// Opens the ring's table for one worker and for `chains` chains, at most [`fx_table::MAX_CHAINS`]. Each of them may
     /// install at most `most` files, and `most` is at most [`fx_table::CHAIN_NUMBERS`]. Contracts see the same ring, whose
-    /// files may have other numbers (this project's own).
+    /// files may have other numbers.
     ///
     /// # Errors
     /// `NoMemory` if memory is refused. The ring is returned with its files.
@@ -188,7 +188,7 @@ impl<T: FileTable> OpenRing<T> {
         Ok(Some(report))
     }
 
-    /// Closes the table and returns the ring. It needs no memory (this project's own).
+    /// Closes the table and returns the ring. It needs no memory.
     pub fn close(self) -> Ring
         ensures { ring_of result ≡ ring_of self.ring }
     {

@@ -3,7 +3,7 @@ use fx_base::CloseList;
 use fx_chain::{Completion, CutFault};
 
 /// The reason why a submission is refused. The first that applies is reported, in this order. The
-/// ring is then as before (this project's own).
+/// ring is then as before.
 #[derive(Clone, Copy, Debug, PartialEq, Eq)]
 pub enum SubmitFault {
     /// The number of workers is not from 1 to 16.

@@ -8,10 +8,10 @@ use fx_plain::PlainTable;
 use std::alloc::Global;
 use std::marker::Model;
 
-/// The most submissions that a ring accepts (this project's own).
+/// The most submissions that a ring accepts.
 pub const MOST_SUBMISSIONS: u32 = 65_535;
 
-/// The most registrations and updates that a ring accepts together (this project's own).
+/// The most registrations and updates that a ring accepts together.
 pub const MOST_REGISTRATIONS: u32 = 65_535;
 
 /// A ring (io_uring_setup(2)): the catalogue, the registered file table, and the numbers of
@@ -125,7 +125,7 @@ impl Ring {
     }
 
     /// Ends the ring and drops its files without listing them. It is the way out after a fault, and
-    /// needs no memory (this project's own).
+    /// needs no memory.
     pub fn abandon(self) {
         let Ring {
             catalogue: _,

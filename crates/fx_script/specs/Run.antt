@@ -1,4 +1,4 @@
--- The input and output of a run (this project's own).
+-- The input and output of a run.
 use Rattle.std.specs.Prelude.{◌≡◌, ◌⊎◌, ℕ, List, Option, IfSome}
 use Rattle.std.specs.Io.KnownBytes.{Appends}
 use Rattle.fx_script.specs.Play.{IsText, IsTextOfFirst}

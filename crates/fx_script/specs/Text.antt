@@ -1,4 +1,4 @@
--- The text of a report (this project's own).
+-- The text of a report.
 use Rattle.std.specs.Prelude.{ℕ, List}
 use Rattle.fx_base.specs.Catalogue.{FileEntry}
 use Rattle.fx_ring.specs.Submission.{Reported}

@@ -1,4 +1,4 @@
-//! A limit of runs, as the contract of a function with an empty body (this project's own).
+//! A limit of runs, as the contract of a function with an empty body.
 
 ghost use Rattle.std.specs.Prelude.{◌≡◌};
 ghost use Rattle.fx_script.specs.declared.runner.TheConstants.{MOST_TURNS};

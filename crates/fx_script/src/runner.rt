@@ -16,7 +16,7 @@ use std::sync::Wait;
 use std::thread::Threads;
 use thiserror::Error;
 
-/// The reason why a run ended early (this project's own). Its text is what the program prints.
+/// The reason why a run ended early. Its text is what the program prints.
 #[derive(Clone, Copy, Debug, PartialEq, Eq, Error)]
 pub enum PlayFault {
     /// The input was not read to its end: a read failed, or there were too many reads. Nothing was written.

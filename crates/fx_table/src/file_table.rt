@@ -1,4 +1,4 @@
-//! The trait of the shared tables that play submissions (this project's own).
+//! The trait of the shared tables that play submissions.
 ghost use Rattle.std.specs.Prelude.{◌≡◌, ℕ, ◌<◌, ◌≤◌, false, map, length, All, IfOk, IfErr};
 ghost use Rattle.fx_plain.specs.State.{IsSettled};
 ghost use Rattle.fx_plain.specs.Contents.{state_of};

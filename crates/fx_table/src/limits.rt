@@ -1,4 +1,4 @@
-//! The limits of a shared table, and the file numbers of each chain (this project's own).
+//! The limits of a shared table, and the file numbers of each chain.
 ghost use Rattle.std.specs.Prelude.{◌≡◌, ◌≤◌};
 ghost use Rattle.fx_table.specs.Numbers.{numbers_for};
 

@@ -1,4 +1,4 @@
-//! The trait that every shared table implements: the calls of its passes (this project's own).
+//! The trait that every shared table implements: the calls of its passes.
 ghost use Rattle.std.specs.Prelude.{◌≡◌, ◌≢◌, ℕ, ◌<◌, ◌≤◌, ◌↔◌, true, false, None, Err, map, length, All, IsTrue};
 ghost use Rattle.fx_table.specs.Opening.{Opening, size_of, range_of};
 ghost use Rattle.fx_table.specs.Pass.{PassView, IsIdle, IsFront, IsHoldOf, IsRetiredOf};

@@ -1,4 +1,4 @@
-//! The values that the calls of a shared table return (this project's own).
+//! The values that the calls of a shared table return.
 use fx_base::OpenFile;
 use fx_plain::File;
 

@@ -1,4 +1,4 @@
-//! The 64-bit words of the lock-free table: functions that pack them and read them (this project's own).
+//! The 64-bit words of the lock-free table: functions that pack them and read them.
 //!
 //! - A slot word has the number of the slot's file plus one in bits 63 to 40, its catalogue entry in bits 39 to 32, and
 //!   its takes in bits 31 to 0: the number of look-ups since the word was put in place. The slot is empty if bits 63 to

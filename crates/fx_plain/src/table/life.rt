@@ -20,7 +20,7 @@ impl PlainTable {
     /// the numbers from the size up to `numbers - 1` are fresh. Requires that `numbers` is at least
     /// [`PlainTable::size`]. Files, size and range stay the same, the table stays settled, and empty slots stay empty.
     /// Memory for all numbers, under 64 bytes for each, is reserved now unless an earlier preparation reserved it. It
-    /// is written only up to the greatest number that a file gets (this project's own).
+    /// is written only up to the greatest number that a file gets.
     ///
     /// # Errors
     /// `NoMemory` if that allocation fails. The table then stays as it was.
