@@ -11,6 +11,11 @@ use Rattle.fx_chain.specs.declared.intent.Intent.TheVariants.{Allocate}
 use Rattle.fx_order.specs.Access.{IsOf, finding_of, last_finding}
 use Rattle.fx_order.specs.Laws.{AsIntended, IsIntended}
 use Rattle.std.specs.List.{AllZip}
+use Rattle.fx_order.proofs.ChainsFront.{first_and_rest}
+use Rattle.fx_order.proofs.Words.{Bool, IsTrue, completed, drop, refusal_of, slice_index_or, subst, take, IsRequestDone, ⊎_elim, ◌-◌, ◌≤◌}
+use Rattle.fx_chain.specs.declared.intent.Finding.TheVariants.{At, Free}
+use Rattle.fx_order.specs.Access.{entry_installed}
+use Rattle.fx_order.specs.Requests.{AreIntended, IsOwnEntry}
 
 zip_append : (xs ys : List Intent) (us vs : List Access) → AllZip IsOf xs us → AllZip IsOf ys vs → AllZip IsOf (xs ++ ys) (us ++ vs)
 zip_append [] ys [] vs first second = second
@@ -127,3 +132,86 @@ module _ (catalogue : List FileEntry) (place : Place) (c : Completed) where
   done operation own (inr x) = as_intended operation own x
   done (Reads slot off len) own (inl x) = inl x
   done operation own (inl x) = absurd (omega (arith, x.0))
+
+-- the intents from one access on, and from the next one
+pub drop_got : {X : Type 0} (xs : List X) (i : ℕ) (x : X) → slice_get xs i ≡ Some x → drop i xs ≡ x ∷ drop (i + 1) xs
+drop_got [] i x is = absurd (cc)
+drop_got (y ∷ xs) zero x is = let e : y ≡ x = cc in ap (λ z. z ∷ xs) e
+drop_got (y ∷ xs) (suc i) x is = let e : suc i + 1 ≡ suc (i + 1) = omega arith in rw e (drop_got xs i x is)
+
+pub drop_past : {X : Type 0} (xs : List X) (i : ℕ) → slice_get xs i ≡ None → drop i xs ≡ []
+drop_past [] zero is = refl
+drop_past [] (suc i) is = refl
+drop_past (y ∷ xs) zero is = absurd (cc)
+drop_past (y ∷ xs) (suc i) is = drop_past xs i is
+
+-- one access, and those after it
+pub next_fits : (xs : List Intent) (made : ℕ) (x : Intent) (accesses : List Access) (d : Access) → slice_get xs made ≡ Some x → 1 ≤ length accesses
+    → (b e : Bool) → IsTrue b ↔ IsOf x (slice_index_or accesses 0 d) → IsTrue b
+    → IsTrue e ↔ AllZip IsOf (drop (made + 1) xs) (take (length accesses - 1) (drop 1 accesses)) → IsTrue e ↔ AllZip IsOf (drop made xs) accesses
+next_fits xs made x accesses d got some b e fits met rest =
+    rw (first_and_rest accesses d some, drop_got xs made x got) (λ t. (fits.0 met, rest.0 t), λ z. rest.1 z.1)
+
+module _ (catalogue : List FileEntry) (place : Place) where
+  -- the accesses are intended by the entry that was chosen
+  pub chosen : (operation : Operation) (own : List Access) (entry : ℕ) → IsOpened catalogue operation entry
+      → IsOwnEntry catalogue operation own entry → AreIntended catalogue place operation own → AllZip IsOf (intents_of place entry operation) own
+  chosen (Opens name target) [] entry opened mine x = absurd x.2
+  chosen (Opens name target) (a ∷ b ∷ own) entry opened mine x = absurd x.2.1
+  chosen (Opens name (Slot slot)) (a ∷ []) entry opened mine x =
+      let same : x.0 ≡ entry = mine x.0 (ap (λ b. entry_installed (b ∷ [])) x.2.0.1) x.1 in rw same at x.2
+  chosen (Opens name Any) (a ∷ []) entry opened mine (e, named, (inl y, none)) =
+      let same : e ≡ entry = mine e (ap (λ b. entry_installed (b ∷ [])) y.1) named in
+      let fits : AllZip IsOf (intents_of place e (Opens name Any)) (a ∷ []) = (inl y, none) in
+      rw same at fits
+  chosen (Opens name Any) (a ∷ []) entry opened mine (e, named, (inr y, none)) = (inr y, none)
+  chosen operation own entry opened mine x =
+      let same : x.0 ≡ entry = x.1 ∙ sym opened in subst (λ (e : ℕ). AllZip IsOf (intents_of place e operation) own) same x.2
+
+  list_found : (in_list slot free : ℕ) (list : List ℤ) (own : List Access) → AllZip IsOf (list_intents place in_list slot list) own
+      → last_finding own ≡ Some (Free free) → ⊥
+  list_found in_list slot free [] [] x is = cc
+  list_found in_list slot free [] (a ∷ own) x is = x
+  list_found in_list slot free (pos n ∷ list) [] x is = x
+  list_found in_list slot free (pos n ∷ list) (a ∷ []) x is =
+      let e : Some (At x.0.0) ≡ Some (Free free) = rw x.0.1 at is in cc
+  list_found in_list slot free (pos n ∷ list) (a ∷ b ∷ own) x is = list_found (in_list + 1) (slot + 1) free list (b ∷ own) x.1 is
+  list_found in_list slot free (negsuc zero ∷ list) [] x is = x
+  list_found in_list slot free (negsuc zero ∷ list) (a ∷ []) x is =
+      let e : Some (At x.0.0) ≡ Some (Free free) = rw x.0.1 at is in cc
+  list_found in_list slot free (negsuc zero ∷ list) (a ∷ b ∷ own) x is = list_found (in_list + 1) (slot + 1) free list (b ∷ own) x.1 is
+  list_found in_list slot free (negsuc (suc n) ∷ list) own x is = list_found (in_list + 1) (slot + 1) free list own x is
+
+  -- only an open at any slot finds a free slot, and answers it
+  pub free_answer : (operation : Operation) (own : List Access) (free : ℕ) → AreIntended catalogue place operation own
+      → last_finding own ≡ Some (Free free) → answer_at_table catalogue place operation (last_finding own) ≡ completed place (pos free) []
+  free_answer (Opens name target) [] free x is = absurd x.2
+  free_answer (Opens name target) (a ∷ b ∷ own) free x is = absurd x.2.1
+  free_answer (Opens name Any) (a ∷ []) free x is = ap (allocated place) is
+  free_answer (Opens name (Slot slot)) (a ∷ []) free x is =
+      let e : Some (At x.2.0.0) ≡ Some (Free free) = rw x.2.0.1 at is in absurd (cc)
+  free_answer (Reads slot off len) [] free x is = absurd x.2
+  free_answer (Reads slot off len) (a ∷ b ∷ own) free x is = absurd x.2.1
+  free_answer (Reads slot off len) (a ∷ []) free x is = let e : Some (At x.2.0.0) ≡ Some (Free free) = rw x.2.0.1 at is in absurd (cc)
+  free_answer (Closes slot) [] free x is = absurd x.2
+  free_answer (Closes slot) (a ∷ b ∷ own) free x is = absurd x.2.1
+  free_answer (Closes slot) (a ∷ []) free x is = let e : Some (At x.2.0.0) ≡ Some (Free free) = rw x.2.0.1 at is in absurd (cc)
+  free_answer (Updates off list) own free x is = absurd (list_found 0 off free list own x.2 is)
+
+  -- a request that isn't refused, and doesn't lack memory
+  module _ (size : ℕ) (operation : Operation) (own : List Access) (c : Completed) (accepted : refusal_of catalogue size operation ≡ None) where
+    abbrev Lacks : Type 0
+    Lacks = (0 < bytes_asked operation) × IsRefused place ENOMEM own c
+
+    pub lacks : Lacks → IsRequestDone catalogue size place operation own c
+    lacks x = rw accepted (done catalogue place c operation own (inl x))
+
+    pub not_intended : (Lacks → ⊥) → (AreIntended catalogue place operation own → ⊥) → IsRequestDone catalogue size place operation own c → ⊥
+    not_intended full other x = ⊎_elim full (λ y. other (y.0, y.1, y.2)) (intended catalogue place own c operation (rw accepted at x))
+
+    pub as_answered : (Lacks → ⊥) → AreIntended catalogue place operation own → (b : Bool)
+        → IsTrue b ↔ (c ≡ answer_at_table catalogue place operation (last_finding own)) → IsTrue b ↔ IsRequestDone catalogue size place operation own c
+    as_answered full fits b told = (
+      λ yes. rw accepted (done catalogue place c operation own (inr (fits.0, fits.1, fits.2, told.0 yes))),
+      λ x. told.1 (⊎_elim (λ y. absurd (full y)) (λ y. y.3) (intended catalogue place own c operation (rw accepted at x))),
+    )

@@ -8,6 +8,5 @@ pub mod Histories
 pub mod Apart
 pub mod ChainsFront
 pub mod Ordered
-pub mod Opened
 pub mod PlacedNew
 pub mod OneRing

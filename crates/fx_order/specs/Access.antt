@@ -76,6 +76,12 @@ last_finding [] = None
 last_finding (a ∷ []) = Some (finding_of a)
 last_finding (a ∷ b ∷ accesses) = last_finding (b ∷ accesses)
 
+-- the catalogue entry of the file that the first of these accesses installs, if it installs one
+abbrev pub entry_installed : List Access → Option ℕ
+entry_installed (Puts slot file removed ∷ accesses) = Some file.entry
+entry_installed (Allocates slot file ∷ accesses) = Some file.entry
+entry_installed accesses = None
+
 -- the file that an access takes from its slot, if there is one
 abbrev pub file_removed_by : Access → Option Identity
 file_removed_by (Puts slot file removed) = removed

@@ -3,6 +3,7 @@
 use Rattle.std.specs.Prelude.{◌≡◌, ◌⊎◌, ℕ, zero, suc, ◌+◌, ◌<◌, ℤ, pos, negsuc, List, [], ◌∷◌, ◌++◌}
 use Rattle.std.specs.Prelude.{length, Option, Some, None, MatchOption}
 use Rattle.std.specs.Bool.{MatchBool}
+use Rattle.std.specs.List.{AllZip}
 use Rattle.fx_base.specs.declared.errno.Errno.{Errno}
 use Rattle.fx_base.specs.declared.errno.Errno.TheVariants.{EBADF, ENOMEM, ENFILE}
 use Rattle.fx_base.specs.Identity.{Identity}
@@ -10,14 +11,14 @@ use Rattle.fx_base.specs.Catalogue.{FileEntry, name_at}
 use Rattle.fx_chain.specs.Answers.{installed}
 use Rattle.fx_chain.specs.Completed.{Completed, completed, refusal, next_member}
 use Rattle.fx_chain.specs.Explains.{canceled, first_member, severs}
-use Rattle.fx_chain.specs.Intents.{gives}
+use Rattle.fx_chain.specs.Intents.{IsOpened, gives, intents_of}
 use Rattle.fx_chain.specs.Operation.{Operation, Opens, Reads, Closes, Updates, Asked}
 use Rattle.fx_chain.specs.Refusal.{refusal_of}
 use Rattle.fx_chain.specs.declared.completion.Place.{Place}
 use Rattle.fx_chain.specs.declared.request.Target.{Target}
 use Rattle.fx_chain.specs.declared.request.Target.TheVariants.{Slot, Any}
 use Rattle.fx_order.specs.Access.{Looks, Puts, Clears, Takes, Allocates, FindsFull}
-use Rattle.fx_order.specs.Access.{accesses_of_chain}
+use Rattle.fx_order.specs.Access.{IsOf, accesses_of_chain, entry_installed}
 use Rattle.fx_order.specs.declared.access.Access.{Access}
 use Rattle.fx_order.specs.declared.access.ChainAccess.{ChainAccess}
 
@@ -85,6 +86,18 @@ IsDoneAtTable catalogue place (Reads slot off len) accesses c =
     IsReadDone catalogue place slot off len accesses c
 IsDoneAtTable catalogue place (Closes slot) accesses c = IsCloseDone place slot accesses c
 IsDoneAtTable catalogue place (Updates off list) accesses c = IsUpdateDone place off list accesses c
+
+-- the accesses are those that the request intends, in order
+abbrev pub AreIntended : List FileEntry → Place → Operation → List Access → Type 0
+AreIntended catalogue place operation accesses =
+    (entry : ℕ) × IsOpened catalogue operation entry
+    × AllZip IsOf (intents_of place entry operation) accesses
+
+-- an entry that the request opens and the first access installs is this one
+abbrev pub IsOwnEntry : List FileEntry → Operation → List Access → ℕ → Type 0
+IsOwnEntry catalogue operation accesses entry =
+    (other : ℕ) → entry_installed accesses ≡ Some other → IsOpened catalogue operation other
+    → other ≡ entry
 
 -- the request may have this completion, having made these accesses
 abbrev pub IsRequestDone : List FileEntry → ℕ → Place → Operation → List Access → Completed → Type 0

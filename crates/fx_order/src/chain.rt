@@ -1,8 +1,9 @@
 //! Checking the accesses and completions of a chain's members, one after another.
-ghost use Rattle.std.specs.Prelude.{◌≡◌, ◌<◌, ◌+◌, ◌^◌, ◌↔◌, IfOk, IsTrue, length};
+ghost use Rattle.std.specs.Prelude.{◌≡◌, ◌<◌, ◌+◌, ◌^◌, ◌↔◌, All, IfOk, IsTrue, length};
+ghost use Rattle.fx_chain.specs.Accepted.{IsWithinLimits};
 ghost use Rattle.fx_chain.specs.Completed.{all_completed};
 ghost use Rattle.fx_chain.specs.Explains.{canceled};
-ghost use Rattle.fx_chain.specs.Operation.{all_asked};
+ghost use Rattle.fx_chain.specs.Operation.{all_asked, asked_of};
 ghost use Rattle.fx_order.specs.Requests.{IsChainDone};
 
 use crate::access::Access;
@@ -39,7 +40,8 @@ pub(crate) fn is_chain_done(
     accesses: &[Access],
     completions: &[Completion],
 ) -> Result<bool, NoMemory>
-    requires { place.member + length requests.now < 2 ^ 32 }
+    requires members { place.member + length requests.now < 2 ^ 32 }
+    requires limits { All (λ r. IsWithinLimits (asked_of r)) requests.now }
     ensures { IfOk result (λ yes. IsTrue yes ↔ IsChainDone setting.now.catalogue.now
         setting.now.size place (all_asked requests.now) accesses.now
         (all_completed completions.now)) }

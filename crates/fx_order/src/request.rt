@@ -1,20 +1,23 @@
-//! Checking a request's accesses and completion, by the cases of its operation.
-ghost use Rattle.std.specs.Prelude.{◌≡◌, ◌≢◌, ◌<◌, ◌+◌, ◌^◌, ◌↔◌, IfNone, IfOk, IfSome, IsTrue, List, Option, [], ◌∷◌, length, ℕ};
-ghost use Rattle.std.specs.Prelude.{Some, take};
-ghost use Rattle.fx_base.specs.Catalogue.{name_at};
-ghost use Rattle.fx_base.specs.declared.open_file.Closed.{Closed as File};
-ghost use Rattle.fx_chain.specs.Answers.{installed};
-ghost use Rattle.fx_chain.specs.Completed.{completed, completed_of};
-ghost use Rattle.fx_chain.specs.Intents.{gives, positions_of};
-ghost use Rattle.fx_chain.specs.Operation.{Opens, operation_of};
-ghost use Rattle.fx_order.specs.Access.{Looks};
-ghost use Rattle.fx_order.specs.Requests.{AreEntriesDone, IsCloseDone, IsDoneAtTable, IsEntryDone, IsReadDone, IsRefused, IsRequestDone};
-ghost use Rattle.fx_order.specs.Requests.{IsUpdateDone};
+//! Checking a request's accesses and completion: the accesses are those that it intends, and its completion is the answer by
+//! what they found.
+ghost use Rattle.std.specs.Prelude.{◌≡◌, ◌<◌, ◌+◌, ◌^◌, ◌↔◌, IfNone, IfOk, IfSome, IsTrue, List, None, ℕ};
+ghost use Rattle.std.specs.Prelude.{drop, is_some, length, take, true};
+ghost use Rattle.std.specs.List.{AllZip};
+ghost use Rattle.fx_chain.specs.Accepted.{IsWithinLimits};
+ghost use Rattle.fx_chain.specs.Completed.{completed_of};
+ghost use Rattle.fx_base.specs.declared.errno.Errno.TheVariants.{ENOMEM};
+ghost use Rattle.fx_chain.specs.Intents.{IsOpened, answer_at_table, bytes_asked, intents_of, positions_of};
+ghost use Rattle.fx_chain.specs.Operation.{asked_of, operation_of};
+ghost use Rattle.fx_chain.specs.Refusal.{refusal_of};
+ghost use Rattle.fx_order.specs.Access.{IsOf, entry_installed, last_finding};
+ghost use Rattle.fx_order.specs.Requests.{AreIntended, IsOwnEntry, IsRefused, IsRequestDone};
 ghost use Rattle.fx_order.specs.declared.access.Access.{Access as Made};
 
 use crate::access::Access;
-use fx_base::{Catalogue, Closed, Errno, NoMemory};
-use fx_chain::{Completion, Op, Place, Request, Target, count_of, refusal_of};
+use fx_base::{Catalogue, Errno, NoMemory};
+use fx_chain::{
+    Completion, Finding, Intent, Place, Request, answer_of, count_of, intent_by, refusal_of,
+};
 use std::alloc::Global;
 
 /// The values that stay the same while a submission's requests are checked.
@@ -37,14 +40,6 @@ pub(crate) struct Performed<'a> {
 }
 
 impl Performed<'_> {
-    // Checks whether the completion has this result and these bytes.
-    fn says(&self, res: i32, got: &[u8]) -> bool
-        ensures { IsTrue result
-            ↔ (completed_of self.now.c.now ≡ completed self.now.place res got.now) }
-    {
-        self.c.is_answer(self.place, res, got)
-    }
-
     // Checks whether the request made no access and failed with this error.
     fn is_refusal(&self, errno: Errno) -> bool
         ensures { IsTrue result
@@ -54,166 +49,156 @@ impl Performed<'_> {
     }
 }
 
-// Checks whether an entry exists and has this name.
-fn is_named(catalogue: &Catalogue, entry: u8, name: &str) -> bool
-    ensures { IsTrue result ↔ (name_at catalogue.now entry ≡ Some name.now) }
+// Checks whether an access is what was intended, whatever it found.
+fn is_of(intent: Intent, access: &Access) -> bool
+    ensures { IsTrue result ↔ IsOf intent access.now }
 {
-    u32::from(entry) < catalogue.len() && catalogue.name_of(entry) == name
-}
-
-// Checks whether this is a file that an open of the name installs.
-fn is_opened(catalogue: &Catalogue, name: &str, place: Place, file: &Closed) -> bool
-    ensures { IsTrue result ↔ ((entry : ℕ) × (name_at catalogue.now entry ≡ Some name.now)
-        × (file.now ≡ installed place 0 entry)) }
-{
-    is_named(catalogue, file.entry, name) && *file == place.installed(0, file.entry)
-}
-
-// Checks whether an open made these accesses and has this completion.
-#[tactic(auto, using(crate::proofs::Opened::has_name_at))]
-fn is_open_done(catalogue: &Catalogue, name: &str, target: Target, answer: &Performed<'_>) -> bool
-    ensures { IsTrue result ↔ IsDoneAtTable catalogue.now answer.now.place (Opens name.now target)
-        answer.now.own.now (completed_of answer.now.c.now) }
-{
-    match target {
-        Target::Slot(slot) => match answer.own {
-            [Access::Puts(at, file, _)] => {
-                *at == slot && is_opened(catalogue, name, answer.place, file) && answer.says(0, &[])
-            }
+    match intent {
+        Intent::Look(slot) => match access {
+            Access::Looks(at, _) => *at == slot,
             _ => false,
         },
-        Target::Any => match answer.own {
-            [Access::Allocates(slot, file)] => {
-                i64::from(answer.c.res) == i64::from(*slot)
-                    && is_opened(catalogue, name, answer.place, file)
-                    && answer.says(answer.c.res, &[])
-            }
-            [Access::FindsFull] => {
-                catalogue.find(name).is_some() && answer.says(-Errno::ENFILE.code(), &[])
-            }
+        Intent::Put(slot, file) => match access {
+            Access::Puts(at, own, _) => *at == slot && *own == file,
+            _ => false,
+        },
+        Intent::Clear(slot) => match access {
+            Access::Clears(at, _) => *at == slot,
+            _ => false,
+        },
+        Intent::Take(slot) => match access {
+            Access::Takes(at, _) => *at == slot,
+            _ => false,
+        },
+        Intent::Allocate(file) => match access {
+            Access::Allocates(_, own) => *own == file,
+            Access::FindsFull => true,
             _ => false,
         },
     }
 }
 
-// Checks whether a read of a file has this completion.
-fn is_given(
+// Checks whether accesses are those that a request intends at its place, from the access numbered `made` on. `opened` is the
+// place, and the catalogue entry that the request opens.
+#[tactic(auto, using(crate::proofs::Intents::drop_got, crate::proofs::Intents::drop_past))]
+fn are_intended(
     setting: &OrderSetting<'_>,
-    file: &Closed,
-    off: u32,
-    len: u32,
-    answer: &Performed<'_>,
-) -> Result<bool, NoMemory>
-    ensures { IfOk result (λ yes. IsTrue yes ↔ (completed_of answer.now.c.now
-        ≡ gives setting.now.catalogue.now answer.now.place file.now off len)) }
+    request: &Request,
+    opened: (Place, u8),
+    made: usize,
+    accesses: &[Access],
+) -> bool
+    requires accepted { refusal_of setting.now.catalogue.now setting.now.size
+        (operation_of request.now.op) ≡ None }
+    requires made { made + length accesses.now < 2 ^ 64 }
+    ensures { IsTrue result ↔ AllZip IsOf
+        (drop made (intents_of opened.0 opened.1 (operation_of request.now.op))) accesses.now }
 {
-    let mut got = Vec::new(setting.alloc);
-    got.reserve_exact(len as usize)?;
-    let res = setting.catalogue.read_into(file.entry, off, len, &mut got);
-    Ok(answer.says(res as i32, &got))
+    let (place, entry) = opened;
+    let intent = intent_by(setting.catalogue, setting.size, place, entry, request, made);
+    let [access, others @ ..] = accesses else {
+        return intent.is_none();
+    };
+    let Some(intent) = intent else {
+        return false;
+    };
+    is_of(intent, access) && are_intended(setting, request, opened, made + 1, others)
 }
 
-// Returns what a request found that made one look-up at the slot and no other access.
-fn found_at(slot: u32, own: &[Access]) -> Option<Option<Closed>>
-    ensures some { IfSome result (λ found. own.now ≡ Looks slot found ∷ []) }
-    ensures none { IfNone result ((found : Option File) → own.now ≢ Looks slot found ∷ []) }
+// Returns the catalogue entry of the file that the first access installs, or `None` if it installs none.
+fn entry_installed(accesses: &[Access]) -> Option<u8>
+    ensures { result ≡ entry_installed accesses.now }
 {
-    match own {
-        [Access::Looks(at, found)] if *at == slot => Some(*found),
+    match accesses {
+        [Access::Puts(_, file, _), ..] => Some(file.entry),
+        [Access::Allocates(_, file), ..] => Some(file.entry),
         _ => None,
     }
 }
 
-// Checks whether a read made these accesses and has this completion.
-fn is_read_done(
+// Returns a catalogue entry that the request opens: if there are several, the one that the first access installs.
+fn entry_opened(catalogue: &Catalogue, request: &Request, accesses: &[Access]) -> Option<u8>
+    ensures some { IfSome result (λ entry.
+        IsOpened catalogue.now (operation_of request.now.op) entry) }
+    ensures own { IfSome result (λ entry.
+        IsOwnEntry catalogue.now (operation_of request.now.op) accesses.now entry) }
+    ensures none { IfNone result ((size : ℕ)
+        → is_some (refusal_of catalogue.now size (operation_of request.now.op)) ≡ true) }
+{
+    match entry_installed(accesses) {
+        Some(entry) if request.is_opened(catalogue, entry) => Some(entry),
+        _ => request.opened(catalogue),
+    }
+}
+
+// Checks whether the accesses are those that the request intends.
+#[tactic(auto, using(crate::proofs::Intents::chosen))]
+fn is_intended(setting: &OrderSetting<'_>, request: &Request, answer: &Performed<'_>) -> bool
+    requires accepted { refusal_of setting.now.catalogue.now setting.now.size
+        (operation_of request.now.op) ≡ None }
+    ensures { IsTrue result ↔ AreIntended setting.now.catalogue.now answer.now.place
+        (operation_of request.now.op) answer.now.own.now }
+{
+    match entry_opened(setting.catalogue, request, answer.own) {
+        Some(entry) => are_intended(setting, request, (answer.place, entry), 0, answer.own),
+        None => false,
+    }
+}
+
+// Returns what the last access found, or `None` if there is none.
+fn last_finding(accesses: &[Access]) -> Option<Finding>
+    ensures { result ≡ last_finding accesses.now }
+{
+    match accesses {
+        [] => None,
+        [access] => Some(access.found()),
+        [_, others @ ..] => last_finding(others),
+    }
+}
+
+// Checks whether the completion is the answer by what the accesses found, which the request intends.
+#[tactic(auto, using(crate::proofs::Intents::free_answer))]
+fn is_answered(
     setting: &OrderSetting<'_>,
-    slot: u32,
-    off: u32,
-    len: u32,
+    request: &Request,
     answer: &Performed<'_>,
 ) -> Result<bool, NoMemory>
-    ensures { IfOk result (λ yes. IsTrue yes ↔ IsReadDone setting.now.catalogue.now
-        answer.now.place slot off len answer.now.own.now (completed_of answer.now.c.now)) }
+    requires limits { IsWithinLimits (asked_of request.now) }
+    requires accepted { refusal_of setting.now.catalogue.now setting.now.size
+        (operation_of request.now.op) ≡ None }
+    requires intended { AreIntended setting.now.catalogue.now answer.now.place
+        (operation_of request.now.op) answer.now.own.now }
+    ensures { IfOk result (λ yes. IsTrue yes ↔ (completed_of answer.now.c.now
+        ≡ answer_at_table setting.now.catalogue.now answer.now.place
+        (operation_of request.now.op) (last_finding answer.now.own.now))) }
 {
-    if answer.own.is_empty() {
-        return Ok(len > 0 && answer.is_refusal(Errno::ENOMEM));
+    let found = last_finding(answer.own);
+    if let Some(Finding::Free(slot)) = found
+        && i64::from(answer.c.res) != i64::from(slot)
+    {
+        return Ok(false);
     }
-    match found_at(slot, answer.own) {
-        Some(Some(file)) => is_given(setting, &file, off, len, answer),
-        Some(None) => Ok(answer.says(-Errno::EBADF.code(), &[])),
-        None => Ok(false),
-    }
+    let (alloc, catalogue, size) = (setting.alloc, setting.catalogue, setting.size);
+    let due = answer_of(alloc, catalogue, size, answer.place, request, found)?;
+    Ok(answer.c.is_answer(due.place, due.res, &due.got))
 }
 
-// Checks whether a close made these accesses and has this completion.
-fn is_close_done(slot: u32, answer: &Performed<'_>) -> bool
-    ensures { IsTrue result ↔ IsCloseDone answer.now.place slot answer.now.own.now
-        (completed_of answer.now.c.now) }
+// Checks whether the request asks for bytes, makes no access and fails with ENOMEM.
+fn lacks_memory(request: &Request, answer: &Performed<'_>) -> bool
+    ensures { IsTrue result ↔ ((0 < bytes_asked (operation_of request.now.op))
+        × IsRefused answer.now.place ENOMEM answer.now.own.now (completed_of answer.now.c.now)) }
 {
-    match answer.own {
-        [Access::Takes(at, None)] => *at == slot && answer.says(-Errno::EBADF.code(), &[]),
-        [Access::Takes(at, Some(_))] => *at == slot && answer.says(0, &[]),
-        _ => false,
-    }
-}
-
-// Checks whether this access is that of one entry, which isn't a skip.
-fn is_entry_done(place: Place, in_list: u32, slot: u32, entry: i32, access: &Access) -> bool
-    ensures { IsTrue result ↔ IsEntryDone place in_list slot entry (access.now ∷ []) }
-{
-    match access {
-        Access::Puts(at, file, _) => {
-            *at == slot
-                && i32::from(file.entry) == entry
-                && *file == place.installed(in_list, file.entry)
-        }
-        Access::Clears(at, _) => entry == -1 && *at == slot,
-        _ => false,
-    }
-}
-
-// Checks whether the entries of a list made these accesses, one after another.
-fn are_entries_done(
-    place: Place,
-    in_list: u32,
-    slot: u32,
-    list: &[i32],
-    accesses: &[Access],
-) -> bool
-    requires in_list { in_list + length list.now < 2 ^ 32 }
-    requires slot { slot + length list.now < 2 ^ 32 }
-    ensures { IsTrue result ↔ AreEntriesDone place in_list slot list.now accesses.now }
-{
-    let [entry, entries @ ..] = list else {
-        return accesses.is_empty();
-    };
-    if *entry < -1 {
-        return are_entries_done(place, in_list + 1, slot + 1, entries, accesses);
-    }
-    let [access, others @ ..] = accesses else {
-        return false;
-    };
-    is_entry_done(place, in_list, slot, *entry, access)
-        && are_entries_done(place, in_list + 1, slot + 1, entries, others)
-}
-
-// Checks whether an update made these accesses and has this completion.
-fn is_update_done(off: u32, list: &[i32], answer: &Performed<'_>) -> bool
-    requires { off + length list.now < 2 ^ 32 }
-    ensures { IsTrue result ↔ IsUpdateDone answer.now.place off list.now answer.now.own.now
-        (completed_of answer.now.c.now) }
-{
-    are_entries_done(answer.place, 0, off, list, answer.own)
-        && i64::from(answer.c.res) == list.len() as i64
-        && answer.says(answer.c.res, &[])
+    request.bytes_asked() > 0 && answer.is_refusal(Errno::ENOMEM)
 }
 
 /// Checks whether a request made these accesses and has this completion.
+#[tactic(auto, using(crate::proofs::Intents::lacks, crate::proofs::Intents::not_intended, crate::proofs::Intents::as_answered))]
 pub(crate) fn is_request_done(
     setting: &OrderSetting<'_>,
     request: &Request,
     answer: &Performed<'_>,
 ) -> Result<bool, NoMemory>
+    requires { IsWithinLimits (asked_of request.now) }
     ensures { IfOk result (λ yes. IsTrue yes ↔ IsRequestDone setting.now.catalogue.now
         setting.now.size answer.now.place (operation_of request.now.op) answer.now.own.now
         (completed_of answer.now.c.now)) }
@@ -221,12 +206,13 @@ pub(crate) fn is_request_done(
     if let Some(errno) = refusal_of(setting.catalogue, setting.size, request) {
         return Ok(answer.is_refusal(errno));
     }
-    match &request.op {
-        Op::Open { name, target } => Ok(is_open_done(setting.catalogue, name, *target, answer)),
-        Op::Read { slot, off, len } => is_read_done(setting, *slot, *off, *len, answer),
-        Op::Close { slot } => Ok(is_close_done(*slot, answer)),
-        Op::Update { off, list } => Ok(is_update_done(*off, list, answer)),
+    if lacks_memory(request, answer) {
+        return Ok(true);
     }
+    if !is_intended(setting, request, answer) {
+        return Ok(false);
+    }
+    is_answered(setting, request, answer)
 }
 
 /// Returns the number of accesses that a request made, if it has this completion.

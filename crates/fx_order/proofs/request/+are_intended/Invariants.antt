@@ -1,0 +1,5 @@
+use Rattle.fx_order.proofs.Words.{length}
+use Rattle.fx_order.proofs.request.+are_intended.Given as goal
+
+abbrev pub decreases-are_intended : goal.decreases-are_intended
+decreases-are_intended l = length l.accesses.now

@@ -1,0 +1,5 @@
+use Rattle.fx_order.proofs.Words.{length}
+use Rattle.fx_order.proofs.request.+last_finding.Given as goal
+
+abbrev pub decreases-last_finding : goal.decreases-last_finding
+decreases-last_finding l = length l.accesses.now
